@@ -1,0 +1,11 @@
+use mathlib.Core.Path.{refl}
+use Rattle.matrix.specs.Matrix.{_⊗_, matS, matT, matR}
+use Rattle.matrix.proofs.matrix_r.Statement.{statement}
+use Rattle.matrix.proofs.matrix_r.Tie as tie
+
+returns : tie.Need-returns
+unfolding _⊗_ matS matT matR
+returns c = refl
+
+pub matrix-r-spec : {M : Type 1} → statement M
+matrix-r-spec = tie.close (tie.spec returns)
