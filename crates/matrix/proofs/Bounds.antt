@@ -60,20 +60,20 @@ small-entry h k x y z w a b c d = omega (arith, abs-+ (x *ℤ y) (z *ℤ w), abs
 pub small-⊗ : (h k : ℕ) (m n : Mat) → Small h m → Small k n → Small (2 * (h * k)) (m ⊗ n)
 unfolding _⊗_
 small-⊗ h k m n s t = record {
-      in-a = small-entry h k (m .a) (n .a) (m .b) (n .c) (s .in-a) (t .in-a) (s .in-b) (t .in-c);
-      in-b = small-entry h k (m .a) (n .b) (m .b) (n .d) (s .in-a) (t .in-b) (s .in-b) (t .in-d);
-      in-c = small-entry h k (m .c) (n .a) (m .d) (n .c) (s .in-c) (t .in-a) (s .in-d) (t .in-c);
-      in-d = small-entry h k (m .c) (n .b) (m .d) (n .d) (s .in-c) (t .in-b) (s .in-d) (t .in-d);
-    }
+  in-a = small-entry h k (m .a) (n .a) (m .b) (n .c) (s .in-a) (t .in-a) (s .in-b) (t .in-c);
+  in-b = small-entry h k (m .a) (n .b) (m .b) (n .d) (s .in-a) (t .in-b) (s .in-b) (t .in-d);
+  in-c = small-entry h k (m .c) (n .a) (m .d) (n .c) (s .in-c) (t .in-a) (s .in-d) (t .in-c);
+  in-d = small-entry h k (m .c) (n .b) (m .d) (n .d) (s .in-c) (t .in-b) (s .in-d) (t .in-d);
+}
 
 -- small entries leave room for the product and the determinant
 pub room : (h k : ℕ) (m n : Mat) → 2 * (h * k) < 2 ^ 63 → Small h m → Small k n → Room m n
 room h k m n l s t = record {
-      in-a = omega (arith, small-sum h k (m .a) (n .a) (m .b) (n .c) (s .in-a) (t .in-a) (s .in-b) (t .in-c));
-      in-b = omega (arith, small-sum h k (m .a) (n .b) (m .b) (n .d) (s .in-a) (t .in-b) (s .in-b) (t .in-d));
-      in-c = omega (arith, small-sum h k (m .c) (n .a) (m .d) (n .c) (s .in-c) (t .in-a) (s .in-d) (t .in-c));
-      in-d = omega (arith, small-sum h k (m .c) (n .b) (m .d) (n .d) (s .in-c) (t .in-b) (s .in-d) (t .in-d));
-    }
+  in-a = omega (arith, small-sum h k (m .a) (n .a) (m .b) (n .c) (s .in-a) (t .in-a) (s .in-b) (t .in-c));
+  in-b = omega (arith, small-sum h k (m .a) (n .b) (m .b) (n .d) (s .in-a) (t .in-b) (s .in-b) (t .in-d));
+  in-c = omega (arith, small-sum h k (m .c) (n .a) (m .d) (n .c) (s .in-c) (t .in-a) (s .in-d) (t .in-c));
+  in-d = omega (arith, small-sum h k (m .c) (n .b) (m .d) (n .d) (s .in-c) (t .in-b) (s .in-d) (t .in-d));
+}
 
 pub roomy : (h : ℕ) (m : Mat) → 2 * (h * h) < 2 ^ 63 → Small h m → Roomy m
 roomy h m l s = omega (arith, small-sum h h (m .a) (m .d) (m .b) (m .c) (s .in-a) (s .in-d) (s .in-b) (s .in-c))

@@ -98,12 +98,12 @@ upright p (negsuc q) (negsuc r) (negsuc t) e = absurd (never-one (p * suc t) (su
 
 shape-neg : (m : Mat) → Shape (neg m) → Shape m
 shape-neg m h = record {
-      head = h .head;
-      column = h .column;
-      is = inr (sym (neg-neg m)) ∙≈ h .is ∙≈ inl (ap (signed (h .head) (h .column)) (sizes-neg m));
-      right = sym (agree-neg m) ∙ h .right;
-      agreeing = λ t. subst (λ (f : Form). 0 < dot f) (sizes-neg m) (h .agreeing t);
-    }
+  head = h .head;
+  column = h .column;
+  is = inr (sym (neg-neg m)) ∙≈ h .is ∙≈ inl (ap (signed (h .head) (h .column)) (sizes-neg m));
+  right = sym (agree-neg m) ∙ h .right;
+  agreeing = λ t. subst (λ (f : Form). 0 < dot f) (sizes-neg m) (h .agreeing t);
+}
 
 shape-at : (a b c d : ℤ) → det (mat a b c d) ≡ pos 1 → Shape (mat a b c d)
 unfolding neg
@@ -156,20 +156,20 @@ spell-head : (f : Form) → Unimodular f → Proper f → Spelling true f
 spell-head f u k =
     let u' = unimodular-swap f u in
     elim (decLe (f .p + f .q) (f .r + f .t)) [
-      yes y ↦ let m = rows (swap f) u' (record { not-one = omega arith; not-S = omega arith }) y in
-        let w = formed (total (down (swap f))) (down (swap f)) (unimodular-down (swap f) m u') (omega arith) in
-        record {
-          word = head-Q (w .word);
-          column = sign (w .word);
-          is = head-value-Q (w .word) ∙≈ inl (ap (λ (g : Form). signed true (sign (w .word)) (swap g)) (ap upper (w .is) ∙ upper-down (swap f) m));
-        }
-    | no y ↦ let m = rows f u k (omega arith) in
-        let w = formed (total (swap (down f))) (swap (down f)) (unimodular-swap (down f) (unimodular-down f m u)) (omega arith) in
-        record {
-          word = head-P (w .word);
-          column = sign (w .word);
-          is = head-value-P (w .word) ∙≈ inl (ap (signed true (sign (w .word))) (ap (λ (g : Form). upper (swap g)) (w .is) ∙ upper-down f m));
-        }
+      | yes y ↦ let m = rows (swap f) u' (record { not-one = omega arith; not-S = omega arith }) y in
+          let w = formed (total (down (swap f))) (down (swap f)) (unimodular-down (swap f) m u') (omega arith) in
+          record {
+            word = head-Q (w .word);
+            column = sign (w .word);
+            is = head-value-Q (w .word) ∙≈ inl (ap (λ (g : Form). signed true (sign (w .word)) (swap g)) (ap upper (w .is) ∙ upper-down (swap f) m));
+          }
+      | no y ↦ let m = rows f u k (omega arith) in
+          let w = formed (total (swap (down f))) (swap (down f)) (unimodular-swap (down f) (unimodular-down f m u)) (omega arith) in
+          record {
+            word = head-P (w .word);
+            column = sign (w .word);
+            is = head-value-P (w .word) ∙≈ inl (ap (signed true (sign (w .word))) (ap (λ (g : Form). upper (swap g)) (w .is) ∙ upper-down f m));
+          }
     ]
 
 -- ---- words made of blocks alternate

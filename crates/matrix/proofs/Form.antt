@@ -103,9 +103,9 @@ across f (inr e) h k = omega (arith, mul-le-mul k h)
 
 pub rows : (f : Form) → Unimodular f → Proper f → f .r + f .t ≤ f .p + f .q → Rows f
 rows f u k h = record {
-      left = elim (decLe (f .r) (f .p)) [ yes y ↦ y | no n ↦ absurd (omega (arith, across f u (omega arith) (omega arith))) ];
-      right = elim (decLe (f .t) (f .q)) [ yes y ↦ y | no n ↦ absurd (omega (arith, across (swap f) (unimodular-swap f u) (omega arith) (omega arith))) ];
-    }
+  left = elim (decLe (f .r) (f .p)) [ yes y ↦ y | no n ↦ absurd (omega (arith, across f u (omega arith) (omega arith))) ];
+  right = elim (decLe (f .t) (f .q)) [ yes y ↦ y | no n ↦ absurd (omega (arith, across (swap f) (unimodular-swap f u) (omega arith) (omega arith))) ];
+}
 
 pub form-eq : {p p' q q' r r' t t' : ℕ} → p ≡ p' → q ≡ q' → r ≡ r' → t ≡ t' → form p q r t ≡ form p' q' r' t'
 form-eq a b c d = λ i. form (a i) (b i) (c i) (d i)
@@ -166,19 +166,19 @@ proper-formed n below f u k h =
     let w = unimodular-whole f u in
     let u' = unimodular-swap f u in
     elim (decLe (f .r + f .t) (f .p + f .q)) [
-      yes y ↦ let m = rows f u k y in by-sq f m (below (down f) (unimodular-down f m u) (omega arith))
-    | no y ↦ let m = rows (swap f) u' (record { not-one = omega arith; not-S = omega arith }) (omega arith) in
-        by-sp f m (below (up f) (unimodular-swap (down (swap f)) (unimodular-down (swap f) m u')) (omega arith))
+      | yes y ↦ let m = rows f u k y in by-sq f m (below (down f) (unimodular-down f m u) (omega arith))
+      | no y ↦ let m = rows (swap f) u' (record { not-one = omega arith; not-S = omega arith }) (omega arith) in
+          by-sp f m (below (up f) (unimodular-swap (down (swap f)) (unimodular-down (swap f) m u')) (omega arith))
     ]
 
 pub formed : (n : ℕ) (f : Form) → Unimodular f → total f ≤ n → Formed f
 formed zero f u h = let w = unimodular-whole f u in absurd (omega arith)
 formed (suc n) f u h =
     elim (decLe (f .q + f .r) 0) [
-      yes y ↦ record { word = stop; is = sym (one-form f u (omega arith)) }
-    | no y ↦ elim (decLe (f .p + f .t) 0) [
-        yes z ↦ record { word = last; is = sym (S-form f u (omega arith)) }
-      | no z ↦ proper-formed n (formed n) f u (record { not-one = omega arith; not-S = omega arith }) h
+      | yes y ↦ record { word = stop; is = sym (one-form f u (omega arith)) }
+      | no y ↦ elim (decLe (f .p + f .t) 0) [
+        | yes z ↦ record { word = last; is = sym (S-form f u (omega arith)) }
+        | no z ↦ proper-formed n (formed n) f u (record { not-one = omega arith; not-S = omega arith }) h
       ]
     ]
 

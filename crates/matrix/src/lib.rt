@@ -72,7 +72,12 @@ pub fn product(m: [i64; 4], n: [i64; 4]) -> [i64; 4]
     requires { ⌜ Room (ofList m) (ofList n) ⌝ }
     ensures { λ r. ⌜ r ≡ toList (ofList m ⊗ ofList n) ⌝ }
 {
-    [entry(m, n, 0, 0), entry(m, n, 0, 1), entry(m, n, 2, 0), entry(m, n, 2, 1)]
+    [
+        entry(m, n, 0, 0),
+        entry(m, n, 0, 1),
+        entry(m, n, 2, 0),
+        entry(m, n, 2, 1),
+    ]
 }
 
 // The adjugate, which is the inverse of a matrix of determinant 1. No entry is the least i64, whose negative does not fit.

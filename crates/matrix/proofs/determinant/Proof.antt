@@ -31,7 +31,7 @@ returns c =
       kept (nth m 0) (four .before .before .before .difference-of-products-arg .given),
       kept (nth m 3) (four .before .before .difference-of-products-arg2 .given),
       kept (nth m 1) (four .before .difference-of-products-arg3 .given),
-      kept (nth m 2) (four .difference-of-products-arg4 .given)
+      kept (nth m 2) (four .difference-of-products-arg4 .given),
     )
 
 pub determinant-spec : {M : Type 1} → statement M

@@ -49,7 +49,7 @@ returns c =
       kept (nth (s .args .t1) (s .args .i)) (four .before .before .before .sum-of-products-arg .given),
       kept (nth (s .args .t2) (s .args .j)) (four .before .before .sum-of-products-arg2 .given),
       kept (nth (s .args .t1) (s .args .i + 1)) (four .before .sum-of-products-arg3 .given),
-      kept (nth (s .args .t2) (s .args .j + 2)) (four .sum-of-products-arg4 .given)
+      kept (nth (s .args .t2) (s .args .j + 2)) (four .sum-of-products-arg4 .given),
     )
 
 pub entry-spec : {M : Type 1} → statement M

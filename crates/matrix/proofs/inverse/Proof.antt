@@ -36,7 +36,7 @@ returns c =
       toZ-ofZ (minus-fits (nth m 1) (s .pre .in-b)),
       toZ-ofZ (minus-fits (nth m 2) (s .pre .in-c)),
       minus (nth m 1),
-      minus (nth m 2)
+      minus (nth m 2),
     )
 
 pub inverse-spec : {M : Type 1} → statement M

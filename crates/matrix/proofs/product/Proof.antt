@@ -30,7 +30,7 @@ returns c =
       one .entry .ensures,
       two .entry2 .ensures,
       three .entry3 .ensures,
-      c .entry4 .ensures
+      c .entry4 .ensures,
     )
 
 pub product-spec : {M : Type 1} → statement M
