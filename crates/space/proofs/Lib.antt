@@ -1,0 +1,2 @@
+-- Laws of a cleared work space.
+pub mod Zeros
