@@ -1,0 +1,171 @@
+-- The decimal form of a number, and reading it back.
+--     onto-last, onto-more    a number below 10 is one digit; another is the digits of its tenth and its last digit
+--     onto-any                the fuel does not matter, so long as it is at least the number
+--     digits-last, digits-more  the same of the digits in front of a list
+--     write-then-read         reading the decimal form of a number gives the number back
+--     no-blank                the decimal form has no blank byte
+--     one-piece               so that it is a text of one piece, which says the number
+--     form-minus, form-plain  the decimal form by the test that the code makes on the sign
+-- Assumes nothing.
+use mathlib.Core.Path.{_≡_, refl, sym, ap, _∙_}
+use mathlib.Core.Bool.{true, false}
+use mathlib.Core.List.{List, [], _∷_}
+use mathlib.Core.Option.{some}
+use Prim.Native.Nat.{ℕ, zero, suc, _+_, _-_, _*_, _/_, _%_, _≤_, _<_, _^_}
+use native.Mathlib.Decide.{decLt}
+use native.Mathlib.Omega.{arith}
+use lib.IntN.{ℤ, pos, negsuc, negℤ, natAbs}
+use lib.Signed.{ltZ}
+use mir.Syntax.{w64}
+use mir.Val.{SFits, toZ, ofZ}
+use mir.Facts.{toZ-ofZ}
+use lib.ListN.{length, getD}
+use borrow.Author.Tests.{lt-ltb, le-ltb, le-leb, ne-eqb, ltb-true}
+use Rattle.text.specs.Blank.{isBlank, unbroken}
+use Rattle.text.specs.Number.{isDigit, onward, natural, within, mapped, numberOf}
+use Rattle.text.specs.Piece.{pieces}
+use Rattle.text.specs.Decimal.{digitsOnto, digits, decimalOf}
+use Rattle.text.specs.Laws.{WriteThenRead, NoBlank, OnePiece}
+use Rattle.text.proofs.Pieces.{one-run}
+use Rattle.text.proofs.Numbers.{digit-yes, onward-yes, natural-onward, number-plain}
+use Rattle.text.proofs.Clash.{clash}
+
+-- the last digit
+abbrev pub last : ℕ → ℕ
+last n = 48 + n % 10
+
+onto-last : (fuel n : ℕ) (t : List ℕ) → n < 10 → digitsOnto fuel n t ≡ last n ∷ t
+unfolding digitsOnto
+onto-last zero n t h = refl
+onto-last (suc fuel) n t h = rw (digitsOnto, lt-ltb n 10 h)
+
+onto-more : (fuel n : ℕ) (t : List ℕ) → 10 ≤ n → digitsOnto (suc fuel) n t ≡ digitsOnto fuel (n / 10) (last n ∷ t)
+unfolding digitsOnto
+onto-more fuel n t h = rw (digitsOnto, le-ltb n 10 h)
+
+onto-any : (f g n : ℕ) (t : List ℕ) → n ≤ f → n ≤ g → digitsOnto f n t ≡ digitsOnto g n t
+onto-any zero g n t a b = onto-last zero n t (omega arith) ∙ sym (onto-last g n t (omega arith))
+onto-any (suc f) zero n t a b = onto-last (suc f) n t (omega arith) ∙ sym (onto-last zero n t (omega arith))
+onto-any (suc f) (suc g) n t a b = go (decLt n 10) (onto-any f g (n / 10) (last n ∷ t))
+  where
+    go : Dec (n < 10) → (n / 10 ≤ f → n / 10 ≤ g → digitsOnto f (n / 10) (last n ∷ t) ≡ digitsOnto g (n / 10) (last n ∷ t))
+        → digitsOnto (suc f) n t ≡ digitsOnto (suc g) n t
+    go (yes h) ih = onto-last (suc f) n t h ∙ sym (onto-last (suc g) n t h)
+    go (no h) ih = onto-more f n t (omega arith) ∙ ih (omega arith) (omega arith) ∙ sym (onto-more g n t (omega arith))
+
+-- the digits of n in front of t
+abbrev pub inFront : ℕ → List ℕ → List ℕ
+inFront n t = digitsOnto n n t
+
+pub digits-last : (n : ℕ) (t : List ℕ) → n < 10 → inFront n t ≡ last n ∷ t
+digits-last n t h = onto-last n n t h
+
+pub digits-more : (n : ℕ) (t : List ℕ) → 10 ≤ n → inFront n t ≡ inFront (n / 10) (last n ∷ t)
+digits-more zero t h = absurd (omega arith)
+digits-more (suc n) t h = onto-more n (suc n) t h ∙ onto-any n (suc n / 10) (suc n / 10) (last (suc n) ∷ t) (omega arith) (omega arith)
+
+-- what holds of each digit in front holds of all of them
+last-digit : (n : ℕ) → isDigit (last n) ≡ true
+last-digit n = digit-yes (last n) (omega arith) (omega arith)
+
+last-blank : (n : ℕ) → isBlank (last n) ≡ false
+unfolding isBlank
+last-blank n = rw (ne-eqb (last n) 32 (λ e. omega arith), ne-eqb (last n) 10 (λ e. omega arith), ne-eqb (last n) 13 (λ e. omega arith))
+
+-- a digit put behind m
+last-onward : (m n : ℕ) (t : List ℕ) → onward m (last n ∷ t) ≡ onward (m * 10 + n % 10) t
+last-onward m n t =
+    let e : last n - 48 ≡ n % 10 = omega arith in
+    onward-yes m (last n) t (last-digit n) ∙ rw e
+
+onto-onward : (fuel n : ℕ) (t : List ℕ) → n ≤ fuel → onward 0 (digitsOnto fuel n t) ≡ onward n t
+onto-onward zero n t h = rw (onto-last zero n t (omega arith)) (last-onward 0 n t ∙ ap (λ (k : ℕ). onward k t) (omega arith))
+onto-onward (suc fuel) n t h = go (decLt n 10) (onto-onward fuel (n / 10) (last n ∷ t))
+  where
+    go : Dec (n < 10) → (n / 10 ≤ fuel → onward 0 (digitsOnto fuel (n / 10) (last n ∷ t)) ≡ onward (n / 10) (last n ∷ t))
+        → onward 0 (digitsOnto (suc fuel) n t) ≡ onward n t
+    go (yes l) ih = rw (onto-last (suc fuel) n t l) (last-onward 0 n t ∙ ap (λ (k : ℕ). onward k t) (omega arith))
+    go (no l) ih = rw (onto-more fuel n t (omega arith)) (ih (omega arith) ∙ last-onward (n / 10) n t ∙ ap (λ (k : ℕ). onward k t) (omega arith))
+
+-- the first of the digits
+onto-first : (fuel n : ℕ) (t : List ℕ) → (0 < length (digitsOnto fuel n t)) × (48 ≤ getD (digitsOnto fuel n t) 0 0)
+unfolding digitsOnto
+onto-first zero n t = (omega arith, omega arith)
+onto-first (suc fuel) n t = go (decLt n 10) (onto-first fuel (n / 10) (last n ∷ t))
+  where
+    go : Dec (n < 10) → (0 < length (digitsOnto fuel (n / 10) (last n ∷ t))) × (48 ≤ getD (digitsOnto fuel (n / 10) (last n ∷ t)) 0 0)
+        → (0 < length (digitsOnto (suc fuel) n t)) × (48 ≤ getD (digitsOnto (suc fuel) n t) 0 0)
+    go (yes l) ih = rw (onto-last (suc fuel) n t l) (omega arith, omega arith)
+    go (no l) ih = rw (onto-more fuel n t (omega arith)) ih
+
+last-unbroken : (n : ℕ) (t : List ℕ) → unbroken t ≡ true → unbroken (last n ∷ t) ≡ true
+unfolding unbroken
+last-unbroken n t h = rw (unbroken, last-blank n) h
+
+onto-unbroken : (fuel n : ℕ) (t : List ℕ) → unbroken t ≡ true → unbroken (digitsOnto fuel n t) ≡ true
+unfolding digitsOnto
+onto-unbroken zero n t h = last-unbroken n t h
+onto-unbroken (suc fuel) n t h = go (decLt n 10) (onto-unbroken fuel (n / 10) (last n ∷ t) (last-unbroken n t h))
+  where
+    go : Dec (n < 10) → unbroken (digitsOnto fuel (n / 10) (last n ∷ t)) ≡ true → unbroken (digitsOnto (suc fuel) n t) ≡ true
+    go (yes l) ih = rw (onto-last (suc fuel) n t l) (last-unbroken n t h)
+    go (no l) ih = rw (onto-more fuel n t (omega arith)) ih
+
+-- the digits of n are read as n
+digits-natural : (n : ℕ) → natural (digits n) ≡ some n
+unfolding digits onward
+digits-natural n = natural-onward (digits n) (onto-first n n [] .0) ∙ onto-onward n n [] (omega arith)
+
+digits-within : (most n : ℕ) → n ≤ most → within most (natural (digits n)) ≡ some n
+unfolding within
+digits-within most n h = rw (digits-natural n, le-leb n most h)
+
+digits-number : (n : ℕ) → n < 2 ^ 63 → numberOf (digits n) ≡ some (pos n)
+unfolding digits
+digits-number n h =
+    number-plain (digits n) (onto-first n n [] .0) (λ e. omega (arith, onto-first n n [] .1))
+    ∙ ap (mapped pos) (digits-within 9223372036854775807 n (omega arith))
+
+minus-number : (n : ℕ) → n ≤ 2 ^ 63 → numberOf (45 ∷ digits n) ≡ some (negℤ (pos n))
+unfolding numberOf
+minus-number n h = ap (mapped (λ k. negℤ (pos k))) (digits-within (2 ^ 63) n h)
+
+pub write-then-read : WriteThenRead
+unfolding decimalOf
+write-then-read (pos n) h = digits-number n h
+write-then-read (negsuc n) h = minus-number (suc n) h
+
+pub no-blank : NoBlank
+unfolding decimalOf digits unbroken isBlank
+no-blank (pos n) = onto-unbroken n n [] refl
+no-blank (negsuc n) = onto-unbroken (suc n) (suc n) [] refl
+
+one-text : (t : List ℕ) → 0 < length t → unbroken t ≡ true → pieces t ≡ record { at = 0; says = numberOf t } ∷ []
+one-text [] h u = absurd (omega arith)
+one-text (b ∷ t) h u = one-run b t u
+
+some-byte : (z : ℤ) → 0 < length (decimalOf z)
+unfolding decimalOf digits
+some-byte (pos n) = onto-first n n [] .0
+some-byte (negsuc n) = omega arith
+
+pub one-piece : OnePiece
+one-piece z h = rw (← write-then-read z h) (one-text (decimalOf z) (some-byte z) (no-blank z))
+
+-- the two cases of the decimal form, by the test that the code makes
+minus-form : (n : ℤ) → ltZ n (pos 0) ≡ true → 45 ∷ digits (natAbs n) ≡ decimalOf n
+unfolding decimalOf
+minus-form (pos n) h = absurd (omega ((arith, ltb-true n 0 h)))
+minus-form (negsuc n) h = refl
+
+plain-form : (n : ℤ) → ltZ n (pos 0) ≡ false → digits (natAbs n) ≡ decimalOf n
+unfolding decimalOf
+plain-form (pos n) h = refl
+plain-form (negsuc n) h = clash (cc)
+
+module _ {n : ℤ} (fit : SFits w64 n) where
+  pub form-minus : ltZ (toZ w64 (ofZ w64 n)) (pos 0) ≡ true → 45 ∷ digits (natAbs n) ≡ decimalOf n
+  form-minus h = minus-form n (rw (toZ-ofZ fit) at h)
+
+  pub form-plain : ltZ (toZ w64 (ofZ w64 n)) (pos 0) ≡ false → digits (natAbs n) ≡ decimalOf n
+  form-plain h = plain-form n (rw (toZ-ofZ fit) at h)

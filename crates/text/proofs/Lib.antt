@@ -1,0 +1,12 @@
+-- The laws behind the proofs, a file for each thing that they are about.
+pub mod Clash
+pub mod Blanks
+pub mod Pieces
+pub mod Numbers
+pub mod Signs
+pub mod Walks
+pub mod Wants
+pub mod Answers
+pub mod Decimals
+pub mod Places
+pub mod Examples

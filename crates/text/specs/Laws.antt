@@ -1,0 +1,42 @@
+-- The laws of reading and writing. `proofs/Decimals.antt` proves the first three, `proofs/Answers.antt` the others.
+--     Inside64 z       z is a number of 64 signed bits
+--     WriteThenRead    reading the decimal form of a number gives the number back
+--     NoBlank          the decimal form of a number has no blank byte
+--     OnePiece         so that as a text it is one piece, which begins at 0 and says the number
+--     Nineteen         a text with a place of refusal 19 is refused with 19 and that place, whatever the space
+--     Eleven           any other text that finds too little space is refused with 11 and the entries that it needs
+-- Assumes nothing.
+use Prim.Native.Nat.{ℕ, _^_, _<_}
+use mathlib.Core.Path.{_≡_}
+use mathlib.Core.Bool.{true}
+use mathlib.Core.Option.{none, some}
+use mathlib.Core.List.{List, [], _∷_}
+use lib.IntN.{ℤ, pos, negsuc}
+use Rattle.text.specs.Blank.{unbroken}
+use Rattle.text.specs.Number.{numberOf}
+use Rattle.text.specs.Piece.{pieces, numbers}
+use Rattle.text.specs.Reading.{handed, place19, readingOf}
+use Rattle.text.specs.Refusal.{readingRefusal}
+use Rattle.text.specs.declared.Format.{Format}
+use Rattle.text.specs.Decimal.{decimalOf}
+
+abbrev pub Inside64 : ℤ → Type 0
+Inside64 (pos n) = n < 2 ^ 63
+Inside64 (negsuc n) = n < 2 ^ 63
+
+abbrev pub WriteThenRead : Type 0
+WriteThenRead = (z : ℤ) → Inside64 z → numberOf (decimalOf z) ≡ some z
+
+abbrev pub NoBlank : Type 0
+NoBlank = (z : ℤ) → unbroken (decimalOf z) ≡ true
+
+abbrev pub OnePiece : Type 0
+OnePiece = (z : ℤ) → Inside64 z → pieces (decimalOf z) ≡ record { at = 0; says = some z } ∷ []
+
+abbrev pub Nineteen : Type 0
+Nineteen = (f : Format) (t : List ℕ) (room p : ℕ) → place19 f t ≡ some p
+    → readingRefusal (readingOf f t room) ≡ some (record { number = 19; place = p })
+
+abbrev pub Eleven : Type 0
+Eleven = (f : Format) (t : List ℕ) (room : ℕ) → place19 f t ≡ none → room < handed f (numbers (pieces t))
+    → readingRefusal (readingOf f t room) ≡ some (record { number = 11; place = handed f (numbers (pieces t)) })

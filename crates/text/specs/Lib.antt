@@ -1,0 +1,13 @@
+-- The promises of `text`, in reading order: what a piece of text is and which number it says, the answer of `read`, the
+-- decimal form of a number, the answers of `write` and `copy`, the number and the place of each refusal, the laws, and last
+-- what the functions inside the crate promise each other.
+pub mod Choice
+pub mod Blank
+pub mod Number
+pub mod Piece
+pub mod Reading
+pub mod Decimal
+pub mod Writing
+pub mod Refusal
+pub mod Laws
+pub mod Inside

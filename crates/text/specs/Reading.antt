@@ -1,0 +1,75 @@
+-- What `read` answers, and what it leaves in the lent slice.
+--     textMost              the most bytes that a text may have
+--     wanted f v            how many numbers a text of the format f has that begins with v; none where v is out of range
+--     wantedOr1 w           the count w, or 1 where no count is wanted
+--     handed f ns           how many of a text's numbers ns are handed on: those wanted, or v alone where v is out of range
+--     countPlace w n ps     where a text of n bytes with the pieces ps breaks the count w: at its end where they are too few,
+--                           at the first extra piece where they are too many; none where they are just as many, or where no
+--                           count is wanted
+--     firstPlace f ns n ps  the same by the text's numbers ns: with no number at all they are too few
+--     orElse p q            the place p, or q where there is none
+--     place19 f t           the place of refusal 19; none where the text t is not refused
+--     answer p k room       refused at the place p; or else k numbers, where they fit into `room` entries
+--     readingOf f t room    the answer to the text t
+--     leftBy r ns out       what the slice holds in the end, where it held `out` and the text's numbers are ns
+-- Assumes nothing.
+use Prim.Native.Nat.{ℕ, _+_, _*_}
+use mathlib.Core.Bool.{_&&_}
+use mathlib.Core.List.{List, [], _∷_, _++_}
+use mathlib.Core.Option.{Option, none, some}
+use lib.Dec.{ltb, leb}
+use lib.IntN.{ℤ, pos, negsuc}
+use lib.ListN.{length, take, drop}
+use Rattle.text.specs.Choice.{pick}
+use Rattle.text.specs.Piece.{Piece, pieces, firstBad, numbers, placeAt}
+use Rattle.text.specs.declared.Format.{Format}
+use Rattle.text.specs.declared.Reading.{Reading}
+use Rattle.text.specs.declared.Reading.the-variants.{Numbers, Refused, Short}
+
+abbrev pub textMost : ℕ
+textMost = 65536
+
+unfoldable pub wanted : Format → ℤ → Option ℕ
+wanted f (pos v) = pick (leb 1 v && leb v (f .most)) (some (f .each * v + f .more)) none
+wanted f (negsuc v) = none
+
+abbrev pub wantedOr1 : Option ℕ → ℕ
+wantedOr1 none = 1
+wantedOr1 (some w) = w
+
+unfoldable pub handed : Format → List ℤ → ℕ
+handed f [] = 0
+handed f (v ∷ ns) = wantedOr1 (wanted f v)
+
+unfoldable pub countPlace : Option ℕ → ℕ → List Piece → Option ℕ
+countPlace none n ps = none
+countPlace (some w) n ps =
+    pick (ltb (length ps) w) (some n)
+    (pick (ltb w (length ps)) (some (placeAt ps w))
+    none)
+
+unfoldable pub firstPlace : Format → List ℤ → ℕ → List Piece → Option ℕ
+firstPlace f [] n ps = some n
+firstPlace f (v ∷ ns) n ps = countPlace (wanted f v) n ps
+
+abbrev pub orElse : Option ℕ → Option ℕ → Option ℕ
+orElse none q = q
+orElse (some p) q = some p
+
+unfoldable pub place19 : Format → List ℕ → Option ℕ
+place19 f t =
+    pick (ltb textMost (length t)) (some textMost)
+    (orElse (firstBad (pieces t))
+    (firstPlace f (numbers (pieces t)) (length t) (pieces t)))
+
+unfoldable pub answer : Option ℕ → ℕ → ℕ → Reading
+answer (some p) k room = Refused p
+answer none k room = pick (ltb room k) (Short k) (Numbers k)
+
+unfoldable pub readingOf : Format → List ℕ → ℕ → Reading
+readingOf f t room = answer (place19 f t) (handed f (numbers (pieces t))) room
+
+unfoldable pub leftBy : Reading → List ℤ → List ℤ → List ℤ
+leftBy (Numbers k) ns out = take k ns ++ drop k out
+leftBy (Refused p) ns out = out
+leftBy (Short k) ns out = out
