@@ -1,0 +1,15 @@
+-- The laws behind the crate's promises, in reading order. Each upper crate may cite them.
+pub mod Choice
+pub mod Count
+pub mod Signed
+pub mod Pairings
+pub mod Sides
+pub mod Accepted
+pub mod Facts
+pub mod Marking
+pub mod Partners
+pub mod Seeking
+pub mod Order
+pub mod Relabel
+pub mod Alike
+pub mod Rows

@@ -1,0 +1,12 @@
+-- What a reader of the crate `symbol` must believe, in reading order.
+pub mod Count
+pub mod Table
+pub mod Check
+pub mod Marks
+pub mod Ready
+pub mod Symbol
+pub mod Generator
+pub mod Work
+pub mod Subgroup
+pub mod Same
+pub mod Alike

@@ -1,0 +1,47 @@
+-- What an accepted symbol is, in the words of the field: the meaning of the seven checks.
+--
+--   IsSymbol v t     v finite vertices with their pairings make a Farey symbol
+--   Verdict v t r    r is the answer of the checks, and it is that the symbol is accepted exactly when it is one
+--
+-- proofs/Accepted.antt, `accepted`: the checks accept exactly the symbols.
+use mathlib.Core.Path.{_≡_}
+use mathlib.Core.Logic.{_⊎_, _↔_}
+use mathlib.Core.List.{List}
+use Prim.Native.Nat.{ℕ, _+_, _*_, _≤_, _<_}
+use lib.ListN.{length}
+use lib.IntN.{ℤ, pos, negsuc, natAbs}
+use Rattle.matrix.specs.Matrix.{det}
+use Rattle.symbol.specs.Table.{numer, denom, pairing, sideAt, frame}
+use Rattle.symbol.specs.Check.{sides, checkOf}
+use Rattle.symbol.specs.declared.Checked.{Checked}
+use Rattle.symbol.specs.declared.Checked.the-variants.{Accepted}
+
+-- a vertex that is 0/1
+pub record ZeroAt (v : ℕ) (t : List ℤ) : Type 0 where
+  pub at : ℕ
+  pub below : at < v
+  pub num : numer t at ≡ pos 0
+  pub den : denom t at ≡ pos 1
+
+-- a free label that just two sides have
+pub record FreeLabel (v : ℕ) (t : List ℤ) (x : ℤ) : Type 0 where
+  pub label : ℕ
+  pub is : x ≡ pos label
+  pub low : 1 ≤ label
+  pub high : label ≤ v + 1
+  pub twice : sides v t x ≡ 2
+
+pub record IsSymbol (v : ℕ) (t : List ℤ) : Type 0 where
+  pub some : 1 ≤ v
+  pub most : v ≤ 1023
+  pub long : length t ≡ 3 * v + 1
+  pub numers : (i : ℕ) → i < v → natAbs (numer t i) ≤ 1000000000
+  pub denoms : (i : ℕ) → i < v → (1 ≤ natAbs (denom t i)) × (natAbs (denom t i) ≤ 1000000000) × (denom t i ≡ pos (natAbs (denom t i)))
+  pub neighbours : (i : ℕ) → i ≤ v → det (frame (sideAt v t i)) ≡ pos 1
+  pub zero : ZeroAt v t
+  pub pairings : (i : ℕ) → i ≤ v → (pairing v t i ≡ negsuc 1) ⊎ (pairing v t i ≡ negsuc 2) ⊎ FreeLabel v t (pairing v t i)
+  pub odd : v ≡ 1 → (pairing v t 0 ≡ negsuc 2) ⊎ (pairing v t 1 ≡ negsuc 2)
+
+pub record Verdict (v : ℕ) (t : List ℤ) (r : Checked) : Type 0 where
+  pub returned : r ≡ checkOf v t
+  pub means : (r ≡ Accepted) ↔ IsSymbol v t
