@@ -1,0 +1,9 @@
+pub mod Find
+pub mod Order
+pub mod Table
+pub mod Numbered
+pub mod Select
+pub mod Space
+pub mod Marks
+pub mod Filled
+pub mod Instances
