@@ -1,0 +1,21 @@
+-- The genus (document 01, "Figures"): 12 g = 12 + index - 3 e2 - 4 e3 - 6 cusps.
+--     genusOf index e2 e3 cusps     the genus, or refusal 18 where the formula gives no whole number from 0
+--     Genus index e2 e3 cusps       THE THEOREM on genusOf: it is g exactly where g satisfies the formula, and it is refused
+--                                   where no number does
+-- `proofs/GenusOf.antt` proves `genus-is`.
+use mathlib.Core.Path.{_≡_}
+use Prim.Native.Nat.{ℕ, _+_, _-_, _*_, _/_, _%_}
+use lib.Dec.{eqb, leb}
+use Rattle.points.specs.Find.{pick}
+use Rattle.figures.specs.Figure.{Figure, value, refused}
+
+unfoldable pub genusOf : (index e2 e3 cusps : ℕ) → Figure
+genusOf index e2 e3 cusps =
+    let plus = 12 + index in
+    let minus = 3 * e2 + 4 * e3 + 6 * cusps in
+    pick (leb minus plus) (pick (eqb ((plus - minus) % 12) 0) (value ((plus - minus) / 12)) (refused 18 0)) (refused 18 0)
+
+pub record Genus (index e2 e3 cusps : ℕ) : Type 0 where
+  pub right : (g : ℕ) → genusOf index e2 e3 cusps ≡ value g → 12 * g + 3 * e2 + 4 * e3 + 6 * cusps ≡ 12 + index
+  pub found : (g : ℕ) → 12 * g + 3 * e2 + 4 * e3 + 6 * cusps ≡ 12 + index → genusOf index e2 e3 cusps ≡ value g
+  pub none : ((g : ℕ) → 12 * g + 3 * e2 + 4 * e3 + 6 * cusps ≡ 12 + index → ⊥) → genusOf index e2 e3 cusps ≡ refused 18 0

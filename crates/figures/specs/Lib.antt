@@ -1,0 +1,5 @@
+pub mod Cusps
+pub mod Figure
+pub mod GenusOf
+pub mod LevelOf
+pub mod Scan

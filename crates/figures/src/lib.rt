@@ -1,0 +1,198 @@
+// The figures of document 01, of tables that the crate `points` leaves in the work space: fixed points, cusps and their widths,
+// genus and level. The functions have `requires`, for they are called from inside the engine.
+ghost use mathlib.Core.Path.{_≡_};
+ghost use mathlib.Core.List.{_++_};
+ghost use Prim.Native.Nat.{_<_};
+ghost use Rattle.points.specs.Space.{entries};
+ghost use Rattle.points.specs.Marks.{listed, Marked};
+ghost use Rattle.figures.specs.Cusps.{cycle, fixedPoints};
+ghost use Rattle.figures.specs.Figure.{levelSays, genusSays};
+ghost use Rattle.figures.specs.GenusOf.{genusOf};
+ghost use Rattle.figures.specs.LevelOf.{gcd, lcm, fitting, levelOf};
+ghost use Rattle.figures.specs.Scan.{Holds, tableT, Permuted, NewCycle, Turn, Turned, CuspWidths, FiguresOf, PositiveTable};
+use points::R_TABLE;
+use points::S_TABLE;
+use points::T_TABLE;
+use points::WIDTHS;
+use points::has;
+use points::push;
+
+// How many places the table of n entries at `off` fixes.
+pub fn fixed_points(w: &[u16], off: usize, n: usize) -> usize
+    requires { ⌜ Holds off n (now w) ⌝ }
+    ensures { λ r. ⌜ r ≡ fixedPoints (entries off n (now (w .entry))) ⌝ }
+{
+    let mut count: usize = 0;
+    let mut i: usize = 0;
+    while i < n {
+        let x = space::index(w[off + i]);
+        if x == i {
+            count += 1;
+        }
+        i += 1;
+    }
+    count
+}
+
+// The points of the cycle of x under T are listed behind the c0 that are. How many are listed now.
+fn mark_cycle(w: &mut [u16], n: usize, x: usize, c0: usize) -> usize
+    requires { ⌜ NewCycle n x c0 (now w) ⌝ }
+    ensures { λ r. ⌜ Marked n (now (w .entry)) (now (w .exit)) (listed c0 (now (w .entry)) ++ cycle (tableT n (now (w .entry))) x) r ⌝ }
+{
+    let mut c = c0;
+    let mut y = x;
+    loop {
+        push(w, n, y, c);
+        c += 1;
+        y = space::index(w[T_TABLE + y]);
+        if y == x {
+            return c;
+        }
+    }
+}
+
+// The state of the scan: c points are listed, of k cycles.
+struct Counts {
+    c: usize,
+    k: usize,
+}
+
+// One point of the scan: if it is in no cycle so far, its cycle is the next cusp's, and it is the smallest point there.
+fn turn(w: &mut [u16], n: usize, i: usize, c: usize, k: usize) -> Counts
+    requires { ⌜ Turn n i c k (now w) ⌝ }
+    ensures { λ r. ⌜ Turned n i (now (w .entry)) (now (w .exit)) (r .c) (r .k) ⌝ }
+{
+    if has(w, n, i, c) {
+        return Counts { c, k };
+    }
+    let c1 = mark_cycle(w, n, i, c);
+    w[WIDTHS + k] = (c1 - c) as u16;
+    Counts { c: c1, k: k + 1 }
+}
+
+// The widths of the cycles of T, by smallest point. How many there are.
+pub fn cusp_widths(w: &mut [u16], n: usize) -> usize
+    requires { ⌜ Permuted n (now w) ⌝ }
+    ensures { λ r. ⌜ CuspWidths n (now (w .entry)) (now (w .exit)) r ⌝ }
+{
+    let mut c: usize = 0;
+    let mut k: usize = 0;
+    let mut i: usize = 0;
+    while i < n {
+        let r = turn(w, n, i, c, k);
+        c = r.c;
+        k = r.k;
+        i += 1;
+    }
+    k
+}
+
+// The genus, or that the formula gives no whole number from 0.
+pub enum Genus {
+    Genus(u64),
+    NoGenus,
+}
+
+// The genus formula.
+pub fn genus_of(index: usize, e2: usize, e3: usize, cusps: usize) -> Genus
+    requires { ⌜ (index < 4294967296) × (e2 < 4294967296) × (e3 < 4294967296) × (cusps < 4294967296) ⌝ }
+    ensures { λ r. ⌜ genusSays r ≡ genusOf index e2 e3 cusps ⌝ }
+{
+    let plus = 12 + index;
+    let minus = 3 * e2 + 4 * e3 + 6 * cusps;
+    if plus < minus {
+        return Genus::NoGenus;
+    }
+    let d = plus - minus;
+    if d % 12 != 0 {
+        return Genus::NoGenus;
+    }
+    Genus::Genus((d / 12) as u64)
+}
+
+// The level, or that it is at or over 2^64.
+pub enum Level {
+    Level(u64),
+    TooLarge,
+}
+
+fn wide64(x: u16) -> u64
+    ensures { λ r. ⌜ r ≡ x ⌝ }
+{
+    x as u64
+}
+
+// The greatest common divisor.
+fn gcd_of(a: u64, b: u64) -> u64
+    ensures { λ r. ⌜ r ≡ gcd a b ⌝ }
+{
+    let mut x = a;
+    let mut y = b;
+    while y != 0 {
+        let z = x % y;
+        x = y;
+        y = z;
+    }
+    x
+}
+
+// The least common multiple of two positive numbers.
+fn lcm_of(a: u64, b: u64) -> Level
+    requires { ⌜ (0 < a) × (0 < b) ⌝ }
+    ensures { λ r. ⌜ levelSays r ≡ fitting (lcm a b) ⌝ }
+{
+    let g = gcd_of(a, b);
+    let q = a / g;
+    if 18446744073709551615 / b < q {
+        return Level::TooLarge;
+    }
+    Level::Level(q * b)
+}
+
+// The least common multiple of the table of n positive entries at `off`: of the widths it is the level. A common multiple
+// never falls as entries come to it, so the first one over is the answer.
+pub fn level_of(w: &[u16], off: usize, n: usize) -> Level
+    requires { ⌜ PositiveTable off n (now w) ⌝ }
+    ensures { λ r. ⌜ levelSays r ≡ levelOf (entries off n (now (w .entry))) ⌝ }
+{
+    let mut m: u64 = 1;
+    let mut i: usize = 0;
+    while i < n {
+        let x = wide64(w[off + i]);
+        let r = lcm_of(m, x);
+        let Level::Level(k) = r else {
+            return Level::TooLarge;
+        };
+        m = k;
+        i += 1;
+    }
+    Level::Level(m)
+}
+
+// The figures of the tables.
+pub struct Figures {
+    pub e2: usize,
+    pub e3: usize,
+    pub cusps: usize,
+    pub genus: Genus,
+    pub level: Level,
+}
+
+// The figures of the tables of S, R and T of n points. The widths stay at WIDTHS.
+pub fn figures_of(w: &mut [u16], n: usize) -> Figures
+    requires { ⌜ Permuted n (now w) ⌝ }
+    ensures { λ r. ⌜ FiguresOf n (now (w .entry)) (now (w .exit)) (r .e2) (r .e3) (r .cusps) (r .genus) (r .level) ⌝ }
+{
+    let e2 = fixed_points(w, S_TABLE, n);
+    let e3 = fixed_points(w, R_TABLE, n);
+    let cusps = cusp_widths(w, n);
+    let level = level_of(w, WIDTHS, cusps);
+    let genus = genus_of(n, e2, e3, cusps);
+    Figures {
+        e2,
+        e3,
+        cusps,
+        genus,
+        level,
+    }
+}
