@@ -1,0 +1,133 @@
+-- Every real position is joined with one root by steps that write nothing.
+--
+-- In order: corners of one triangle (`near-turns`); corners of all triangles, from the last one down (`near-corner`); the root and the outer faces
+-- (`Root`, `root`).
+--
+-- Why: corner 0 of a triangle meets a corner of a later triangle, until the last one, which meets the last side. With one vertex there
+-- is no triangle, and one of the two outer faces, or both, are real.
+-- Assumes nothing.
+use mathlib.Core.Path.{_≡_, refl, sym, _∙_, ap}
+use mathlib.Core.Logic.{inl, inr}
+use mathlib.Core.Bool.{false}
+use mathlib.Core.List.{List}
+use Prim.Native.Nat.{ℕ, zero, suc, _+_, _*_, _/_, _≤_, _<_}
+use native.Mathlib.Omega.{arith}
+use native.Mathlib.Decide.{ℕ-discrete}
+use lib.IntN.{ℤ, pos}
+use Rattle.matrix.specs.Matrix.{det}
+use Rattle.matrix.specs.Words.{S, Q}
+use Rattle.matrix.specs.Action.{at}
+use Rattle.symbol.specs.Symbol.{IsSymbol}
+use Rattle.polygon.specs.Cut.{corners, outer, places, flip}
+use Rattle.polygon.specs.Step.{oddAt, real, Real, stepS, turnQ}
+use Rattle.symbol.proofs.Choice.{either, clash}
+use Rattle.polygon.proofs.Framed.{Near, near-refl, near-trans, near-step}
+use Rattle.polygon.proofs.Flip.{inner, outside, place, Cutting, order-three, real-corner, real-face, real-in, turn-next, which, c0, c1, c2}
+use Rattle.polygon.proofs.Steps.{involution, step-across, under-real}
+
+module _ (v : ℕ) (t : List ℤ) (ok : IsSymbol v t) (C : Cutting v t) where
+  abbrev Joined : ℕ → ℕ → Type 0
+  Joined x y = Near (stepS v t) (turnQ v) (C .frame) x y
+
+  unit : (p : ℕ) → Real v t p → det (C .frame p) ≡ pos 1
+  unit p r = C .unit p (real-in v t ok p r)
+
+  via : (x y z : ℕ) → Real v t x → Real v t y → Real v t z → Joined x y → Joined y z → Joined x z
+  via x y z a b c = near-trans (stepS v t) (turnQ v) (C .frame) (involution v t ok C) (order-three v) x y z (unit x a) (unit y b) (unit z c)
+
+  self : (x : ℕ) → Real v t x → Joined x x
+  self x r = near-refl (stepS v t) (turnQ v) (C .frame) (involution v t ok C) (order-three v) x (unit x r)
+
+  -- over an edge
+  near-flip : (x y : ℕ) → Real v t x → Real v t y → flip v t x ≡ y → Joined x y
+  near-flip x y a b e =
+      near-step (stepS v t) (turnQ v) (C .frame) (involution v t ok C) (order-three v) S x y (unit x a)
+      (step-across v t ok C x a (ap (real v t) e ∙ b) ∙ e)
+      (rw (← e) (C .turn-S x (real-in v t ok x a)))
+
+  -- round a corner
+  near-turn : (x y : ℕ) → x < corners v → turnQ v x ≡ y → Joined x y
+  near-turn x y h e =
+      near-step (stepS v t) (turnQ v) (C .frame) (involution v t ok C) (order-three v) Q x y (unit x (real-corner v t x h)) e (inl (C .turn-Q x h ∙ ap (C .frame) e))
+
+  -- from corner 0 to p
+  near-turns : (p q : ℕ) → p < corners v → q ≡ 3 * (p / 3) → Joined q p
+  near-turns p q h e = elim (which p) [
+    | c0 k ↦ (let z : q ≡ p = omega arith in rw z (self p (real-corner v t p h)))
+    | c1 k ↦ near-turn q p (omega arith) (turn-next v q (omega arith) (omega arith) ∙ omega arith)
+    | c2 k ↦
+        via q (q + 1) p (real-corner v t q (omega arith)) (real-corner v t (q + 1) (omega arith)) (real-corner v t p h)
+        (near-turn q (q + 1) (omega arith) (turn-next v q (omega arith) (omega arith)))
+        (near-turn (q + 1) p (omega arith) (turn-next v (q + 1) (omega arith) (omega arith) ∙ omega arith))
+  ]
+
+  -- the inner face of the last side
+  abbrev last : ℕ
+  last = flip v t (outer v v)
+
+  near-corner : (n p : ℕ) → Real v t last → p < corners v → corners v ≤ p + n → Joined last p
+  near-corner zero p r h k = absurd (omega arith)
+  near-corner (suc n) p r h k =
+      let o = 3 * (p / 3) in
+      let ro = real-corner v t o (omega arith) in
+      let rp = real-corner v t p h in
+      let q = flip v t o in
+      let u = C .way o (omega arith) .up (omega arith) (omega arith) in
+      let b = u .0 in
+      let there : Joined last o = elim (u .1) [
+        | inl e ↦ via last q o r (real-corner v t q e) ro (near-corner n q r e (omega arith)) (near-flip q o (real-corner v t q e) ro (C .flips o))
+        | inr e ↦ (let z : last ≡ o = ap (flip v t) (sym e) ∙ C .flips o in rw z (self o ro))
+      ] in
+      via last o p r ro rp there (near-turns p o h refl)
+
+  pub record Root : Type 0 where
+    pub at : ℕ
+    pub counts : Real v t at
+    pub near : (p : ℕ) → Real v t p → Joined at p
+
+  -- an outer face that is real, from the inner face of the last side
+  near-face : (p i : ℕ) → Real v t last → Real v t p → p ≡ outer v i → Joined last p
+  near-face p i r rp e =
+      let low = real-in v t ok p rp in
+      let q = flip v t p in
+      elim (C .way p low .inside (omega arith)) [
+        | inl h ↦ via last q p r (real-corner v t q h) rp (near-corner (corners v) q r h (omega arith)) (near-flip q p (real-corner v t q h) rp (C .flips p))
+        | inr one ↦ elim (ℕ-discrete p (outer v v)) [
+          | yes z ↦ near-flip last p r rp (C .flips (outer v v) ∙ sym z)
+          | no z ↦ (let y : last ≡ p = other p low one z in rw y (self p rp))
+        ]
+      ]
+    where
+      -- with one vertex there are two positions
+      other : (p : ℕ) → p < places v → v ≡ 1 → (p ≡ outer v v → ⊥) → last ≡ p
+      other p low one z =
+          let a = C .within (outer v v) (omega arith) in
+          let b = C .differs (outer v v) (omega arith) in
+          omega arith
+
+  near-last : Real v t last → (p : ℕ) → Real v t p → Joined last p
+  near-last r p rp = elim (place v p) [ inner h ↦ near-corner (corners v) p r h (omega arith) | outside i e ↦ near-face p i r rp e ]
+
+  -- where the inner face of the last side isn't real, the last side is odd, and its outer face is all there is
+  only : real v t last ≡ false → Real v t (outer v v)
+  only n = elim (either (oddAt v t v)) [ inl o ↦ real-face v t v ∙ o | inr o ↦ clash (under-real v t ok C v (omega arith) o) n ]
+
+  near-only : real v t last ≡ false → (p : ℕ) → Real v t p → Joined (outer v v) p
+  near-only n p rp = elim (ℕ-discrete p (outer v v)) [
+    | yes z ↦ rw z (self (outer v v) (only n))
+    | no z ↦ elim (C .way (outer v v) (omega arith) .inside (omega arith)) [
+      | inl h ↦ clash (real-corner v t last h) n
+      | inr one ↦
+          (let low = real-in v t ok p rp in
+          let a = C .within (outer v v) (omega arith) in
+          let b = C .differs (outer v v) (omega arith) in
+          let y : p ≡ last = omega arith in
+          clash rp (ap (real v t) y ∙ n))
+    ]
+  ]
+
+  pub root : Root
+  root = elim (either (real v t last)) [
+    | inl r ↦ record { at = last; counts = r; near = near-last r }
+    | inr n ↦ record { at = outer v v; counts = only n; near = near-only n }
+  ]
