@@ -1,0 +1,282 @@
+-- THE THEOREM on the coset tables: `cosets-are`, for every accepted symbol.
+--
+-- In order: the maps (`maps`, S and R undone by themselves); Q from S and R; the numbered positions are the real ones (`listed-real`,
+-- `size-is`); a word followed in the tables is the number of where it leads (`run-is`, `leads-is`); the numbering of the tables
+-- (`in-order`); the theorem.
+-- Assumes nothing.
+use mathlib.Core.Path.{_≡_, refl, sym, _∙_, ap}
+use mathlib.Core.Logic.{inl, inr, _↔_}
+use mathlib.Core.Bool.{Bool, true, false, _||_}
+use mathlib.Core.List.{List, [], _∷_}
+use Prim.Native.Nat.{ℕ, zero, suc, _-_, _<_}
+use native.Mathlib.Omega.{arith}
+use lib.Dec.{ltb}
+use lib.ListN.{length, getD, length-append}
+use lib.IntN.{ℤ, pos}
+use Rattle.matrix.specs.Matrix.{Mat, _⊗_, 𝟙, det, matS, matP, matR, matT}
+use Rattle.matrix.specs.Words.{Letter, S, Q, P, value}
+use Rattle.matrix.specs.Euclid.{wordOf}
+use Rattle.matrix.specs.Action as action
+use Rattle.matrix.specs.Theorems.{Acts}
+use Rattle.matrix.proofs.Matrix.{T-is, R-is, ⊗-idr, det-letter}
+use Rattle.matrix.proofs.Action.{acts}
+use Rattle.matrix.proofs.Sign.{det-value}
+use Rattle.symbol.specs.Count.{count}
+use Rattle.symbol.specs.Generator.{generators}
+use Rattle.symbol.proofs.Choice.{either, clash}
+use Rattle.polygon.specs.Cut.{corners, places}
+use Rattle.polygon.specs.Step.{oddAt, real, Real, stepS, turnQ, turned, startOf, originOf}
+use Rattle.polygon.specs.Walk.{goes, ends, arrives}
+use Rattle.polygon.specs.Theorem as polygon
+use Rattle.polygon.specs.Theorem.{Polygon, SameCoset}
+use Rattle.points.specs.Find.{find, _∈_}
+use Rattle.points.specs.Select.{select}
+use Rattle.points.specs.Order.{orderOf, upTo, Maps, Reached, here, by-σ, by-ρ, Numbering}
+use Rattle.points.specs.Table.{at, Renaming, Permutations}
+use Rattle.points.proofs.Find.{getD-find, getD-in}
+use Rattle.points.proofs.Order.{numbering}
+use Rattle.points.proofs.Table.{undone, renaming, permutations}
+use Rattle.points.proofs.Select.{select-yes, select-no}
+use Rattle.points.proofs.Filled.{order-count}
+use Rattle.points.proofs.Numbered.{numbered}
+use Rattle.coset.specs.Tables.{stepR, cosets, tableS, tableR, tableT, indexOf}
+use Rattle.coset.specs.Theorem.{byQ, leads, Led, Cosets}
+
+select-count : (p : ℕ → Bool) (n : ℕ) → length (select p n) ≡ count p n
+unfolding select
+select-count p zero = refl
+select-count p (suc n) = let h = select-count p n in elim (either (p n)) [
+  | inl e ↦ rw (select-yes p n e, e) (omega (arith, length-append (select p n) (n ∷ [])))
+  | inr e ↦ rw (select-no p n e, e) (omega arith)
+]
+
+module _ (v : ℕ) (t : List ℤ) (g : Polygon v t) where
+  abbrev σ : ℕ → ℕ
+  σ = stepS v t
+
+  abbrev κ : ℕ → ℕ
+  κ = turnQ v
+
+  abbrev ρ : ℕ → ℕ
+  ρ = stepR v t
+
+  abbrev origin : ℕ
+  origin = originOf v t
+
+  -- ---- R by S and Q, and Q by S and R
+
+  ρ-is : (x : ℕ) → ρ x ≡ σ (κ (κ (σ x)))
+  unfolding stepR
+  ρ-is x = refl
+
+  κ-is : (x : ℕ) → σ (ρ (ρ (σ x))) ≡ κ x
+  κ-is x = cc (ρ-is (σ x), ρ-is (ρ (σ x)), g .involution x, g .involution (κ (κ x)), g .involution (κ (κ (κ (κ x)))), g .order-three x)
+
+  ρ-three : (x : ℕ) → ρ (ρ (ρ x)) ≡ x
+  ρ-three x = cc (ρ-is x, ρ-is (ρ x), ρ-is (ρ (ρ x)), g .involution (κ (κ (σ x))), g .involution (κ (κ (κ (κ (σ x))))), g .order-three (σ x), g .order-three (κ (κ (κ (σ x)))), g .involution x)
+
+  τ-is : (x : ℕ) → ρ (σ x) ≡ σ (κ (κ x))
+  τ-is x = cc (ρ-is (σ x), g .involution x)
+
+  -- ---- real positions
+
+  ρ-real : (x : ℕ) → Real v t x → Real v t (ρ x)
+  ρ-real x h = rw (ρ-is x) (g .closed S (κ (κ (σ x))) (g .closed P (σ x) (g .closed S x h)))
+
+  listed-real : (x : ℕ) → Reached σ ρ origin x → Real v t x
+  listed-real _ here = g .origin
+  listed-real _ (by-σ {x} r) = g .closed S x (listed-real x r)
+  listed-real _ (by-ρ {x} r) = ρ-real x (listed-real x r)
+
+  -- past the real positions nothing moves
+  σ-still : (x : ℕ) → real v t x ≡ false → σ x ≡ x
+  unfolding stepS
+  σ-still x e = rw e
+
+  κ-still : (x : ℕ) → real v t x ≡ false → κ x ≡ x
+  unfolding turnQ real
+  κ-still x e = elim (either (ltb x (corners v))) [
+    | inl b ↦ clash (ap (λ (c : Bool). c || oddAt v t (x - corners v)) b) e
+    | inr b ↦ rw b
+  ]
+
+  ρ-still : (x : ℕ) → real v t x ≡ false → ρ x ≡ x
+  ρ-still x e = cc (ρ-is x, σ-still x e, κ-still x e)
+
+  maps : Maps σ ρ origin (places v)
+  maps = record {
+    start-low = g .within origin (g .origin);
+    σ-low = λ x h. elim (either (real v t x)) [ inl e ↦ g .within (σ x) (g .closed S x e) | inr e ↦ rw (σ-still x e) h ];
+    ρ-low = λ x h. elim (either (real v t x)) [ inl e ↦ g .within (ρ x) (ρ-real x e) | inr e ↦ rw (ρ-still x e) h ];
+  }
+
+  numbers : Numbering σ ρ origin (places v) (cosets v t)
+  unfolding cosets
+  numbers = numbering σ ρ origin (places v) maps
+
+  -- ---- the numbered positions are the real ones
+
+  reached-at : (x y : ℕ) → x ≡ y → Reached σ ρ origin x → Reached σ ρ origin y
+  reached-at x y e r = rw (sym e) r
+
+  by-κ : (x : ℕ) → Reached σ ρ origin x → Reached σ ρ origin (κ x)
+  by-κ x r = reached-at (σ (ρ (ρ (σ x)))) (κ x) (κ-is x) (by-σ (by-ρ (by-ρ (by-σ r))))
+
+  turned-back : turned v t ≡ true → σ origin ≡ startOf v t
+  unfolding originOf
+  turned-back e = rw e (g .involution (startOf v t))
+
+  not-turned : turned v t ≡ false → origin ≡ startOf v t
+  unfolding originOf
+  not-turned e = rw e
+
+  start-reached : Reached σ ρ origin (startOf v t)
+  start-reached = elim (either (turned v t)) [
+    | inl e ↦ reached-at (σ origin) (startOf v t) (turned-back e) (by-σ here)
+    | inr e ↦ reached-at origin (startOf v t) (not-turned e) here
+  ]
+
+  word-reached : (l : List Letter) (x : ℕ) → Reached σ ρ origin x → Reached σ ρ origin (ends v t x l)
+  word-reached [] x r = r
+  word-reached (S ∷ l) x r = word-reached l (σ x) (by-σ r)
+  word-reached (Q ∷ l) x r = word-reached l (κ x) (by-κ x r)
+  word-reached (P ∷ l) x r = word-reached l (κ (κ x)) (by-κ (κ x) (by-κ x r))
+
+  real-reached : (x : ℕ) → Real v t x → Reached σ ρ origin x
+  real-reached x h = let a = g .reached x h in reached-at (ends v t (startOf v t) (a .word)) x (a .is) (word-reached (a .word) (startOf v t) start-reached)
+
+  size-is : length (cosets v t) ≡ indexOf v t
+  unfolding cosets
+  size-is = order-count maps (real v t) listed-real (λ x h e. real-reached x e) ∙ select-count (real v t) (places v) ∙ g .index
+
+  -- ---- words in the tables
+
+  member : (x : ℕ) → Real v t x → x ∈ cosets v t
+  member x h = numbers .all x (real-reached x h)
+
+  abbrev s : List ℕ
+  s = tableS v t
+
+  abbrev r : List ℕ
+  r = tableR v t
+
+  abbrev u : List ℕ
+  u = tableT v t
+
+  abbrev number : ℕ → ℕ
+  number x = find (cosets v t) x
+
+  names : Renaming σ ρ (cosets v t) s r u
+  unfolding cosets tableS tableR tableT
+  names = renaming σ ρ origin (places v) maps
+
+  q-is : (x : ℕ) → Real v t x → byQ s r (number x) ≡ number (κ x)
+  q-is x h =
+      let a = g .closed S x h in
+      let b = ρ-real (σ x) a in
+      let c = ρ-real (ρ (σ x)) b in
+      cc (names .S .step x (member x h), names .R .step (σ x) (member (σ x) a), names .R .step (ρ (σ x)) (member (ρ (σ x)) b), names .S .step (ρ (ρ (σ x))) (member (ρ (ρ (σ x))) c), κ-is x)
+
+  step-is : (y : Letter) (x : ℕ) → Real v t x → action.step (at s) (byQ s r) y (number x) ≡ number (goes v t y x)
+  step-is S x h = names .S .step x (member x h)
+  step-is Q x h = q-is x h
+  step-is P x h = cc (q-is x h, q-is (κ x) (g .closed Q x h))
+
+  run-is : (l : List Letter) (x : ℕ) → Real v t x → action.run (at s) (byQ s r) (number x) l ≡ number (ends v t x l)
+  run-is [] x h = refl
+  run-is (y ∷ l) x h = ap (λ (z : ℕ). action.run (at s) (byQ s r) z l) (step-is y x h) ∙ run-is l (goes v t y x) (g .closed y x h)
+
+  zero-is : number origin ≡ 0
+  zero-is = ap number (sym (numbers .first)) ∙ numbers .once .place 0 (numbers .some)
+
+  arrives-real : (m : Mat) → Real v t (arrives v t origin m)
+  unfolding action.at
+  arrives-real m = g .walk-real (wordOf m) origin (g .origin)
+
+  leads-is : (m : Mat) → leads s r m ≡ number (arrives v t origin m)
+  unfolding action.at
+  leads-is m = ap (λ (z : ℕ). action.run (at s) (byQ s r) z (wordOf m)) (sym zero-is) ∙ run-is (wordOf m) origin (g .origin)
+
+  -- positions with one number are one position
+  number-one : (x y : ℕ) → Real v t x → Real v t y → number x ≡ number y → x ≡ y
+  number-one x y h k e = sym (getD-find (cosets v t) x (member x h)) ∙ ap (λ (j : ℕ). getD (cosets v t) j 0) e ∙ getD-find (cosets v t) y (member y k)
+
+  -- ---- multiplication on the right
+
+  a : Acts σ κ
+  a = acts σ κ (g .involution) (g .order-three)
+
+  R-word : matR ≡ value (S ∷ P ∷ S ∷ [])
+  R-word = R-is ∙ ap (λ (m : Mat). matS ⊗ (matP ⊗ m)) (sym (⊗-idr matS))
+
+  T-word : matT ≡ value (P ∷ S ∷ [])
+  T-word = T-is ∙ ap (λ (m : Mat). matP ⊗ m) (sym (⊗-idr matS))
+
+  -- a matrix more
+  arrives-more : (m n : Mat) → det m ≡ pos 1 → det n ≡ pos 1 → arrives v t origin (m ⊗ n) ≡ arrives v t (arrives v t origin m) n
+  arrives-more m n d e = a .product origin m n d e
+
+  word-more : (m : Mat) (l : List Letter) → det m ≡ pos 1 → arrives v t origin (m ⊗ value l) ≡ ends v t (arrives v t origin m) l
+  word-more m l d = arrives-more m (value l) d (det-value l) ∙ a .words (arrives v t origin m) l
+
+  module _ (m : Mat) (d : det m ≡ pos 1) where
+    abbrev x : ℕ
+    x = arrives v t origin m
+
+    h : Real v t x
+    h = arrives-real m
+
+    S-step : leads s r (m ⊗ matS) ≡ at s (leads s r m)
+    S-step = leads-is (m ⊗ matS) ∙ ap number (arrives-more m matS d (det-letter S) ∙ a .by-S x) ∙ sym (names .S .step x (member x h)) ∙ ap (at s) (sym (leads-is m))
+
+    R-step : leads s r (m ⊗ matR) ≡ at r (leads s r m)
+    R-step =
+        leads-is (m ⊗ matR) ∙ ap number (ap (λ (n : Mat). arrives v t origin (m ⊗ n)) R-word ∙ word-more m (S ∷ P ∷ S ∷ []) d ∙ sym (ρ-is x))
+        ∙ sym (names .R .step x (member x h)) ∙ ap (at r) (sym (leads-is m))
+
+    T-step : leads s r (m ⊗ matT) ≡ at u (leads s r m)
+    T-step =
+        leads-is (m ⊗ matT) ∙ ap number (ap (λ (n : Mat). arrives v t origin (m ⊗ n)) T-word ∙ word-more m (P ∷ S ∷ []) d ∙ sym (τ-is x))
+        ∙ sym (names .T .step x (member x h)) ∙ ap (at u) (sym (leads-is m))
+
+  -- ---- the theorem
+
+  permuted : Permutations s r u
+  unfolding cosets tableS tableR tableT
+  permuted = permutations σ ρ origin (places v) maps (undone (cosets v t) σ σ (λ x h. g .involution x)) (undone (cosets v t) ρ (λ x. ρ (ρ x)) (λ x h. ρ-three x))
+
+  same-coset : (m n : Mat) → det m ≡ pos 1 → det n ≡ pos 1 → (leads s r m ≡ leads s r n) ↔ SameCoset (generators v t) m n
+  same-coset m n d e =
+      let c = g .cosets m n d e in (
+        (λ z. c .0 (number-one (arrives v t origin m) (arrives v t origin n) (arrives-real m) (arrives-real n) (sym (leads-is m) ∙ z ∙ leads-is n))),
+        (λ k. leads-is m ∙ ap number (c .1 k) ∙ sym (leads-is n)),
+      )
+
+  all-led : (j : ℕ) → j < length (cosets v t) → Led s r j
+  all-led j h =
+      let p = getD (cosets v t) j 0 in
+      let k = listed-real p (numbers .only p (getD-in (cosets v t) j h)) in
+      record { matrix = g .frame p; unit = g .unit p k; is = leads-is (g .frame p) ∙ ap number (g .by-frame p k) ∙ numbers .once .place j h }
+
+  in-order : orderOf (at s) (at r) 0 (indexOf v t) ≡ upTo (indexOf v t)
+  unfolding cosets tableS tableR
+  in-order = rw (sym size-is) (numbered σ ρ origin (places v) maps)
+
+pub cosets-are : (v : ℕ) (t : List ℤ) → Polygon v t → Cosets v t (tableS v t) (tableR v t) (tableT v t)
+cosets-are v t g =
+    let n = size-is v t g in
+    record {
+      size-S = names v t g .S .long ∙ n;
+      size-R = names v t g .R .long ∙ n;
+      size-T = names v t g .T .long ∙ n;
+      permutations = permuted v t g;
+      low = λ m d. rw (leads-is v t g m) (omega (arith, n, member v t g (arrives v t (originOf v t) m) (arrives-real v t g m)));
+      by-S = S-step v t g;
+      by-R = R-step v t g;
+      by-T = T-step v t g;
+      T-is = names v t g .T-is;
+      zero = leads-is v t g 𝟙 ∙ ap (number v t g) (a v t g .identity (originOf v t)) ∙ zero-is v t g;
+      cosets = same-coset v t g;
+      reached = λ j h. all-led v t g j (omega (arith, n));
+      numbered = in-order v t g;
+    }

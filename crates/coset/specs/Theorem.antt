@@ -1,0 +1,57 @@
+-- WHAT THE COSET TABLES SAY, for every accepted symbol: `Cosets v t s r u`, of its tables s, r and u of S, R and T, which are tables
+-- of the right cosets of the subgroup H that its side pairings generate. The proof is `cosets-are`, in proofs/Theorem.antt.
+--
+--   byQ s r x           where Q leads from the point x: Q is S R R S up to sign
+--   leads s r m         where the matrix m leads from point 0: its alternating word, followed in the tables
+--   Led s r j           some matrix of determinant 1 leads from point 0 to j
+--   Cosets v t s r u    the promise, in these parts:
+--     size              each table has as many entries as the index says, and is a permutation
+--     S, R, T           multiplication on the right by S, R and T is one step in the table; T is S first and then R
+--     zero, cosets      point 0 is H; two matrices lead to one point exactly where some product of generators and inverses takes one to
+--                       the other, up to sign
+--     reached           each point is some matrix's coset, so the number of points is the index of H
+--     numbered          the points are numbered as document 01 says: the rule, followed in the tables from point 0, gives 0, 1, 2, ..
+use mathlib.Core.Path.{_≡_}
+use mathlib.Core.Logic.{_↔_}
+use mathlib.Core.List.{List}
+use Prim.Native.Nat.{ℕ, _<_}
+use lib.ListN.{length}
+use lib.IntN.{ℤ, pos}
+use Rattle.matrix.specs.Matrix.{Mat, _⊗_, 𝟙, det, matS, matR, matT}
+use Rattle.matrix.specs.Action as action
+use Rattle.symbol.specs.Generator.{generators}
+use Rattle.polygon.specs.Theorem.{SameCoset}
+use Rattle.points.specs.Order.{orderOf, upTo}
+use Rattle.points.specs.Table.{at, _thenTable_, Permutations}
+use Rattle.coset.specs.Tables.{indexOf}
+
+abbrev pub byQ : (s r : List ℕ) → ℕ → ℕ
+byQ s r x = at s (at r (at r (at s x)))
+
+abbrev pub leads : (s r : List ℕ) → Mat → ℕ
+leads s r m = action.at (at s) (byQ s r) 0 m
+
+pub record Led (s r : List ℕ) (j : ℕ) : Type 0 where
+  pub matrix : Mat
+  pub unit : det matrix ≡ pos 1
+  pub is : leads s r matrix ≡ j
+
+pub record Cosets (v : ℕ) (t : List ℤ) (s r u : List ℕ) : Type 0 where
+  -- size
+  pub size-S : length s ≡ indexOf v t
+  pub size-R : length r ≡ indexOf v t
+  pub size-T : length u ≡ indexOf v t
+  pub permutations : Permutations s r u
+  -- S, R, T
+  pub low : (m : Mat) → det m ≡ pos 1 → leads s r m < indexOf v t
+  pub by-S : (m : Mat) → det m ≡ pos 1 → leads s r (m ⊗ matS) ≡ at s (leads s r m)
+  pub by-R : (m : Mat) → det m ≡ pos 1 → leads s r (m ⊗ matR) ≡ at r (leads s r m)
+  pub by-T : (m : Mat) → det m ≡ pos 1 → leads s r (m ⊗ matT) ≡ at u (leads s r m)
+  pub T-is : u ≡ s thenTable r
+  -- zero, cosets
+  pub zero : leads s r 𝟙 ≡ 0
+  pub cosets : (m n : Mat) → det m ≡ pos 1 → det n ≡ pos 1 → (leads s r m ≡ leads s r n) ↔ SameCoset (generators v t) m n
+  -- reached
+  pub reached : (j : ℕ) → j < indexOf v t → Led s r j
+  -- numbered
+  pub numbered : orderOf (at s) (at r) 0 (indexOf v t) ≡ upTo (indexOf v t)
