@@ -1,0 +1,12 @@
+//! The query program of this reckoning: a symbol and two matrices in, a word or
+//! a refusal out.
+
+#![forbid(unsafe_code)]
+
+use std::io::{self, Read, Write};
+
+fn main() -> io::Result<()> {
+    let mut text = Vec::new();
+    io::stdin().read_to_end(&mut text)?;
+    io::stdout().write_all(reckoning::query(&text).as_bytes())
+}

@@ -1,0 +1,35 @@
+//! A second reckoning of Farey symbols of finite index subgroups of PSL2(Z).
+//!
+//! The engine and this crate answer the same questions by different roads, so
+//! that a slip in one of them shows up as a difference. Here every figure comes
+//! from one idea: a matrix x stands for the oriented Farey edge from x(0) to
+//! x(infinity), and the side pairings carry any such edge back into the
+//! polygon. The index is counted, never taken from a formula, and the polygon
+//! is never cut into triangles.
+//!
+//! | module    | what it holds                                                   |
+//! |-----------|-----------------------------------------------------------------|
+//! | `refusal` | number and place of a refusal                                   |
+//! | `text`    | numbers from bytes, refusal 19                                  |
+//! | `matrix`  | integer matrices of determinant 1 and the cusps they name       |
+//! | `symbol`  | checks 1 to 7, sides, frames, generators, sameness              |
+//! | `polygon` | carrying an edge back into the polygon, with the letters used   |
+//! | `coset`   | tables of S, R, T and the figures drawn from them               |
+//! | `word`    | pair queries: membership, the walk, multiplying a word out      |
+//! | `report`  | the whole output of the listing and of the query program        |
+//! | `random`  | test symbols, matrices and texts, sound and damaged             |
+
+#![forbid(unsafe_code)]
+
+pub mod coset;
+pub mod matrix;
+pub mod polygon;
+pub mod random;
+pub mod refusal;
+pub mod report;
+pub mod symbol;
+pub mod text;
+pub mod word;
+
+pub use refusal::Refusal;
+pub use report::{listing, query};

@@ -1,0 +1,150 @@
+//! Integer matrices of determinant 1 and the cusps they send 0 and infinity to.
+//!
+//! | name       | what it is                                              |
+//! |------------|---------------------------------------------------------|
+//! | `Matrix`   | (a b; c d), four entries row by row                     |
+//! | `Cusp`     | a fraction in lowest terms, or infinity as 1/0          |
+//! | I, S, T, R | the identity, (0 -1; 1 0), (1 1; 0 1) and S T           |
+//! | Q          | (0 -1; 1 -1), the turn infinity, 0, 1 of order 3        |
+//!
+//! Entries have 128 bits. Vertices stay within 10^9 and the entries of B A^-1
+//! within 2 * 10^12. Seen from the frame of the side that it lies beyond, an
+//! edge has entries of no more than about 10^16, and carrying it back only
+//! shortens them; from outside that makes 10^25, and 10^34 once it is compared
+//! with a vertex. 2^127 is about 10^38. Overflow is checked all the same.
+
+use std::cmp::Ordering;
+use std::ops::Mul;
+
+/// (a b; c d) as `[a, b, c, d]`.
+#[derive(Clone, Copy, Debug, PartialEq, Eq, Hash)]
+pub struct Matrix(pub [i128; 4]);
+
+pub const I: Matrix = Matrix([1, 0, 0, 1]);
+pub const S: Matrix = Matrix([0, -1, 1, 0]);
+pub const T: Matrix = Matrix([1, 1, 0, 1]);
+pub const R: Matrix = Matrix([0, -1, 1, 1]);
+pub const Q: Matrix = Matrix([0, -1, 1, -1]);
+
+impl Mul for Matrix {
+    type Output = Matrix;
+
+    fn mul(self, other: Matrix) -> Matrix {
+        let [a, b, c, d] = self.0;
+        let [e, f, g, h] = other.0;
+        Matrix([a * e + b * g, a * f + b * h, c * e + d * g, c * f + d * h])
+    }
+}
+
+impl Matrix {
+    pub fn from_entries(entries: [i64; 4]) -> Matrix {
+        Matrix(entries.map(i128::from))
+    }
+
+    /// The entries in 64 bits, if they fit.
+    pub fn entries(self) -> Option<[i64; 4]> {
+        let mut small = [0; 4];
+        for (target, entry) in small.iter_mut().zip(self.0) {
+            *target = i64::try_from(entry).ok()?;
+        }
+        Some(small)
+    }
+
+    pub fn determinant(self) -> i128 {
+        let [a, b, c, d] = self.0;
+        a * d - b * c
+    }
+
+    /// The inverse of a matrix of determinant 1.
+    pub fn inverse(self) -> Matrix {
+        let [a, b, c, d] = self.0;
+        Matrix([d, -b, -c, a])
+    }
+
+    pub fn negated(self) -> Matrix {
+        Matrix(self.0.map(|entry| -entry))
+    }
+
+    /// The one of the pair x, -x whose first entry other than 0 is positive.
+    pub fn up_to_sign(self) -> Matrix {
+        match self.0.iter().find(|&&entry| entry != 0) {
+            Some(&entry) if entry < 0 => self.negated(),
+            _ => self,
+        }
+    }
+
+    pub fn same_up_to_sign(self, other: Matrix) -> bool {
+        self == other || self == other.negated()
+    }
+
+    /// x(0), where the edge of x begins.
+    pub fn start(self) -> Cusp {
+        Cusp::new(self.0[1], self.0[3])
+    }
+
+    /// x(infinity), where the edge of x ends.
+    pub fn end(self) -> Cusp {
+        Cusp::new(self.0[0], self.0[2])
+    }
+}
+
+/// A fraction in lowest terms with a denominator that isn't negative.
+#[derive(Clone, Copy, Debug, PartialEq, Eq)]
+pub struct Cusp {
+    pub num: i128,
+    pub den: i128,
+}
+
+impl Cusp {
+    /// A column of a matrix of determinant 1, turned to its standard sign.
+    pub fn new(num: i128, den: i128) -> Cusp {
+        if den < 0 || (den == 0 && num < 0) {
+            Cusp {
+                num: -num,
+                den: -den,
+            }
+        } else {
+            Cusp { num, den }
+        }
+    }
+
+    pub fn is_infinite(self) -> bool {
+        self.den == 0
+    }
+
+    /// The order of the rational line; both cusps are finite.
+    pub fn compare(self, other: Cusp) -> Ordering {
+        debug_assert!(!self.is_infinite() && !other.is_infinite());
+        (self.num * other.den).cmp(&(other.num * self.den))
+    }
+}
+
+#[cfg(test)]
+mod tests {
+    use super::*;
+
+    #[test]
+    fn orders_and_products() {
+        assert!((S * S).same_up_to_sign(I));
+        assert!((R * R * R).same_up_to_sign(I));
+        assert!((Q * Q * Q).same_up_to_sign(I));
+        assert_eq!(S * T, R);
+        // T is S and then R when one multiplies on the right.
+        assert!((S * R).same_up_to_sign(T));
+        assert_eq!(S * T.inverse(), Q);
+    }
+
+    #[test]
+    fn q_turns_infinity_zero_one() {
+        assert_eq!(Q.end(), Cusp::new(0, 1));
+        assert_eq!(Q.start(), Cusp::new(1, 1));
+        assert_eq!((Q * Q).start(), Cusp::new(1, 0));
+    }
+
+    #[test]
+    fn signs() {
+        assert_eq!(S.up_to_sign(), Matrix([0, 1, -1, 0]));
+        assert_eq!(Matrix([-3, 2, -2, 1]).up_to_sign(), Matrix([3, -2, 2, -1]));
+        assert_eq!(Matrix([1 << 70, 0, 0, 1]).entries(), None);
+    }
+}

@@ -1,0 +1,19 @@
+//! Test material from a seed: the same seed and case number always give the
+//! same text, so a difference that was found once can be looked at again.
+//!
+//! | module     | what it makes                                              |
+//! |------------|------------------------------------------------------------|
+//! | `rng`      | numbers (splitmix64)                                       |
+//! | `drafts`   | sound symbols of 1 to 1,023 vertices                       |
+//! | `faults`   | symbols with faults 1 and 3 to 7, texts with fault 19      |
+//! | `matrices` | matrices of determinant 1, pairs with and without a word   |
+//! | `cases`    | whole texts for the listing and the query program          |
+
+pub mod cases;
+pub mod drafts;
+pub mod faults;
+pub mod matrices;
+pub mod rng;
+
+pub use cases::{listing_case, query_case};
+pub use rng::Rng;

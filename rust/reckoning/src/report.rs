@@ -1,0 +1,86 @@
+//! The whole output of the two programs, from the bytes of standard input.
+
+use std::fmt::{Display, Write};
+
+use crate::coset::Cosets;
+use crate::refusal::Refusal;
+use crate::symbol::Symbol;
+use crate::text::{numbers, Format};
+use crate::word::pair_query;
+
+/// The letters that the query program lends.
+pub const LENT_LETTERS: usize = 16_384;
+
+/// A name and the items behind it, with single spaces between and no space at
+/// the end.
+fn line(out: &mut String, name: &str, items: impl IntoIterator<Item = impl Display>) {
+    out.push_str(name);
+    for item in items {
+        write!(out, " {item}").expect("a string takes any text");
+    }
+    out.push('\n');
+}
+
+/// A figure that may be refused by itself.
+fn figure(out: &mut String, name: &str, value: Result<u64, Refusal>) {
+    match value {
+        Ok(value) => line(out, name, [value]),
+        Err(refusal) => line(out, name, [refusal]),
+    }
+}
+
+/// What the listing program prints.
+pub fn listing(text: &[u8]) -> String {
+    try_listing(text).unwrap_or_else(|refusal| format!("{refusal}\n"))
+}
+
+fn try_listing(text: &[u8]) -> Result<String, Refusal> {
+    let symbol = Symbol::from_numbers(&numbers(text, Format::Listing)?)?;
+    let cosets = Cosets::new(&symbol);
+    let widths = cosets.widths();
+    let mut out = String::new();
+    line(&mut out, "index", [cosets.index()]);
+    line(&mut out, "elliptic", [cosets.e2(), cosets.e3()]);
+    line(&mut out, "cusps", [widths.len()]);
+    line(&mut out, "widths", &widths);
+    figure(&mut out, "genus", cosets.genus());
+    figure(&mut out, "level", cosets.level());
+    line(&mut out, "generators", [symbol.generators.len()]);
+    for (i, generator) in symbol.generators.iter().enumerate() {
+        let head = format!("{} {}", i + 1, generator.kind.name());
+        let entries = generator
+            .matrix
+            .entries()
+            .expect("sums of two products within 10^18 fit 64 bits");
+        line(&mut out, &head, entries);
+    }
+    line(&mut out, "S", &cosets.s);
+    line(&mut out, "R", &cosets.r);
+    line(&mut out, "T", &cosets.t);
+    Ok(out)
+}
+
+/// What the query program prints.
+pub fn query(text: &[u8]) -> String {
+    match try_query(text) {
+        Ok(word) => {
+            let mut out = String::new();
+            line(&mut out, "word", word);
+            out
+        }
+        Err(refusal) => format!("{refusal}\n"),
+    }
+}
+
+fn try_query(text: &[u8]) -> Result<Vec<i16>, Refusal> {
+    let numbers = numbers(text, Format::Query)?;
+    // With v out of range the count is free, and refusal 1 comes first.
+    let table_end = numbers.len().saturating_sub(8).max(1);
+    let symbol = Symbol::from_numbers(&numbers[..table_end])?;
+    let mut matrices = [[0; 4]; 2];
+    for (i, &entry) in numbers[table_end..].iter().enumerate() {
+        matrices[i / 4][i % 4] = entry;
+    }
+    let [a, b] = matrices;
+    pair_query(&symbol, a, b, LENT_LETTERS, 0)
+}

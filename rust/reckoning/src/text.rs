@@ -1,0 +1,212 @@
+//! From bytes to numbers. Everything that can be wrong with a text is refusal
+//! 19; three faults are looked for in this order: the text is too long, some
+//! piece is no number, the count of numbers is wrong.
+
+use crate::refusal::Refusal;
+use crate::symbol::MAX_VERTICES;
+
+/// The longest text that is read at all.
+pub const MAX_TEXT: usize = 65_536;
+/// The largest number of points of a permutation pair.
+pub const MAX_POINTS: i64 = 3_066;
+
+/// What the first number of a text announces.
+#[derive(Clone, Copy, Debug, PartialEq, Eq)]
+pub enum Format {
+    /// v, then 2v vertex entries, then v + 1 pairings.
+    Listing,
+    /// A listing text, then the four entries of A and the four of B.
+    Query,
+    /// n, then n images of S, then n images of R.
+    Import,
+}
+
+impl Format {
+    /// How many numbers a text with this first number has, or `None` when the
+    /// first number is out of range and the count therefore free.
+    pub fn wanted(self, head: i64) -> Option<usize> {
+        let largest = match self {
+            Format::Import => MAX_POINTS,
+            _ => MAX_VERTICES as i64,
+        };
+        if !(1..=largest).contains(&head) {
+            return None;
+        }
+        let n = head as usize;
+        Some(match self {
+            Format::Listing => 1 + 3 * n + 1,
+            Format::Query => 1 + 3 * n + 1 + 8,
+            Format::Import => 1 + 2 * n,
+        })
+    }
+}
+
+fn splits(byte: u8) -> bool {
+    matches!(byte, 32 | 10 | 13)
+}
+
+/// The value of one piece, if it is an optional minus followed by at least one
+/// digit and its value fits 64 signed bits. Leading zeros are allowed.
+fn value(piece: &[u8]) -> Option<i64> {
+    let (negative, digits) = match piece {
+        [b'-', rest @ ..] => (true, rest),
+        _ => (false, piece),
+    };
+    if digits.is_empty() {
+        return None;
+    }
+    let mut size: i128 = 0;
+    for &digit in digits {
+        if !digit.is_ascii_digit() {
+            return None;
+        }
+        size = size * 10 + i128::from(digit - b'0');
+        // Once past 2^63 a number only grows, so it is lost for good.
+        if size > 1 << 63 {
+            return None;
+        }
+    }
+    i64::try_from(if negative { -size } else { size }).ok()
+}
+
+/// All pieces as (offset, value); the first piece that is no number refuses.
+fn pieces(text: &[u8]) -> Result<Vec<(usize, i64)>, Refusal> {
+    let mut found = Vec::new();
+    let mut at = 0;
+    while at < text.len() {
+        if splits(text[at]) {
+            at += 1;
+            continue;
+        }
+        let length = text[at..]
+            .iter()
+            .position(|&byte| splits(byte))
+            .unwrap_or(text.len() - at);
+        match value(&text[at..at + length]) {
+            Some(number) => found.push((at, number)),
+            None => return Err(Refusal::new(19, at)),
+        }
+        at += length;
+    }
+    Ok(found)
+}
+
+/// The numbers of a text in one of the three formats.
+///
+/// With a first number out of range all numbers are returned uncounted: the
+/// rule on that number refuses next. A text without any number has too few.
+pub fn numbers(text: &[u8], format: Format) -> Result<Vec<i64>, Refusal> {
+    if text.len() > MAX_TEXT {
+        return Err(Refusal::new(19, MAX_TEXT));
+    }
+    let found = pieces(text)?;
+    let Some(&(_, head)) = found.first() else {
+        return Err(Refusal::new(19, text.len()));
+    };
+    if let Some(wanted) = format.wanted(head) {
+        if found.len() < wanted {
+            return Err(Refusal::new(19, text.len()));
+        }
+        if found.len() > wanted {
+            return Err(Refusal::new(19, found[wanted].0));
+        }
+    }
+    Ok(found.into_iter().map(|(_, number)| number).collect())
+}
+
+#[cfg(test)]
+mod tests {
+    use super::*;
+
+    fn place(text: &[u8], format: Format) -> u64 {
+        let refusal = numbers(text, format).expect_err("this text is refused");
+        assert_eq!(refusal.number, 19);
+        refusal.place
+    }
+
+    #[test]
+    fn plain_numbers() {
+        assert_eq!(value(b"0"), Some(0));
+        assert_eq!(value(b"-0"), Some(0));
+        assert_eq!(value(b"-000012"), Some(-12));
+        assert_eq!(value(&[b'0'; 400]), Some(0));
+        assert_eq!(value(b"9223372036854775807"), Some(i64::MAX));
+        assert_eq!(value(b"-9223372036854775808"), Some(i64::MIN));
+    }
+
+    #[test]
+    fn pieces_that_are_no_numbers() {
+        for piece in [
+            &b"-"[..],
+            b"--1",
+            b"+1",
+            b"1-",
+            b"1.",
+            b"0x1",
+            b"1\t2",
+            b"1\x00",
+            b"\xc2\xa0",
+            b"\xb2",
+            b"9223372036854775808",
+            b"-9223372036854775809",
+            b"99999999999999999999999999999999999999999999999999999999999999",
+        ] {
+            assert_eq!(value(piece), None, "{piece:?}");
+        }
+    }
+
+    #[test]
+    fn length_comes_first() {
+        let mut text = vec![b'x'; MAX_TEXT];
+        assert_eq!(place(&text, Format::Listing), 0);
+        text.push(b'x');
+        assert_eq!(place(&text, Format::Listing), 65_536);
+    }
+
+    #[test]
+    fn a_full_text_is_read() {
+        let mut text = b"1 0 1 -2 -3".to_vec();
+        text.resize(MAX_TEXT, b' ');
+        assert_eq!(numbers(&text, Format::Listing), Ok(vec![1, 0, 1, -2, -3]));
+        text.push(b'\n');
+        assert_eq!(place(&text, Format::Listing), 65_536);
+    }
+
+    #[test]
+    fn bad_pieces_go_before_the_count() {
+        assert_eq!(place(b"2 0 1 1 1 1 -2 1 7 x", Format::Listing), 19);
+        assert_eq!(place(b" 2\r\n0 +1", Format::Listing), 6);
+        // Also when v is out of range.
+        assert_eq!(place(b"0 a", Format::Listing), 2);
+        // A tab doesn't split, so the piece that begins before it is at fault.
+        assert_eq!(place(b"1 0\t1 -2 -3", Format::Listing), 2);
+    }
+
+    #[test]
+    fn too_few_and_too_many() {
+        assert_eq!(place(b"", Format::Listing), 0);
+        assert_eq!(place(b" \r\n", Format::Query), 3);
+        assert_eq!(place(b"1 0 1 -2\n", Format::Listing), 9);
+        assert_eq!(place(b"1 0 1 -2 -3   5 6\n", Format::Listing), 14);
+        assert_eq!(place(b"1 0 1 -2 -3", Format::Query), 11);
+        assert_eq!(place(b"1 0 1 -2 -3 1 0 0 1 1 0 0 1 -9", Format::Query), 28);
+        assert_eq!(place(b"2 0 1 0", Format::Import), 7);
+        assert_eq!(place(b"2 0 1 0 1 4", Format::Import), 10);
+    }
+
+    #[test]
+    fn without_a_range_no_count() {
+        for text in [
+            &b"0"[..],
+            b"1024 5",
+            b"-1 1 1 1 1 1",
+            b"9223372036854775807",
+        ] {
+            assert!(numbers(text, Format::Listing).is_ok());
+            assert!(numbers(text, Format::Query).is_ok());
+        }
+        assert!(numbers(b"3067 1", Format::Import).is_ok());
+        assert_eq!(place(b"3066 1", Format::Import), 6);
+        assert_eq!(place(b"1023 1", Format::Listing), 6);
+    }
+}
