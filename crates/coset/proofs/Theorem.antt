@@ -32,7 +32,7 @@ use Rattle.polygon.specs.Theorem.{Polygon, SameCoset}
 use Rattle.points.specs.Find.{find, _∈_}
 use Rattle.points.specs.Select.{select}
 use Rattle.points.specs.Order.{orderOf, upTo, Maps, Reached, here, by-σ, by-ρ, Numbering}
-use Rattle.points.specs.Table.{at, Renaming, Permutations}
+use Rattle.points.specs.Table.{at, Injective, Renaming, Permutations}
 use Rattle.points.proofs.Find.{getD-find, getD-in}
 use Rattle.points.proofs.Order.{numbering}
 use Rattle.points.proofs.Table.{undone, renaming, permutations}
@@ -65,7 +65,7 @@ module _ (v : ℕ) (t : List ℤ) (g : Polygon v t) where
 
   -- ---- R by S and Q, and Q by S and R
 
-  ρ-is : (x : ℕ) → ρ x ≡ σ (κ (κ (σ x)))
+  pub ρ-is : (x : ℕ) → ρ x ≡ σ (κ (κ (σ x)))
   unfolding stepR
   ρ-is x = refl
 
@@ -103,7 +103,7 @@ module _ (v : ℕ) (t : List ℤ) (g : Polygon v t) where
   ρ-still : (x : ℕ) → real v t x ≡ false → ρ x ≡ x
   ρ-still x e = cc (ρ-is x, σ-still x e, κ-still x e)
 
-  maps : Maps σ ρ origin (places v)
+  pub maps : Maps σ ρ origin (places v)
   maps = record {
     start-low = g .within origin (g .origin);
     σ-low = λ x h. elim (either (real v t x)) [ inl e ↦ g .within (σ x) (g .closed S x e) | inr e ↦ rw (σ-still x e) h ];
@@ -145,7 +145,7 @@ module _ (v : ℕ) (t : List ℤ) (g : Polygon v t) where
   real-reached : (x : ℕ) → Real v t x → Reached σ ρ origin x
   real-reached x h = let a = g .reached x h in reached-at (ends v t (startOf v t) (a .word)) x (a .is) (word-reached (a .word) (startOf v t) start-reached)
 
-  size-is : length (cosets v t) ≡ indexOf v t
+  pub size-is : length (cosets v t) ≡ indexOf v t
   unfolding cosets
   size-is = order-count maps (real v t) listed-real (λ x h e. real-reached x e) ∙ select-count (real v t) (places v) ∙ g .index
 
@@ -241,9 +241,15 @@ module _ (v : ℕ) (t : List ℤ) (g : Polygon v t) where
 
   -- ---- the theorem
 
+  pub injective-S : Injective (orderOf σ ρ origin (places v)) σ
+  injective-S = undone (orderOf σ ρ origin (places v)) σ σ (λ x h. g .involution x)
+
+  pub injective-R : Injective (orderOf σ ρ origin (places v)) ρ
+  injective-R = undone (orderOf σ ρ origin (places v)) ρ (λ x. ρ (ρ x)) (λ x h. ρ-three x)
+
   permuted : Permutations s r u
   unfolding cosets tableS tableR tableT
-  permuted = permutations σ ρ origin (places v) maps (undone (cosets v t) σ σ (λ x h. g .involution x)) (undone (cosets v t) ρ (λ x. ρ (ρ x)) (λ x h. ρ-three x))
+  permuted = permutations σ ρ origin (places v) maps injective-S injective-R
 
   same-coset : (m n : Mat) → det m ≡ pos 1 → det n ≡ pos 1 → (leads s r m ≡ leads s r n) ↔ SameCoset (generators v t) m n
   same-coset m n d e =

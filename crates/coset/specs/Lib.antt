@@ -1,2 +1,4 @@
 pub mod Tables
 pub mod Theorem
+pub mod Answer
+pub mod Work

@@ -1,2 +1,218 @@
 // The cosets of the subgroup that a symbol's side pairings generate: specs/Tables.antt has their numbering and the tables of S, R and T,
-// and specs/Theorem.antt says what the tables are tables of.
+// specs/Theorem.antt says what the tables are tables of, and specs/Answer.antt what the calls answer and leave.
+use arrange::arrange;
+use figures::Genus;
+use figures::Level;
+use figures::cusp_widths;
+use figures::figures_of;
+use points::R_TABLE;
+use points::S_TABLE;
+use points::T_TABLE;
+use points::WIDTHS;
+use points::copy_out;
+use symbol::Checked;
+use symbol::Fault;
+use symbol::check;
+ghost use mathlib.Core.Path.{_≡_};
+ghost use Prim.Native.Nat.{_≤_};
+ghost use lib.ListN.{length};
+ghost use Rattle.space.specs.Space.{workLength, zeros};
+ghost use Rattle.symbol.specs.Check.{checkOf};
+ghost use Rattle.symbol.specs.Symbol.{IsSymbol};
+ghost use Rattle.symbol.specs.Generator.{workAfter};
+ghost use Rattle.points.specs.Space.{S-TABLE, R-TABLE, T-TABLE, WIDTHS, entries};
+ghost use Rattle.coset.specs.Tables.{indexOf, tableS, tableR, tableT};
+ghost use Rattle.coset.specs.Answer.{roomFor, tabledOf, columnLeft, roomOne, widthsOf, widthedOf, saidBy, figuresOf, figuredOf, TablesMean, FiguresMean};
+
+mod arrange;
+
+// The answer of `tables`.
+pub enum Tabled {
+    // So many cosets; each table stands at the front of its space.
+    Made(usize),
+    // The table is no symbol.
+    Refused(Fault),
+    // Refusal 11: the length that a space needs.
+    Short(usize),
+}
+
+// Copies the tables of n cosets, where there is room for all three.
+fn copy_tables(w: &[u16], n: usize, s: &mut [u32], r: &mut [u32], u: &mut [u32]) -> Tabled
+    requires { ⌜ (n ≤ 4096) × (workLength ≤ length (now w)) ⌝ }
+    ensures { λ a. ⌜ a ≡ roomFor n (length (now (s .entry))) (length (now (r .entry))) (length (now (u .entry))) ⌝ }
+    ensures { λ a. ⌜ now (s .exit) ≡ columnLeft a (entries S-TABLE n (now (w .entry))) (now (s .entry)) ⌝ }
+    ensures { λ a. ⌜ now (r .exit) ≡ columnLeft a (entries R-TABLE n (now (w .entry))) (now (r .entry)) ⌝ }
+    ensures { λ a. ⌜ now (u .exit) ≡ columnLeft a (entries T-TABLE n (now (w .entry))) (now (u .entry)) ⌝ }
+{
+    if s.len() < n {
+        return Tabled::Short(n);
+    }
+    if r.len() < n {
+        return Tabled::Short(n);
+    }
+    if u.len() < n {
+        return Tabled::Short(n);
+    }
+    copy_out(w, S_TABLE, n, s);
+    copy_out(w, R_TABLE, n, r);
+    copy_out(w, T_TABLE, n, u);
+    Tabled::Made(n)
+}
+
+// The same from an accepted symbol; the work space is cleared after.
+fn make_tables(
+    v: usize,
+    t: &[i64],
+    w: &mut [u16],
+    s: &mut [u32],
+    r: &mut [u32],
+    u: &mut [u32],
+) -> Tabled
+    requires { ⌜ IsSymbol v (now t) × (workLength ≤ length (now w)) ⌝ }
+    ensures { λ a. ⌜ a ≡ roomFor (indexOf v (now (t .entry))) (length (now (s .entry))) (length (now (r .entry))) (length (now (u .entry))) ⌝ }
+    ensures { λ a. ⌜ now (w .exit) ≡ zeros (length (now (w .entry))) ⌝ }
+    ensures { λ a. ⌜ now (s .exit) ≡ columnLeft a (tableS v (now (t .entry))) (now (s .entry)) ⌝ }
+    ensures { λ a. ⌜ now (r .exit) ≡ columnLeft a (tableR v (now (t .entry))) (now (r .entry)) ⌝ }
+    ensures { λ a. ⌜ now (u .exit) ≡ columnLeft a (tableT v (now (t .entry))) (now (u .entry)) ⌝ }
+{
+    let n = arrange(v, t, w);
+    let made = copy_tables(w, n, s, r, u);
+    space::clear(w);
+    made
+}
+
+// The tables of S, R and T of the symbol in t, each at the front of its space: checks 1 to 7, then the work space, then the result
+// spaces for S, R and T.
+pub fn tables(
+    v: usize,
+    t: &[i64],
+    w: &mut [u16],
+    s: &mut [u32],
+    r: &mut [u32],
+    u: &mut [u32],
+) -> Tabled
+    ensures { λ a. ⌜ a ≡ tabledOf v (now (t .entry)) (length (now (w .entry))) (length (now (s .entry))) (length (now (r .entry))) (length (now (u .entry))) ⌝ }
+    ensures { λ a. ⌜ now (w .exit) ≡ workAfter (checkOf v (now (t .entry))) (now (w .entry)) ⌝ }
+    ensures { λ a. ⌜ now (s .exit) ≡ columnLeft a (tableS v (now (t .entry))) (now (s .entry)) ⌝ }
+    ensures { λ a. ⌜ now (r .exit) ≡ columnLeft a (tableR v (now (t .entry))) (now (r .entry)) ⌝ }
+    ensures { λ a. ⌜ now (u .exit) ≡ columnLeft a (tableT v (now (t .entry))) (now (u .entry)) ⌝ }
+    ensures { λ a. ⌜ TablesMean v (now (t .entry)) a ⌝ }
+{
+    let checked = check(v, t);
+    match checked {
+        Checked::Refused(fault) => Tabled::Refused(fault),
+        Checked::Accepted => {
+            if w.len() < space::WORK {
+                return Tabled::Short(space::WORK);
+            }
+            make_tables(v, t, w, s, r, u)
+        }
+    }
+}
+
+// Copies the widths of k cusps, where there is room.
+fn copy_widths(w: &[u16], k: usize, out: &mut [u32]) -> Tabled
+    requires { ⌜ (k ≤ 4096) × (workLength ≤ length (now w)) ⌝ }
+    ensures { λ a. ⌜ a ≡ roomOne k (length (now (out .entry))) ⌝ }
+    ensures { λ a. ⌜ now (out .exit) ≡ columnLeft a (entries WIDTHS k (now (w .entry))) (now (out .entry)) ⌝ }
+{
+    if out.len() < k {
+        return Tabled::Short(k);
+    }
+    copy_out(w, WIDTHS, k, out);
+    Tabled::Made(k)
+}
+
+// The same from an accepted symbol; the work space is cleared after.
+fn make_widths(v: usize, t: &[i64], w: &mut [u16], out: &mut [u32]) -> Tabled
+    requires { ⌜ IsSymbol v (now t) × (workLength ≤ length (now w)) ⌝ }
+    ensures { λ a. ⌜ a ≡ roomOne (length (widthsOf v (now (t .entry)))) (length (now (out .entry))) ⌝ }
+    ensures { λ a. ⌜ now (w .exit) ≡ zeros (length (now (w .entry))) ⌝ }
+    ensures { λ a. ⌜ now (out .exit) ≡ columnLeft a (widthsOf v (now (t .entry))) (now (out .entry)) ⌝ }
+{
+    let n = arrange(v, t, w);
+    let k = cusp_widths(w, n);
+    let made = copy_widths(w, k, out);
+    space::clear(w);
+    made
+}
+
+// The widths of the cusps of the symbol in t, by smallest point, at the front of out: checks 1 to 7, then the work space, then out.
+pub fn widths(v: usize, t: &[i64], w: &mut [u16], out: &mut [u32]) -> Tabled
+    ensures { λ a. ⌜ a ≡ widthedOf v (now (t .entry)) (length (now (w .entry))) (length (now (out .entry))) ⌝ }
+    ensures { λ a. ⌜ now (w .exit) ≡ workAfter (checkOf v (now (t .entry))) (now (w .entry)) ⌝ }
+    ensures { λ a. ⌜ now (out .exit) ≡ columnLeft a (widthsOf v (now (t .entry))) (now (out .entry)) ⌝ }
+    ensures { λ a. ⌜ TablesMean v (now (t .entry)) a ⌝ }
+{
+    let checked = check(v, t);
+    match checked {
+        Checked::Refused(fault) => Tabled::Refused(fault),
+        Checked::Accepted => {
+            if w.len() < space::WORK {
+                return Tabled::Short(space::WORK);
+            }
+            make_widths(v, t, w, out)
+        }
+    }
+}
+
+// The figures of a subgroup.
+pub struct FigureRecord {
+    pub index: usize,
+    pub e2: usize,
+    pub e3: usize,
+    pub cusps: usize,
+    pub genus: Genus,
+    pub level: Level,
+}
+
+// The answer of `figures`.
+pub enum Figured {
+    Made(FigureRecord),
+    // The table is no symbol.
+    Refused(Fault),
+    // Refusal 11: the length that the work space needs.
+    Short(usize),
+}
+
+// The figures of an accepted symbol; the work space is cleared after.
+fn make_figures(v: usize, t: &[i64], w: &mut [u16]) -> Figured
+    requires { ⌜ IsSymbol v (now t) × (workLength ≤ length (now w)) ⌝ }
+    ensures { λ a. ⌜ saidBy a ≡ figuresOf v (now (t .entry)) ⌝ }
+    ensures { λ a. ⌜ now (w .exit) ≡ zeros (length (now (w .entry))) ⌝ }
+{
+    let n = arrange(v, t, w);
+    let f = figures_of(w, n);
+    space::clear(w);
+    let e2 = f.e2;
+    let e3 = f.e3;
+    let cusps = f.cusps;
+    let genus = f.genus;
+    let level = f.level;
+    Figured::Made(FigureRecord {
+        index: n,
+        e2,
+        e3,
+        cusps,
+        genus,
+        level,
+    })
+}
+
+// The figures of the symbol in t: checks 1 to 7, then the work space; 17 and 18 are each for its own figure.
+pub fn figures(v: usize, t: &[i64], w: &mut [u16]) -> Figured
+    ensures { λ a. ⌜ saidBy a ≡ figuredOf v (now (t .entry)) (length (now (w .entry))) ⌝ }
+    ensures { λ a. ⌜ now (w .exit) ≡ workAfter (checkOf v (now (t .entry))) (now (w .entry)) ⌝ }
+    ensures { λ a. ⌜ FiguresMean v (now (t .entry)) a ⌝ }
+{
+    let checked = check(v, t);
+    match checked {
+        Checked::Refused(fault) => Figured::Refused(fault),
+        Checked::Accepted => {
+            if w.len() < space::WORK {
+                return Figured::Short(space::WORK);
+            }
+            make_figures(v, t, w)
+        }
+    }
+}
