@@ -18,7 +18,7 @@ use points::has;
 use points::push;
 
 // How many places the table of n entries at `off` fixes.
-pub fn fixed_points(w: &[u16], off: usize, n: usize) -> usize
+fn fixed_points(w: &[u16], off: usize, n: usize) -> usize
     requires { ⌜ Holds off n (now w) ⌝ }
     ensures { λ r. ⌜ r ≡ fixedPoints (entries off n (now (w .entry))) ⌝ }
 {
@@ -94,7 +94,7 @@ pub enum Genus {
 }
 
 // The genus formula.
-pub fn genus_of(index: usize, e2: usize, e3: usize, cusps: usize) -> Genus
+fn genus_of(index: usize, e2: usize, e3: usize, cusps: usize) -> Genus
     requires { ⌜ (index < 4294967296) × (e2 < 4294967296) × (e3 < 4294967296) × (cusps < 4294967296) ⌝ }
     ensures { λ r. ⌜ genusSays r ≡ genusOf index e2 e3 cusps ⌝ }
 {
@@ -151,7 +151,7 @@ fn lcm_of(a: u64, b: u64) -> Level
 
 // The least common multiple of the table of n positive entries at `off`: of the widths it is the level. A common multiple
 // never falls as entries come to it, so the first one over is the answer.
-pub fn level_of(w: &[u16], off: usize, n: usize) -> Level
+fn level_of(w: &[u16], off: usize, n: usize) -> Level
     requires { ⌜ PositiveTable off n (now w) ⌝ }
     ensures { λ r. ⌜ levelSays r ≡ levelOf (entries off n (now (w .entry))) ⌝ }
 {

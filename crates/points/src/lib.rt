@@ -77,7 +77,7 @@ fn visit_at(w: &mut [u16], size: usize, i: usize, n: usize) -> usize
 }
 
 // The numbering from start. How many positions have a number; ORDER lists them by number.
-pub fn number(w: &mut [u16], start: usize, size: usize) -> usize
+fn number(w: &mut [u16], start: usize, size: usize) -> usize
     requires { ⌜ Images start size (now w) ⌝ }
     ensures { λ r. ⌜ Marked size (now (w .entry)) (now (w .exit)) (orderIn start size (now (w .entry))) r ⌝ }
 {
@@ -92,7 +92,7 @@ pub fn number(w: &mut [u16], start: usize, size: usize) -> usize
 }
 
 // The table at `to`: the map in the table at `from`, renamed by the numbers of its n positions.
-pub fn rename(w: &mut [u16], from: usize, to: usize, size: usize, n: usize)
+fn rename(w: &mut [u16], from: usize, to: usize, size: usize, n: usize)
     requires { ⌜ Renames from to size n (now w) ⌝ }
     ensures { λ _. ⌜ now (w .exit) ≡ putTo (now (w .entry)) to (renamed (listed n (now (w .entry))) (at (entries from size (now (w .entry))))) n ⌝ }
 {
@@ -106,7 +106,7 @@ pub fn rename(w: &mut [u16], from: usize, to: usize, size: usize, n: usize)
 }
 
 // The table at `to`: the table at a first, and then the table at b.
-pub fn compose(w: &mut [u16], a: usize, b: usize, to: usize, n: usize)
+fn compose(w: &mut [u16], a: usize, b: usize, to: usize, n: usize)
     requires { ⌜ Composes a b to n (now w) ⌝ }
     ensures { λ _. ⌜ now (w .exit) ≡ putTo (now (w .entry)) to (entries a n (now (w .entry)) thenTable entries b n (now (w .entry))) n ⌝ }
 {

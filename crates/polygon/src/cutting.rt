@@ -159,7 +159,7 @@ fn scan_vertices(t: &[i64], v: usize, z: usize, w: &mut [u16]) -> Notes
 }
 
 // The cut of the polygon: the table of other sides is filled, and the position under the chord from -1/0 to 0/1 is returned.
-pub fn cut(t: &[i64], v: usize, w: &mut [u16]) -> usize
+pub(crate) fn cut(t: &[i64], v: usize, w: &mut [u16]) -> usize
     requires { ⌜ IsSymbol v (now t) × (32768 ≤ length (now w)) ⌝ }
     ensures { λ r. ⌜ CutLeft (now (t .entry)) v (now (w .entry)) (now (w .exit)) r ⌝ }
 {

@@ -45,7 +45,7 @@ fn number_side(t: &[i64], v: usize, w: &mut [u16], i: usize, n: usize) -> usize
 }
 
 // Every side gets the number of its generator.
-pub fn number_sides(t: &[i64], v: usize, w: &mut [u16])
+pub(crate) fn number_sides(t: &[i64], v: usize, w: &mut [u16])
     requires { ⌜ IsSymbol v (now t) × Partnered (now t) v (now w) × (32768 ≤ length (now w)) ⌝ }
     ensures { λ _. ⌜ Above (now (w .entry)) (now (w .exit)) × Partnered (now (t .entry)) v (now (w .exit)) × Numbered (now (t .entry)) v (now (w .exit)) ⌝ }
 {

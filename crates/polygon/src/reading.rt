@@ -15,7 +15,7 @@ ghost use Rattle.polygon.specs.Cut.{den};
 ghost use Rattle.polygon.specs.Space.{FLIP, PARTNER, GENERATOR};
 
 // Whether vertex i, counted from 0 for the first of the table, is 0/1.
-pub fn is_zero(t: &[i64], i: usize) -> bool
+pub(crate) fn is_zero(t: &[i64], i: usize) -> bool
     requires { ⌜ (i ≤ 1023) × (2 * i + 1 < length (now t)) ⌝ }
     ensures { λ r. ⌜ r ≡ isZero (now (t .entry)) i ⌝ }
 {
@@ -28,7 +28,7 @@ pub fn is_zero(t: &[i64], i: usize) -> bool
 }
 
 // The denominator of vertex y, counted from 0 for -1/0.
-pub fn denominator(t: &[i64], v: usize, y: usize) -> u64
+pub(crate) fn denominator(t: &[i64], v: usize, y: usize) -> u64
     requires { ⌜ IsSymbol v (now t) × (y ≤ v) ⌝ }
     ensures { λ r. ⌜ (r ≡ den (now (t .entry)) y) × (r ≤ 1000000000) ⌝ }
 {
@@ -49,7 +49,7 @@ fn entry(p: &[i64], i: usize) -> i64
 }
 
 // What side i is paired as.
-pub fn pairing(t: &[i64], v: usize, i: usize) -> Pairing
+pub(crate) fn pairing(t: &[i64], v: usize, i: usize) -> Pairing
     requires { ⌜ IsSymbol v (now t) × (i ≤ v) ⌝ }
     ensures { λ r. ⌜ r ≡ pairingAt v (now (t .entry)) i ⌝ }
 {
@@ -59,7 +59,7 @@ pub fn pairing(t: &[i64], v: usize, i: usize) -> Pairing
 }
 
 // The position beyond the edge at p.
-pub fn beyond(w: &[u16], p: usize) -> usize
+pub(crate) fn beyond(w: &[u16], p: usize) -> usize
     requires { ⌜ (p < 4096) × (32768 ≤ length (now w)) ⌝ }
     ensures { λ r. ⌜ r ≡ getD (now (w .entry)) (FLIP + p) 0 ⌝ }
 {
@@ -67,7 +67,7 @@ pub fn beyond(w: &[u16], p: usize) -> usize
 }
 
 // The partner of side i, by the table.
-pub fn partner_of(w: &[u16], i: usize) -> usize
+pub(crate) fn partner_of(w: &[u16], i: usize) -> usize
     requires { ⌜ (i ≤ 1023) × (32768 ≤ length (now w)) ⌝ }
     ensures { λ r. ⌜ r ≡ getD (now (w .entry)) (PARTNER + i) 0 ⌝ }
 {
@@ -75,7 +75,7 @@ pub fn partner_of(w: &[u16], i: usize) -> usize
 }
 
 // The number of the generator of side i, by the table.
-pub fn number_of(w: &[u16], i: usize) -> usize
+pub(crate) fn number_of(w: &[u16], i: usize) -> usize
     requires { ⌜ (i ≤ 1023) × (32768 ≤ length (now w)) ⌝ }
     ensures { λ r. ⌜ r ≡ getD (now (w .entry)) (GENERATOR + i) 0 ⌝ }
 {

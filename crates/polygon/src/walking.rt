@@ -120,7 +120,7 @@ pub fn is_turned(t: &[i64], v: usize) -> bool
 }
 
 // Where the walk starts, from the position under the chord to 0/1.
-pub fn start_position(t: &[i64], v: usize, w: &[u16], under: usize) -> usize
+pub(crate) fn start_position(t: &[i64], v: usize, w: &[u16], under: usize) -> usize
     requires { ⌜ Tables (now t) v (now w) × (under ≡ underZero v (now t)) ⌝ }
     ensures { λ r. ⌜ r ≡ startOf v (now (t .entry)) ⌝ }
 {

@@ -76,7 +76,7 @@ fn carry(n: [i64; 4], x: [i64; 4], m: [i64; 4]) -> [i64; 4]
 
 impl Side {
     // The generator of an even side: M S M⁻¹, a half turn about a point of the side.
-    pub fn even(self) -> [i64; 4]
+    pub(crate) fn even(self) -> [i64; 4]
         requires { ⌜ SmallSide self ⌝ }
         ensures { λ r. ⌜ r ≡ toList (carried (frame self) matS (frame self)) ⌝ }
     {
@@ -84,7 +84,7 @@ impl Side {
     }
 
     // The generator of an odd side: M Q M⁻¹, a turn of order three about a point outside the polygon.
-    pub fn odd(self) -> [i64; 4]
+    pub(crate) fn odd(self) -> [i64; 4]
         requires { ⌜ SmallSide self ⌝ }
         ensures { λ r. ⌜ r ≡ toList (carried (frame self) matQ (frame self)) ⌝ }
     {
@@ -92,7 +92,7 @@ impl Side {
     }
 
     // The generator of a free side and its partner to the right: N S M⁻¹ carries the side to the partner, turned round.
-    pub fn free(self, partner: Side) -> [i64; 4]
+    pub(crate) fn free(self, partner: Side) -> [i64; 4]
         requires { ⌜ SmallSide self × SmallSide partner ⌝ }
         ensures { λ r. ⌜ r ≡ toList (carried (frame partner) matS (frame self)) ⌝ }
     {

@@ -10,7 +10,7 @@ ghost use lib.ListN.{length};
 ghost use Rattle.matrix.specs.Matrix.{nth, toList};
 ghost use Rattle.symbol.specs.Count.{first};
 ghost use Rattle.symbol.specs.Table.{leftNum, leftDen, rightNum, rightDen, sideAt, frame, gap, pairingOf};
-ghost use Rattle.symbol.specs.Check.{_orElse_, eqZ, outOfRange, apart, isZero, unpairedIn, check3, check4, check5, lacksOdd, check6, check7};
+ghost use Rattle.symbol.specs.Check.{numberOf, placeOf, _orElse_, eqZ, outOfRange, apart, isZero, unpairedIn, check3, check4, check5, lacksOdd, check6, check7};
 ghost use Rattle.symbol.specs.Marks.{digit, Marked, Noted, Tallied};
 ghost use Rattle.symbol.specs.Symbol.{Verdict};
 ghost use Rattle.symbol.specs.Ready.{SmallSide, failsOf, placesOf, Ready};
@@ -56,6 +56,36 @@ pub enum Fault {
 pub enum Checked {
     Accepted,
     Refused(Fault),
+}
+
+// Document 01's number of a fault.
+pub fn fault_number(fault: Fault) -> u64
+    ensures { λ r. ⌜ r ≡ numberOf fault ⌝ }
+{
+    match fault {
+        Fault::VertexCount => 1,
+        Fault::TableLength(_) => 2,
+        Fault::VertexEntry(_) => 3,
+        Fault::Neighbours(_) => 4,
+        Fault::NoZero => 5,
+        Fault::BadPairing(_) => 6,
+        Fault::NoOddSide => 7,
+    }
+}
+
+// Document 01's place of a fault.
+pub fn fault_place(fault: Fault) -> usize
+    ensures { λ r. ⌜ r ≡ placeOf fault ⌝ }
+{
+    match fault {
+        Fault::VertexCount => 0,
+        Fault::TableLength(n) => n,
+        Fault::VertexEntry(i) => i,
+        Fault::Neighbours(i) => i,
+        Fault::NoZero => 0,
+        Fault::BadPairing(i) => i,
+        Fault::NoOddSide => 0,
+    }
 }
 
 // Whether x is at most 10^9 in size.
@@ -127,7 +157,7 @@ fn right_end(v: usize, t: &[i64], i: usize) -> Vertex
 
 impl Side {
     // Side i of the symbol in t.
-    pub fn at(v: usize, t: &[i64], i: usize) -> Side
+    pub(crate) fn at(v: usize, t: &[i64], i: usize) -> Side
         requires { ⌜ (v ≤ 1023) × (2 * v ≤ length (now t)) × (i ≤ v) ⌝ }
         ensures { λ r. ⌜ r ≡ sideAt v (now (t .entry)) i ⌝ }
     {
@@ -142,14 +172,14 @@ impl Side {
     }
 
     // The frame (c a; d b), which sends infinity and 0 to the side's right and left ends.
-    pub fn frame(self) -> [i64; 4]
+    pub(crate) fn frame(self) -> [i64; 4]
         ensures { λ r. ⌜ r ≡ toList (frame self) ⌝ }
     {
         [self.c, self.a, self.d, self.b]
     }
 
     // The neighbour rule: c b - a d is 1.
-    pub fn neighbours(self) -> bool
+    pub(crate) fn neighbours(self) -> bool
         requires { ⌜ SmallSide self ⌝ }
         ensures { λ r. ⌜ r ≡ eqZ (gap self) (pos 1) ⌝ }
     {

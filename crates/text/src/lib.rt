@@ -395,14 +395,14 @@ fn size(n: i64) -> u64
     n as u64
 }
 
-// The digits of m at the end of the buffer, the last one first; where they begin. 2^63 has 19 digits, so that a place is
-// left for a minus.
-fn digits_back(m: u64, buffer: &mut [u8; 20]) -> usize
-    requires { ⌜ (m ≤ 9223372036854775808) × (length (now buffer) ≡ 20) ⌝ }
-    ensures { λ r. ⌜ (drop r (now (buffer .exit)) ≡ digits m) × (1 ≤ r) × (r ≤ 20) × (length (now (buffer .exit)) ≡ 20) ⌝ }
+// The digits of m at the end of the buffer, the last one first; where they begin. A number of 64 bits has at most 20 digits, so
+// that a place is left for a minus.
+fn digits_back(m: u64, buffer: &mut [u8; 21]) -> usize
+    requires { ⌜ length (now buffer) ≡ 21 ⌝ }
+    ensures { λ r. ⌜ (drop r (now (buffer .exit)) ≡ digits m) × (1 ≤ r) × (r ≤ 21) × (length (now (buffer .exit)) ≡ 21) ⌝ }
 {
     let mut rest = m;
-    let mut at: usize = 20;
+    let mut at: usize = 21;
     while 9 < rest {
         at -= 1;
         buffer[at] = (48 + rest % 10) as u8;
@@ -414,9 +414,9 @@ fn digits_back(m: u64, buffer: &mut [u8; 20]) -> usize
 }
 
 // The decimal form of n at the end of the buffer; where it begins.
-fn form(n: i64, buffer: &mut [u8; 20]) -> usize
-    requires { ⌜ length (now buffer) ≡ 20 ⌝ }
-    ensures { λ r. ⌜ (drop r (now (buffer .exit)) ≡ decimalOf n) × (r ≤ 20) × (length (now (buffer .exit)) ≡ 20) ⌝ }
+fn form(n: i64, buffer: &mut [u8; 21]) -> usize
+    requires { ⌜ length (now buffer) ≡ 21 ⌝ }
+    ensures { λ r. ⌜ (drop r (now (buffer .exit)) ≡ decimalOf n) × (r ≤ 21) × (length (now (buffer .exit)) ≡ 21) ⌝ }
 {
     let first = digits_back(size(n), buffer);
     if n < 0 {
@@ -431,7 +431,16 @@ fn form(n: i64, buffer: &mut [u8; 20]) -> usize
 pub fn write(n: i64, out: &mut [u8], at: usize) -> Written
     ensures { λ r. ⌜ (r ≡ writtenOf (length (decimalOf n)) (length (now (out .entry))) at) × (now (out .exit) ≡ standing r (decimalOf n) at (now (out .entry))) ⌝ }
 {
-    let mut buffer = [0u8; 20];
+    let mut buffer = [0u8; 21];
     let from = form(n, &mut buffer);
+    copy(&buffer[from..], out, at)
+}
+
+// The same for a natural number of 64 bits.
+pub fn write_natural(n: u64, out: &mut [u8], at: usize) -> Written
+    ensures { λ r. ⌜ (r ≡ writtenOf (length (digits n)) (length (now (out .entry))) at) × (now (out .exit) ≡ standing r (digits n) at (now (out .entry))) ⌝ }
+{
+    let mut buffer = [0u8; 21];
+    let from = digits_back(n, &mut buffer);
     copy(&buffer[from..], out, at)
 }

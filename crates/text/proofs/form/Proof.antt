@@ -4,7 +4,6 @@ use mathlib.Core.Path.{ap, _∙_}
 use mathlib.Core.List.{_∷_, List}
 use native.Mathlib.Omega.{arith}
 use lib.ListN.{length-set}
-use Rattle.text.proofs.Signs.{abs-most}
 use Rattle.text.proofs.Decimals.{form-minus, form-plain}
 use Rattle.text.proofs.Places.{front-store}
 use Prim.Native.Nat.{ℕ}
@@ -19,8 +18,7 @@ size-requires : tie.Need-size-requires
 size-requires c κs = search needs
 
 digits-back-requires : tie.Need-digits-back-requires
-digits-back-requires c κs = let e = c .before .size .ensures ∙ ap natAbs (toZ-ofZ (c .before .before .fits .n)) in
-    (omega (arith, e, abs-most (c .before .before .fits .n)), c .before .before .pre)
+digits-back-requires c κs = search needs
 
 sub-from : tie.Need-sub-from
 sub-from c = search needs

@@ -1,0 +1,113 @@
+-- Bytes put into a slice, one after another.
+--     by-writing        what `copy` and `write` leave where the bytes fit
+--     the-end           the end that an answer tells is the end of the bytes
+--     no-short          and no such answer is a refusal
+--     puts-none         no bytes
+--     puts-then         bytes behind others
+--     puts-same         the length stays
+--     number-put        a number behind a space, by an answer of `write`
+--     number-short      which is no refusal
+--     line-put          a whole line
+-- Assumes nothing.
+use mathlib.Core.Path.{_≡_, sym, ap, _∙_}
+use mathlib.Core.List.{List, [], _∷_, _++_, append-assoc}
+use Prim.Native.Nat.{ℕ, _+_, _≤_}
+use native.Mathlib.Omega.{arith}
+use lib.IntN.{ℤ}
+use lib.ListN.{length, take, drop, length-append, length-drop}
+use lib.Seq.{take-at, drop-drop, drop-append-add, length-take-le, paste-zero}
+use Rattle.text.specs.Writing.{writtenOf, placed, standing}
+use Rattle.text.specs.declared.Written.{Written}
+use Rattle.text.specs.declared.Written.the-variants as written
+use Rattle.text.proofs.Places.{written-to}
+use Rattle.line.specs.Line.{spaced, line, Puts}
+
+module _ (bs out out' : List ℕ) (at : ℕ) (w : Written) (e : w ≡ writtenOf (length bs) (length out) at) (l : out' ≡ standing w bs at out)
+    (h : at + length bs ≤ length out) where
+  to : w ≡ written.To (at + length bs)
+  to = e ∙ sym (written-to (length bs) (length out) at h)
+
+  pub by-writing : (end : ℕ) → w ≡ written.To end → Puts bs at end out out'
+  unfolding standing
+  by-writing end f =
+      let g : written.To end ≡ written.To (at + length bs) = sym f ∙ to in
+      record { end-is = cc; left = l ∙ ap (λ (x : Written). standing x bs at out) to }
+
+  pub no-short : {A : Type 0} (k : ℕ) → w ≡ written.Short k → A
+  no-short k f = let g : written.Short k ≡ written.To (at + length bs) = sym f ∙ to in let z : _≡_ {A = ℕ} 0 1 = cc in absurd (omega arith)
+
+pub puts-none : (at : ℕ) (out : List ℕ) → Puts [] at at out out
+unfolding placed
+puts-none at out = record { end-is = omega arith; left = paste-zero out at [] }
+
+module _ (a b : List ℕ) (at : ℕ) (out : List ℕ) (h : at ≤ length out) where
+  -- what stands before the second
+  abbrev front : List ℕ
+  front = take at out ++ a
+
+  front-length : length front ≡ at + length a
+  front-length = length-append (take at out) a ∙ ap (λ (n : ℕ). n + length a) (length-take-le at out h)
+
+  before-second : take (at + length a) (placed a at out) ≡ front
+  unfolding placed
+  before-second = take-at front (drop (at + length a) out) (at + length a) front-length
+
+  same-place : at + length a + length b ≡ at + (length a + length b)
+  same-place = omega arith
+
+  behind-second : drop (at + length a + length b) (placed a at out) ≡ drop (at + (length a + length b)) out
+  unfolding placed
+  behind-second =
+      ap (λ (n : ℕ). drop (n + length b) (placed a at out)) (sym front-length)
+      ∙ drop-append-add front (drop (at + length a) out) (length b)
+      ∙ drop-drop (length b) (at + length a) out
+      ∙ ap (λ (n : ℕ). drop n out) same-place
+
+  placed-then : placed b (at + length a) (placed a at out) ≡ placed (a ++ b) at out
+  unfolding placed
+  placed-then =
+      ap (λ (l : List ℕ). l ++ b ++ drop (at + length a + length b) (placed a at out)) before-second
+      ∙ ap (λ (l : List ℕ). front ++ b ++ l) behind-second
+      ∙ ap (λ (l : List ℕ). l ++ drop (at + (length a + length b)) out) (append-assoc (take at out) a b)
+      ∙ ap (λ (n : ℕ). take at out ++ (a ++ b) ++ drop (at + n) out) (sym (length-append a b))
+
+pub puts-then : {a b : List ℕ} {at m e : ℕ} {out out1 out2 : List ℕ} → Puts a at m out out1 → Puts b m e out1 out2 → at ≤ length out → Puts (a ++ b) at e out out2
+puts-then {a} {b} {at} {m} {e} {out} {out1} {out2} f g h =
+    record {
+      end-is = omega (arith, f .end-is, g .end-is, length-append a b);
+      left =
+          g .left
+          ∙ ap (placed b m) (f .left)
+          ∙ ap (λ (n : ℕ). placed b n (placed a at out)) (f .end-is)
+          ∙ placed-then a b at out h;
+    }
+
+pub puts-same : {a : List ℕ} {at e : ℕ} {out out' : List ℕ} → Puts a at e out out' → at + length a ≤ length out → length out' ≡ length out
+unfolding placed
+puts-same {a} {at} {e} {out} {out'} f h =
+    ap length (f .left)
+    ∙ length-append (take at out ++ a) (drop (at + length a) out)
+    ∙ ap (λ (n : ℕ). n + length (drop (at + length a) out)) (front-length a [] at out (omega arith))
+    ∙ omega (arith, length-drop (at + length a) out)
+
+pub puts-as : {a b : List ℕ} {at e : ℕ} {out out' : List ℕ} → a ≡ b → Puts a at e out out' → Puts b at e out out'
+puts-as {a} {b} {at} {e} {out} {out'} h f = rw (← h) f
+
+module _ (bs out out1 out2 : List ℕ) (at from : ℕ) (w : Written) (f : Puts (32 ∷ []) at from out out1) (h : at + 21 ≤ length out) (k : length bs ≤ 20)
+    (e : w ≡ writtenOf (length bs) (length out1) from) (l : out2 ≡ standing w bs from out1) where
+  fitting : from + length bs ≤ length out1
+  fitting = omega (arith, f .end-is, puts-same f (omega arith))
+
+  pub number-put : (end : ℕ) → w ≡ written.To end → Puts (32 ∷ bs) at end out out2 × (end ≤ at + 21)
+  number-put end g =
+      let p = by-writing bs out1 out2 from w e l fitting end g in
+      (puts-then f p (omega arith), omega (arith, f .end-is, p .end-is))
+
+  pub number-short : {A : Type 0} (n : ℕ) → w ≡ written.Short n → A
+  number-short n g = no-short bs out1 out2 from w e l fitting n g
+
+pub line-put : (name : List ℕ) (zs : List ℤ) {at m n e : ℕ} {out out1 out2 out3 : List ℕ} → Puts name at m out out1 → Puts (spaced zs) m n out1 out2 → Puts (10 ∷ []) n e out2 out3
+    → at + length name + length (spaced zs) ≤ length out → Puts (line name zs) at e out out3
+unfolding line
+line-put name zs f g h room =
+    puts-as (append-assoc name (spaced zs) (10 ∷ [])) (puts-then (puts-then f g (omega arith)) h (omega arith))
