@@ -2,9 +2,9 @@
 //! other answers would be no measure.
 
 use bench::inputs::inputs;
-use bench::{plain_listing, plain_query};
-use reckoning::random::{listing_case, query_case};
-use reckoning::{listing, query};
+use bench::{plain_import, plain_listing, plain_query};
+use reckoning::random::{import_case, listing_case, query_case};
+use reckoning::{import, listing, query};
 
 fn same(text: &[u8], plain: &[u8], reckoned: &str) {
     let start = &text[..text.len().min(500)];
@@ -32,6 +32,14 @@ fn queries() {
     }
 }
 
+#[test]
+fn imports() {
+    for case in 0..3_000 {
+        let text = import_case(63, case);
+        same(&text, &plain_import(&text), &import(&text));
+    }
+}
+
 /// The texts to measure with are what their names say.
 #[test]
 fn measured_texts() {
@@ -40,7 +48,7 @@ fn measured_texts() {
         let (plain, reckoned) = match input.name.split('-').next() {
             Some("listing") => (plain_listing(text), listing(text)),
             Some("query") => (plain_query(text), query(text)),
-            _ => continue,
+            _ => (plain_import(text), import(text)),
         };
         same(text, &plain, &reckoned);
         let expected = match input.name {
@@ -51,6 +59,8 @@ fn measured_texts() {
             "query-near.txt" => "refused 11 ",
             "query-1023-word.txt" => "word ",
             "query-1023-none.txt" => "refused 10 0\n",
+            "import-short.txt" => "2\n0 1 1 1\n1 -2 1\n",
+            "import-3066.txt" => "876\n",
             name => panic!("{name} isn't known here"),
         };
         assert!(
