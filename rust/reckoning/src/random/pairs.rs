@@ -5,7 +5,7 @@ use super::drafts::{draft_of_size, pairings, polygon, size, Growth, Style, Zero}
 use super::rng::Rng;
 use crate::coset::Cosets;
 use crate::permutations::Action;
-use crate::symbol::Symbol;
+use crate::symbol::{Symbol, EVEN, ODD};
 use crate::text::MAX_POINTS;
 
 /// The tables of S and R as numbers, on their way to a text.
@@ -114,28 +114,59 @@ pub fn symbol_pair(rng: &mut Rng, v: usize) -> Pair {
     }
 }
 
-/// The pair of a polygon whose sides are all even or odd. An import finds just
-/// this polygon again, up to where it starts, so entries stay small.
+/// Free pairs that leave an import's entries small: the outer sides, the two
+/// sides at a vertex that only one triangle has, and a few pairs across.
+fn few_free_pairs(rng: &mut Rng, vertices: &[(i64, i64)]) -> Vec<(usize, usize)> {
+    let v = vertices.len();
+    let mut wishes = Vec::new();
+    if rng.chance(50) {
+        wishes.push((0, v));
+    }
+    for _ in 0..rng.below(4) {
+        wishes.push((rng.below(v + 1), rng.below(v + 1)));
+    }
+    let share = rng.pick(&[0, 20, 80]);
+    for i in 1..v.saturating_sub(1) {
+        if vertices[i].1 == vertices[i - 1].1 + vertices[i + 1].1 && rng.chance(share) {
+            wishes.push((i, i + 1));
+        }
+    }
+    let mut taken = vec![false; v + 1];
+    wishes.retain(|&(i, k)| {
+        let free = i != k && !taken[i] && !taken[k];
+        taken[i] |= free;
+        taken[k] |= free;
+        free
+    });
+    wishes
+}
+
+/// The pair of a polygon with few free pairs across. An import finds nearly
+/// this polygon again, so entries mostly stay small, with 3,066 points too.
 pub fn shallow_pair(rng: &mut Rng, v: usize) -> Pair {
     let vertices = polygon(rng, v, Zero::First, Growth::Even);
-    // As many odd sides as the points allow.
-    let most_odd = (MAX_POINTS as usize).saturating_sub(3 * (v - 1));
-    let style = if most_odd < v + 1 {
-        Style::AllEven
-    } else {
-        let odd = rng.below(101);
-        Style::Mixed {
-            even: 100 - odd,
-            odd,
+    let fixed = few_free_pairs(rng, &vertices);
+    let mut pairings = pairings(rng, v + 1, Style::AllEven, &fixed);
+    // Odd sides in place of even ones, as many as the points allow.
+    let mut room = (MAX_POINTS as usize).saturating_sub(3 * (v - 1));
+    let share = rng.below(101);
+    let mut sides: Vec<usize> = (0..=v).collect();
+    rng.shuffle(&mut sides);
+    for side in sides {
+        if pairings[side] == EVEN && room > 0 && rng.chance(share) {
+            pairings[side] = ODD;
+            room -= 1;
         }
-    };
-    let pairings = pairings(rng, v + 1, style, &[]);
-    let mut table: Vec<i64> = vertices.iter().flat_map(|&(a, b)| [a, b]).collect();
-    table.extend(pairings);
-    let symbol = Symbol::new(v as i64, &table).expect("the polygon and its pairings are sound");
-    let pair = Pair::of_symbol(&symbol);
+    }
+    let pair = Pair::of_symbol(&sound(&vertices, &pairings));
     let names = names(rng, pair.points(), false);
     pair.renamed(&names)
+}
+
+fn sound(vertices: &[(i64, i64)], pairings: &[i64]) -> Symbol {
+    let mut table: Vec<i64> = vertices.iter().flat_map(|&(a, b)| [a, b]).collect();
+    table.extend(pairings);
+    Symbol::new(vertices.len() as i64, &table).expect("the polygon and its pairings are sound")
 }
 
 /// The pair of a long row of triangles that turns left and right by turns, all
@@ -166,9 +197,7 @@ pub fn zigzag_pair(rng: &mut Rng, splits: usize) -> Pair {
         odd: 100 - even,
     };
     let pairings = pairings(rng, v + 1, style, &[]);
-    let mut table: Vec<i64> = vertices.iter().flat_map(|&(a, b)| [a, b]).collect();
-    table.extend(pairings);
-    let symbol = Symbol::new(v as i64, &table).expect("the polygon and its pairings are sound");
+    let symbol = sound(&vertices, &pairings);
     let cosets = Cosets::new(&symbol);
     // A side next to the vertex with the largest denominator.
     let deepest = (0..v)
