@@ -98,8 +98,8 @@ impl Polygon {
         let mut outer = corners;
         // The outer positions of the sides; 0 where there is none.
         let mut outside = vec![0u16; v + 1];
-        for side in 0..=v {
-            if symbol.pairings[side] == ODD {
+        for (side, &pairing) in symbol.pairings.iter().enumerate() {
+            if pairing == ODD {
                 outside[side] = outer as u16;
                 outer += 1;
             }

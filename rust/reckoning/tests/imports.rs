@@ -7,7 +7,8 @@ use reckoning::coset::Cosets;
 use reckoning::permutations::{Action, Imported};
 use reckoning::random::drafts::{draft, draft_of_size};
 use reckoning::random::pairs::{
-    dice_pair, pair, put_pair_fault, shallow_pair, symbol_pair, zigzag_pair, Pair, PAIR_FAULTS,
+    dice_pair, fraction_at_the_limit, pair, pair_towards, put_pair_fault, shallow_pair,
+    symbol_pair, zigzag_pair, Pair, PAIR_FAULTS,
 };
 use reckoning::random::{import_case, Rng};
 use reckoning::symbol::Symbol;
@@ -279,6 +280,35 @@ fn fibonacci_entries() {
         if splits >= 50 {
             assert!(!made, "{splits} splits don't");
         }
+    }
+}
+
+/// Entries of just 10^9 are made; the first one past it is refused, at the side
+/// that would have been split for it.
+#[test]
+fn entries_at_the_limit() {
+    let mut rng = Rng::new(79);
+    let (mut at, mut past) = (0, 0);
+    for _ in 0..200 {
+        let (num, den) = fraction_at_the_limit(&mut rng);
+        let (pair, place) = pair_towards(&mut rng, num, den);
+        let action = action(&pair);
+        let answer = action.by_points();
+        let largest = num.abs().max(den);
+        if largest > 1_000_000_000 {
+            assert_eq!(answer, Err(Refusal::new(16, place)), "{num}/{den}");
+            past += usize::from(largest == 1_000_000_001);
+        } else {
+            let imported = answer.unwrap_or_else(|r| panic!("{r} for {num}/{den}"));
+            assert_eq!(imported.vertices[place], (num, den));
+            check_symbol(&action, &imported);
+            at += usize::from(largest == 1_000_000_000);
+        }
+    }
+    assert!(at >= 10 && past >= 10);
+    for _ in 0..10 {
+        let (num, den) = fraction_at_the_limit(&mut rng);
+        check_forms(&pair_towards(&mut rng, num, den).0);
     }
 }
 

@@ -22,10 +22,11 @@ use reckoning::random::faults::{
 };
 use reckoning::random::matrices::{any_pair, far, found_pair, put_matrix_fault};
 use reckoning::random::pairs::{
-    dice_pair, pair, put_pair_fault, shallow_pair, symbol_pair, zigzag_pair, PAIR_FAULTS,
+    dice_pair, fraction_at_the_limit, pair, pair_towards, put_pair_fault, shallow_pair,
+    symbol_pair, zigzag_pair, PAIR_FAULTS,
 };
 use reckoning::random::{import_case, listing_case, query_case, Rng};
-use reckoning::symbol::{Pairing, Symbol, MAX_VERTICES};
+use reckoning::symbol::{Pairing, Symbol, MAX_ENTRY, MAX_VERTICES};
 use reckoning::text::{numbers, Format, MAX_TEXT};
 use reckoning::word::takes;
 use reckoning::{import, listing, query};
@@ -746,6 +747,29 @@ fn import_of_random_pairs() {
     assert!(counts.answered() >= 1_500, "{:?}", counts.0);
     counts.at_least(50, &["16"]);
     assert_eq!(largest, 3_066);
+}
+
+/// Polygons whose last vertex has an entry of 10^9, or of one less or more. The
+/// place of the refusal is that of the vertex, which is known beforehand.
+#[test]
+fn import_at_the_largest_entry() {
+    let Some(program) = Program::named_by("IMPORT_PROGRAM") else {
+        return;
+    };
+    let mut rng = Rng::new(54);
+    let mut counts = Counts::default();
+    for _ in 0..120 {
+        let (num, den) = fraction_at_the_limit(&mut rng);
+        let (sample, place) = pair_towards(&mut rng, num, den);
+        let text = typed(&mut rng, &sample.numbers()).bytes;
+        let expected = import(&text);
+        if num.abs().max(den) > MAX_ENTRY {
+            assert_eq!(expected, format!("refused 16 {place}\n"));
+        }
+        program.must_print(&text, &expected);
+        counts.add(&expected);
+    }
+    counts.at_least(30, &["symbol", "16"]);
 }
 
 #[test]

@@ -1,11 +1,14 @@
 //! Permutation pairs: transitive ones from dice or from symbols, and damaged
 //! ones.
 
+use std::cmp::Ordering;
+
 use super::drafts::{draft_of_size, pairings, polygon, size, Growth, Style, Zero};
 use super::rng::Rng;
 use crate::coset::Cosets;
+use crate::matrix::{Cusp, Matrix};
 use crate::permutations::Action;
-use crate::symbol::{Symbol, EVEN, ODD};
+use crate::symbol::{Symbol, EVEN, MAX_ENTRY, ODD};
 use crate::text::MAX_POINTS;
 
 /// The tables of S and R as numbers, on their way to a text.
@@ -204,7 +207,88 @@ pub fn zigzag_pair(rng: &mut Rng, splits: usize) -> Pair {
         .max_by_key(|&i| vertices[i].1)
         .expect("there are vertices");
     let base = cosets.number(&symbol, symbol.sides[deepest].frame) as usize;
-    let pair = Pair::of_symbol(&symbol);
+    based(rng, &Pair::of_symbol(&symbol), base)
+}
+
+/// A fraction with an entry just at or just past 10^9, close enough to the
+/// golden ratio for few splits to lead to it.
+pub fn fraction_at_the_limit(rng: &mut Rng) -> (i64, i64) {
+    let large = MAX_ENTRY + rng.pick(&[-1, 0, 1, 2, 1_000]);
+    loop {
+        let small = 618_033_989 + rng.range(-20_000, 20_000);
+        // The sum of the quotients in Euclid's algorithm counts the splits.
+        let (mut x, mut y, mut splits) = (large, small, 0);
+        while y != 0 {
+            splits += x / y;
+            (x, y) = (y, x % y);
+        }
+        if x == 1 && splits < 120 {
+            let (num, den) = rng.pick(&[(small, large), (large, small)]);
+            return (rng.pick(&[num, -num]), den);
+        }
+    }
+}
+
+/// The pair of a polygon that has 0, 1 and the vertices on the way to a given
+/// fraction, all sides even or odd, and the side whose splitting makes that
+/// fraction. An import makes just this polygon, and the fraction last.
+///
+/// The fraction may be too large for a symbol. The tables are therefore taken
+/// from the same polygon seen from an edge halfway.
+pub fn pair_towards(rng: &mut Rng, num: i64, den: i64) -> (Pair, usize) {
+    let target = Cusp::new(num.into(), den.into());
+    let mut vertices = vec![Cusp::new(0, 1), Cusp::new(1, 1)];
+    let frame = |vertices: &[Cusp], side: usize| {
+        let left = match side {
+            0 => (-1, 0),
+            _ => (vertices[side - 1].num, vertices[side - 1].den),
+        };
+        let right = vertices
+            .get(side)
+            .map_or((1, 0), |cusp| (cusp.num, cusp.den));
+        Matrix([right.0, left.0, right.1, left.1])
+    };
+    let mut frames = Vec::new();
+    let place = loop {
+        let side = vertices.partition_point(|vertex| vertex.compare(target) == Ordering::Less);
+        if vertices.get(side) == Some(&target) {
+            break side;
+        }
+        let m = frame(&vertices, side);
+        frames.push(m);
+        vertices.insert(side, Cusp::new(m.0[0] + m.0[1], m.0[2] + m.0[3]));
+    };
+
+    // From the edge halfway the right end of that edge is infinity. The order
+    // around the polygon stays.
+    let away = frames[frames.len() / 2].inverse();
+    let mut seen: Vec<Cusp> = std::iter::once(Cusp::new(1, 0))
+        .chain(vertices.iter().copied())
+        .map(|cusp| {
+            let [a, b, c, d] = away.0;
+            Cusp::new(a * cusp.num + b * cusp.den, c * cusp.num + d * cusp.den)
+        })
+        .collect();
+    let infinity = seen.iter().position(|cusp| cusp.is_infinite());
+    seen.rotate_left(infinity.expect("an end of the edge goes to infinity"));
+    let small = |entry: i128| i64::try_from(entry).expect("halfway entries are small");
+    let seen: Vec<(i64, i64)> = seen[1..]
+        .iter()
+        .map(|cusp| (small(cusp.num), small(cusp.den)))
+        .collect();
+    let even = rng.below(101);
+    let style = Style::Mixed {
+        even,
+        odd: 100 - even,
+    };
+    let pairings = pairings(rng, seen.len() + 1, style, &[]);
+    let symbol = sound(&seen, &pairings);
+    let base = Cosets::new(&symbol).number(&symbol, away) as usize;
+    (based(rng, &Pair::of_symbol(&symbol), base), place)
+}
+
+/// The pair with new names, 0 for the point `base`.
+fn based(rng: &mut Rng, pair: &Pair, base: usize) -> Pair {
     let mut names = names(rng, pair.points(), true);
     let holder = names.iter().position(|&name| name == 0);
     names.swap(base, holder.expect("0 is a name"));
@@ -231,9 +315,13 @@ pub fn pair(rng: &mut Rng) -> Pair {
             let v = size(rng);
             shallow_pair(rng, v)
         }
-        _ => {
+        18 => {
             let splits = 30 + rng.below(30);
             zigzag_pair(rng, splits)
+        }
+        _ => {
+            let (num, den) = fraction_at_the_limit(rng);
+            pair_towards(rng, num, den).0
         }
     }
 }
