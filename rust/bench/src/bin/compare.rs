@@ -4,9 +4,12 @@
 //!
 //! Both are run once to see that they print the same. Then each is run RUNS
 //! times (200 unless given), by turns with each other and with a program that
-//! does nothing, so that whatever else the machine does falls on all alike. The
-//! medians are printed, their ratio, and the ratio of what remains after the
-//! time of the program that does nothing is taken off.
+//! does nothing, so that whatever else the machine does falls on all alike.
+//!
+//! Medians and fastest runs are printed with their ratios. On a machine that is
+//! busy with other things the fastest runs say more. From them the time of the
+//! program that does nothing is taken off as well, where enough remains to form
+//! a ratio of it.
 
 use std::fs::File;
 use std::path::PathBuf;
@@ -107,16 +110,17 @@ fn compare(arguments: &[String]) -> io::Result<bool> {
         let (median, fastest) = (runs.median(), runs.fastest());
         println!("  {name:8} median {median:9.3}  fastest {fastest:9.3}");
     }
-    let start = nothing.median();
-    let (engine, plain) = (engine.median(), plain.median());
-    print!("  ratio    {:.2}", engine / plain);
-    if plain > 1.2 * start {
-        println!(
-            ", without the start {:.2}",
-            (engine - start) / (plain - start)
-        );
+    println!(
+        "  ratio    median {:9.2}  fastest {:9.2}",
+        engine.median() / plain.median(),
+        engine.fastest() / plain.fastest()
+    );
+    let start = nothing.fastest();
+    let (engine, plain) = (engine.fastest() - start, plain.fastest() - start);
+    if plain > 0.1 * start {
+        println!("  without the start of a process: {:.2}", engine / plain);
     } else {
-        println!(", mostly the start of a process");
+        println!("  without the start of a process: too little remains");
     }
     Ok(true)
 }
