@@ -103,19 +103,37 @@ pub fn numbers(text: &[u8], format: Format) -> Result<Vec<i64>, Refusal> {
     }
 }
 
-/// A blank and a number in digits.
+/// 00, 01, .. 99 one behind the other.
+const PAIRS: [u8; 200] = {
+    let mut pairs = [0; 200];
+    let mut i = 0;
+    while i < 100 {
+        pairs[2 * i] = b'0' + (i / 10) as u8;
+        pairs[2 * i + 1] = b'0' + (i % 10) as u8;
+        i += 1;
+    }
+    pairs
+};
+
+/// A blank and a number in digits, two at a time.
 #[inline]
 pub fn put(out: &mut Vec<u8>, number: i64) {
     let mut digits = [0u8; 21];
     let mut at = digits.len();
     let mut size = number.unsigned_abs();
-    loop {
+    while size >= 100 {
+        let pair = 2 * (size % 100) as usize;
+        size /= 100;
+        at -= 2;
+        digits[at..at + 2].copy_from_slice(&PAIRS[pair..pair + 2]);
+    }
+    if size >= 10 {
+        let pair = 2 * size as usize;
+        at -= 2;
+        digits[at..at + 2].copy_from_slice(&PAIRS[pair..pair + 2]);
+    } else {
         at -= 1;
-        digits[at] = b'0' + (size % 10) as u8;
-        size /= 10;
-        if size == 0 {
-            break;
-        }
+        digits[at] = b'0' + size as u8;
     }
     if number < 0 {
         at -= 1;
