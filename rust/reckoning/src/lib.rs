@@ -7,22 +7,24 @@
 //! polygon. The index is counted, never taken from a formula, and the polygon
 //! is never cut into triangles.
 //!
-//! | module    | what it holds                                                   |
-//! |-----------|-----------------------------------------------------------------|
-//! | `refusal` | number and place of a refusal                                   |
-//! | `text`    | numbers from bytes, refusal 19                                  |
-//! | `matrix`  | integer matrices of determinant 1 and the cusps they name       |
-//! | `symbol`  | checks 1 to 7, sides, frames, generators, sameness              |
-//! | `polygon` | carrying an edge back into the polygon, with the letters used   |
-//! | `coset`   | tables of S, R, T and the figures drawn from them               |
-//! | `word`    | pair queries: membership, the walk, multiplying a word out      |
-//! | `report`  | the whole output of the listing and of the query program        |
-//! | `random`  | test symbols, matrices and texts, sound and damaged             |
+//! | module         | what it holds                                                   |
+//! |----------------|-----------------------------------------------------------------|
+//! | `refusal`      | number and place of a refusal                                   |
+//! | `text`         | numbers from bytes, refusal 19                                  |
+//! | `matrix`       | integer matrices of determinant 1 and the cusps they name       |
+//! | `symbol`       | checks 1 to 7, sides, frames, generators, sameness              |
+//! | `polygon`      | carrying an edge back into the polygon, with the letters used   |
+//! | `coset`        | tables of S, R, T and the figures drawn from them               |
+//! | `word`         | pair queries: membership, the walk, multiplying a word out      |
+//! | `permutations` | checks 12 to 16, from two permutations to a symbol              |
+//! | `report`       | the whole output of the three programs                          |
+//! | `random`       | test symbols, pairs, matrices and texts, sound and damaged      |
 
 #![forbid(unsafe_code)]
 
 pub mod coset;
 pub mod matrix;
+pub mod permutations;
 pub mod polygon;
 pub mod random;
 pub mod refusal;
@@ -32,4 +34,4 @@ pub mod text;
 pub mod word;
 
 pub use refusal::Refusal;
-pub use report::{listing, query};
+pub use report::{import, listing, query};

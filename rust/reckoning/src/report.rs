@@ -1,11 +1,12 @@
-//! The whole output of the two programs, from the bytes of standard input.
+//! The whole output of the three programs, from the bytes of standard input.
 
 use std::fmt::{Display, Write};
 
 use crate::coset::Cosets;
+use crate::permutations::{import_pair, Imported};
 use crate::refusal::Refusal;
-use crate::symbol::Symbol;
-use crate::text::{numbers, Format};
+use crate::symbol::{Symbol, MAX_VERTICES};
+use crate::text::{numbers, Format, MAX_POINTS};
 use crate::word::pair_query;
 
 /// The letters that the query program lends.
@@ -83,4 +84,36 @@ fn try_query(text: &[u8]) -> Result<Vec<i16>, Refusal> {
     }
     let [a, b] = matrices;
     pair_query(&symbol, a, b, LENT_LETTERS, 0)
+}
+
+/// What the import program prints: v, the vertices and the pairings, a line
+/// each.
+pub fn import(text: &[u8]) -> String {
+    match try_import(text) {
+        Ok(imported) => {
+            let join = |numbers: Vec<i64>| {
+                let pieces: Vec<String> = numbers.iter().map(i64::to_string).collect();
+                pieces.join(" ")
+            };
+            let vertices = imported.vertices.iter().flat_map(|&(a, b)| [a, b]);
+            format!(
+                "{}\n{}\n{}\n",
+                imported.v(),
+                join(vertices.collect()),
+                join(imported.pairings)
+            )
+        }
+        Err(refusal) => format!("{refusal}\n"),
+    }
+}
+
+fn try_import(text: &[u8]) -> Result<Imported, Refusal> {
+    let numbers = numbers(text, Format::Import)?;
+    let n = numbers[0];
+    if !(1..=MAX_POINTS).contains(&n) {
+        return Err(Refusal::new(12, 0));
+    }
+    let (s, r) = numbers[1..].split_at(n as usize);
+    // The program lends space for the largest symbol.
+    import_pair(s, r, 3 * MAX_VERTICES + 1)
 }

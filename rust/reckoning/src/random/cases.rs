@@ -1,4 +1,4 @@
-//! Whole texts for the two programs, by seed and case number. The first cases
+//! Whole texts for the three programs, by seed and case number. The first cases
 //! of each run are fixed; they hold the smallest and the largest symbols.
 
 use super::drafts::{draft, draft_of_size, many_cusps, size, Draft};
@@ -6,6 +6,7 @@ use super::faults::{
     faulty_text, full_text, poke, put_fault, scratch, typed, SYMBOL_FAULTS, TEXT_FAULTS,
 };
 use super::matrices::{any_pair, found_pair, put_matrix_fault};
+use super::pairs::{pair, put_pair_fault, PAIR_FAULTS};
 use super::rng::Rng;
 use crate::coset::Cosets;
 use crate::symbol::{Symbol, MAX_VERTICES};
@@ -164,6 +165,42 @@ pub fn query_case(seed: u64, case: u64) -> Vec<u8> {
     }
     numbers.extend(pair);
     if rng.chance(6) {
+        damaged_text(rng, &numbers)
+    } else {
+        typed(rng, &numbers).bytes
+    }
+}
+
+const SMALL_PAIRS: [&str; 8] = [
+    "3\n1 0 2\n2 0 1\n",
+    "1\n0\n0\n",
+    "2\n1 0\n0 1\n",
+    "6\n1 0 4 5 2 3\n2 3 5 4 1 0\n",
+    "4\n1 0 2 3\n0 3 1 2\n",
+    "2\n0 1\n0 1\n",
+    "0\n",
+    "",
+];
+
+/// The text of one case for the import program.
+pub fn import_case(seed: u64, case: u64) -> Vec<u8> {
+    if let Some(text) = SMALL_PAIRS.get(case as usize) {
+        return text.as_bytes().to_vec();
+    }
+    let rng = &mut Rng::for_case(seed ^ 0x696d_706f_7274, case);
+    let mut numbers = pair(rng).numbers();
+    let draw = rng.below(100);
+    if draw < 20 {
+        let fault = rng.pick(&PAIR_FAULTS);
+        put_pair_fault(rng, &mut numbers, fault);
+    }
+    // A second fault, whatever comes of it.
+    if draw < 6 && numbers.len() > 1 {
+        let i = 1 + rng.below(numbers.len() - 1);
+        numbers[i] = rng.range(-1, numbers.len() as i64);
+    }
+    // Damage to bytes suits short texts: a long one would only be too long.
+    if rng.chance(10) && numbers.len() < 2_000 {
         damaged_text(rng, &numbers)
     } else {
         typed(rng, &numbers).bytes

@@ -7,13 +7,15 @@
 //! | `drafts`   | sound symbols of 1 to 1,023 vertices                       |
 //! | `faults`   | symbols with faults 1 and 3 to 7, texts with fault 19      |
 //! | `matrices` | matrices of determinant 1, pairs with and without a word   |
-//! | `cases`    | whole texts for the listing and the query program          |
+//! | `pairs`    | permutation pairs, with faults 12 to 15                    |
+//! | `cases`    | whole texts for the three programs                         |
 
 pub mod cases;
 pub mod drafts;
 pub mod faults;
 pub mod matrices;
+pub mod pairs;
 pub mod rng;
 
-pub use cases::{listing_case, query_case};
+pub use cases::{import_case, listing_case, query_case};
 pub use rng::Rng;

@@ -1,0 +1,3 @@
+//! Does nothing. Its time is what starting a process costs.
+
+fn main() {}

@@ -1,0 +1,5 @@
+//! The query program in plain Rust.
+
+fn main() -> std::io::Result<()> {
+    bench::run(bench::plain_query)
+}

@@ -1,0 +1,12 @@
+//! The import program of this reckoning: two permutations in, a symbol or a
+//! refusal out.
+
+#![forbid(unsafe_code)]
+
+use std::io::{self, Read, Write};
+
+fn main() -> io::Result<()> {
+    let mut text = Vec::new();
+    io::stdin().read_to_end(&mut text)?;
+    io::stdout().write_all(reckoning::import(&text).as_bytes())
+}

@@ -1,0 +1,416 @@
+//! From two permutations to a symbol of the group that fixes point 0.
+//!
+//! A matrix moves a point along its alternating word: S by the one table, Q as
+//! S R^-1 S. The rule that finds the symbol is here twice:
+//!
+//! - `by_rule` takes it at its word: it forms the matrix of every pairing that
+//!   it tries, asks whether that matrix fixes point 0, and begins again after
+//!   each split;
+//! - `by_points` keeps for each side the point that its frame takes 0 to, which
+//!   decides every pairing without a matrix, and after a split looks at the two
+//!   new sides only. It is quick enough for 3,066 points.
+
+use crate::matrix::{Matrix, Q, S, T};
+use crate::refusal::Refusal;
+use crate::symbol::{EVEN, MAX_ENTRY, ODD};
+use crate::text::MAX_POINTS;
+use crate::word::{alternating_word, Turn};
+
+/// Two tables that have passed the checks 12 to 15.
+#[derive(Clone, Debug, PartialEq, Eq)]
+pub struct Action {
+    s: Vec<usize>,
+    r: Vec<usize>,
+}
+
+/// A symbol as numbers.
+#[derive(Clone, Debug, PartialEq, Eq)]
+pub struct Imported {
+    /// Numerators and denominators.
+    pub vertices: Vec<(i64, i64)>,
+    pub pairings: Vec<i64>,
+}
+
+/// The entries as points, or refusal 13 at the first entry that is outside the
+/// table or equal to an earlier one.
+fn permutation(entries: &[i64]) -> Result<Vec<usize>, Refusal> {
+    let mut seen = vec![false; entries.len()];
+    let mut points = Vec::new();
+    for (i, &entry) in entries.iter().enumerate() {
+        let point = usize::try_from(entry).ok();
+        match point.filter(|&point| seen.get(point) == Some(&false)) {
+            Some(point) => {
+                seen[point] = true;
+                points.push(point);
+            }
+            None => return Err(Refusal::new(13, i)),
+        }
+    }
+    Ok(points)
+}
+
+impl Action {
+    /// Checks 12 to 15 on two tables.
+    pub fn new(s: &[i64], r: &[i64]) -> Result<Action, Refusal> {
+        let n = s.len();
+        if n != r.len() || n < 1 || n > MAX_POINTS as usize {
+            return Err(Refusal::new(12, 0));
+        }
+        let (s, r) = (permutation(s)?, permutation(r)?);
+        if let Some(point) = (0..n).find(|&point| s[s[point]] != point) {
+            return Err(Refusal::new(14, point));
+        }
+        if let Some(point) = (0..n).find(|&point| r[r[r[point]]] != point) {
+            return Err(Refusal::new(14, point));
+        }
+        let action = Action { s, r };
+        let mut reached = action.order();
+        reached.sort_unstable();
+        match (0..n).find(|&point| reached.get(point) != Some(&point)) {
+            Some(point) => Err(Refusal::new(15, point)),
+            None => Ok(action),
+        }
+    }
+
+    /// The points that are reached from 0, in the order of their discovery
+    /// along S and then along R.
+    fn order(&self) -> Vec<usize> {
+        let mut order = vec![0];
+        let mut seen = vec![false; self.s.len()];
+        seen[0] = true;
+        let mut at = 0;
+        while at < order.len() {
+            let point = order[at];
+            for image in [self.s[point], self.r[point]] {
+                if !seen[image] {
+                    seen[image] = true;
+                    order.push(image);
+                }
+            }
+            at += 1;
+        }
+        order
+    }
+
+    pub fn points(&self) -> usize {
+        self.s.len()
+    }
+
+    /// The same action with the points numbered as the listing numbers cosets.
+    pub fn numbered(&self) -> (Vec<u32>, Vec<u32>) {
+        let order = self.order();
+        let mut number = vec![0; order.len()];
+        for (i, &point) in order.iter().enumerate() {
+            number[point] = i as u32;
+        }
+        let table = |images: &[usize]| order.iter().map(|&point| number[images[point]]).collect();
+        (table(&self.s), table(&self.r))
+    }
+
+    fn turned(&self, point: usize, turn: Turn) -> usize {
+        let s = |point: usize| self.s[point];
+        let r = |point: usize| self.r[point];
+        match turn {
+            Turn::S => s(point),
+            Turn::Q => s(r(r(s(point)))),
+            Turn::QInverse => s(r(s(point))),
+        }
+    }
+
+    /// Where x takes a point.
+    pub fn moved(&self, point: usize, x: Matrix) -> usize {
+        alternating_word(x)
+            .into_iter()
+            .fold(point, |point, turn| self.turned(point, turn))
+    }
+
+    fn fixes(&self, x: Matrix) -> bool {
+        self.moved(0, x) == 0
+    }
+
+    /// The finished symbol of the two groups that need no triangle, or else the
+    /// vertices to start from.
+    fn beginning(&self) -> Result<Imported, Vec<(i64, i64)>> {
+        let one_vertex = |pairings: [i64; 2]| {
+            Ok(Imported {
+                vertices: vec![(0, 1)],
+                pairings: pairings.to_vec(),
+            })
+        };
+        if self.fixes(S) && self.fixes(T) {
+            one_vertex([EVEN, ODD])
+        } else if self.fixes(Q) && self.fixes(S * Q * S.inverse()) {
+            one_vertex([ODD, ODD])
+        } else if !self.fixes(Q) {
+            Err(vec![(0, 1), (1, 1)])
+        } else {
+            Err(vec![(-1, 1), (0, 1)])
+        }
+    }
+
+    /// The symbol by the rule to the letter, or refusal 16.
+    pub fn by_rule(&self) -> Result<Imported, Refusal> {
+        let mut vertices = match self.beginning() {
+            Ok(imported) => return Ok(imported),
+            Err(vertices) => vertices,
+        };
+        let mut marks = vec![Mark::Open; vertices.len() + 1];
+        let mut pairs = 0;
+        loop {
+            // Visit the open sides from the left.
+            for i in 0..marks.len() {
+                if marks[i] != Mark::Open {
+                    continue;
+                }
+                let m = frame(&vertices, i);
+                if self.fixes(m * S * m.inverse()) {
+                    marks[i] = Mark::Even;
+                } else if self.fixes(m * Q * m.inverse()) {
+                    marks[i] = Mark::Odd;
+                } else {
+                    let partner = (i + 1..marks.len()).find(|&k| {
+                        marks[k] == Mark::Open && self.fixes(frame(&vertices, k) * S * m.inverse())
+                    });
+                    if let Some(k) = partner {
+                        pairs += 1;
+                        marks[i] = Mark::Free(pairs);
+                        marks[k] = Mark::Free(pairs);
+                    }
+                }
+            }
+            // Split the leftmost one that stays open.
+            let Some(side) = marks.iter().position(|&mark| mark == Mark::Open) else {
+                break;
+            };
+            let (left, right) = ends(&vertices, side);
+            vertices.insert(side, mediant(left, right, side)?);
+            marks.insert(side, Mark::Open);
+        }
+        Ok(Imported {
+            vertices,
+            pairings: labelled(&marks),
+        })
+    }
+
+    /// The symbol by the points of the sides, or refusal 16.
+    pub fn by_points(&self) -> Result<Imported, Refusal> {
+        let vertices = match self.beginning() {
+            Ok(imported) => return Ok(imported),
+            Err(vertices) => vertices,
+        };
+        let mut sides: Vec<Open> = (0..=vertices.len())
+            .map(|i| {
+                let (left, right) = ends(&vertices, i);
+                Open {
+                    left,
+                    right,
+                    point: self.moved(0, frame(&vertices, i)),
+                    mark: Mark::Open,
+                }
+            })
+            .collect();
+        let mut pairs = 0;
+        for i in 0..sides.len() {
+            self.settle(&mut sides, i, &mut pairs);
+        }
+        // Left of here nothing is open.
+        let mut at = 0;
+        while at < sides.len() {
+            if sides[at].mark != Mark::Open {
+                at += 1;
+                continue;
+            }
+            let Open {
+                left, right, point, ..
+            } = sides[at];
+            let middle = mediant(left, right, at)?;
+            // The left part has the frame M Q S, the right part M Q^-1 S.
+            let part = |left, right, turn| Open {
+                left,
+                right,
+                point: self.turned(self.turned(point, turn), Turn::S),
+                mark: Mark::Open,
+            };
+            sides[at] = part(middle, right, Turn::QInverse);
+            sides.insert(at, part(left, middle, Turn::Q));
+            self.settle(&mut sides, at, &mut pairs);
+            self.settle(&mut sides, at + 1, &mut pairs);
+        }
+        let inner = sides.len() - 1;
+        let marks: Vec<Mark> = sides.iter().map(|side| side.mark).collect();
+        Ok(Imported {
+            vertices: sides[..inner].iter().map(|side| side.right).collect(),
+            pairings: labelled(&marks),
+        })
+    }
+
+    /// Pairs an open side by its point, if that can be done now.
+    fn settle(&self, sides: &mut [Open], i: usize, pairs: &mut usize) {
+        if sides[i].mark != Mark::Open {
+            return;
+        }
+        let point = sides[i].point;
+        let across = self.turned(point, Turn::S);
+        if across == point {
+            sides[i].mark = Mark::Even;
+        } else if self.turned(point, Turn::Q) == point {
+            sides[i].mark = Mark::Odd;
+        } else if let Some(k) =
+            (i + 1..sides.len()).find(|&k| sides[k].mark == Mark::Open && sides[k].point == across)
+        {
+            *pairs += 1;
+            sides[i].mark = Mark::Free(*pairs);
+            sides[k].mark = Mark::Free(*pairs);
+        }
+    }
+}
+
+/// What is known of a side.
+#[derive(Clone, Copy, Debug, PartialEq, Eq)]
+enum Mark {
+    Open,
+    Even,
+    Odd,
+    /// Free, with the number of its pair in the order of pairing.
+    Free(usize),
+}
+
+/// A side under way: its ends, the image of point 0 under its frame, its mark.
+#[derive(Clone, Copy, Debug)]
+struct Open {
+    left: (i64, i64),
+    right: (i64, i64),
+    point: usize,
+    mark: Mark,
+}
+
+fn ends(vertices: &[(i64, i64)], side: usize) -> ((i64, i64), (i64, i64)) {
+    let left = if side == 0 {
+        (-1, 0)
+    } else {
+        vertices[side - 1]
+    };
+    let right = vertices.get(side).copied().unwrap_or((1, 0));
+    (left, right)
+}
+
+fn frame(vertices: &[(i64, i64)], side: usize) -> Matrix {
+    let ((a, b), (a2, b2)) = ends(vertices, side);
+    Matrix::from_entries([a2, a, b2, b])
+}
+
+/// The vertex that splits a side, or refusal 16 for that side.
+fn mediant(left: (i64, i64), right: (i64, i64), side: usize) -> Result<(i64, i64), Refusal> {
+    let (num, den) = (left.0 + right.0, left.1 + right.1);
+    if num.abs() > MAX_ENTRY || den > MAX_ENTRY {
+        return Err(Refusal::new(16, side));
+    }
+    Ok((num, den))
+}
+
+/// Pairings of settled sides, labels 1, 2, .. by their leftmost side.
+fn labelled(marks: &[Mark]) -> Vec<i64> {
+    let mut met = Vec::new();
+    marks
+        .iter()
+        .map(|&mark| match mark {
+            Mark::Even => EVEN,
+            Mark::Odd => ODD,
+            Mark::Free(pair) => {
+                let known = met.iter().position(|&other| other == pair);
+                let label = known.unwrap_or_else(|| {
+                    met.push(pair);
+                    met.len() - 1
+                });
+                label as i64 + 1
+            }
+            Mark::Open => unreachable!("a finished symbol has no open side"),
+        })
+        .collect()
+}
+
+impl Imported {
+    pub fn v(&self) -> usize {
+        self.vertices.len()
+    }
+
+    /// v, the vertex entries, the pairings.
+    pub fn numbers(&self) -> Vec<i64> {
+        let mut numbers = vec![self.v() as i64];
+        numbers.extend(self.vertices.iter().flat_map(|&(a, b)| [a, b]));
+        numbers.extend(&self.pairings);
+        numbers
+    }
+}
+
+/// A whole import with `space` numbers lent for the table of the symbol:
+/// refusals 12 to 15, 16, 11.
+pub fn import_pair(s: &[i64], r: &[i64], space: usize) -> Result<Imported, Refusal> {
+    let imported = Action::new(s, r)?.by_points()?;
+    let needed = 3 * imported.v() + 1;
+    if space < needed {
+        return Err(Refusal::new(11, needed));
+    }
+    Ok(imported)
+}
+
+#[cfg(test)]
+mod tests {
+    use super::*;
+    use crate::matrix::{I, R};
+
+    fn gamma0_2() -> Action {
+        Action::new(&[1, 0, 2], &[2, 0, 1]).unwrap()
+    }
+
+    #[test]
+    fn matrices_move_points() {
+        let action = gamma0_2();
+        for point in 0..3 {
+            assert_eq!(action.moved(point, I), point);
+            assert_eq!(action.moved(point, S), [1, 0, 2][point]);
+            assert_eq!(action.moved(point, R), [2, 0, 1][point]);
+            assert_eq!(action.moved(point, T), [0, 2, 1][point]);
+        }
+    }
+
+    #[test]
+    fn each_check_with_its_place() {
+        let refusal = |s: &[i64], r: &[i64]| {
+            let refusal = Action::new(s, r).expect_err("this pair is refused");
+            (refusal.number, refusal.place)
+        };
+        assert_eq!(refusal(&[], &[]), (12, 0));
+        assert_eq!(refusal(&[0], &[]), (12, 0));
+        assert_eq!(refusal(&[0; 2], &[0; 3]), (12, 0));
+        assert_eq!(refusal(&[0; 3_067], &[0; 3_067]), (12, 0));
+        assert_eq!(refusal(&[1], &[0]), (13, 0));
+        assert_eq!(refusal(&[0, 0], &[7, 7]), (13, 1));
+        assert_eq!(refusal(&[1, 0], &[0, -1]), (13, 1));
+        assert_eq!(refusal(&[1, 0], &[i64::MAX, 0]), (13, 0));
+        assert_eq!(refusal(&[0, 2, 3, 1], &[1, 0, 2, 3]), (14, 1));
+        assert_eq!(refusal(&[0, 1, 3, 2], &[0, 2, 1, 3]), (14, 1));
+        assert_eq!(refusal(&[0, 2, 1, 3], &[0, 2, 3, 1]), (15, 1));
+        assert_eq!(refusal(&[1, 0, 3, 2], &[0, 1, 2, 3]), (15, 2));
+    }
+
+    #[test]
+    fn the_named_instance() {
+        let imported = gamma0_2().by_rule().unwrap();
+        assert_eq!(imported.numbers(), [2, 0, 1, 1, 1, 1, -2, 1]);
+        assert_eq!(gamma0_2().by_points(), Ok(imported));
+        let short = import_pair(&[1, 0, 2], &[2, 0, 1], 6);
+        assert_eq!(short, Err(Refusal::new(11, 7)));
+        assert!(import_pair(&[1, 0, 2], &[2, 0, 1], 7).is_ok());
+    }
+
+    #[test]
+    fn groups_without_a_triangle() {
+        let one = Action::new(&[0], &[0]).unwrap();
+        assert_eq!(one.by_rule().unwrap().numbers(), [1, 0, 1, -2, -3]);
+        assert_eq!(one.by_points(), one.by_rule());
+        let two = Action::new(&[1, 0], &[0, 1]).unwrap();
+        assert_eq!(two.by_rule().unwrap().numbers(), [1, 0, 1, -3, -3]);
+        assert_eq!(two.by_points(), two.by_rule());
+    }
+}

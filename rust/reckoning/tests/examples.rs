@@ -1,0 +1,206 @@
+//! The folder `examples`: every input has its output beside it, the reckoning
+//! gives that output, and so do the engine's programs, byte for byte.
+
+mod child;
+
+use std::collections::BTreeSet;
+use std::fs;
+use std::path::PathBuf;
+
+use child::{repository, Program};
+use reckoning::{import, listing, query};
+
+/// One program's examples.
+struct Kind {
+    folder: &'static str,
+    input: &'static str,
+    output: &'static str,
+    reckoned: fn(&[u8]) -> String,
+    /// How many there are at least.
+    least: usize,
+}
+
+const LISTINGS: Kind = Kind {
+    folder: "examples",
+    input: "txt",
+    output: "listing",
+    reckoned: listing,
+    least: 7,
+};
+const QUERIES: Kind = Kind {
+    folder: "examples/queries",
+    input: "query",
+    output: "answer",
+    reckoned: query,
+    least: 7,
+};
+const IMPORTS: Kind = Kind {
+    folder: "examples/imports",
+    input: "pair",
+    output: "symbol",
+    reckoned: import,
+    least: 1,
+};
+
+struct Example {
+    name: String,
+    text: Vec<u8>,
+    expected: String,
+}
+
+/// The names of the files in a folder that end this way.
+fn names(folder: &PathBuf, extension: &str) -> BTreeSet<String> {
+    let files = fs::read_dir(folder).unwrap_or_else(|e| panic!("{}: {e}", folder.display()));
+    files
+        .map(|file| file.expect("the folder can be read").path())
+        .filter(|path| path.extension().is_some_and(|end| end == extension))
+        .map(|path| {
+            let stem = path.file_stem().expect("a file has a name");
+            stem.to_str().expect("names are plain").to_string()
+        })
+        .collect()
+}
+
+impl Kind {
+    /// All examples; an input without its output, or the other way round, is a
+    /// failure.
+    fn examples(&self) -> Vec<Example> {
+        let folder = repository().join(self.folder);
+        let inputs = names(&folder, self.input);
+        assert_eq!(inputs, names(&folder, self.output), "{}", self.folder);
+        assert!(inputs.len() >= self.least, "{}", self.folder);
+        let read = |name: &str, extension: &str| {
+            let path = folder.join(format!("{name}.{extension}"));
+            fs::read(&path).unwrap_or_else(|e| panic!("{}: {e}", path.display()))
+        };
+        inputs
+            .into_iter()
+            .map(|name| Example {
+                text: read(&name, self.input),
+                expected: String::from_utf8(read(&name, self.output)).expect("plain text"),
+                name,
+            })
+            .collect()
+    }
+
+    fn by_the_reckoning(&self) {
+        for Example {
+            name,
+            text,
+            expected,
+        } in self.examples()
+        {
+            assert_eq!((self.reckoned)(&text), expected, "{name}");
+        }
+    }
+
+    fn by_the_program(&self, variable: &'static str) {
+        let Some(program) = Program::named_by(variable) else {
+            return;
+        };
+        for example in self.examples() {
+            program.must_print(&example.text, &example.expected);
+        }
+    }
+
+    fn expected(&self, name: &str) -> String {
+        let example = self.examples().into_iter().find(|one| one.name == name);
+        example
+            .unwrap_or_else(|| panic!("no example {name}"))
+            .expected
+    }
+}
+
+#[test]
+fn by_the_reckoning() {
+    for kind in [LISTINGS, QUERIES, IMPORTS] {
+        kind.by_the_reckoning();
+    }
+}
+
+#[test]
+fn listings_by_the_program() {
+    LISTINGS.by_the_program("LISTING_PROGRAM");
+}
+
+#[test]
+fn queries_by_the_program() {
+    QUERIES.by_the_program("QUERY_PROGRAM");
+}
+
+#[test]
+fn imports_by_the_program() {
+    IMPORTS.by_the_program("IMPORT_PROGRAM");
+}
+
+/// The lines that the engine's paper on conventions states.
+#[test]
+fn stated_outputs() {
+    assert_eq!(
+        LISTINGS.expected("gamma0-2"),
+        "index 3\nelliptic 1 0\ncusps 2\nwidths 1 2\ngenus 0\nlevel 2\n\
+         generators 2\n1 free 1 1 0 1\n2 even 1 -1 2 -1\n\
+         S 1 0 2\nR 2 0 1\nT 0 2 1\n"
+    );
+    for (name, lines) in [
+        (
+            "gamma-2",
+            &[
+                "index 6",
+                "1 free 1 2 0 1",
+                "2 free 3 -2 2 -1",
+                "S 1 0 4 5 2 3",
+                "R 2 3 5 4 1 0",
+                "T 3 2 1 0 5 4",
+            ][..],
+        ),
+        ("psl2z", &["index 1"]),
+        ("index-2", &["index 2", "S 1 0", "R 0 1"]),
+        ("one-vertex-even", &["refused 7 0"]),
+        ("one-vertex-free", &["refused 7 0"]),
+    ] {
+        let expected = LISTINGS.expected(name);
+        for &line in lines {
+            let found = expected.lines().any(|other| other == line);
+            assert!(found, "{name} has no line {line}");
+        }
+    }
+    for (name, answer) in [
+        ("psl2z-s", "word 1\n"),
+        ("gamma0-2-t", "word 1\n"),
+        ("gamma0-2-two-letters", "word 2 1\n"),
+        ("gamma0-2-from-s", "word 1\n"),
+        ("gamma0-2-none", "refused 10 0\n"),
+        ("gamma0-2-identity", "word\n"),
+        ("gamma0-2-minus", "word\n"),
+        ("gamma0-2-largest-entry", "word 1\n"),
+        ("gamma0-2-entry-too-large", "refused 8 5\n"),
+    ] {
+        assert_eq!(QUERIES.expected(name), answer, "{name}");
+    }
+    assert_eq!(IMPORTS.expected("gamma0-2"), "2\n0 1 1 1\n1 -2 1\n");
+}
+
+/// The group called so contains no whole congruence group of its level: its
+/// level is 6, and an element of Γ(6) has no word.
+#[test]
+fn the_noncongruence_group_is_one() {
+    let listed = LISTINGS.expected("noncongruence");
+    assert!(listed.contains("index 7\n") && listed.contains("level 6\n"));
+    let (a, b, c, d) = (-17i64, -12i64, -24i64, -17i64);
+    assert_eq!(a * d - b * c, 1);
+    let residues = [a, b, c, d].map(|entry| entry.rem_euclid(6));
+    assert_eq!(residues, [1, 0, 0, 1]);
+    let queries = QUERIES.examples();
+    let asked = queries.iter().find(|one| one.name == "noncongruence-none");
+    let asked = asked.expect("the query is among the examples");
+    let symbol = LISTINGS.examples();
+    let symbol = symbol.iter().find(|one| one.name == "noncongruence");
+    let mut text = symbol
+        .expect("the group is among the examples")
+        .text
+        .clone();
+    text.extend(format!("1 0 0 1\n{a} {b} {c} {d}\n").bytes());
+    assert_eq!(asked.text, text);
+    assert_eq!(asked.expected, "refused 10 0\n");
+}
