@@ -3,7 +3,8 @@
 //!
 //! The programs are named by environment variables, as paths that are absolute
 //! or start at the root of the repository. A test whose program isn't named
-//! fails. Only SKIP_PROGRAMS=1 lets it pass, and then it says so.
+//! fails. Only SKIP_PROGRAMS, which lists the variables to be left out or is 1
+//! for all of them, lets it pass, and then it says so.
 
 // Each test file that takes this module in uses a part of it.
 #![allow(dead_code)]
@@ -49,13 +50,14 @@ impl Program {
     /// out.
     pub fn named_by(variable: &'static str) -> Option<Program> {
         let Some(named) = env::var_os(variable).filter(|path| !path.is_empty()) else {
-            if env::var("SKIP_PROGRAMS").as_deref() == Ok("1") {
-                eprintln!("LEFT OUT: {variable} names no program and SKIP_PROGRAMS is 1");
+            let left_out = env::var("SKIP_PROGRAMS").unwrap_or_default();
+            if left_out == "1" || left_out.split(' ').any(|name| name == variable) {
+                eprintln!("LEFT OUT: {variable} names no program, and SKIP_PROGRAMS leaves it out");
                 return None;
             }
             panic!(
-                "{variable} names no program. Set it to the path of the built program, \
-                 or set SKIP_PROGRAMS=1 to leave out the comparison with the programs"
+                "{variable} names no program. Set it to the path of the built program, or set \
+                 SKIP_PROGRAMS={variable} to leave out the comparison with that program"
             );
         };
         let path = repository().join(named);
