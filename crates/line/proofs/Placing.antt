@@ -5,6 +5,7 @@
 --     puts-none         no bytes
 --     puts-then         bytes behind others
 --     puts-same         the length stays
+--     puts-within       where the length stays, the bytes end within it
 --     number-put        a number behind a space, by an answer of `write`
 --     number-short      which is no refusal
 --     line-put          a whole line
@@ -89,6 +90,15 @@ puts-same {a} {at} {e} {out} {out'} f h =
     ∙ length-append (take at out ++ a) (drop (at + length a) out)
     ∙ ap (λ (n : ℕ). n + length (drop (at + length a) out)) (front-length a [] at out (omega arith))
     ∙ omega (arith, length-drop (at + length a) out)
+
+pub puts-within : {a : List ℕ} {at e : ℕ} {out out' : List ℕ} → Puts a at e out out' → at ≤ length out → length out' ≡ length out → e ≤ length out
+unfolding placed
+puts-within {a} {at} {e} {out} {out'} f h l =
+    let p : length out' ≡ at + length a + length (drop (at + length a) out) =
+          ap length (f .left)
+          ∙ length-append (take at out ++ a) (drop (at + length a) out)
+          ∙ ap (λ (n : ℕ). n + length (drop (at + length a) out)) (front-length a [] at out h) in
+    omega (arith, p, l, f .end-is, length-drop (at + length a) out)
 
 pub puts-as : {a b : List ℕ} {at e : ℕ} {out out' : List ℕ} → a ≡ b → Puts a at e out out' → Puts b at e out out'
 puts-as {a} {b} {at} {e} {out} {out'} h f = rw (← h) f

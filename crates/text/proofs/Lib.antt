@@ -9,4 +9,5 @@ pub mod Wants
 pub mod Answers
 pub mod Decimals
 pub mod Places
+pub mod Handed
 pub mod Examples

@@ -1,0 +1,53 @@
+// The program `listing`: a symbol as text on standard input, and on standard output its index, elliptic counts, cusps with widths, genus,
+// level, generators and coset tables, or the number and the place of its refusal (document 01, "Γ0(2), whole").
+//
+// The crate `report` makes all that is written; here it is read and written.
+
+// The most that is written at once.
+const PIECE: usize = 16384;
+
+// Writes the bytes to standard output, in pieces.
+fn write_pieces(bytes: &[u8]) {
+    let mut from = 0;
+    while from < bytes.len() {
+        let left = bytes.len() - from;
+        if left < PIECE {
+            io::write_all(1, &bytes[from..]);
+            return;
+        }
+        let to = from + PIECE;
+        io::write_all(1, &bytes[from..to]);
+        from = to;
+    }
+}
+
+fn main() {
+    let mut text = [0u8; 65536];
+    let n = io::read_full(0, &mut text);
+    let mut more = [0u8; 1];
+    let mut extra: usize = 0;
+    if n == 65536 {
+        extra = io::read_full(0, &mut more);
+    }
+    let mut numbers = [0i64; 3071];
+    let mut w = [0u16; 32768];
+    let mut widths = [0u32; 4096];
+    let mut table = [0i64; 5120];
+    let mut s = [0u32; 4096];
+    let mut r = [0u32; 4096];
+    let mut u = [0u32; 4096];
+    let mut out = [0u8; 327680];
+    let end = report::list(
+        &text[..n],
+        0 < extra,
+        &mut numbers,
+        &mut w,
+        &mut widths,
+        &mut table,
+        &mut s,
+        &mut r,
+        &mut u,
+        &mut out,
+    );
+    write_pieces(&out[..end]);
+}

@@ -1,0 +1,101 @@
+-- Laws of the listing's definitions.
+--     first-kind, second-kind, third-kind     the word of a kind, by the tests that the code makes
+--     row-put                                 a generator's line, from its number and the rest
+--     lines-more                              one generator more
+--     negative-count, natural-count           the number of vertices, by the test that the code makes
+--     listed-as                               what is listed for an answer of `figures`
+--     listing-longer, listing-by              what is listed for a text that is too long, and for an answer of `read`
+-- Assumes nothing.
+use mathlib.Core.Path.{_≡_, refl, sym, ap, _∙_}
+use mathlib.Core.Bool.{Bool, true, false}
+use mathlib.Core.Logic.{_⊎_, inl, inr}
+use mathlib.Core.List.{List, [], _∷_, _++_}
+use Prim.Native.Nat.{ℕ, suc, _+_, _*_, _-_, _≤_}
+use native.Mathlib.Numerals.{add-one}
+use native.Mathlib.Omega.{arith}
+use lib.IntN.{ℤ, pos, negsuc}
+use lib.ListN.{length, getD, take, drop, length-drop}
+use lib.Dec.{T}
+use lib.IntN.{natAbs}
+use lib.Seq.{take-all}
+use lib.Signed.{ltZ, nonNeg}
+use borrow.Author.Tests.{ltb-true}
+use mir.Syntax.{w64}
+use mir.Val.{SFits, ofZ}
+use Rattle.matrix.specs.Euclid.{pick}
+use Rattle.symbol.specs.Check.{eqZ}
+use Rattle.symbol.proofs.Choice.{either, eqZ-true}
+use Rattle.symbol.proofs.Signed.{bits-positive}
+use Rattle.text.specs.Decimal.{digits}
+use Rattle.line.specs.Line.{line, Puts}
+use Rattle.line.proofs.Placing.{puts-as, puts-then}
+use Rattle.symbol.proofs.Choice.{clash}
+use Rattle.space.specs.Space.{workLength}
+use Rattle.text.specs.Piece.{pieces, numbers}
+use Rattle.text.specs.Reading.{readingOf}
+use Rattle.text.specs.declared.Reading.{Reading}
+use Rattle.symbol.specs.Check.{checkOf}
+use Rattle.symbol.specs.declared.Checked.{Checked}
+use Rattle.symbol.specs.declared.Checked.the-variants.{Accepted, Refused}
+use Rattle.symbol.proofs.Choice.{pick-false}
+use Rattle.coset.specs.Answer.{Says, figuresOf, figuredBy, figuredOf}
+use Rattle.coset.specs.Answer as answer
+use lib.Dec.{ltb}
+use borrow.Author.Tests.{le-ltb}
+use Rattle.report.specs.Listing.{refusal, listedBy, listed, listingFormat, readBy, listingOf, vertexCount, freeWord, evenWord, oddWord, kindWord, generatorLine, generatorLines}
+
+module _ (z : ℤ) where
+  pub first-kind : SFits w64 z → ofZ w64 z ≡ 1 → kindWord z ≡ freeWord
+  first-kind f e = ap kindWord (bits-positive z 1 f (omega arith) e)
+
+  pub second-kind : SFits w64 z → ofZ w64 z ≡ 2 → kindWord z ≡ evenWord
+  second-kind f e = ap kindWord (bits-positive z 2 f (omega arith) e)
+
+  apart : (k : ℕ) → (ofZ w64 z ≡ ofZ w64 (pos k) → ⊥) → eqZ z (pos k) ≡ false
+  apart k n = elim (either (eqZ z (pos k))) [ inl e ↦ absurd (n (ap (ofZ w64) (eqZ-true z (pos k) e))) | inr e ↦ e ]
+
+  pub third-kind : (ofZ w64 z ≡ 1 → ⊥) → (ofZ w64 z ≡ 2 → ⊥) → kindWord z ≡ oddWord
+  third-kind m n = rw (apart 1 m, apart 2 n)
+
+pub lines-more : (n k : ℕ) (table : List ℤ) → k ≡ 5 → generatorLines n table ++ generatorLine (n + 1) (take k (drop (5 * n) table)) ≡ generatorLines (n + 1) table
+unfolding generatorLines
+lines-more n k table e = rw (e, add-one n) refl
+
+pub row-put : (j : ℕ) (row : List ℤ) {word : List ℕ} {at m e : ℕ} {out out1 out2 : List ℕ} → kindWord (getD row 0 (pos 0)) ≡ word → Puts (digits j) at m out out1
+    → Puts (line word (take (length row - 1) (drop 1 row))) m e out1 out2 → at ≤ length out → Puts (generatorLine j row) at e out out2
+unfolding generatorLine
+row-put j row {word} k f g h =
+    let all : take (length row - 1) (drop 1 row) ≡ drop 1 row = take-all (length row - 1) (drop 1 row) (omega (arith, length-drop 1 row)) in
+    let same : line word (take (length row - 1) (drop 1 row)) ≡ line (kindWord (getD row 0 (pos 0))) (drop 1 row) = ap (line word) all ∙ ap (λ (l : List ℕ). line l (drop 1 row)) (sym k) in
+    puts-then f (puts-as same g) h
+
+pub negative-count : (x : ℤ) → ltZ x (pos 0) ≡ true → 0 ≡ vertexCount x
+negative-count (pos n) h = absurd (omega (arith, ltb-true n 0 h))
+negative-count (negsuc n) h = refl
+
+pub natural-count : (x : ℤ) → ltZ x (pos 0) ≡ false → natAbs x ≡ vertexCount x
+natural-count (pos n) h = refl
+natural-count (negsuc n) h = clash refl h
+
+pub count-natural : (x : ℤ) → ltZ x (pos 0) ≡ false → T (nonNeg x)
+count-natural (pos n) h = tt
+count-natural (negsuc n) h = clash refl h
+
+-- a longer work space is as good
+work-enough : (c : Checked) (n : ℕ) (r : Says) → workLength ≤ n → figuredBy c n r ≡ figuredBy c workLength r
+work-enough (Refused f) n r h = refl
+work-enough Accepted n r h =
+    let x = answer.refused 11 workLength in
+    pick-false (ltb n workLength) x r (le-ltb n workLength h) ∙ sym (pick-false (ltb workLength workLength) x r (le-ltb workLength workLength (omega arith)))
+
+pub listed-as : (v : ℕ) (t : List ℤ) (n : ℕ) (x : Says) → workLength ≤ n → x ≡ figuredOf v t n → listedBy v t x ≡ listed v t
+unfolding listed
+listed-as v t n x h e = ap (listedBy v t) (e ∙ work-enough (checkOf v t) n (figuresOf v t) h)
+
+pub listing-longer : (longer : Bool) (text : List ℕ) → longer ≡ true → refusal 19 65536 ≡ listingOf longer text
+unfolding listingOf
+listing-longer longer text e = rw e refl
+
+pub listing-by : (longer : Bool) (text : List ℕ) (r : Reading) → longer ≡ false → r ≡ readingOf listingFormat text 3071 → readBy r (numbers (pieces text)) ≡ listingOf longer text
+unfolding listingOf
+listing-by longer text r e f = rw (e, f) refl
