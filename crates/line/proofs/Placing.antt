@@ -95,9 +95,9 @@ pub puts-within : {a : List ℕ} {at e : ℕ} {out out' : List ℕ} → Puts a a
 unfolding placed
 puts-within {a} {at} {e} {out} {out'} f h l =
     let p : length out' ≡ at + length a + length (drop (at + length a) out) =
-          ap length (f .left)
-          ∙ length-append (take at out ++ a) (drop (at + length a) out)
-          ∙ ap (λ (n : ℕ). n + length (drop (at + length a) out)) (front-length a [] at out h) in
+    ap length (f .left)
+    ∙ length-append (take at out ++ a) (drop (at + length a) out)
+    ∙ ap (λ (n : ℕ). n + length (drop (at + length a) out)) (front-length a [] at out h) in
     omega (arith, p, l, f .end-is, length-drop (at + length a) out)
 
 pub puts-as : {a b : List ℕ} {at e : ℕ} {out out' : List ℕ} → a ≡ b → Puts a at e out out' → Puts b at e out out'
