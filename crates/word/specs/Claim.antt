@@ -30,7 +30,8 @@ use Rattle.symbol.specs.Symbol.{IsSymbol}
 use Rattle.symbol.specs.Generator.{generators}
 use Rattle.symbol.specs.Subgroup.{IsWord, wordOf}
 use Rattle.polygon.specs.Theorem.{SameCoset}
-use Rattle.word.specs.Answer.{queryNumber, queryPlace, foundWord, placed, partOf}
+use Rattle.walk.specs.Way.{placed}
+use Rattle.word.specs.Answer.{queryNumber, queryPlace, foundWord, partOf}
 use Rattle.word.specs.declared.Queried.{Queried}
 use Rattle.word.specs.declared.Queried.the-variants as queried
 

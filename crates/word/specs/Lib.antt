@@ -1,4 +1,3 @@
--- What a reader of the crate `word` must believe, in reading order: the answers, the claim; and then the walk in the code.
+-- What a reader of the crate `word` must believe, in reading order: the answers, and the claim.
 pub mod Answer
 pub mod Claim
-pub mod Way

@@ -9,7 +9,7 @@ use polygon::walking::is_turned;
 use symbol::Checked;
 use symbol::Fault;
 use symbol::check;
-use way::walk;
+use walk::walk;
 ghost use mathlib.Core.Path.{_≡_};
 ghost use mathlib.Core.Bool.{Bool};
 ghost use Prim.Native.Nat.{_+_, _-_, _^_, _≤_, _<_};
@@ -24,8 +24,6 @@ ghost use Rattle.symbol.specs.Symbol.{IsSymbol};
 ghost use Rattle.polygon.specs.Walk.{followed};
 ghost use Rattle.word.specs.Answer.{entryAt, large, unit, foundWord, foundOf, queryOf, workLeft, wordLeft, partOf};
 ghost use Rattle.word.specs.Claim.{Asked, Claim};
-
-mod way;
 
 // The answer of `query`.
 pub enum Queried {

@@ -17,7 +17,7 @@ ghost use Rattle.matrix.specs.Euclid.{total, swap, positive, agree, sizes};
 ghost use Rattle.matrix.specs.Bounds.{Small};
 ghost use Rattle.polygon.specs.Step.{Real};
 ghost use Rattle.polygon.specs.Tables.{lettersOf};
-ghost use Rattle.word.specs.Way.{formOf, properOf, turnLetter, turnForm, stored, Setting, Stepped, OneApart, Sound, Begun, Going, Ended, Walked};
+ghost use Rattle.walk.specs.Way.{formOf, properOf, turnLetter, turnForm, stored, Setting, Stepped, OneApart, Sound, Begun, Going, Ended, Walked};
 
 // What is left of the matrix, (p q; r s) in size, the position, and how many letters are written so far.
 pub struct Way {
@@ -31,7 +31,7 @@ pub struct Way {
 
 // One letter more, none for 0: it is stored where its number is below the limit. Returns how many letters there are then.
 fn put(out: &mut [i16], start: usize, limit: usize, count: usize, letter: i16) -> usize
-    requires { ⌜ (limit ≤ length (now out) - start) × (count ≤ 2 ^ 60) ⌝ }
+    requires { ⌜ (limit ≤ length (now out) - start) × (count ≤ 2 ^ 61) ⌝ }
     ensures { λ r. ⌜ (r ≡ count + length (lettersOf letter)) × (now (out .exit) ≡ stored start limit count (lettersOf letter) (now (out .entry))) ⌝ }
 {
     if letter == 0 {
@@ -54,7 +54,7 @@ fn cross(
     start: usize,
     limit: usize,
 ) -> Way
-    requires { ⌜ Setting (now t) v (now w) (now out) start limit × Real v (now t) (way .at) × (way .count ≤ 2 ^ 60) ⌝ }
+    requires { ⌜ Setting (now t) v (now w) (now out) start limit × Real v (now t) (way .at) × (way .count ≤ 2 ^ 61) ⌝ }
     ensures { λ r. ⌜ Stepped v (now (t .entry)) start limit S way (now (out .entry)) r (now (out .exit)) × (formOf r ≡ swap (formOf way)) ⌝ }
 {
     let at = way.at;
@@ -81,7 +81,7 @@ fn power(
     start: usize,
     limit: usize,
 ) -> Way
-    requires { ⌜ Setting (now t) v (now w) (now out) start limit × Sound v (now t) way × (properOf (formOf way) ≡ true) ⌝ }
+    requires { ⌜ Setting (now t) v (now w) (now out) start limit × Sound v (now t) (2 ^ 61) way × (properOf (formOf way) ≡ true) ⌝ }
     ensures { λ r. ⌜ Stepped v (now (t .entry)) start limit (turnLetter (formOf way)) way (now (out .entry)) r (now (out .exit)) × (formOf r ≡ turnForm (formOf way)) ⌝ }
 {
     let at = way.at;
@@ -133,7 +133,7 @@ fn block(
     start: usize,
     limit: usize,
 ) -> Way
-    requires { ⌜ Setting (now t) v (now w) (now out) start limit × Sound v (now t) way × (properOf (formOf way) ≡ true) ⌝ }
+    requires { ⌜ Setting (now t) v (now w) (now out) start limit × Sound v (now t) (2 ^ 60) way × (properOf (formOf way) ≡ true) ⌝ }
     ensures { λ r. ⌜ Going v (now (t .entry)) start limit way (now (out .entry)) r (now (out .exit)) × (total (formOf r) < total (formOf way)) × (length (now (out .exit)) ≡ length (now (out .entry))) ⌝ }
 {
     let turned = cross(t, v, w, way, out, start, limit);
@@ -150,7 +150,7 @@ fn finish(
     start: usize,
     limit: usize,
 ) -> Way
-    requires { ⌜ Setting (now t) v (now w) (now out) start limit × Sound v (now t) way × (properOf (formOf way) ≡ false) ⌝ }
+    requires { ⌜ Setting (now t) v (now w) (now out) start limit × Sound v (now t) (2 ^ 60) way × (properOf (formOf way) ≡ false) ⌝ }
     ensures { λ r. ⌜ Ended v (now (t .entry)) start limit way (now (out .entry)) r (now (out .exit)) ⌝ }
 {
     if way.q + way.r == 0 {
