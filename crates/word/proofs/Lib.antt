@@ -1,0 +1,5 @@
+pub mod Pair
+pub mod Turned
+pub mod Claim
+pub mod Order
+pub mod Finding

@@ -1,32 +1,33 @@
+use mathlib.Core.Path.{_∙_}
+use Prim.Native.Nat.{_-_}
+use Rattle.matrix.specs.Matrix.{nth}
+use Rattle.matrix.proofs.Bounds.{kept}
+use Rattle.word.proofs.Pair.{entry-A, entry-B}
 use borrow.Author.Needs.{needs}
 use Rattle.word.proofs.entry_at.Statement.{statement}
 use Rattle.word.proofs.entry_at.Tie as tie
-use Rattle.word.proofs.entry_at.Reads as reads
-use Rattle.word.proofs.entry_at.Lts as lts
 
--- src/lib.rt:62:16
 mul-result : tie.Need-mul-result
 mul-result c = search needs
 
--- src/lib.rt:62:16
 array-copy-out-result : tie.Need-array-copy-out-result
 array-copy-out-result c = search needs
 
--- src/lib.rt:62:9
 returns : tie.Need-returns
-returns c = search needs
+returns c =
+    let s = c .before .before in
+    kept (nth (s .args .t1) (s .args .i)) (c .result .given) ∙ entry-A (s .args .t1) (s .args .t2) (s .args .i) (c .before .if1 .taken)
 
--- src/lib.rt:64:5
 mul-result-2 : tie.Need-mul-result-2
 mul-result-2 c = search needs
 
--- src/lib.rt:64:5
 array-copy-out-result-2 : tie.Need-array-copy-out-result-2
 array-copy-out-result-2 c = search needs
 
--- src/lib.rt:57:1
 returns-2 : tie.Need-returns-2
-returns-2 c = search needs
+returns-2 c =
+    let s = c .before .before in
+    kept (nth (s .args .t2) (s .args .i - 4)) (c .result2 .given) ∙ entry-B (s .args .t1) (s .args .t2) (s .args .i) (c .before .if1 .left)
 
 pub entry-at-spec : {M : Type 1} → statement M
 entry-at-spec =

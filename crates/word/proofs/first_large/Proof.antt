@@ -1,48 +1,63 @@
+use mathlib.Core.Path.{_≡_, sym, _∙_, ap}
+use mathlib.Core.Bool.{not}
+use Prim.Native.Nat.{_-_, _≤_}
+use native.Mathlib.Omega.{arith}
+use native.Mathlib.Numerals.{add-one}
+use Rattle.matrix.proofs.Bounds.{kept}
+use Rattle.symbol.proofs.Count.{Clear, clear-zero, clear-more, clear-less, first-clear, first-hit}
+use Rattle.word.specs.Answer.{large}
+use Rattle.word.proofs.Pair.{large-by}
 use borrow.Author.Needs.{needs}
 use Rattle.word.proofs.first_large.Statement.{statement}
 use Rattle.word.proofs.first_large.Tie as tie
-use Rattle.word.proofs.first_large.Reads as reads
-use Rattle.word.proofs.first_large.Lts as lts
-use Rattle.word.proofs.entry_at.Reads as entry-at-reads
-use Rattle.word.proofs.is_small.Reads as is-small-reads
 
 abbrev Inv-loop : tie.InvT-loop
-Inv-loop a b i₀ i = ?
+Inv-loop a b i₀ i = (i ≤ 8) × Clear (large a b) i
 
 abbrev μ-loop : tie.MeasureT-loop
-μ-loop a b i₀ i = ?
+μ-loop a b i₀ i = 8 - i
 
--- src/lib.rt:72:5
 loop-holds : tie.Need-loop-holds Inv-loop μ-loop
-loop-holds c = search needs
+loop-holds c =
+    (search needs, clear-zero (large (c .args .a) (c .args .b)))
 
--- src/lib.rt:73:22
 entry-at-requires : tie.Need-entry-at-requires Inv-loop μ-loop
-entry-at-requires c κs = search needs
+entry-at-requires c κs =
+    c .loop-test .taken
 
--- src/lib.rt:73:13
 is-small-requires : tie.Need-is-small-requires Inv-loop μ-loop
 is-small-requires c κs = search needs
 
--- src/lib.rt:74:13
 returns : tie.Need-returns Inv-loop μ-loop
-returns c = search needs
+returns c =
+    let l = c .before .before .before .before in
+    let s = c .before .before .before .before .before in
+    let e = c .before .before .entry-at in
+    sym (first-hit (large (s .args .a) (s .args .b)) (l .loop .i) 8 (omega (arith, c .before .before .before .loop-test .taken)) (l .loop .inv .1)
+    (large-by (s .args .a) (s .args .b) (l .loop .i) _ (c .before .is-small .result) (kept (e .result) (e .ok) ∙ e .ensures) (c .before .is-small .ensures) ∙ c .if1 .taken))
 
--- src/lib.rt:76:9
 add-i : tie.Need-add-i Inv-loop μ-loop
 add-i c = search needs
 
--- src/lib.rt:72:5
 loop-less : tie.Need-loop-less Inv-loop μ-loop
 loop-less c = search needs
 
--- src/lib.rt:72:5
 loop-again : tie.Need-loop-again Inv-loop μ-loop
-loop-again c = search needs
+loop-again c =
+    let l = c .before .before .before .before in
+    let s = c .before .before .before .before .before in
+    let e = c .before .before .entry-at in (
+      search needs,
+      rw add-one (clear-more (large (s .args .a) (s .args .b)) (l .loop .i) (l .loop .inv .1)
+          (large-by (s .args .a) (s .args .b) (l .loop .i) _ (c .before .is-small .result) (kept (e .result) (e .ok) ∙ e .ensures) (c .before .is-small .ensures) ∙ c .if1 .left)),
+    )
 
--- src/lib.rt:68:1
 returns-2 : tie.Need-returns-2 Inv-loop μ-loop
-returns-2 c = search needs
+returns-2 c =
+    let l = c .before in
+    let s = c .before .before in
+    let test = large (s .args .a) (s .args .b) in
+    sym (first-clear test 8 (clear-less test 8 (l .loop .i) (omega (arith, c .loop-test .left)) (l .loop .inv .1)))
 
 pub first-large-spec : {M : Type 1} → statement M
 first-large-spec =

@@ -1,17 +1,21 @@
+use mathlib.Core.Path.{_∙_, ap}
+use lib.Dec.{lit<}
+use lib.IntN.{ℤ, pos}
+use Rattle.matrix.specs.Matrix.{ofList}
+use Rattle.matrix.proofs.Bounds.{roomy}
+use Rattle.symbol.specs.Check.{eqZ}
+use Rattle.polygon.proofs.Signed.{is-one}
 use borrow.Author.Needs.{needs}
 use Rattle.word.proofs.is_unit.Statement.{statement}
 use Rattle.word.proofs.is_unit.Tie as tie
-use Rattle.word.proofs.is_unit.Reads as reads
-use Rattle.word.proofs.is_unit.Lts as lts
-use Rattle.matrix.proofs.determinant.Reads as determinant-reads
 
--- src/lib.rt:86:5
 determinant-requires : tie.Need-determinant-requires
-determinant-requires c κs = search needs
+determinant-requires c κs =
+    roomy 1000000 (ofList (c .args .m)) (lit< tt) (c .pre)
 
--- src/lib.rt:82:1
 returns : tie.Need-returns
-returns c = search needs
+returns c =
+    is-one (c .determinant .result) (record { sfits = c .determinant .ok }) ∙ ap (λ (z : ℤ). eqZ z (pos 1)) (c .determinant .ensures)
 
 pub is-unit-spec : {M : Type 1} → statement M
 is-unit-spec = tie.close (tie.spec determinant-requires returns)
