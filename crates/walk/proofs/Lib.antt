@@ -1,4 +1,5 @@
 pub mod Stored
+pub mod Noted
 pub mod Forms
-pub mod Onward
 pub mod Letters
+pub mod Onward

@@ -8,7 +8,7 @@
 --   stored start limit n l out   the letters l, of which the first is number n of the word, stored from the place start on in `out`,
 --                           each where its number is below the limit
 --   placed start l out      the letters l in place of those that stood from `start` on
---   Setting                 the tables are there, and `limit` letters fit from the start place on
+--   Setting                 the tables of steps are there, and `limit` letters fit from the start place on
 --   Stepped x a out b out'  the letter x leads from the state a to b, and what it writes is counted, and stored
 --   Onward                  from l at x with n letters it is the same way as from m at y with k letters
 --   OneApart f              p s and q r are one apart
@@ -26,9 +26,10 @@ use lib.IntN.{ℤ}
 use Rattle.matrix.specs.Matrix.{Mat}
 use Rattle.matrix.specs.Words.{Letter, Q, P}
 use Rattle.matrix.specs.Euclid.{Form, form, total, pick, tailOf, wordOf}
+use Rattle.polygon.specs.Cut.{places}
 use Rattle.polygon.specs.Step.{Real, written}
 use Rattle.polygon.specs.Walk.{goes, ends, writes}
-use Rattle.polygon.specs.Tables.{Tables}
+use Rattle.walk.specs.Steps.{Prepared}
 use Rattle.walk.specs.declared.Way.{Way}
 
 abbrev pub formOf : Way → Form
@@ -57,7 +58,7 @@ abbrev pub placed : ℕ → (l out : List ℤ) → List ℤ
 placed start l out = take start out ++ l ++ drop (start + length l) out
 
 pub record Setting (t : List ℤ) (v : ℕ) (w : List ℕ) (out : List ℤ) (start limit : ℕ) : Type 0 where
-  pub tables : Tables t v w
+  pub prepared : Prepared t v w (places v)
   pub room : limit ≤ length out - start
 
 pub record Stepped (v : ℕ) (t : List ℤ) (start limit : ℕ) (x : Letter) (a : Way) (out : List ℤ) (b : Way) (out' : List ℤ) : Type 0 where

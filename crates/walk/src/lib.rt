@@ -3,9 +3,10 @@
 // It is made twice: the first time no letter has room, so that the letters are counted and nothing is stored; the second time the word
 // is known to fit. specs/Way.antt has the state and what each part leaves.
 use polygon::walking::letter_q;
-use polygon::walking::letter_s;
-use polygon::walking::step_s;
 use polygon::walking::turn_q;
+use steps::letter;
+use steps::next;
+use steps::turn_back;
 ghost use mathlib.Core.Path.{_≡_};
 ghost use mathlib.Core.Bool.{true, false};
 ghost use Prim.Native.Nat.{_+_, _-_, _*_, _^_, _≤_, _<_};
@@ -18,6 +19,8 @@ ghost use Rattle.matrix.specs.Bounds.{Small};
 ghost use Rattle.polygon.specs.Step.{Real};
 ghost use Rattle.polygon.specs.Tables.{lettersOf};
 ghost use Rattle.walk.specs.Way.{formOf, properOf, turnLetter, turnForm, stored, Setting, Stepped, OneApart, Sound, Begun, Going, Ended, Walked};
+
+pub mod steps;
 
 // What is left of the matrix, (p q; r s) in size, the position, and how many letters are written so far.
 pub struct Way {
@@ -58,9 +61,9 @@ fn cross(
     ensures { λ r. ⌜ Stepped v (now (t .entry)) start limit S way (now (out .entry)) r (now (out .exit)) × (formOf r ≡ swap (formOf way)) ⌝ }
 {
     let at = way.at;
-    let letter = letter_s(t, v, w, at);
-    let count = put(out, start, limit, way.count, letter);
-    let to = step_s(t, v, w, at);
+    let z = letter(t, v, w, at);
+    let count = put(out, start, limit, way.count, z);
+    let to = next(t, v, w, at);
     Way {
         p: way.r,
         q: way.s,
@@ -86,8 +89,8 @@ fn power(
 {
     let at = way.at;
     if way.p + way.q <= way.r + way.s {
-        let letter = letter_q(t, v, w, at, false);
-        let count = put(out, start, limit, way.count, letter);
+        let z = letter_q(t, v, w, at, false);
+        let count = put(out, start, limit, way.count, z);
         let to = turn_q(v, at);
         return Way {
             p: way.r - way.p,
@@ -98,10 +101,9 @@ fn power(
             count,
         };
     }
-    let letter = letter_q(t, v, w, at, true);
-    let count = put(out, start, limit, way.count, letter);
-    let once = turn_q(v, at);
-    let to = turn_q(v, once);
+    let z = letter_q(t, v, w, at, true);
+    let count = put(out, start, limit, way.count, z);
+    let to = turn_back(v, at);
     Way {
         p: way.r,
         q: way.s,

@@ -27,7 +27,7 @@ same-length c = search needs
 returns : tie.Need-returns
 returns c =
     let s = c .before .before .before .before .before .before .before in
-    let g = polygon (s .args .v) (s .args .t .now) (s .pre .0 .tables .symbol) in
+    let g = polygon (s .args .v) (s .args .t .now) (s .pre .0 .prepared .tables .symbol) in
     let e = c .before .before .before .before .before .whole .ensures in
     let f = c .before .power .ensures in
     let m = ofList (s .args .m) in
@@ -36,7 +36,7 @@ returns c =
 returns-2 : tie.Need-returns-2
 returns-2 c =
     let s = c .before .before .before .before in
-    let g = polygon (s .args .v) (s .args .t .now) (s .pre .0 .tables .symbol) in
+    let g = polygon (s .args .v) (s .args .t .now) (s .pre .0 .prepared .tables .symbol) in
     let e = c .before .before .whole .ensures in
     let m = ofList (s .args .m) in
     (begun-tail g m (s .pre .2) (s .pre .3) (s .pre .1) (e .0) (e .1) (e .2) (sym (c .before .rows-agree .ensures) ∙ c .if1 .left), refl)

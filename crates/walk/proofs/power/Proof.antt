@@ -1,9 +1,7 @@
-use mathlib.Core.Path.{refl, sym, _∙_, ap}
-use native.Mathlib.Omega.{arith}
+use mathlib.Core.Path.{refl, _∙_, ap}
 use mir.Facts.{toZ-ofZ}
 use mir.Syntax.{w16}
 use mir.Val.{toZ, ofZ}
-use Rattle.polygon.specs.Step.{turnQ}
 use Rattle.polygon.specs.Tables.{lettersOf}
 use Rattle.walk.specs.Way.{formOf}
 use Rattle.walk.proofs.Letters.{stepped}
@@ -28,14 +26,14 @@ put-requires c κs = search needs
 turn-q-requires : tie.Need-turn-q-requires
 turn-q-requires c κs = search needs
 
-sub-t21 : tie.Need-sub-t21
-sub-t21 c =
+sub-t20 : tie.Need-sub-t20
+sub-t20 c =
     let s = c .before .before .before .before .before .before .before .before .before .before in
     let f = formOf (s .args .way) in
     rows-Q f (s .pre .1 .apart) (properly f (s .pre .2)) (c .before .before .before .before .before .before .if1 .taken) .0
 
-sub-t22 : tie.Need-sub-t22
-sub-t22 c =
+sub-t21 : tie.Need-sub-t21
+sub-t21 c =
     let s = c .before .before .before .before .before .before .before .before .before .before .before in
     let f = formOf (s .args .way) in
     rows-Q f (s .pre .1 .apart) (properly f (s .pre .2)) (c .before .before .before .before .before .before .before .if1 .taken) .1
@@ -55,33 +53,29 @@ letter-q-requires-2 c κs = search needs
 put-requires-2 : tie.Need-put-requires-2
 put-requires-2 c κs = search needs
 
-turn-q-requires-2 : tie.Need-turn-q-requires-2
-turn-q-requires-2 c κs = search needs
+turn-back-requires : tie.Need-turn-back-requires
+turn-back-requires c κs = search needs
 
-turn-q-requires-3 : tie.Need-turn-q-requires-3
-turn-q-requires-3 c κs = search needs
+sub-t15 : tie.Need-sub-t15
+sub-t15 c =
+    let s = c .before .before .before .before .before .before .before .before .before .before in
+    let f = formOf (s .args .way) in
+    rows-P f (s .pre .1 .apart) (properly f (s .pre .2)) (c .before .before .before .before .before .before .if1 .left) .0
 
 sub-t16 : tie.Need-sub-t16
 sub-t16 c =
     let s = c .before .before .before .before .before .before .before .before .before .before .before in
     let f = formOf (s .args .way) in
-    rows-P f (s .pre .1 .apart) (properly f (s .pre .2)) (c .before .before .before .before .before .before .before .if1 .left) .0
-
-sub-t17 : tie.Need-sub-t17
-sub-t17 c =
-    let s = c .before .before .before .before .before .before .before .before .before .before .before .before in
-    let f = formOf (s .args .way) in
-    rows-P f (s .pre .1 .apart) (properly f (s .pre .2)) (c .before .before .before .before .before .before .before .before .if1 .left) .1
+    rows-P f (s .pre .1 .apart) (properly f (s .pre .2)) (c .before .before .before .before .before .before .before .if1 .left) .1
 
 same-length-2 : tie.Need-same-length-2
 same-length-2 c = search needs
 
 returns-2 : tie.Need-returns-2
 returns-2 c =
-    let l = c .before .before .before .before .before .before .before in
-    let s = c .before .before .before .before .before .before .before .before .before .before .before .before in
+    let l = c .before .before .before .before .before .before in
     let k = toZ-ofZ {w = w16} {z = l .letter-q2 .result} (record { sfits = l .letter-q2 .ok }) in
-    powered-P (c .before .before .before .before .before .before .before .before .if1 .left) (stepped (toZ w16 (ofZ w16 (l .letter-q2 .result))) (ap lettersOf k ∙ l .letter-q2 .ensures) (c .before .before .turn-q3 .ensures ∙ ap (turnQ (s .args .v)) (c .before .before .before .turn-q2 .ensures)) (c .before .before .before .before .before .put2 .ensures)) refl
+    powered-P (c .before .before .before .before .before .before .before .if1 .left) (stepped (toZ w16 (ofZ w16 (l .letter-q2 .result))) (ap lettersOf k ∙ l .letter-q2 .ensures) (c .before .before .turn-back .ensures) (c .before .before .before .before .put2 .ensures)) refl
 
 pub power-spec : {M : Type 1} → statement M
 power-spec =
@@ -92,15 +86,14 @@ power-spec =
     letter-q-requires
     put-requires
     turn-q-requires
+    sub-t20
     sub-t21
-    sub-t22
     same-length
     returns
     letter-q-requires-2
     put-requires-2
-    turn-q-requires-2
-    turn-q-requires-3
+    turn-back-requires
+    sub-t15
     sub-t16
-    sub-t17
     same-length-2
     returns-2)

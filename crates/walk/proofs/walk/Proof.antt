@@ -29,7 +29,7 @@ block-requires : tie.Need-block-requires Inv-loop μ-loop
 block-requires c κs =
     let s = c .before .before .before .before .before .before .before .before in
     let l = c .before .before .before in
-    (record { tables = s .pre .0 .tables; room = omega (arith, s .pre .0 .room, c .before .before .before .before .before .begin .ensures .1, l .loop .inv .1) }, l .loop .inv .0 .sound, sym (c .before .before .is-proper .ensures) ∙ c .before .if1 .taken)
+    (record { prepared = s .pre .0 .prepared; room = omega (arith, s .pre .0 .room, c .before .before .before .before .before .begin .ensures .1, l .loop .inv .1) }, l .loop .inv .0 .sound, sym (c .before .before .is-proper .ensures) ∙ c .before .if1 .taken)
 
 loop-less : tie.Need-loop-less Inv-loop μ-loop
 loop-less c =
@@ -43,7 +43,7 @@ finish-requires : tie.Need-finish-requires Inv-loop μ-loop
 finish-requires c κs =
     let s = c .before .before .before .before .before .before .before .before in
     let l = c .before .before .before in
-    (record { tables = s .pre .0 .tables; room = omega (arith, s .pre .0 .room, c .before .before .before .before .before .begin .ensures .1, l .loop .inv .1) }, l .loop .inv .0 .sound, sym (c .before .before .is-proper .ensures) ∙ c .before .if1 .left)
+    (record { prepared = s .pre .0 .prepared; room = omega (arith, s .pre .0 .room, c .before .before .before .before .before .begin .ensures .1, l .loop .inv .1) }, l .loop .inv .0 .sound, sym (c .before .before .is-proper .ensures) ∙ c .before .if1 .left)
 
 same-length : tie.Need-same-length Inv-loop μ-loop
 same-length c = search needs
