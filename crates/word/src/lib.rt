@@ -9,6 +9,7 @@ use polygon::walking::is_turned;
 use symbol::Checked;
 use symbol::Fault;
 use symbol::check;
+use walk::steps::prepare;
 use walk::walk;
 ghost use mathlib.Core.Path.{_≡_};
 ghost use mathlib.Core.Bool.{Bool};
@@ -24,6 +25,7 @@ ghost use Rattle.symbol.specs.Symbol.{IsSymbol};
 ghost use Rattle.polygon.specs.Walk.{followed};
 ghost use Rattle.word.specs.Answer.{entryAt, large, unit, foundWord, foundOf, queryOf, workLeft, wordLeft, partOf};
 ghost use Rattle.word.specs.Claim.{Asked, Claim};
+ghost use Rattle.word.specs.Ready.{lettersAlong, endOf, Ready};
 
 // The answer of `query`.
 pub enum Queried {
@@ -96,23 +98,21 @@ fn matrix_between(t: &[i64], v: usize, a: [i64; 4], b: [i64; 4]) -> [i64; 4]
     x
 }
 
-// The answer for an accepted symbol and pair, with the work space as the polygon's tables need it; the work space is left filled.
+// The answer by the walk along m from home, by the tables in the work space: the letters are counted first, and stored once they are
+// known to fit.
 fn find(
-    v: usize,
     t: &[i64],
-    a: [i64; 4],
-    b: [i64; 4],
-    w: &mut [u16],
+    v: usize,
+    w: &[u16],
+    m: [i64; 4],
+    home: usize,
     out: &mut [i16],
     start: usize,
 ) -> Queried
-    requires { ⌜ Asked v (now t) a b (now w) ⌝ }
-    ensures { λ r. ⌜ r ≡ foundOf v (now (t .entry)) a b start (length (now (out .entry))) ⌝ }
-    ensures { λ r. ⌜ now (out .exit) ≡ wordLeft r (foundWord v (now (t .entry)) (ofList a) (ofList b)) (now (out .entry)) ⌝ }
-    ensures { λ r. ⌜ length (now (w .exit)) ≡ length (now (w .entry)) ⌝ }
+    requires { ⌜ Ready (now t) v (now w) m home ⌝ }
+    ensures { λ r. ⌜ r ≡ endOf v (now (t .entry)) (ofList m) start (length (now (out .entry))) ⌝ }
+    ensures { λ r. ⌜ now (out .exit) ≡ wordLeft r (lettersAlong v (now (t .entry)) (ofList m)) (now (out .entry)) ⌝ }
 {
-    let home = polygon::build(t, v, w);
-    let m = matrix_between(t, v, a, b);
     let end = walk(t, v, w, m, home, out, start, 0);
     if end.at != home {
         return Queried::Absent;
@@ -128,7 +128,7 @@ fn find(
     Queried::Word(start, n)
 }
 
-// The same, and the work space is cleared after.
+// The answer for an accepted symbol and pair; the work space is cleared after.
 fn answer(
     v: usize,
     t: &[i64],
@@ -143,7 +143,10 @@ fn answer(
     ensures { λ r. ⌜ now (out .exit) ≡ wordLeft r (foundWord v (now (t .entry)) (ofList a) (ofList b)) (now (out .entry)) ⌝ }
     ensures { λ r. ⌜ now (w .exit) ≡ zeros (length (now (w .entry))) ⌝ }
 {
-    let found = find(v, t, a, b, w, out, start);
+    let home = polygon::build(t, v, w);
+    prepare(t, v, w);
+    let m = matrix_between(t, v, a, b);
+    let found = find(t, v, w, m, home, out, start);
     space::clear(w);
     found
 }
