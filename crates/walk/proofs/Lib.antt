@@ -1,5 +1,4 @@
 pub mod Stored
-pub mod Noted
 pub mod Forms
 pub mod Letters
 pub mod Onward

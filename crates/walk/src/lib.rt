@@ -20,8 +20,6 @@ ghost use Rattle.polygon.specs.Step.{Real};
 ghost use Rattle.polygon.specs.Tables.{lettersOf};
 ghost use Rattle.walk.specs.Way.{formOf, properOf, turnLetter, turnForm, stored, Setting, Stepped, OneApart, Sound, Begun, Going, Ended, Walked};
 
-pub mod steps;
-
 // What is left of the matrix, (p q; r s) in size, the position, and how many letters are written so far.
 pub struct Way {
     pub p: u64,

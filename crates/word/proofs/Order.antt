@@ -4,8 +4,9 @@ use mathlib.Core.Path.{_≡_, refl, sym, _∙_, ap, subst}
 use mathlib.Core.Logic.{inl, inr}
 use mathlib.Core.Bool.{Bool, true, false, not, _&&_}
 use mathlib.Core.List.{List}
-use Prim.Native.Nat.{ℕ, _≤_, _<_}
+use Prim.Native.Nat.{ℕ, _-_, _≤_, _<_}
 use native.Mathlib.Omega.{arith}
+use native.Mathlib.Decide.{decLt}
 use lib.Dec.{ltb}
 use lib.ListN.{length}
 use lib.IntN.{ℤ, pos}
@@ -26,6 +27,7 @@ use Rattle.symbol.proofs.Choice.{either, pick-true, pick-false}
 use Rattle.symbol.proofs.Count.{Clear, first-clear, clear-first, first-le}
 use Rattle.word.specs.Answer.{large, unit, passes, foundWord, foundOf, byWork, byDeterminants, byEntries, byCheck, queryOf, workLeft, wordLeft}
 use Rattle.word.specs.Claim.{Asked, Answered, Claim}
+use Rattle.word.specs.Ready.{judgedOf}
 use Rattle.word.specs.declared.Queried.{Queried}
 use Rattle.word.specs.declared.Queried.the-variants as queried
 use Rattle.word.proofs.Pair.{small-clear, clear-small, unit-is, is-unit}
@@ -127,16 +129,100 @@ module _ (v : ℕ) (t a b : List ℤ) (w : List ℕ) (room start : ℕ) where
             sym (pick-false (ltb (length w) workLength) w (zeros (length w)) (le-ltb (length w) workLength k)) ∙ work-by passed e,
           )
 
+-- ---- refusals 8 and 9 as one number
+
+pub record Passed (a b : List ℤ) : Type 0 where
+  pub entries : 8 ≤ first (large a b) 8
+  pub A : unit a ≡ true
+  pub B : unit b ≡ true
+
+module _ (a b : List ℤ) where
+  judged-entry : first (large a b) 8 < 8 → judgedOf a b ≡ first (large a b) 8
+  judged-entry h = pick-true (ltb (first (large a b) 8) 8) (first (large a b) 8) (pick (unit a) (pick (unit b) 10 9) 8) (lt-ltb (first (large a b) 8) 8 h)
+
+  judged-units : 8 ≤ first (large a b) 8 → judgedOf a b ≡ pick (unit a) (pick (unit b) 10 9) 8
+  judged-units h = pick-false (ltb (first (large a b) 8) 8) (first (large a b) 8) (pick (unit a) (pick (unit b) 10 9) 8) (le-ltb (first (large a b) 8) 8 h)
+
+  pub judged-first : first (large a b) 8 < 8 → (k : ℕ) → k ≡ first (large a b) 8 → k ≡ judgedOf a b
+  judged-first h k e = e ∙ sym (judged-entry h)
+
+  module _ (h : 8 ≤ first (large a b) 8) where
+    pub judged-A : unit a ≡ false → 8 ≡ judgedOf a b
+    judged-A e = sym (judged-units h ∙ pick-false (unit a) (pick (unit b) 10 9) 8 e)
+
+    judged-units-B : unit a ≡ true → judgedOf a b ≡ pick (unit b) 10 9
+    judged-units-B e = judged-units h ∙ pick-true (unit a) (pick (unit b) 10 9) 8 e
+
+    pub judged-B : unit a ≡ true → unit b ≡ false → 9 ≡ judgedOf a b
+    judged-B e f = sym (judged-units-B e ∙ pick-false (unit b) 10 9 f)
+
+    pub judged-passed : unit a ≡ true → unit b ≡ true → 10 ≡ judgedOf a b
+    judged-passed e f = sym (judged-units-B e ∙ pick-true (unit b) 10 9 f)
+
+  -- 10 is for a pair that passes
+  pub passed-by : (k : ℕ) → k ≡ judgedOf a b → 10 ≤ k → Passed a b
+  passed-by k e h = elim (decLt (first (large a b) 8) 8) [
+    | yes l ↦ (let z = judged-entry l in absurd (omega arith))
+    | no l ↦ (
+        let m : 8 ≤ first (large a b) 8 = omega arith in
+        elim (either (unit a)) [
+          | inr f ↦ (let z = judged-A m f in absurd (omega arith))
+          | inl f ↦ elim (either (unit b)) [
+            | inr g ↦ (let z = judged-B m f g in absurd (omega arith))
+            | inl g ↦ record { entries = m; A = f; B = g }
+          ]
+        ]
+        )
+  ]
+
+module _ (v : ℕ) (t a b : List ℤ) (w : List ℕ) (room start : ℕ) (e : checkOf v t ≡ Accepted) (k : ℕ) (j : k ≡ judgedOf a b) where
+  pub by-large : k < 8 → (queried.Entry k ≡ queryOf v t a b (length w) room start) × (w ≡ workLeft v t a b w)
+  by-large h = elim (decLt (first (large a b) 8) 8) [
+    | yes l ↦ (let z = by-entry v t a b w room start e l in (ap queried.Entry (j ∙ judged-entry a b l) ∙ z .0, z .1))
+    | no l ↦ (
+        let m : 8 ≤ first (large a b) 8 = omega arith in
+        elim (either (unit a)) [
+          | inr f ↦ (let z = judged-A a b m f in absurd (omega arith))
+          | inl f ↦ elim (either (unit b)) [ inr g ↦ (let z = judged-B a b m f g in absurd (omega arith)) | inl g ↦ (let z = judged-passed a b m f g in absurd (omega arith)) ]
+        ]
+        )
+  ]
+
+  pub by-determinant : 8 ≤ k → k < 10 → (queried.Determinant (k - 8) ≡ queryOf v t a b (length w) room start) × (w ≡ workLeft v t a b w)
+  by-determinant h h' = elim (decLt (first (large a b) 8) 8) [
+    | yes l ↦ (let z = judged-entry a b l in absurd (omega arith))
+    | no l ↦ (
+        let m : 8 ≤ first (large a b) 8 = omega arith in
+        elim (either (unit a)) [
+          | inr f ↦ (
+              let z = judged-A a b m f in
+              let y : k - 8 ≡ 0 = omega arith in
+              let x = by-A v t a b w room start e m f in
+              (ap queried.Determinant y ∙ x .0, x .1)
+              )
+          | inl f ↦ elim (either (unit b)) [
+            | inr g ↦ (
+                let z = judged-B a b m f g in
+                let y : k - 8 ≡ 1 = omega arith in
+                let x = by-B v t a b w room start e m f g in
+                (ap queried.Determinant y ∙ x .0, x .1)
+                )
+            | inl g ↦ (let z = judged-passed a b m f g in absurd (omega arith))
+          ]
+        ]
+        )
+  ]
+
 -- ---- the claim
 
 -- the tests that were passed, as the determinants and the walk ask for them
 pub passed-small : (a b : List ℤ) → 8 ≤ first (large a b) 8 → Small 1000000 (ofList a) × Small 1000000 (ofList b)
 passed-small a b h = let k = first-le (large a b) 8 in let z : first (large a b) 8 ≡ 8 = omega arith in clear-small a b (clear-first (large a b) 8 z)
 
-pub asked : {v : ℕ} {t : List ℤ} {w : List ℕ} (a b : List ℤ) → IsSymbol v t → workLength ≤ length w → 8 ≤ first (large a b) 8 → unit a ≡ true → unit b ≡ true → Asked v t a b w
-asked a b ok k h f g =
-    let s = passed-small a b h in
-    record { symbol = ok; work = k; entries-A = s .0; entries-B = s .1; unit-A = unit-is a f; unit-B = unit-is b g }
+pub asked : {v : ℕ} {t : List ℤ} {w : List ℕ} (a b : List ℤ) → IsSymbol v t → workLength ≤ length w → Passed a b → Asked v t a b w
+asked a b ok k p =
+    let s = passed-small a b (p .entries) in
+    record { symbol = ok; work = k; entries-A = s .0; entries-B = s .1; unit-A = unit-is a (p .A); unit-B = unit-is b (p .B) }
 
 -- a query that gets to its walk answers what the walk finds
 asked-found : (v : ℕ) (t a b : List ℤ) (w : List ℕ) (room start : ℕ) → Asked v t a b w → foundOf v t a b start room ≡ queryOf v t a b (length w) room start

@@ -6,10 +6,10 @@ use matrix::inverse;
 use matrix::matrix_s;
 use matrix::product;
 use polygon::walking::is_turned;
+use steps::prepare;
 use symbol::Checked;
 use symbol::Fault;
 use symbol::check;
-use walk::steps::prepare;
 use walk::walk;
 ghost use mathlib.Core.Path.{_≡_};
 ghost use mathlib.Core.Bool.{Bool};
@@ -25,7 +25,7 @@ ghost use Rattle.symbol.specs.Symbol.{IsSymbol};
 ghost use Rattle.polygon.specs.Walk.{followed};
 ghost use Rattle.word.specs.Answer.{entryAt, large, unit, foundWord, foundOf, queryOf, workLeft, wordLeft, partOf};
 ghost use Rattle.word.specs.Claim.{Asked, Claim};
-ghost use Rattle.word.specs.Ready.{lettersAlong, endOf, Ready};
+ghost use Rattle.word.specs.Ready.{judgedOf, lettersAlong, endOf, Ready};
 
 // The answer of `query`.
 pub enum Queried {
@@ -84,6 +84,23 @@ fn is_unit(m: [i64; 4]) -> bool
     ensures { λ r. ⌜ r ≡ unit m ⌝ }
 {
     determinant(m) == 1
+}
+
+// Refusals 8 and 9: the first entry that is too large, 8 or 9 for the first determinant that isn't 1, or 10 where the pair passes.
+fn judge(a: [i64; 4], b: [i64; 4]) -> usize
+    ensures { λ r. ⌜ r ≡ judgedOf a b ⌝ }
+{
+    let i = first_large(a, b);
+    if i < 8 {
+        return i;
+    }
+    if !is_unit(a) {
+        return 8;
+    }
+    if !is_unit(b) {
+        return 9;
+    }
+    10
 }
 
 // The matrix that the walk from a to b follows: b a⁻¹, or S⁻¹ b a⁻¹ S where it starts turned round.
@@ -171,15 +188,12 @@ pub fn query(
     match checked {
         Checked::Refused(fault) => Queried::Refused(fault),
         Checked::Accepted => {
-            let i = first_large(a, b);
-            if i < 8 {
-                return Queried::Entry(i);
+            let judged = judge(a, b);
+            if judged < 8 {
+                return Queried::Entry(judged);
             }
-            if !is_unit(a) {
-                return Queried::Determinant(0);
-            }
-            if !is_unit(b) {
-                return Queried::Determinant(1);
+            if judged < 10 {
+                return Queried::Determinant(judged - 8);
             }
             if w.len() < space::WORK {
                 return Queried::Short(space::WORK);

@@ -33,7 +33,7 @@ use Rattle.polygon.proofs.Flip.{real-in, turn-face, turn-last, turn-next}
 use Rattle.polygon.proofs.Polygon.{polygon}
 use Rattle.polygon.proofs.Space.{table-above, still}
 use Rattle.polygon.proofs.SymbolFacts.{length-generators, count-most}
-use Rattle.walk.specs.Steps.{NEXT, LETTER, letterIn, Prepared}
+use Rattle.steps.specs.Steps.{NEXT, LETTER, letterIn, Prepared}
 
 -- ---- which places are positions
 

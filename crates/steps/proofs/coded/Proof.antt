@@ -1,10 +1,10 @@
 use native.Mathlib.Omega.{arith}
 use mathlib.Core.Path.{_∙_, ap}
 use lib.IntN.{ℤ, pos, natAbs, _-ℤ_}
-use Rattle.walk.proofs.Noted.{coded-fits, coded-is, coded-low, coded-back}
+use Rattle.steps.proofs.Noted.{coded-fits, coded-is, coded-low, coded-back}
 use borrow.Author.Needs.{needs}
-use Rattle.walk.proofs.steps.coded.Statement.{statement}
-use Rattle.walk.proofs.steps.coded.Tie as tie
+use Rattle.steps.proofs.coded.Statement.{statement}
+use Rattle.steps.proofs.coded.Tie as tie
 
 add-result : tie.Need-add-result
 add-result c =

@@ -3,10 +3,10 @@ use mathlib.Core.Path.{_∙_, ap}
 use lib.IntN.{ℤ, pos, _-ℤ_}
 use mir.Syntax.{w16}
 use mir.Facts.{toZ-ofZ, toZ-pos}
-use Rattle.walk.proofs.Noted.{decoded-fits}
+use Rattle.steps.proofs.Noted.{decoded-fits}
 use borrow.Author.Needs.{needs}
-use Rattle.walk.proofs.steps.decoded.Statement.{statement}
-use Rattle.walk.proofs.steps.decoded.Tie as tie
+use Rattle.steps.proofs.decoded.Statement.{statement}
+use Rattle.steps.proofs.decoded.Tie as tie
 
 cast-result : tie.Need-cast-result
 cast-result c = search needs

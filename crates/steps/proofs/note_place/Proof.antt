@@ -1,8 +1,8 @@
 use mathlib.Core.Path.{refl, sym, _∙_}
-use Rattle.walk.proofs.Noted.{prepared-skip}
+use Rattle.steps.proofs.Noted.{prepared-skip}
 use borrow.Author.Needs.{needs}
-use Rattle.walk.proofs.steps.note_place.Statement.{statement}
-use Rattle.walk.proofs.steps.note_place.Tie as tie
+use Rattle.steps.proofs.note_place.Statement.{statement}
+use Rattle.steps.proofs.note_place.Tie as tie
 
 is-real-requires : tie.Need-is-real-requires
 is-real-requires c κs = search needs

@@ -6,10 +6,10 @@ use Rattle.matrix.specs.Matrix.{nth}
 use Rattle.matrix.proofs.Bounds.{kept}
 use Rattle.symbol.specs.Check.{eqZ}
 use Rattle.symbol.proofs.Order.{is-minus-three}
-use Rattle.walk.proofs.Noted.{real-low, real-high, face-entry}
+use Rattle.steps.proofs.Noted.{real-low, real-high, face-entry}
 use borrow.Author.Needs.{needs}
-use Rattle.walk.proofs.steps.is_real.Statement.{statement}
-use Rattle.walk.proofs.steps.is_real.Tie as tie
+use Rattle.steps.proofs.is_real.Statement.{statement}
+use Rattle.steps.proofs.is_real.Tie as tie
 
 sub-b : tie.Need-sub-b
 sub-b c = search needs

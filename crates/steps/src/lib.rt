@@ -10,7 +10,7 @@ ghost use Rattle.symbol.specs.Symbol.{IsSymbol};
 ghost use Rattle.polygon.specs.Cut.{places};
 ghost use Rattle.polygon.specs.Step.{real, Real, stepS, turnQ, written};
 ghost use Rattle.polygon.specs.Tables.{Tables, lettersOf};
-ghost use Rattle.walk.specs.Steps.{Prepared};
+ghost use Rattle.steps.specs.Steps.{Prepared};
 
 pub const NEXT: usize = 8192;
 

@@ -2,11 +2,11 @@ use native.Mathlib.Omega.{arith}
 use mathlib.Core.Path.{_≡_, refl, _∙_}
 use Prim.Native.Nat.{_-_, _≤_}
 use lib.ListN.{length}
-use Rattle.walk.specs.Steps.{Prepared}
-use Rattle.walk.proofs.Noted.{prepared-none, prepared-all}
+use Rattle.steps.specs.Steps.{Prepared}
+use Rattle.steps.proofs.Noted.{prepared-none, prepared-all}
 use borrow.Author.Needs.{needs}
-use Rattle.walk.proofs.steps.prepare.Statement.{statement}
-use Rattle.walk.proofs.steps.prepare.Tie as tie
+use Rattle.steps.proofs.prepare.Statement.{statement}
+use Rattle.steps.proofs.prepare.Tie as tie
 
 abbrev Inv-loop : tie.InvT-loop
 Inv-loop t v w₀ end p₀ w p = Prepared t v w p × (p ≤ end) × (length w ≡ length w₀)

@@ -2,8 +2,8 @@ use native.Mathlib.Omega.{arith}
 use mathlib.Core.Path.{_∙_}
 use Rattle.polygon.proofs.Flip.{real-in}
 use borrow.Author.Needs.{needs}
-use Rattle.walk.proofs.steps.next.Statement.{statement}
-use Rattle.walk.proofs.steps.next.Tie as tie
+use Rattle.steps.proofs.next.Statement.{statement}
+use Rattle.steps.proofs.next.Tie as tie
 
 add-index : tie.Need-add-index
 add-index c =

@@ -4,10 +4,10 @@ use Prim.Native.Nat.{_+_}
 use lib.ListN.{length, set, length-set}
 use mir.Facts.{toZ-ofZ}
 use mir.Syntax.{w16}
-use Rattle.walk.proofs.Noted.{letter-most, step-low, prepared-more}
+use Rattle.steps.proofs.Noted.{letter-most, step-low, prepared-more}
 use borrow.Author.Needs.{needs}
-use Rattle.walk.proofs.steps.note_step.Statement.{statement}
-use Rattle.walk.proofs.steps.note_step.Tie as tie
+use Rattle.steps.proofs.note_step.Statement.{statement}
+use Rattle.steps.proofs.note_step.Tie as tie
 
 step-s-requires : tie.Need-step-s-requires
 step-s-requires c κs = search needs

@@ -5,8 +5,8 @@ use Rattle.polygon.proofs.Flip.{real-in}
 use mir.Facts.{toZ-ofZ}
 use mir.Syntax.{w16}
 use borrow.Author.Needs.{needs}
-use Rattle.walk.proofs.steps.letter.Statement.{statement}
-use Rattle.walk.proofs.steps.letter.Tie as tie
+use Rattle.steps.proofs.letter.Statement.{statement}
+use Rattle.steps.proofs.letter.Tie as tie
 
 add-decoded : tie.Need-add-decoded
 add-decoded c =

@@ -1,8 +1,8 @@
 use native.Mathlib.Omega.{arith}
-use Rattle.walk.proofs.Noted.{back-face, back-first, back-other}
+use Rattle.steps.proofs.Noted.{back-face, back-first, back-other}
 use borrow.Author.Needs.{needs}
-use Rattle.walk.proofs.steps.turn_back.Statement.{statement}
-use Rattle.walk.proofs.steps.turn_back.Tie as tie
+use Rattle.steps.proofs.turn_back.Statement.{statement}
+use Rattle.steps.proofs.turn_back.Tie as tie
 
 sub-if1 : tie.Need-sub-if1
 sub-if1 c = search needs
