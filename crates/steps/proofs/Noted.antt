@@ -5,17 +5,16 @@
 -- Assumes nothing.
 use mathlib.Core.Path.{_≡_, refl, sym, _∙_, ap}
 use mathlib.Core.Bool.{Bool, true, false, _||_}
-use mathlib.Core.List.{List, [], _∷_}
+use mathlib.Core.List.{List}
 use Prim.Native.Nat.{ℕ, zero, suc, _+_, _*_, _-_, _%_, _≤_, _<_}
 use native.Mathlib.Omega.{arith}
-use lib.Dec.{T, ltb}
+use lib.Dec.{ltb}
 use lib.ListN.{length, getD, set, length-set}
 use lib.Seq.{getD-set-same, getD-set-other, getD-drop}
 use lib.IntN.{ℤ, pos, negsuc, natAbs, _+ℤ_, _-ℤ_, +ℤ-negℤ-cancel}
-use lib.Signed.{nonNeg}
 use mir.Syntax.{w16}
 use mir.Val.{SFits, toZ, ofZ}
-use mir.Facts.{toZ-ofZ, toZ-pos}
+use mir.Facts.{toZ-ofZ}
 use borrow.Author.Tests.{lt-ltb, le-ltb, ltb-true, ltb-false}
 use borrow.Author.Count.{below-more}
 use Rattle.matrix.specs.Matrix.{nth}
@@ -27,13 +26,12 @@ use Rattle.symbol.specs.Subgroup.{IsWord}
 use Rattle.symbol.proofs.Choice.{clash}
 use Rattle.polygon.specs.Cut.{corners, places}
 use Rattle.polygon.specs.Step.{oddAt, real, Real, stepS, turnQ, written}
-use Rattle.polygon.specs.Theorem.{Polygon}
 use Rattle.polygon.specs.Tables.{Tables, lettersOf}
 use Rattle.polygon.proofs.Flip.{real-in, turn-face, turn-last, turn-next}
 use Rattle.polygon.proofs.Polygon.{polygon}
 use Rattle.polygon.proofs.Space.{table-above, still}
 use Rattle.polygon.proofs.SymbolFacts.{length-generators, count-most}
-use Rattle.steps.specs.Steps.{NEXT, LETTER, letterIn, Prepared}
+use Rattle.steps.specs.Steps.{NEXT, LETTER, Prepared}
 
 -- ---- which places are positions
 

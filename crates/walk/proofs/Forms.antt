@@ -6,23 +6,22 @@
 -- Why: the rows of a form that is one apart are comparable, so the smaller one can be taken from the other, which leaves less.
 -- Assumes nothing.
 use mathlib.Core.Path.{_≡_, refl, sym, _∙_, ap}
-use mathlib.Core.Logic.{_⊎_, inl, inr}
-use mathlib.Core.Bool.{Bool, true, false, not, _&&_}
+use mathlib.Core.Logic.{inl, inr}
+use mathlib.Core.Bool.{Bool, true, false, not}
 use mathlib.Core.List.{List, [], _∷_}
 use Prim.Native.Nat.{ℕ, zero, suc, _+_, _*_, _-_, _≤_, _<_}
 use native.Mathlib.Omega.{arith}
-use lib.Dec.{leb, eqb}
+use lib.Dec.{eqb}
 use lib.IntN.{pos}
-use borrow.Author.Tests.{leb-true, leb-false, eqb-true, eqb-false, eq-eqb, ne-eqb}
+use borrow.Author.Tests.{leb-true, leb-false, eqb-true, eqb-false, ne-eqb}
 use Rattle.matrix.specs.Matrix.{Mat, det}
-use Rattle.matrix.specs.Words.{Letter, S, Q, P}
-use Rattle.matrix.specs.Euclid.{Form, form, total, swap, pick, turn, tailOf, headOf, agree, sizes, spell, wordOf}
+use Rattle.matrix.specs.Words.{Letter, S}
+use Rattle.matrix.specs.Euclid.{Form, total, swap, turn, tailOf, headOf, agree, sizes, spell, wordOf}
 use Rattle.matrix.proofs.Matrix.{det-≈}
-use Rattle.matrix.proofs.Form.{Whole, Unimodular, unimodular-swap, unimodular-whole, Proper, Rows, rows, down, unimodular-down, tail-stop, tail-last, tail-more, turn-Q, turn-P, tail-fuel}
-use Rattle.matrix.proofs.Existence.{Shape, shape, unimodular}
-use Rattle.symbol.proofs.Choice.{either, clash, and-left, and-right, pick-true, pick-false}
-use Rattle.walk.specs.Way.{formOf, restOf, properOf, byQ, turnLetter, turnForm}
-use Rattle.walk.specs.declared.Way.{Way}
+use Rattle.matrix.proofs.Form.{Unimodular, unimodular-swap, unimodular-whole, Proper, rows, down, unimodular-down, tail-stop, tail-last, tail-more, tail-fuel}
+use Rattle.matrix.proofs.Existence.{shape, unimodular}
+use Rattle.symbol.proofs.Choice.{either, clash, and-left, and-right}
+use Rattle.walk.specs.Way.{properOf, byQ, turnLetter, turnForm}
 
 -- ---- proper forms
 

@@ -7,18 +7,17 @@
 -- stabiliser of the start.
 -- Assumes nothing.
 use mathlib.Core.Path.{_≡_, refl, sym, _∙_, ap, subst}
-use mathlib.Core.Logic.{_⊎_, inl, inr, _↔_}
+use mathlib.Core.Logic.{_⊎_, inl, inr}
 use mathlib.Core.Bool.{Bool, true, false, _&&_}
 use mathlib.Core.List.{List, [], _∷_, _++_, append-assoc}
 use Prim.Native.Nat.{ℕ, zero, suc, _+_, _-_, _≤_, _<_}
 use native.Mathlib.Omega.{arith}
-use lib.Dec.{leb, eqb}
+use lib.Dec.{leb}
 use lib.ListN.{length, getD, take, drop}
-use lib.Seq.{sets, sets-eq, length-sets, length-take-le, take-at, drop-at}
+use lib.Seq.{sets-eq, length-sets, length-take-le, take-at, drop-at}
 use lib.IntN.{ℤ, pos, natAbs}
 use borrow.Author.Tests.{le-leb, leb-true, eqb-true, eq-eqb}
 use Rattle.matrix.specs.Matrix.{Mat, _⊗_, adj, det, _≈_, ofList}
-use Rattle.matrix.specs.Euclid.{pick}
 use Rattle.matrix.specs.Euclid as euclid
 use Rattle.matrix.proofs.Matrix.{⊗-assoc, ⊗-idr, ⊗-adj, adj-⊗, det-adj, det-one, ≈-sym, _∙≈_, ≈-right}
 use Rattle.symbol.specs.Symbol.{IsSymbol}
@@ -26,13 +25,13 @@ use Rattle.symbol.specs.Generator.{generators, leads}
 use Rattle.symbol.specs.Subgroup.{IsWord, wordOf}
 use Rattle.symbol.proofs.Choice.{either, clash, pick-true, pick-false, and-left, and-right}
 use Rattle.polygon.specs.Step.{startOf}
-use Rattle.polygon.specs.Walk.{followed, walkEnds, walkWrites}
-use Rattle.polygon.specs.Theorem.{Polygon, SameCoset}
+use Rattle.polygon.specs.Walk.{followed, walkEnds}
+use Rattle.polygon.specs.Theorem.{Polygon}
 use Rattle.polygon.proofs.SymbolFacts.{length-generators, count-most}
 use Rattle.polygon.proofs.Polygon.{polygon}
 use Rattle.walk.specs.Way.{placed}
 use Rattle.word.specs.Answer.{home, foundWord, fits, roomOf, foundOf, wordLeft, partOf}
-use Rattle.word.specs.Claim.{Joined, Fits, Found, Answered}
+use Rattle.word.specs.Claim.{Joined, Fits, Answered}
 use Rattle.word.specs.declared.Queried.{Queried}
 use Rattle.word.specs.declared.Queried.the-variants as queried
 use Rattle.word.proofs.Turned.{followed-length}
@@ -121,9 +120,10 @@ module _ {v : ℕ} {t : List ℤ} (ok : IsSymbol v t) (A B : Mat) (d : det A ≡
           found = ((λ f. elim f [ inl z ↦ absurd (omega arith) | inr z ↦ absurd (omega arith) ]), (λ j. absurd (no j)));
           letters = λ f. letters-of;
           product = λ f. elim f [ inl z ↦ absurd (omega arith) | inr z ↦ absurd (omega arith) ];
-          none = ((λ z. no), (λ z. (refl, refl)));
+          none = ((λ z. no), (λ z. refl));
           returned = ((λ z. absurd (omega arith)), (λ z. absurd (no (z .0))));
-          short = ((λ z. absurd (omega (arith, z .0))), (λ z. absurd (no (z .0))));
+          short = ((λ z. absurd (omega arith)), (λ z. absurd (no (z .0))));
+          places = ((λ z. refl), (λ z. absurd (omega arith)));
           names = λ z. absurd (omega arith);
           stands = λ z. absurd (omega arith);
           untouched = λ z. refl;
@@ -139,9 +139,10 @@ module _ {v : ℕ} {t : List ℤ} (ok : IsSymbol v t) (A B : Mat) (d : det A ≡
           found = ((λ z. j), (λ z. inl refl));
           letters = λ z. letters-of;
           product = λ z. home-product h;
-          none = ((λ z. absurd (omega (arith, z .0))), (λ n. absurd (n j)));
+          none = ((λ z. absurd (omega arith)), (λ n. absurd (n j)));
           returned = ((λ z. (j, f)), (λ z. refl));
-          short = ((λ z. absurd (omega (arith, z .0))), (λ z. absurd (z .1 f)));
+          short = ((λ z. absurd (omega arith)), (λ z. absurd (z .1 f)));
+          places = ((λ z. absurd (omega arith)), (λ z. absurd (omega arith)));
           names = λ z. refl;
           stands = λ z. (refl, part-placed start word out (f .inside) (f .enough));
           untouched = λ n. absurd (n refl);
@@ -156,9 +157,10 @@ module _ {v : ℕ} {t : List ℤ} (ok : IsSymbol v t) (A B : Mat) (d : det A ≡
           found = ((λ z. j), (λ z. inr refl));
           letters = λ z. letters-of;
           product = λ z. home-product h;
-          none = ((λ z. absurd (omega (arith, z .0))), (λ n. absurd (n j)));
+          none = ((λ z. absurd (omega arith)), (λ n. absurd (n j)));
           returned = ((λ z. absurd (omega arith)), (λ z. clash (yes-fits (z .1)) k));
-          short = ((λ z. (j, λ f. clash (yes-fits f) k)), (λ z. (refl, refl)));
+          short = ((λ z. (j, λ f. clash (yes-fits f) k)), (λ z. refl));
+          places = ((λ z. absurd (omega arith)), (λ z. refl));
           names = λ z. absurd (omega arith);
           stands = λ z. absurd (omega arith);
           untouched = λ n. refl;

@@ -2,21 +2,21 @@
 -- is (`along-found`, `end-found`); what a walk finds (`Result`, `setting`, `result`) and leaves (`kept-out`, `placed-out`); the answers by
 -- it (`not-home`, `too-far`, `too-long`, `fitting`).
 -- Assumes nothing.
-use mathlib.Core.Path.{_≡_, refl, sym, _∙_, ap, subst}
-use mathlib.Core.Bool.{Bool, true, false, _&&_}
+use mathlib.Core.Path.{_≡_, sym, _∙_, ap, subst}
+use mathlib.Core.Bool.{Bool, _&&_}
 use mathlib.Core.List.{List}
-use Prim.Native.Nat.{ℕ, _+_, _*_, _-_, _^_, _≤_, _<_}
+use Prim.Native.Nat.{ℕ, _*_, _-_, _^_, _≤_, _<_}
 use native.Mathlib.Omega.{arith}
-use lib.Dec.{leb, eqb, lit<, lit≤}
+use lib.Dec.{leb, eqb, lit<}
 use lib.ListN.{length}
 use lib.IntN.{ℤ, pos}
 use borrow.Author.Tests.{eq-eqb, ne-eqb, le-leb, lt-leb}
 use Rattle.matrix.specs.Matrix.{Mat, _⊗_, adj, det, ofList, toList}
 use Rattle.matrix.specs.Bounds.{Small, Room}
-use Rattle.matrix.specs.Euclid.{wordOf, pick}
+use Rattle.matrix.specs.Euclid.{wordOf}
 use Rattle.matrix.specs.Action as action
 use Rattle.matrix.proofs.Matrix.{det-adj, det-one}
-use Rattle.matrix.proofs.Bounds.{small-more, small-adj, small-⊗, room}
+use Rattle.matrix.proofs.Bounds.{small-adj, small-⊗, room}
 use Rattle.symbol.proofs.Choice.{pick-true, pick-false}
 use Rattle.polygon.specs.Cut.{places}
 use Rattle.polygon.specs.Step.{Real, startOf}
@@ -29,7 +29,6 @@ use Rattle.walk.proofs.Stored.{stored-none, stored-all}
 use Rattle.word.specs.Answer.{home, foundWord, fits, roomOf, foundOf}
 use Rattle.word.specs.Claim.{Asked}
 use Rattle.word.specs.Ready.{lettersAlong, endOf, Ready}
-use Rattle.word.specs.declared.Queried.{Queried}
 use Rattle.word.specs.declared.Queried.the-variants as queried
 use Rattle.word.proofs.Turned.{followed-unit, followed-small}
 

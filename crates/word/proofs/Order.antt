@@ -9,9 +9,9 @@ use native.Mathlib.Omega.{arith}
 use native.Mathlib.Decide.{decLt}
 use lib.Dec.{ltb}
 use lib.ListN.{length}
-use lib.IntN.{ℤ, pos}
+use lib.IntN.{ℤ}
 use borrow.Author.Tests.{lt-ltb, le-ltb}
-use Rattle.matrix.specs.Matrix.{ofList, det}
+use Rattle.matrix.specs.Matrix.{ofList}
 use Rattle.matrix.specs.Euclid.{pick}
 use Rattle.matrix.specs.Bounds.{Small}
 use Rattle.space.specs.Space.{workLength, zeros}
@@ -24,7 +24,7 @@ use Rattle.symbol.specs.declared.Checked.{Checked}
 use Rattle.symbol.specs.declared.Checked.the-variants.{Accepted, Refused}
 use Rattle.symbol.proofs.Accepted.{accepted}
 use Rattle.symbol.proofs.Choice.{either, pick-true, pick-false}
-use Rattle.symbol.proofs.Count.{Clear, first-clear, clear-first, first-le}
+use Rattle.symbol.proofs.Count.{first-clear, clear-first, first-le}
 use Rattle.word.specs.Answer.{large, unit, passes, foundWord, foundOf, byWork, byDeterminants, byEntries, byCheck, queryOf, workLeft, wordLeft}
 use Rattle.word.specs.Claim.{Asked, Answered, Claim}
 use Rattle.word.specs.Ready.{judgedOf}

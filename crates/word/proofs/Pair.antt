@@ -3,9 +3,8 @@
 -- In order: entries (`entry-A`, `entry-B`), tests on one entry (`large-yes`, `large-no`); a pair with no large entry is small, and conversely
 -- (`clear-small`, `small-clear`); determinants (`unit-is`, `is-unit`).
 -- Assumes nothing.
-use mathlib.Core.Path.{_≡_, refl, sym, _∙_, ap}
-use mathlib.Core.Logic.{inl, inr}
-use mathlib.Core.Bool.{Bool, true, false, not, _&&_}
+use mathlib.Core.Path.{_≡_, sym, _∙_, ap}
+use mathlib.Core.Bool.{Bool, true, false, not}
 use mathlib.Core.List.{List}
 use Prim.Native.Nat.{ℕ, zero, suc, _-_, _≤_, _<_}
 use native.Mathlib.Omega.{arith}
@@ -13,9 +12,8 @@ use native.Mathlib.Decide.{decLt}
 use lib.Dec.{leb, ltb}
 use lib.IntN.{ℤ, pos, natAbs}
 use borrow.Author.Tests.{lt-ltb, le-ltb, le-leb, leb-true, not-false}
-use Rattle.matrix.specs.Matrix.{Mat, nth, ofList, det}
+use Rattle.matrix.specs.Matrix.{nth, ofList, det}
 use Rattle.matrix.specs.Bounds.{Small}
-use Rattle.symbol.specs.Check.{eqZ}
 use Rattle.symbol.proofs.Choice.{pick-true, pick-false, eqZ-true, eq-eqZ}
 use Rattle.symbol.proofs.Count.{Clear}
 use Rattle.word.specs.Answer.{entryAt, large, unit}

@@ -6,19 +6,19 @@
 -- Why: the word of m between two letters S has that matrix, and it becomes alternating by crossing out.
 -- Assumes nothing.
 use mathlib.Core.Path.{_≡_, refl, sym, _∙_, ap, subst}
-use mathlib.Core.Logic.{_⊎_, inl, inr}
-use mathlib.Core.Bool.{Bool, true, false}
+use mathlib.Core.Logic.{inl, inr}
+use mathlib.Core.Bool.{true, false}
 use mathlib.Core.List.{List, [], _∷_, _++_}
-use Prim.Native.Nat.{ℕ, suc, _+_, _*_, _^_, _≤_, _<_}
+use Prim.Native.Nat.{ℕ, suc, _+_, _*_, _^_, _≤_}
 use native.Mathlib.Omega.{arith}
-use lib.Dec.{lit≤, lit<}
+use lib.Dec.{lit≤}
 use lib.ListN.{length, length-append}
-use lib.IntN.{ℤ, pos, natAbs}
-use Rattle.matrix.specs.Matrix.{Mat, _⊗_, 𝟙, neg, adj, det, matS, _≈_}
+use lib.IntN.{ℤ, pos}
+use Rattle.matrix.specs.Matrix.{Mat, _⊗_, neg, adj, det, matS, _≈_}
 use Rattle.matrix.specs.Words.{Letter, S, Q, P, value}
 use Rattle.matrix.specs.Euclid.{wordOf}
 use Rattle.matrix.specs.Bounds.{Small}
-use Rattle.matrix.proofs.Matrix.{⊗-idr, det-adj, det-letter, det-one, ≈-refl, ≈-sym, _∙≈_, ≈-left, ≈-both}
+use Rattle.matrix.proofs.Matrix.{⊗-idr, det-adj, det-letter, det-one, ≈-sym, _∙≈_, ≈-both}
 use Rattle.matrix.proofs.Bounds.{small-more, small-adj, small-⊗}
 use Rattle.matrix.proofs.Action.{pre, reduce, reduce-alternating, reduce-value, value-++}
 use Rattle.matrix.proofs.Uniqueness.{uniqueness}

@@ -14,7 +14,7 @@
 --   workLeft v t a b w          what the call leaves in the work space: zeros where it got past the length check, else all as it was
 --   wordLeft r l out            what the call leaves in the word space: the letters l from the start place on, or all as it was
 --   partOf out start n          the part of n letters from `start` on, empty where it doesn't fit
-use mathlib.Core.Bool.{Bool, true, false, not, _&&_}
+use mathlib.Core.Bool.{Bool, not, _&&_}
 use mathlib.Core.List.{List, []}
 use Prim.Native.Nat.{ℕ, _-_}
 use lib.Dec.{leb, ltb, eqb}

@@ -1,19 +1,21 @@
--- THE CLAIM: WHAT A PAIR QUERY ANSWERS, for every symbol, pair, space and start place. The proof is `claim`, in proofs/Claim.antt, and
--- `query` promises it of its answer r and of the word space out' that it leaves. A and B are the two matrices, `word` is
--- `foundWord v t A B`, which depends on the symbol, A and B alone, and the generators are those of the symbol, in their order.
+-- THE CLAIM: WHAT A PAIR QUERY ANSWERS, for every symbol, pair, space and start place. `query` promises it of its answer r and of the word
+-- space out' that it leaves; the proof is `answered`, in proofs/Claim.antt. A and B are the two matrices, and `word` stands for
+-- `foundWord v t A B`, which depends on the symbol, A and B alone. A number 0 says that a word is returned, 10 'none', 11 that the word
+-- doesn't fit.
 --
 --   Asked v t a b w         the query gets to its walk: the symbol is accepted, the work space is long enough, whatever stands in it,
 --                           the entries of A and B are from -1,000,000 to 1,000,000, and both determinants are 1
---   Joined v t m n          some product of generators and their inverses, of whatever length, times m is n up to sign
+--   Joined v t m n          some product of the symbol's generators and their inverses, of whatever length, times m is n up to sign
 --   Fits start n room       the start place isn't past the end, and at least n letters lie from there to the end
 --   Found r                 a word is found: it is returned, or refused with 11, by the word space
 --   Answered                the claim, in these parts:
 --     found                 a word is found exactly when some product of generators and inverses times A is B up to sign
---     letters, product      the word found is such a product, its letters j and -j for generator j and its inverse
---     none                  otherwise the answer is 10, and only then
---     returned, short       it is returned exactly when it fits, and otherwise refused with 11 and its true length
---     names, stands         the answer names the start place and the length; the word stands there, and all else is as before
---     untouched             any other answer leaves the word space as it was
+--     letters, product      the word found is such a product, with the letter j for generator j and -j for its inverse
+--     none                  otherwise the answer is 10, and only then: 'none' means that there is no such product
+--     returned, short       the word found is returned exactly when it fits, and otherwise refused with 11
+--     places                the place of 10 is 0, and that of 11 is the word's true length
+--     names, stands         a word that is returned stands where the answer says, from the start place on, and all else is as before
+--     untouched             any other answer leaves the word space as it was, whatever stood in it
 --     bound, sixteen        the word has at most two letters more than the alternating word of B A⁻¹, and each fits 16 signed bits
 --   Claim                   where the query gets to its walk, this is what it answers
 use mathlib.Core.Path.{_≡_}
@@ -57,9 +59,10 @@ pub record Answered (v : ℕ) (t : List ℤ) (A B : Mat) (word out : List ℤ) (
   pub found : Found r ↔ Joined v t A B
   pub letters : Found r → IsWord (length (generators v t)) word
   pub product : Found r → wordOf (generators v t) word ⊗ A ≈ B
-  pub none : ((queryNumber r ≡ 10) × (queryPlace r ≡ 0)) ↔ (Joined v t A B → ⊥)
+  pub none : (queryNumber r ≡ 10) ↔ (Joined v t A B → ⊥)
   pub returned : (queryNumber r ≡ 0) ↔ (Joined v t A B × Fits start (length word) (length out))
-  pub short : ((queryNumber r ≡ 11) × (queryPlace r ≡ length word)) ↔ (Joined v t A B × (Fits start (length word) (length out) → ⊥))
+  pub short : (queryNumber r ≡ 11) ↔ (Joined v t A B × (Fits start (length word) (length out) → ⊥))
+  pub places : (queryNumber r ≡ 10 → queryPlace r ≡ 0) × (queryNumber r ≡ 11 → queryPlace r ≡ length word)
   pub names : queryNumber r ≡ 0 → r ≡ queried.Word start (length word)
   pub stands : queryNumber r ≡ 0 → (out' ≡ placed start word out) × (partOf out' start (length word) ≡ word)
   pub untouched : (queryNumber r ≡ 0 → ⊥) → out' ≡ out

@@ -2,7 +2,6 @@ use native.Mathlib.Omega.{arith}
 use mathlib.Core.Path.{_∙_, ap}
 use lib.IntN.{ℤ, pos, natAbs, _-ℤ_}
 use Rattle.steps.proofs.Noted.{coded-fits, coded-is, coded-low, coded-back}
-use borrow.Author.Needs.{needs}
 use Rattle.steps.proofs.coded.Statement.{statement}
 use Rattle.steps.proofs.coded.Tie as tie
 

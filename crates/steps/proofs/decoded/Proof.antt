@@ -1,6 +1,4 @@
 use native.Mathlib.Omega.{arith}
-use mathlib.Core.Path.{_∙_, ap}
-use lib.IntN.{ℤ, pos, _-ℤ_}
 use mir.Syntax.{w16}
 use mir.Facts.{toZ-ofZ, toZ-pos}
 use Rattle.steps.proofs.Noted.{decoded-fits}

@@ -1,9 +1,7 @@
-use native.Mathlib.Omega.{arith}
 use mathlib.Core.Path.{_∙_, ap}
 use lib.IntN.{ℤ, negsuc}
 use Prim.Native.Nat.{_+_, _-_, _*_}
 use Rattle.matrix.specs.Matrix.{nth}
-use Rattle.matrix.proofs.Bounds.{kept}
 use Rattle.symbol.specs.Check.{eqZ}
 use Rattle.symbol.proofs.Order.{is-minus-three}
 use Rattle.steps.proofs.Noted.{real-low, real-high, face-entry}

@@ -4,7 +4,6 @@ use Rattle.polygon.specs.Tables.{lettersOf}
 use Rattle.polygon.proofs.Flip.{real-in}
 use mir.Facts.{toZ-ofZ}
 use mir.Syntax.{w16}
-use borrow.Author.Needs.{needs}
 use Rattle.steps.proofs.letter.Statement.{statement}
 use Rattle.steps.proofs.letter.Tie as tie
 

@@ -1,7 +1,7 @@
 use native.Mathlib.Omega.{arith}
-use mathlib.Core.Path.{_≡_, refl, sym, _∙_, ap}
+use mathlib.Core.Path.{_∙_}
 use Prim.Native.Nat.{_+_}
-use lib.ListN.{length, set, length-set}
+use lib.ListN.{set, length-set}
 use mir.Facts.{toZ-ofZ}
 use mir.Syntax.{w16}
 use Rattle.steps.proofs.Noted.{letter-most, step-low, prepared-more}

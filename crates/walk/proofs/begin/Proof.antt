@@ -1,5 +1,5 @@
 use native.Mathlib.Omega.{arith}
-use mathlib.Core.Path.{refl, sym, _∙_, ap}
+use mathlib.Core.Path.{refl, sym, _∙_}
 use Prim.Native.Nat.{_^_}
 use Rattle.matrix.specs.Matrix.{ofList}
 use Rattle.polygon.proofs.Polygon.{polygon}

@@ -1,5 +1,5 @@
 use native.Mathlib.Omega.{arith}
-use mathlib.Core.Path.{sym, _∙_, ap}
+use mathlib.Core.Path.{_∙_}
 use Rattle.polygon.proofs.Polygon.{polygon}
 use Rattle.walk.proofs.Onward.{crossed-sound, crossed-proper, block-less, block-going, stepped-long}
 use borrow.Author.Needs.{needs}

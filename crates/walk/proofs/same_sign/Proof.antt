@@ -1,6 +1,5 @@
 use mir.Facts.{toZ-ofZ}
 use Rattle.walk.proofs.Letters.{sign-above, sign-below, sign-zero}
-use borrow.Author.Needs.{needs}
 use Rattle.walk.proofs.same_sign.Statement.{statement}
 use Rattle.walk.proofs.same_sign.Tie as tie
 

@@ -1,7 +1,6 @@
 use mathlib.Core.Path.{sym}
 use mir.Facts.{toZ-ofZ}
 use Rattle.symbol.proofs.Signed.{below-small, above-small}
-use borrow.Author.Needs.{needs}
 use Rattle.word.proofs.is_small.Statement.{statement}
 use Rattle.word.proofs.is_small.Tie as tie
 

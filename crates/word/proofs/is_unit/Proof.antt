@@ -5,7 +5,6 @@ use Rattle.matrix.specs.Matrix.{ofList}
 use Rattle.matrix.proofs.Bounds.{roomy}
 use Rattle.symbol.specs.Check.{eqZ}
 use Rattle.polygon.proofs.Signed.{is-one}
-use borrow.Author.Needs.{needs}
 use Rattle.word.proofs.is_unit.Statement.{statement}
 use Rattle.word.proofs.is_unit.Tie as tie
 

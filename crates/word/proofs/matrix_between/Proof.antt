@@ -1,6 +1,6 @@
-use mathlib.Core.Path.{_≡_, refl, sym, _∙_, ap, subst}
+use mathlib.Core.Path.{_≡_, sym, _∙_, ap, subst}
 use mathlib.Core.List.{List}
-use Prim.Native.Nat.{ℕ, _+_, _*_, _-_, _^_}
+use Prim.Native.Nat.{_*_, _-_, _^_}
 use lib.Dec.{lit<, lit≤}
 use lib.IntN.{ℤ}
 use Rattle.matrix.specs.Matrix.{Mat, _⊗_, adj, matS, ofList, toList}

@@ -1,6 +1,5 @@
 use mathlib.Core.Path.{_≡_, refl, sym, _∙_}
 use lib.ListN.{length}
-use native.Mathlib.Omega.{arith}
 use Rattle.symbol.specs.Check.{checkOf}
 use Rattle.symbol.specs.Symbol.{IsSymbol}
 use Rattle.symbol.specs.declared.Checked.the-variants.{Accepted}
