@@ -3,3 +3,4 @@ pub mod Turned
 pub mod Claim
 pub mod Order
 pub mod Finding
+pub mod Instances
