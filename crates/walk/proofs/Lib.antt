@@ -1,0 +1,4 @@
+pub mod Stored
+pub mod Forms
+pub mod Letters
+pub mod Onward

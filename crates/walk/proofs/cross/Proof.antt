@@ -1,0 +1,31 @@
+use mathlib.Core.Path.{refl, _∙_, ap}
+use mir.Facts.{toZ-ofZ}
+use mir.Syntax.{w16}
+use mir.Val.{toZ, ofZ}
+use Rattle.polygon.specs.Tables.{lettersOf}
+use Rattle.walk.proofs.Letters.{stepped}
+use borrow.Author.Needs.{needs}
+use Rattle.walk.proofs.cross.Statement.{statement}
+use Rattle.walk.proofs.cross.Tie as tie
+
+letter-requires : tie.Need-letter-requires
+letter-requires c κs = search needs
+
+put-requires : tie.Need-put-requires
+put-requires c κs = search needs
+
+next-requires : tie.Need-next-requires
+next-requires c κs = search needs
+
+same-length : tie.Need-same-length
+same-length c = search needs
+
+returns : tie.Need-returns
+returns c =
+    let l = c .before .before .before .before in
+    let k = toZ-ofZ {w = w16} {z = l .letter .result} (record { sfits = l .letter .ok }) in
+    (stepped (toZ w16 (ofZ w16 (l .letter .result))) (ap lettersOf k ∙ l .letter .ensures) (c .next .ensures) (c .before .before .put .ensures), refl)
+
+pub cross-spec : {M : Type 1} → statement M
+cross-spec =
+    tie.close (tie.spec letter-requires put-requires next-requires same-length returns)

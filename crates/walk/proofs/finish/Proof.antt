@@ -1,0 +1,30 @@
+use Rattle.walk.specs.Way.{formOf}
+use native.Mathlib.Omega.{arith}
+use Rattle.polygon.proofs.Polygon.{polygon}
+use Rattle.walk.proofs.Forms.{improper}
+use Rattle.walk.proofs.Onward.{ended-none, ended-S}
+use borrow.Author.Needs.{needs}
+use Rattle.walk.proofs.finish.Statement.{statement}
+use Rattle.walk.proofs.finish.Tie as tie
+
+add-if1 : tie.Need-add-if1
+add-if1 c = search needs
+
+returns : tie.Need-returns
+returns c =
+    let s = c .before .before .before in
+    ended-none (polygon (s .args .v) (s .args .t .now) (s .pre .0 .prepared .tables .symbol)) (s .pre .1) (c .if1 .taken)
+
+cross-requires : tie.Need-cross-requires
+cross-requires c κs = search needs
+
+same-length : tie.Need-same-length
+same-length c = search needs
+
+returns-2 : tie.Need-returns-2
+returns-2 c =
+    let s = c .before .before .before .before .before .before in
+    ended-S (polygon (s .args .v) (s .args .t .now) (s .pre .0 .prepared .tables .symbol)) (s .pre .1) (omega (arith, c .before .before .before .if1 .left)) (improper (formOf (s .args .way)) (s .pre .2) (omega (arith, c .before .before .before .if1 .left))) (c .before .cross .ensures .0)
+
+pub finish-spec : {M : Type 1} → statement M
+finish-spec = tie.close (tie.spec add-if1 returns cross-requires same-length returns-2)

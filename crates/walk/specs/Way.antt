@@ -1,0 +1,96 @@
+-- The walk as the code makes it: the rest of the matrix as four naturals, the position, and the letters counted and stored.
+--
+--   Way                     the state of a walk: the form p q r s of what is left of the matrix, the position, the letters so far
+--   formOf a                its form
+--   restOf a                the alternating word that is left, where it doesn't begin with a power of Q
+--   properOf f              whether the form f is neither that of the identity nor that of S
+--   turnLetter f, turnForm f     the power of Q that a word with the form f begins with, and the form that is left
+--   stored start limit n l out   the letters l, of which the first is number n of the word, stored from the place start on in `out`,
+--                           each where its number is below the limit
+--   placed start l out      the letters l in place of those that stood from `start` on
+--   Setting                 the tables of steps are there, and `limit` letters fit from the start place on
+--   Stepped x a out b out'  the letter x leads from the state a to b, and what it writes is counted, and stored
+--   Onward                  from l at x with n letters it is the same way as from m at y with k letters
+--   OneApart f              p s and q r are one apart
+--   Sound v t most a        the position is real, the form is one apart, and what is written and left has at most so many letters
+--   Begun, Going, Ended     what the parts of the walk leave: its beginning, a turn, the end
+--   Walked                  the walk of the whole word of m: where it ends, how many letters it writes, and these stored
+use mathlib.Core.Path.{_≡_}
+use mathlib.Core.Logic.{_⊎_}
+use mathlib.Core.Bool.{Bool, not, _&&_}
+use mathlib.Core.List.{List, [], _∷_, _++_}
+use Prim.Native.Nat.{ℕ, suc, _+_, _-_, _*_, _^_, _≤_}
+use lib.Dec.{leb, ltb, eqb}
+use lib.ListN.{length, set, take, drop}
+use lib.IntN.{ℤ}
+use Rattle.matrix.specs.Matrix.{Mat}
+use Rattle.matrix.specs.Words.{Letter, Q, P}
+use Rattle.matrix.specs.Euclid.{Form, form, total, pick, tailOf, wordOf}
+use Rattle.polygon.specs.Cut.{places}
+use Rattle.polygon.specs.Step.{Real, written}
+use Rattle.polygon.specs.Walk.{goes, ends, writes}
+use Rattle.steps.specs.Steps.{Prepared}
+use Rattle.walk.specs.declared.Way.{Way}
+
+abbrev pub formOf : Way → Form
+formOf a = form (a .p) (a .q) (a .r) (a .s)
+
+unfoldable pub restOf : Way → List Letter
+restOf a = tailOf (total (formOf a)) (formOf a)
+
+abbrev pub properOf : Form → Bool
+properOf f = not (eqb (f .q + f .r) 0) && not (eqb (f .p + f .t) 0)
+
+abbrev pub byQ : Form → Bool
+byQ f = leb (f .p + f .q) (f .r + f .t)
+
+abbrev pub turnLetter : Form → Letter
+turnLetter f = pick (byQ f) Q P
+
+abbrev pub turnForm : Form → Form
+turnForm f = pick (byQ f) (form (f .r - f .p) (f .t - f .q) (f .p) (f .q)) (form (f .r) (f .t) (f .p - f .r) (f .q - f .t))
+
+abbrev pub stored : (start limit n : ℕ) → List ℤ → List ℤ → List ℤ
+stored start limit n [] out = out
+stored start limit n (z ∷ l) out = stored start limit (suc n) l (pick (ltb n limit) (set out (start + n) z) out)
+
+abbrev pub placed : ℕ → (l out : List ℤ) → List ℤ
+placed start l out = take start out ++ l ++ drop (start + length l) out
+
+pub record Setting (t : List ℤ) (v : ℕ) (w : List ℕ) (out : List ℤ) (start limit : ℕ) : Type 0 where
+  pub prepared : Prepared t v w (places v)
+  pub room : limit ≤ length out - start
+
+pub record Stepped (v : ℕ) (t : List ℤ) (start limit : ℕ) (x : Letter) (a : Way) (out : List ℤ) (b : Way) (out' : List ℤ) : Type 0 where
+  pub at : b .at ≡ goes v t x (a .at)
+  pub count : b .count ≡ a .count + length (written v t x (a .at))
+  pub left : out' ≡ stored start limit (a .count) (written v t x (a .at)) out
+
+pub record Onward (v : ℕ) (t : List ℤ) (start limit : ℕ) (l : List Letter) (x n : ℕ) (out : List ℤ) (m : List Letter) (y k : ℕ) (out' : List ℤ) : Type 0 where
+  pub ends-at : ends v t y m ≡ ends v t x l
+  pub count : k + length (writes v t y m) ≡ n + length (writes v t x l)
+  pub left : stored start limit k (writes v t y m) out' ≡ stored start limit n (writes v t x l) out
+
+abbrev pub OneApart : Form → Type 0
+OneApart f = (f .p * f .t ≡ f .q * f .r + 1) ⊎ (f .q * f .r ≡ f .p * f .t + 1)
+
+pub record Sound (v : ℕ) (t : List ℤ) (most : ℕ) (a : Way) : Type 0 where
+  pub real : Real v t (a .at)
+  pub apart : OneApart (formOf a)
+  pub few : a .count + 2 * total (formOf a) ≤ most
+
+pub record Begun (v : ℕ) (t : List ℤ) (start limit : ℕ) (m : Mat) (x : ℕ) (out : List ℤ) (b : Way) (out' : List ℤ) : Type 0 where
+  pub sound : Sound v t (2 ^ 60) b
+  pub onward : Onward v t start limit (wordOf m) x 0 out (restOf b) (b .at) (b .count) out'
+
+pub record Going (v : ℕ) (t : List ℤ) (start limit : ℕ) (a : Way) (out : List ℤ) (b : Way) (out' : List ℤ) : Type 0 where
+  pub sound : Sound v t (2 ^ 60) b
+  pub onward : Onward v t start limit (restOf a) (a .at) (a .count) out (restOf b) (b .at) (b .count) out'
+
+pub record Ended (v : ℕ) (t : List ℤ) (start limit : ℕ) (a : Way) (out : List ℤ) (b : Way) (out' : List ℤ) : Type 0 where
+  pub onward : Onward v t start limit (restOf a) (a .at) (a .count) out [] (b .at) (b .count) out'
+
+pub record Walked (v : ℕ) (t : List ℤ) (start limit : ℕ) (m : Mat) (x : ℕ) (out : List ℤ) (b : Way) (out' : List ℤ) : Type 0 where
+  pub at : b .at ≡ ends v t x (wordOf m)
+  pub count : b .count ≡ length (writes v t x (wordOf m))
+  pub left : out' ≡ stored start limit 0 (writes v t x (wordOf m)) out

@@ -1,0 +1,252 @@
+// The walk of a matrix over the positions of a symbol, letter by letter, with the rest of the matrix as four naturals.
+//
+// It is made twice: the first time no letter has room, so that the letters are counted and nothing is stored; the second time the word
+// is known to fit. specs/Way.antt has the state and what each part leaves.
+use polygon::walking::letter_q;
+use polygon::walking::turn_q;
+use steps::letter;
+use steps::next;
+use steps::turn_back;
+ghost use mathlib.Core.Path.{_≡_};
+ghost use mathlib.Core.Bool.{true, false};
+ghost use Prim.Native.Nat.{_+_, _-_, _*_, _^_, _≤_, _<_};
+ghost use lib.ListN.{length};
+ghost use lib.IntN.{pos, natAbs, _*ℤ_};
+ghost use Rattle.matrix.specs.Matrix.{ofList, det};
+ghost use Rattle.matrix.specs.Words.{S};
+ghost use Rattle.matrix.specs.Euclid.{total, swap, positive, agree, sizes};
+ghost use Rattle.matrix.specs.Bounds.{Small};
+ghost use Rattle.polygon.specs.Step.{Real};
+ghost use Rattle.polygon.specs.Tables.{lettersOf};
+ghost use Rattle.walk.specs.Way.{formOf, properOf, turnLetter, turnForm, stored, Setting, Stepped, Sound, Begun, Going, Ended, Walked};
+
+// What is left of the matrix, (p q; r s) in size, the position, and how many letters are written so far.
+pub struct Way {
+    pub p: u64,
+    pub q: u64,
+    pub r: u64,
+    pub s: u64,
+    pub at: usize,
+    pub count: usize,
+}
+
+// One letter more, none for 0: it is stored where its number is below the limit. Returns how many letters there are then.
+fn put(out: &mut [i16], start: usize, limit: usize, count: usize, letter: i16) -> usize
+    requires { ⌜ (limit ≤ length (now out) - start) × (count ≤ 2 ^ 61) ⌝ }
+    ensures { λ r. ⌜ (r ≡ count + length (lettersOf letter)) × (now (out .exit) ≡ stored start limit count (lettersOf letter) (now (out .entry))) ⌝ }
+{
+    if letter == 0 {
+        return count;
+    }
+    if count < limit {
+        out[start + count] = letter;
+        return count + 1;
+    }
+    count + 1
+}
+
+// S: the rows change places.
+fn cross(
+    t: &[i64],
+    v: usize,
+    w: &[u16],
+    way: Way,
+    out: &mut [i16],
+    start: usize,
+    limit: usize,
+) -> Way
+    requires { ⌜ Setting (now t) v (now w) (now out) start limit × Real v (now t) (way .at) × (way .count ≤ 2 ^ 61) ⌝ }
+    ensures { λ r. ⌜ Stepped v (now (t .entry)) start limit S way (now (out .entry)) r (now (out .exit)) × (formOf r ≡ swap (formOf way)) ⌝ }
+{
+    let at = way.at;
+    let z = letter(t, v, w, at);
+    let count = put(out, start, limit, way.count, z);
+    let to = next(t, v, w, at);
+    Way {
+        p: way.r,
+        q: way.s,
+        r: way.p,
+        s: way.q,
+        at: to,
+        count,
+    }
+}
+
+// A power of Q: the smaller row is taken from the larger one.
+fn power(
+    t: &[i64],
+    v: usize,
+    w: &[u16],
+    way: Way,
+    out: &mut [i16],
+    start: usize,
+    limit: usize,
+) -> Way
+    requires { ⌜ Setting (now t) v (now w) (now out) start limit × Sound v (now t) (2 ^ 61) way × (properOf (formOf way) ≡ true) ⌝ }
+    ensures { λ r. ⌜ Stepped v (now (t .entry)) start limit (turnLetter (formOf way)) way (now (out .entry)) r (now (out .exit)) × (formOf r ≡ turnForm (formOf way)) ⌝ }
+{
+    let at = way.at;
+    if way.p + way.q <= way.r + way.s {
+        let z = letter_q(t, v, w, at, false);
+        let count = put(out, start, limit, way.count, z);
+        let to = turn_q(v, at);
+        return Way {
+            p: way.r - way.p,
+            q: way.s - way.q,
+            r: way.p,
+            s: way.q,
+            at: to,
+            count,
+        };
+    }
+    let z = letter_q(t, v, w, at, true);
+    let count = put(out, start, limit, way.count, z);
+    let to = turn_back(v, at);
+    Way {
+        p: way.r,
+        q: way.s,
+        r: way.p - way.r,
+        s: way.q - way.s,
+        at: to,
+        count,
+    }
+}
+
+// Whether more than S is left.
+fn is_proper(way: Way) -> bool
+    requires { ⌜ total (formOf way) ≤ 2 ^ 60 ⌝ }
+    ensures { λ r. ⌜ r ≡ properOf (formOf way) ⌝ }
+{
+    if way.q + way.r == 0 {
+        return false;
+    }
+    way.p + way.s != 0
+}
+
+// S and a power of Q.
+fn block(
+    t: &[i64],
+    v: usize,
+    w: &[u16],
+    way: Way,
+    out: &mut [i16],
+    start: usize,
+    limit: usize,
+) -> Way
+    requires { ⌜ Setting (now t) v (now w) (now out) start limit × Sound v (now t) (2 ^ 60) way × (properOf (formOf way) ≡ true) ⌝ }
+    ensures { λ r. ⌜ Going v (now (t .entry)) start limit way (now (out .entry)) r (now (out .exit)) × (total (formOf r) < total (formOf way)) × (length (now (out .exit)) ≡ length (now (out .entry))) ⌝ }
+{
+    let turned = cross(t, v, w, way, out, start, limit);
+    power(t, v, w, turned, out, start, limit)
+}
+
+// The last S, if there is one.
+fn finish(
+    t: &[i64],
+    v: usize,
+    w: &[u16],
+    way: Way,
+    out: &mut [i16],
+    start: usize,
+    limit: usize,
+) -> Way
+    requires { ⌜ Setting (now t) v (now w) (now out) start limit × Sound v (now t) (2 ^ 60) way × (properOf (formOf way) ≡ false) ⌝ }
+    ensures { λ r. ⌜ Ended v (now (t .entry)) start limit way (now (out .entry)) r (now (out .exit)) ⌝ }
+{
+    if way.q + way.r == 0 {
+        return way;
+    }
+    cross(t, v, w, way, out, start, limit)
+}
+
+// The size of x.
+fn magnitude(x: i64) -> u64
+    requires { ⌜ natAbs x < 2 ^ 63 ⌝ }
+    ensures { λ r. ⌜ r ≡ natAbs x ⌝ }
+{
+    if x < 0 {
+        return (-x) as u64;
+    }
+    x as u64
+}
+
+// Whether x and y are both above 0 or both below.
+fn same_sign(x: i64, y: i64) -> bool
+    ensures { λ r. ⌜ r ≡ positive (x *ℤ y) ⌝ }
+{
+    if 0 < x {
+        return 0 < y;
+    }
+    if x < 0 {
+        return y < 0;
+    }
+    false
+}
+
+// Whether the word of m begins with a power of Q.
+fn rows_agree(m: [i64; 4]) -> bool
+    ensures { λ r. ⌜ r ≡ agree (ofList m) ⌝ }
+{
+    if same_sign(m[0], m[2]) {
+        return true;
+    }
+    same_sign(m[1], m[3])
+}
+
+// The state before the first letter.
+fn whole(m: [i64; 4], home: usize) -> Way
+    requires { ⌜ Small (2 ^ 50) (ofList m) ⌝ }
+    ensures { λ r. ⌜ (formOf r ≡ sizes (ofList m)) × (r .at ≡ home) × (r .count ≡ 0) ⌝ }
+{
+    Way {
+        p: magnitude(m[0]),
+        q: magnitude(m[1]),
+        r: magnitude(m[2]),
+        s: magnitude(m[3]),
+        at: home,
+        count: 0,
+    }
+}
+
+// The first power of Q, if the word begins with one.
+fn begin(
+    t: &[i64],
+    v: usize,
+    w: &[u16],
+    m: [i64; 4],
+    home: usize,
+    out: &mut [i16],
+    start: usize,
+    limit: usize,
+) -> Way
+    requires { ⌜ Setting (now t) v (now w) (now out) start limit × Real v (now t) home × (det (ofList m) ≡ pos 1) × Small (2 ^ 50) (ofList m) ⌝ }
+    ensures { λ r. ⌜ Begun v (now (t .entry)) start limit (ofList m) home (now (out .entry)) r (now (out .exit)) × (length (now (out .exit)) ≡ length (now (out .entry))) ⌝ }
+{
+    let way = whole(m, home);
+    if rows_agree(m) {
+        return power(t, v, w, way, out, start, limit);
+    }
+    way
+}
+
+// The walk that follows m from home: where it ends, and how many letters it writes. The first `limit` of them are stored in `out`, from
+// the place `start` on.
+pub fn walk(
+    t: &[i64],
+    v: usize,
+    w: &[u16],
+    m: [i64; 4],
+    home: usize,
+    out: &mut [i16],
+    start: usize,
+    limit: usize,
+) -> Way
+    requires { ⌜ Setting (now t) v (now w) (now out) start limit × Real v (now t) home × (det (ofList m) ≡ pos 1) × Small (2 ^ 50) (ofList m) ⌝ }
+    ensures { λ r. ⌜ Walked v (now (t .entry)) start limit (ofList m) home (now (out .entry)) r (now (out .exit)) ⌝ }
+{
+    let mut way = begin(t, v, w, m, home, out, start, limit);
+    while is_proper(way) {
+        way = block(t, v, w, way, out, start, limit);
+    }
+    finish(t, v, w, way, out, start, limit)
+}

@@ -1,0 +1,199 @@
+-- THE CLAIM (specs/Claim.antt), from the promise of the cut polygon.
+--
+-- In order: the walk comes home exactly where a word exists (`joined-home`, `home-product`); the word's letters, its length (`letters-of`,
+-- `bound-of`, `sixteen-of`); the word in its place (`part-placed`); the three answers (`absent`, `fitting`, `too-short`); the claim (`answered`).
+--
+-- Why: a product W of generators has W A ≈ B exactly where W ≈ B A⁻¹, so such a product exists exactly where B A⁻¹ is in H, and H is the
+-- stabiliser of the start.
+-- Assumes nothing.
+use mathlib.Core.Path.{_≡_, refl, sym, _∙_, ap, subst}
+use mathlib.Core.Logic.{_⊎_, inl, inr}
+use mathlib.Core.Bool.{Bool, true, false, _&&_}
+use mathlib.Core.List.{List, [], _∷_, _++_, append-assoc}
+use Prim.Native.Nat.{ℕ, zero, suc, _+_, _-_, _≤_, _<_}
+use native.Mathlib.Omega.{arith}
+use lib.Dec.{leb}
+use lib.ListN.{length, getD, take, drop}
+use lib.Seq.{sets-eq, length-sets, length-take-le, take-at, drop-at}
+use lib.IntN.{ℤ, pos, natAbs}
+use borrow.Author.Tests.{le-leb, leb-true, eqb-true, eq-eqb}
+use Rattle.matrix.specs.Matrix.{Mat, _⊗_, adj, det, _≈_, ofList}
+use Rattle.matrix.specs.Euclid as euclid
+use Rattle.matrix.proofs.Matrix.{⊗-assoc, ⊗-idr, ⊗-adj, adj-⊗, det-adj, det-one, ≈-sym, _∙≈_, ≈-right}
+use Rattle.symbol.specs.Symbol.{IsSymbol}
+use Rattle.symbol.specs.Generator.{generators, leads}
+use Rattle.symbol.specs.Subgroup.{IsWord, wordOf}
+use Rattle.symbol.proofs.Choice.{either, clash, pick-true, pick-false, and-left, and-right}
+use Rattle.polygon.specs.Step.{startOf}
+use Rattle.polygon.specs.Walk.{followed, walkEnds}
+use Rattle.polygon.specs.Theorem.{Polygon}
+use Rattle.polygon.proofs.SymbolFacts.{length-generators, count-most}
+use Rattle.polygon.proofs.Polygon.{polygon}
+use Rattle.walk.specs.Way.{placed}
+use Rattle.word.specs.Answer.{home, foundWord, fits, roomOf, foundOf, wordLeft, partOf}
+use Rattle.word.specs.Claim.{Joined, Fits, Answered}
+use Rattle.word.specs.declared.Queried.{Queried}
+use Rattle.word.specs.declared.Queried.the-variants as queried
+use Rattle.word.proofs.Turned.{followed-length}
+
+-- ---- a word in its place
+
+pub part-placed : (start : ℕ) (l out : List ℤ) → start ≤ length out → length l ≤ length out - start → partOf (placed start l out) start (length l) ≡ l
+part-placed start l out h k =
+    let rest = drop (start + length l) out in
+    let long : length (placed start l out) ≡ length out = ap length (sym (sets-eq l out start (omega arith))) ∙ length-sets out start l in
+    pick-true (fits start (length l) (length (placed start l out))) (take (length l) (drop start (placed start l out))) []
+    (ap (fits start (length l)) long ∙ ap (λ (b : Bool). b && leb (length l) (length out - start)) (le-leb start (length out) h) ∙ le-leb (length l) (length out - start) k)
+    ∙ ap (λ (m : List ℤ). take (length l) (drop start m)) (append-assoc (take start out) l rest)
+    ∙ ap (take (length l)) (drop-at (take start out) (l ++ rest) start (length-take-le start out h))
+    ∙ take-at l rest (length l) refl
+
+-- ---- letters
+
+letter-most : (n : ℕ) (l : List ℤ) → IsWord n l → (i : ℕ) → i < length l → natAbs (getD l i (pos 0)) ≤ n
+letter-most n [] w i h = absurd (omega arith)
+letter-most n (z ∷ l) w zero h = w .0 .1
+letter-most n (z ∷ l) w (suc i) h = letter-most n l (w .1) i (omega arith)
+
+module _ {v : ℕ} {t : List ℤ} (ok : IsSymbol v t) (A B : Mat) (d : det A ≡ pos 1) (e : det B ≡ pos 1) where
+  abbrev X : Mat
+  X = B ⊗ adj A
+
+  abbrev word : List ℤ
+  word = foundWord v t A B
+
+  g : Polygon v t
+  g = polygon v t ok
+
+  X-unit : det X ≡ pos 1
+  X-unit = det-one B (adj A) e (det-adj A ∙ d)
+
+  X-times : X ⊗ A ≡ B
+  X-times = ⊗-assoc B (adj A) A ∙ ap (λ (m : Mat). B ⊗ m) (adj-⊗ A d) ∙ ⊗-idr B
+
+  -- ---- the walk comes home exactly where a word exists
+
+  joined-home : Joined v t A B → home v t A B ≡ true
+  unfolding home
+  joined-home j =
+      let W = wordOf (generators v t) (j .word) in
+      let is : X ≈ W = ≈-sym (≈-right (adj A) (j .is)) ∙≈ inl (⊗-assoc W A (adj A) ∙ ap (λ (m : Mat). W ⊗ m) (⊗-adj A d) ∙ ⊗-idr W) in
+      eq-eqb (walkEnds v t X) (startOf v t) (g .stabiliser X X-unit .0 (record { word = j .word; letters = j .letters; is = is }))
+
+  home-product : home v t A B ≡ true → wordOf (generators v t) word ⊗ A ≈ B
+  unfolding home foundWord
+  home-product h = ≈-right A (≈-sym (g .found X X-unit (eqb-true (walkEnds v t X) (startOf v t) h))) ∙≈ inl X-times
+
+  letters-of : IsWord (length (generators v t)) word
+  unfolding foundWord
+  letters-of = g .walk-letters (euclid.wordOf (followed v t X)) (startOf v t) (g .start)
+
+  bound-of : length word ≤ length (euclid.wordOf X) + 2
+  unfolding foundWord
+  bound-of = omega (arith, g .walk-short (euclid.wordOf (followed v t X)) (startOf v t), followed-length X X-unit v t)
+
+  sixteen-of : (i : ℕ) → i < length word → natAbs (getD word i (pos 0)) ≤ 1024
+  sixteen-of i h = omega (arith, letter-most (length (generators v t)) word letters-of i h, length-generators v t, count-most (leads v t) (v + 1), ok .most)
+
+  home-joined : home v t A B ≡ true → Joined v t A B
+  home-joined h = record { word = word; letters = letters-of; is = home-product h }
+
+  -- ---- the three answers
+
+  module _ (out : List ℤ) (start : ℕ) where
+    abbrev Here : Queried → List ℤ → Type 0
+    Here r out' = Answered v t A B word out start r out'
+
+    fits-yes : fits start (length word) (length out) ≡ true → Fits start (length word) (length out)
+    fits-yes h = record {
+      inside = leb-true start (length out) (and-left (leb start (length out)) (leb (length word) (length out - start)) h);
+      enough = leb-true (length word) (length out - start) (and-right (leb start (length out)) (leb (length word) (length out - start)) h);
+    }
+
+    yes-fits : Fits start (length word) (length out) → fits start (length word) (length out) ≡ true
+    yes-fits f = ap (λ (b : Bool). b && leb (length word) (length out - start)) (le-leb start (length out) (f .inside)) ∙ le-leb (length word) (length out - start) (f .enough)
+
+    absent : home v t A B ≡ false → Here queried.Absent out
+    absent h =
+        let no : Joined v t A B → ⊥ = λ j. clash (joined-home j) h in
+        record {
+          found = ((λ f. elim f [ inl z ↦ absurd (omega arith) | inr z ↦ absurd (omega arith) ]), (λ j. absurd (no j)));
+          letters = λ f. letters-of;
+          product = λ f. elim f [ inl z ↦ absurd (omega arith) | inr z ↦ absurd (omega arith) ];
+          none = ((λ z. no), (λ z. refl));
+          returned = ((λ z. absurd (omega arith)), (λ z. absurd (no (z .0))));
+          short = ((λ z. absurd (omega arith)), (λ z. absurd (no (z .0))));
+          places = ((λ z. refl), (λ z. absurd (omega arith)));
+          names = λ z. absurd (omega arith);
+          stands = λ z. absurd (omega arith);
+          untouched = λ z. refl;
+          bound = bound-of;
+          sixteen = sixteen-of;
+        }
+
+    fitting : home v t A B ≡ true → fits start (length word) (length out) ≡ true → Here (queried.Word start (length word)) (placed start word out)
+    fitting h k =
+        let j = home-joined h in
+        let f = fits-yes k in
+        record {
+          found = ((λ z. j), (λ z. inl refl));
+          letters = λ z. letters-of;
+          product = λ z. home-product h;
+          none = ((λ z. absurd (omega arith)), (λ n. absurd (n j)));
+          returned = ((λ z. (j, f)), (λ z. refl));
+          short = ((λ z. absurd (omega arith)), (λ z. absurd (z .1 f)));
+          places = ((λ z. absurd (omega arith)), (λ z. absurd (omega arith)));
+          names = λ z. refl;
+          stands = λ z. (refl, part-placed start word out (f .inside) (f .enough));
+          untouched = λ n. absurd (n refl);
+          bound = bound-of;
+          sixteen = sixteen-of;
+        }
+
+    too-short : home v t A B ≡ true → fits start (length word) (length out) ≡ false → Here (queried.Short (length word)) out
+    too-short h k =
+        let j = home-joined h in
+        record {
+          found = ((λ z. j), (λ z. inr refl));
+          letters = λ z. letters-of;
+          product = λ z. home-product h;
+          none = ((λ z. absurd (omega arith)), (λ n. absurd (n j)));
+          returned = ((λ z. absurd (omega arith)), (λ z. clash (yes-fits (z .1)) k));
+          short = ((λ z. (j, λ f. clash (yes-fits f) k)), (λ z. refl));
+          places = ((λ z. absurd (omega arith)), (λ z. refl));
+          names = λ z. absurd (omega arith);
+          stands = λ z. absurd (omega arith);
+          untouched = λ n. refl;
+          bound = bound-of;
+          sixteen = sixteen-of;
+        }
+
+-- the answer and the word space that the definitions give
+module _ {v : ℕ} {t : List ℤ} (ok : IsSymbol v t) (a b : List ℤ) (d : det (ofList a) ≡ pos 1) (e : det (ofList b) ≡ pos 1) (out : List ℤ) (start : ℕ) where
+  abbrev l : List ℤ
+  l = foundWord v t (ofList a) (ofList b)
+
+  abbrev Left : Queried → Type 0
+  Left r = Answered v t (ofList a) (ofList b) l out start r (wordLeft r l out)
+
+  abbrev Home : Bool → Type 0
+  Home h = home v t (ofList a) (ofList b) ≡ h
+
+  abbrev Room : Bool → Type 0
+  Room k = fits start (length l) (length out) ≡ k
+
+  in-room : Home true → roomOf (length l) start (length out) ≡ foundOf v t a b start (length out)
+  in-room h = sym (pick-true (home v t (ofList a) (ofList b)) (roomOf (length l) start (length out)) queried.Absent h)
+
+  answered-by : Home true ⊎ Home false → Room true ⊎ Room false → Left (foundOf v t a b start (length out))
+  answered-by (inr h) k =
+      subst Left (sym (pick-false (home v t (ofList a) (ofList b)) (roomOf (length l) start (length out)) queried.Absent h)) (absent ok (ofList a) (ofList b) d e out start h)
+  answered-by (inl h) (inl k) =
+      subst Left (sym (pick-true (fits start (length l) (length out)) (queried.Word start (length l)) (queried.Short (length l)) k) ∙ in-room h)
+      (fitting ok (ofList a) (ofList b) d e out start h k)
+  answered-by (inl h) (inr k) =
+      subst Left (sym (pick-false (fits start (length l) (length out)) (queried.Word start (length l)) (queried.Short (length l)) k) ∙ in-room h)
+      (too-short ok (ofList a) (ofList b) d e out start h k)
+
+  pub answered : Left (foundOf v t a b start (length out))
+  answered = answered-by (either (home v t (ofList a) (ofList b))) (either (fits start (length l) (length out)))

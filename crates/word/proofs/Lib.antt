@@ -1,0 +1,6 @@
+pub mod Pair
+pub mod Turned
+pub mod Claim
+pub mod Order
+pub mod Finding
+pub mod Instances

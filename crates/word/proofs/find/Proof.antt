@@ -1,0 +1,114 @@
+use mathlib.Core.Path.{sym, _∙_, ap}
+use native.Mathlib.Omega.{arith}
+use lib.ListN.{length}
+use Rattle.matrix.specs.Matrix.{ofList}
+use Rattle.word.specs.declared.Queried.the-variants as queried
+use Rattle.word.proofs.Finding.{setting, result, kept-out, placed-out, not-home, too-far, too-long, fitting}
+use borrow.Author.Needs.{needs}
+use Rattle.word.proofs.find.Statement.{statement}
+use Rattle.word.proofs.find.Tie as tie
+
+walk-requires : tie.Need-walk-requires
+walk-requires c κs =
+    let s = c .before .before in
+    setting (s .pre) (s .args .start) 0 (s .args .out .now) (omega arith)
+
+same-length : tie.Need-same-length
+same-length c = search needs
+
+returns : tie.Need-returns
+returns c =
+    let w = c .before .before .before in
+    let s = w .before .before .before in
+    let q = s .pre in
+    let v = s .args .v in
+    let t = s .args .t .now in
+    let m = ofList (s .args .m) in
+    let start = s .args .start in
+    let room = length (s .args .out .now) in
+    let end = w .walk .result in
+    let r = result q (w .walk .ensures) in
+    (not-home v t m start room (end .at) (r .at) (λ z. c .if1 .taken (z ∙ sym (q .start))), kept-out r)
+
+same-length-2 : tie.Need-same-length-2
+same-length-2 c = search needs
+
+returns-2 : tie.Need-returns-2
+returns-2 c =
+    let w = c .before .before .before .before in
+    let s = w .before .before .before in
+    let q = s .pre in
+    let v = s .args .v in
+    let t = s .args .t .now in
+    let m = ofList (s .args .m) in
+    let start = s .args .start in
+    let room = length (s .args .out .now) in
+    let end = w .walk .result in
+    let r = result q (w .walk .ensures) in
+    let e = kept-out r in
+    (ap queried.Short (r .count) ∙ too-far v t m start room (end .at) (r .at) (c .before .if1 .left ∙ q .start) (omega (arith, ap length e, c .if2 .taken)), e)
+
+sub-if3 : tie.Need-sub-if3
+sub-if3 c = search needs
+
+same-length-3 : tie.Need-same-length-3
+same-length-3 c = search needs
+
+returns-3 : tie.Need-returns-3
+returns-3 c =
+    let w = c .before .before .before .before .before in
+    let s = w .before .before .before in
+    let q = s .pre in
+    let v = s .args .v in
+    let t = s .args .t .now in
+    let m = ofList (s .args .m) in
+    let start = s .args .start in
+    let room = length (s .args .out .now) in
+    let end = w .walk .result in
+    let r = result q (w .walk .ensures) in
+    let e = kept-out r in
+    (ap queried.Short (r .count) ∙ too-long v t m start room (end .at) (r .at) (c .before .before .if1 .left ∙ q .start) (omega (arith, ap length e, c .before .if2 .left)) (omega (arith, ap length e, c .if3 .taken, r .count)), e)
+
+walk-requires-2 : tie.Need-walk-requires-2
+walk-requires-2 c κs =
+    let w = c .before .before .before .before .before .before in
+    let s = w .before .before .before in
+    setting (s .pre) (s .args .start) (w .walk .result .count) _ (omega (arith, c .before .if3 .left))
+
+same-length-4 : tie.Need-same-length-4
+same-length-4 c = search needs
+
+returns-4 : tie.Need-returns-4
+returns-4 c =
+    let w = c .before .before .before .before .before .before .before .before in
+    let s = w .before .before .before in
+    let q = s .pre in
+    let v = s .args .v in
+    let t = s .args .t .now in
+    let m = ofList (s .args .m) in
+    let start = s .args .start in
+    let room = length (s .args .out .now) in
+    let end = w .walk .result in
+    let r = result q (w .walk .ensures) in
+    let e = kept-out r in
+    let in-room = c .before .before .before .before .if2 .left in
+    let enough = c .before .before .before .if3 .left in (
+      ap (queried.Word start) (r .count) ∙ fitting v t m start room (end .at) (r .at) (c .before .before .before .before .before .if1 .left ∙ q .start) (omega (arith, ap length e, in-room)) (omega (arith, ap length e, enough, r .count)),
+      placed-out e (r .count) (omega (arith, ap length e, in-room)) (omega (arith, ap length e, enough)) (result q (c .before .walk2 .ensures)),
+    )
+
+pub find-spec : {M : Type 1} → statement M
+find-spec =
+    tie.close
+    (tie.spec
+    walk-requires
+    same-length
+    returns
+    same-length-2
+    returns-2
+    sub-if3
+    same-length-3
+    returns-3
+    walk-requires-2
+    same-length-4
+    returns-4)

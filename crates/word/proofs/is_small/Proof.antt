@@ -1,0 +1,16 @@
+use mathlib.Core.Path.{sym}
+use mir.Facts.{toZ-ofZ}
+use Rattle.symbol.proofs.Signed.{below-small, above-small}
+use Rattle.word.proofs.is_small.Statement.{statement}
+use Rattle.word.proofs.is_small.Tie as tie
+
+returns : tie.Need-returns
+returns c =
+    sym (below-small (c .before .args .x) 999999 (rw (toZ-ofZ (c .before .fits .x)) at (c .if1 .taken)))
+
+returns-2 : tie.Need-returns-2
+returns-2 c =
+    rw (toZ-ofZ (c .before .fits .x)) (above-small (c .before .args .x) 999999 (rw (toZ-ofZ (c .before .fits .x)) at (c .if1 .left)))
+
+pub is-small-spec : {M : Type 1} → statement M
+is-small-spec = tie.close (tie.spec returns returns-2)

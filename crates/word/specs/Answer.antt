@@ -1,0 +1,118 @@
+-- The answer of a pair query, and what it leaves in the two lent spaces.
+--
+--   Queried                     the answer of `query`
+--   queryNumber, queryPlace     document 01's number and place of its refusing cases, and 0 for a word
+--   entryAt a b i               the entry i of the pair: 0 to 3 in A, 4 to 7 in B
+--   large a b i                 whether it is beyond 1,000,000 in size
+--   unit m                      whether the determinant of m is 1
+--   passes a b                  whether the pair passes 8 and 9
+--   home v t m n                whether the walk from m to n, which follows n m⁻¹, ends where it began
+--   foundWord v t m n           the word that it writes
+--   fits start n room           whether n letters fit in a space of `room` letters from the place `start` on
+--   roomOf, foundOf             the word, or 11 with its length; the same, or 10 where the walk doesn't come home
+--   queryOf v t a b work room start     the refusals in document 01's order, or the word
+--   workLeft v t a b w          what the call leaves in the work space: zeros where it got past the length check, else all as it was
+--   wordLeft r l out            what the call leaves in the word space: the letters l from the start place on, or all as it was
+--   partOf out start n          the part of n letters from `start` on, empty where it doesn't fit
+use mathlib.Core.Bool.{Bool, not, _&&_}
+use mathlib.Core.List.{List, []}
+use Prim.Native.Nat.{ℕ, _-_}
+use lib.Dec.{leb, ltb, eqb}
+use lib.ListN.{length, take, drop}
+use lib.IntN.{ℤ, pos, natAbs}
+use Rattle.matrix.specs.Matrix.{Mat, _⊗_, adj, det, nth, ofList}
+use Rattle.matrix.specs.Euclid.{pick}
+use Rattle.space.specs.Space.{workLength}
+use Rattle.symbol.specs.Count.{first}
+use Rattle.symbol.specs.Check.{eqZ, numberOf, placeOf, checkOf}
+use Rattle.symbol.specs.Generator.{workAfter}
+use Rattle.symbol.specs.declared.Checked.{Checked}
+use Rattle.symbol.specs.declared.Checked.the-variants.{Accepted, Refused}
+use Rattle.polygon.specs.Step.{startOf}
+use Rattle.polygon.specs.Walk.{walkEnds, walkWrites}
+use Rattle.walk.specs.Way.{placed}
+use Rattle.word.specs.declared.Queried.{Queried}
+use Rattle.word.specs.declared.Queried.the-variants as queried
+
+abbrev pub queryNumber : Queried → ℕ
+queryNumber (queried.Word start n) = 0
+queryNumber (queried.Refused f) = numberOf f
+queryNumber (queried.Entry i) = 8
+queryNumber (queried.Determinant i) = 9
+queryNumber queried.Absent = 10
+queryNumber (queried.Short n) = 11
+
+abbrev pub queryPlace : Queried → ℕ
+queryPlace (queried.Word start n) = 0
+queryPlace (queried.Refused f) = placeOf f
+queryPlace (queried.Entry i) = i
+queryPlace (queried.Determinant i) = i
+queryPlace queried.Absent = 0
+queryPlace (queried.Short n) = n
+
+-- ---- the pair
+
+abbrev pub entryAt : (a b : List ℤ) → ℕ → ℤ
+entryAt a b i = pick (ltb i 4) (nth a i) (nth b (i - 4))
+
+abbrev pub large : (a b : List ℤ) → ℕ → Bool
+large a b i = not (leb (natAbs (entryAt a b i)) 1000000)
+
+abbrev pub unit : List ℤ → Bool
+unit m = eqZ (det (ofList m)) (pos 1)
+
+abbrev pub passes : (a b : List ℤ) → Bool
+passes a b = not (ltb (first (large a b) 8) 8) && (unit a && unit b)
+
+-- ---- the walk
+
+unfoldable pub home : ℕ → List ℤ → Mat → Mat → Bool
+home v t m n = eqb (walkEnds v t (n ⊗ adj m)) (startOf v t)
+
+unfoldable pub foundWord : ℕ → List ℤ → Mat → Mat → List ℤ
+foundWord v t m n = walkWrites v t (n ⊗ adj m)
+
+-- ---- the answer
+
+abbrev pub fits : (start n room : ℕ) → Bool
+fits start n room = leb start room && leb n (room - start)
+
+abbrev pub roomOf : (n start room : ℕ) → Queried
+roomOf n start room = pick (fits start n room) (queried.Word start n) (queried.Short n)
+
+abbrev pub foundOf : (v : ℕ) (t a b : List ℤ) (start room : ℕ) → Queried
+foundOf v t a b start room = pick (home v t (ofList a) (ofList b)) (roomOf (length (foundWord v t (ofList a) (ofList b))) start room) queried.Absent
+
+abbrev pub byWork : (work : ℕ) → Queried → Queried
+byWork work r = pick (ltb work workLength) (queried.Short workLength) r
+
+-- 9, A before B
+abbrev pub byDeterminants : (a b : List ℤ) → Queried → Queried
+byDeterminants a b r = pick (unit a) (pick (unit b) r (queried.Determinant 1)) (queried.Determinant 0)
+
+-- 8, A before B
+abbrev pub byEntries : (a b : List ℤ) → Queried → Queried
+byEntries a b r = let i = first (large a b) 8 in pick (ltb i 8) (queried.Entry i) r
+
+abbrev pub byCheck : Checked → Queried → Queried
+byCheck (Refused f) r = queried.Refused f
+byCheck Accepted r = r
+
+abbrev pub queryOf : (v : ℕ) (t a b : List ℤ) (work room start : ℕ) → Queried
+queryOf v t a b work room start = byCheck (checkOf v t) (byEntries a b (byDeterminants a b (byWork work (foundOf v t a b start room))))
+
+-- ---- what it leaves
+
+abbrev pub workLeft : (v : ℕ) (t a b : List ℤ) → List ℕ → List ℕ
+workLeft v t a b w = pick (passes a b) (workAfter (checkOf v t) w) w
+
+abbrev pub wordLeft : Queried → (l out : List ℤ) → List ℤ
+wordLeft (queried.Word start n) l out = placed start l out
+wordLeft (queried.Refused f) l out = out
+wordLeft (queried.Entry i) l out = out
+wordLeft (queried.Determinant i) l out = out
+wordLeft queried.Absent l out = out
+wordLeft (queried.Short n) l out = out
+
+abbrev pub partOf : List ℤ → (start n : ℕ) → List ℤ
+partOf out start n = pick (fits start n (length out)) (take n (drop start out)) []

@@ -1,0 +1,73 @@
+-- THE CLAIM: WHAT A PAIR QUERY ANSWERS, for every symbol, pair, space and start place. `query` promises it of its answer r and of the word
+-- space out' that it leaves; the proof is `answered`, in proofs/Claim.antt. A and B are the two matrices, and `word` stands for
+-- `foundWord v t A B`, which depends on the symbol, A and B alone. A number 0 says that a word is returned, 10 'none', 11 that the word
+-- doesn't fit.
+--
+--   Asked v t a b w         the query gets to its walk: the symbol is accepted, the work space is long enough, whatever stands in it,
+--                           the entries of A and B are from -1,000,000 to 1,000,000, and both determinants are 1
+--   Joined v t m n          some product of the symbol's generators and their inverses, of whatever length, times m is n up to sign
+--   Fits start n room       the start place isn't past the end, and at least n letters lie from there to the end
+--   Found r                 a word is found: it is returned, or refused with 11, by the word space
+--   Answered                the claim, in these parts:
+--     found                 a word is found exactly when some product of generators and inverses times A is B up to sign
+--     letters, product      the word found is such a product, with the letter j for generator j and -j for its inverse
+--     none                  otherwise the answer is 10, and only then: 'none' means that there is no such product
+--     returned, short       the word found is returned exactly when it fits, and otherwise refused with 11
+--     places                the place of 10 is 0, and that of 11 is the word's true length
+--     names, stands         a word that is returned stands where the answer says, from the start place on, and all else is as before
+--     untouched             any other answer leaves the word space as it was, whatever stood in it
+--     bound, sixteen        the word has at most two letters more than the alternating word of B A⁻¹, and each fits 16 signed bits
+--   Claim                   where the query gets to its walk, this is what it answers
+use mathlib.Core.Path.{_≡_}
+use mathlib.Core.Logic.{_⊎_, _↔_}
+use mathlib.Core.List.{List}
+use Prim.Native.Nat.{ℕ, _+_, _-_, _≤_, _<_}
+use lib.ListN.{length, getD}
+use lib.IntN.{ℤ, pos, natAbs}
+use Rattle.matrix.specs.Matrix.{Mat, _⊗_, adj, det, _≈_, ofList}
+use Rattle.matrix.specs.Bounds.{Small}
+use Rattle.matrix.specs.Euclid as euclid
+use Rattle.space.specs.Space.{workLength}
+use Rattle.symbol.specs.Symbol.{IsSymbol}
+use Rattle.symbol.specs.Generator.{generators}
+use Rattle.symbol.specs.Subgroup.{IsWord, wordOf}
+use Rattle.polygon.specs.Theorem.{SameCoset}
+use Rattle.walk.specs.Way.{placed}
+use Rattle.word.specs.Answer.{queryNumber, queryPlace, foundWord, partOf}
+use Rattle.word.specs.declared.Queried.{Queried}
+use Rattle.word.specs.declared.Queried.the-variants as queried
+
+pub record Asked (v : ℕ) (t a b : List ℤ) (w : List ℕ) : Type 0 where
+  pub symbol : IsSymbol v t
+  pub work : workLength ≤ length w
+  pub entries-A : Small 1000000 (ofList a)
+  pub entries-B : Small 1000000 (ofList b)
+  pub unit-A : det (ofList a) ≡ pos 1
+  pub unit-B : det (ofList b) ≡ pos 1
+
+abbrev pub Joined : ℕ → List ℤ → Mat → Mat → Type 0
+Joined v t m n = SameCoset (generators v t) m n
+
+pub record Fits (start n room : ℕ) : Type 0 where
+  pub inside : start ≤ room
+  pub enough : n ≤ room - start
+
+abbrev pub Found : Queried → Type 0
+Found r = (queryNumber r ≡ 0) ⊎ (queryNumber r ≡ 11)
+
+pub record Answered (v : ℕ) (t : List ℤ) (A B : Mat) (word out : List ℤ) (start : ℕ) (r : Queried) (out' : List ℤ) : Type 0 where
+  pub found : Found r ↔ Joined v t A B
+  pub letters : Found r → IsWord (length (generators v t)) word
+  pub product : Found r → wordOf (generators v t) word ⊗ A ≈ B
+  pub none : (queryNumber r ≡ 10) ↔ (Joined v t A B → ⊥)
+  pub returned : (queryNumber r ≡ 0) ↔ (Joined v t A B × Fits start (length word) (length out))
+  pub short : (queryNumber r ≡ 11) ↔ (Joined v t A B × (Fits start (length word) (length out) → ⊥))
+  pub places : (queryNumber r ≡ 10 → queryPlace r ≡ 0) × (queryNumber r ≡ 11 → queryPlace r ≡ length word)
+  pub names : queryNumber r ≡ 0 → r ≡ queried.Word start (length word)
+  pub stands : queryNumber r ≡ 0 → (out' ≡ placed start word out) × (partOf out' start (length word) ≡ word)
+  pub untouched : (queryNumber r ≡ 0 → ⊥) → out' ≡ out
+  pub bound : length word ≤ length (euclid.wordOf (B ⊗ adj A)) + 2
+  pub sixteen : (i : ℕ) → i < length word → natAbs (getD word i (pos 0)) ≤ 1024
+
+abbrev pub Claim : (v : ℕ) (t a b : List ℤ) (w : List ℕ) (out : List ℤ) (start : ℕ) → Queried → (out' : List ℤ) → Type 0
+Claim v t a b w out start r out' = Asked v t a b w → Answered v t (ofList a) (ofList b) (foundWord v t (ofList a) (ofList b)) out start r out'

@@ -1,0 +1,39 @@
+-- What the inner functions of the query ask for, and give.
+--
+--   judgedOf a b            refusals 8 and 9 as one number: the first entry that is large, from 0 to 7; 8 where the determinant of A isn't 1,
+--                           9 where that of B isn't; 10 where the pair passes
+--   lettersAlong v t m      what the walk along the matrix m writes, from the start of the symbol
+--   endOf v t m start room  the answer by that walk: 10, 11 or the word
+--   Ready t v w m x         the tables are in the work space, x is the start, and the matrix m can be followed
+use mathlib.Core.Path.{_≡_}
+use mathlib.Core.List.{List}
+use Prim.Native.Nat.{ℕ, _^_}
+use lib.Dec.{ltb, eqb}
+use lib.ListN.{length}
+use lib.IntN.{ℤ, pos}
+use Rattle.matrix.specs.Matrix.{Mat, det, ofList}
+use Rattle.matrix.specs.Bounds.{Small}
+use Rattle.matrix.specs.Euclid.{pick, wordOf}
+use Rattle.symbol.specs.Count.{first}
+use Rattle.polygon.specs.Cut.{places}
+use Rattle.polygon.specs.Step.{startOf}
+use Rattle.polygon.specs.Walk.{ends, writes}
+use Rattle.steps.specs.Steps.{Prepared}
+use Rattle.word.specs.Answer.{large, unit, roomOf}
+use Rattle.word.specs.declared.Queried.{Queried}
+use Rattle.word.specs.declared.Queried.the-variants as queried
+
+abbrev pub judgedOf : (a b : List ℤ) → ℕ
+judgedOf a b = let i = first (large a b) 8 in pick (ltb i 8) i (pick (unit a) (pick (unit b) 10 9) 8)
+
+unfoldable pub lettersAlong : ℕ → List ℤ → Mat → List ℤ
+lettersAlong v t m = writes v t (startOf v t) (wordOf m)
+
+abbrev pub endOf : ℕ → List ℤ → Mat → (start room : ℕ) → Queried
+endOf v t m start room = pick (eqb (ends v t (startOf v t) (wordOf m)) (startOf v t)) (roomOf (length (lettersAlong v t m)) start room) queried.Absent
+
+pub record Ready (t : List ℤ) (v : ℕ) (w : List ℕ) (m : List ℤ) (x : ℕ) : Type 0 where
+  pub prepared : Prepared t v w (places v)
+  pub start : x ≡ startOf v t
+  pub unit : det (ofList m) ≡ pos 1
+  pub small : Small (2 ^ 50) (ofList m)

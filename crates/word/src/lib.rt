@@ -1,0 +1,219 @@
+// Pair queries: whether some product of a symbol's generators and their inverses takes one matrix to another, up to sign, and which.
+//
+// specs/Answer.antt says what a query answers and leaves, specs/Claim.antt what that means.
+use matrix::determinant;
+use matrix::inverse;
+use matrix::matrix_s;
+use matrix::product;
+use polygon::walking::is_turned;
+use steps::prepare;
+use symbol::Checked;
+use symbol::Fault;
+use symbol::check;
+use walk::walk;
+ghost use mathlib.Core.Path.{_≡_};
+ghost use Prim.Native.Nat.{_+_, _-_, _<_};
+ghost use lib.Dec.{leb};
+ghost use lib.ListN.{length};
+ghost use lib.IntN.{natAbs};
+ghost use Rattle.matrix.specs.Matrix.{ofList, toList, _⊗_, adj};
+ghost use Rattle.matrix.specs.Bounds.{Small};
+ghost use Rattle.space.specs.Space.{zeros};
+ghost use Rattle.symbol.specs.Count.{first};
+ghost use Rattle.symbol.specs.Symbol.{IsSymbol};
+ghost use Rattle.polygon.specs.Walk.{followed};
+ghost use Rattle.word.specs.Answer.{entryAt, large, unit, foundWord, foundOf, queryOf, workLeft, wordLeft, partOf};
+ghost use Rattle.word.specs.Claim.{Asked, Claim};
+ghost use Rattle.word.specs.Ready.{judgedOf, lettersAlong, endOf, Ready};
+
+// The answer of `query`.
+pub enum Queried {
+    // The word stands in the lent space: the place where it starts, and its length.
+    Word(usize, usize),
+    // The table is no symbol.
+    Refused(Fault),
+    // Refusal 8: the entry, 0 to 3 in A and 4 to 7 in B.
+    Entry(usize),
+    // Refusal 9: 0 for A, 1 for B.
+    Determinant(usize),
+    // Refusal 10: no word exists.
+    Absent,
+    // Refusal 11: the length that a space needs, for the word from the start place on.
+    Short(usize),
+}
+
+// Whether x is at most 1,000,000 in size.
+fn is_small(x: i64) -> bool
+    ensures { λ r. ⌜ r ≡ leb (natAbs x) 1000000 ⌝ }
+{
+    if x < -1000000 {
+        return false;
+    }
+    x <= 1000000
+}
+
+// The entry i of the pair.
+fn entry_at(a: [i64; 4], b: [i64; 4], i: usize) -> i64
+    requires { ⌜ i < 8 ⌝ }
+    ensures { λ r. ⌜ r ≡ entryAt a b i ⌝ }
+{
+    if i < 4 {
+        return a[i];
+    }
+    b[i - 4]
+}
+
+// The first entry of the pair that is too large, or 8.
+fn first_large(a: [i64; 4], b: [i64; 4]) -> usize
+    ensures { λ r. ⌜ r ≡ first (large a b) 8 ⌝ }
+{
+    let mut i: usize = 0;
+    while i < 8 {
+        if !is_small(entry_at(a, b, i)) {
+            return i;
+        }
+        i += 1;
+    }
+    8
+}
+
+// Whether the determinant of m is 1.
+fn is_unit(m: [i64; 4]) -> bool
+    requires { ⌜ Small 1000000 (ofList m) ⌝ }
+    ensures { λ r. ⌜ r ≡ unit m ⌝ }
+{
+    determinant(m) == 1
+}
+
+// Refusals 8 and 9: the first entry that is too large, 8 or 9 for the first determinant that isn't 1, or 10 where the pair passes.
+fn judge(a: [i64; 4], b: [i64; 4]) -> usize
+    ensures { λ r. ⌜ r ≡ judgedOf a b ⌝ }
+{
+    let i = first_large(a, b);
+    if i < 8 {
+        return i;
+    }
+    if !is_unit(a) {
+        return 8;
+    }
+    if !is_unit(b) {
+        return 9;
+    }
+    10
+}
+
+// The matrix that the walk from a to b follows: b a⁻¹, or S⁻¹ b a⁻¹ S where it starts turned round.
+fn matrix_between(t: &[i64], v: usize, a: [i64; 4], b: [i64; 4]) -> [i64; 4]
+    requires { ⌜ IsSymbol v (now t) × Small 1000000 (ofList a) × Small 1000000 (ofList b) ⌝ }
+    ensures { λ r. ⌜ r ≡ toList (followed v (now (t .entry)) (ofList b ⊗ adj (ofList a))) ⌝ }
+{
+    let x = product(b, inverse(a));
+    if is_turned(t, v) {
+        return product(inverse(matrix_s()), product(x, matrix_s()));
+    }
+    x
+}
+
+// The answer by the walk along m from home, by the tables in the work space: the letters are counted first, and stored once they are
+// known to fit.
+fn find(
+    t: &[i64],
+    v: usize,
+    w: &[u16],
+    m: [i64; 4],
+    home: usize,
+    out: &mut [i16],
+    start: usize,
+) -> Queried
+    requires { ⌜ Ready (now t) v (now w) m home ⌝ }
+    ensures { λ r. ⌜ r ≡ endOf v (now (t .entry)) (ofList m) start (length (now (out .entry))) ⌝ }
+    ensures { λ r. ⌜ now (out .exit) ≡ wordLeft r (lettersAlong v (now (t .entry)) (ofList m)) (now (out .entry)) ⌝ }
+{
+    let end = walk(t, v, w, m, home, out, start, 0);
+    if end.at != home {
+        return Queried::Absent;
+    }
+    let n = end.count;
+    if out.len() < start {
+        return Queried::Short(n);
+    }
+    if out.len() - start < n {
+        return Queried::Short(n);
+    }
+    walk(t, v, w, m, home, out, start, n);
+    Queried::Word(start, n)
+}
+
+// The answer for an accepted symbol and pair; the work space is cleared after.
+fn answer(
+    v: usize,
+    t: &[i64],
+    a: [i64; 4],
+    b: [i64; 4],
+    w: &mut [u16],
+    out: &mut [i16],
+    start: usize,
+) -> Queried
+    requires { ⌜ Asked v (now t) a b (now w) ⌝ }
+    ensures { λ r. ⌜ r ≡ foundOf v (now (t .entry)) a b start (length (now (out .entry))) ⌝ }
+    ensures { λ r. ⌜ now (out .exit) ≡ wordLeft r (foundWord v (now (t .entry)) (ofList a) (ofList b)) (now (out .entry)) ⌝ }
+    ensures { λ r. ⌜ now (w .exit) ≡ zeros (length (now (w .entry))) ⌝ }
+{
+    let home = polygon::build(t, v, w);
+    prepare(t, v, w);
+    let m = matrix_between(t, v, a, b);
+    let found = find(t, v, w, m, home, out, start);
+    space::clear(w);
+    found
+}
+
+// A word in the generators that takes A to B up to sign, from the start place on in `out`: checks 1 to 7, then 8 and 9, A before B
+// under each, then the work space, then 10, then the word space.
+pub fn query(
+    v: usize,
+    t: &[i64],
+    a: [i64; 4],
+    b: [i64; 4],
+    w: &mut [u16],
+    out: &mut [i16],
+    start: usize,
+) -> Queried
+    ensures { λ r. ⌜ r ≡ queryOf v (now (t .entry)) a b (length (now (w .entry))) (length (now (out .entry))) start ⌝ }
+    ensures { λ r. ⌜ now (w .exit) ≡ workLeft v (now (t .entry)) a b (now (w .entry)) ⌝ }
+    ensures { λ r. ⌜ now (out .exit) ≡ wordLeft r (foundWord v (now (t .entry)) (ofList a) (ofList b)) (now (out .entry)) ⌝ }
+    ensures { λ r. ⌜ Claim v (now (t .entry)) a b (now (w .entry)) (now (out .entry)) start r (now (out .exit)) ⌝ }
+{
+    let checked = check(v, t);
+    match checked {
+        Checked::Refused(fault) => Queried::Refused(fault),
+        Checked::Accepted => {
+            let judged = judge(a, b);
+            if judged < 8 {
+                return Queried::Entry(judged);
+            }
+            if judged < 10 {
+                return Queried::Determinant(judged - 8);
+            }
+            if w.len() < space::WORK {
+                return Queried::Short(space::WORK);
+            }
+            answer(v, t, a, b, w, out, start)
+        }
+    }
+}
+
+// The part of the lent space that an answer names: `length` letters from the place `start` on, and the empty part where they don't
+// fit there.
+pub fn word_part(out: &[i16], start: usize, length: usize) -> &[i16]
+    ensures { λ r. ⌜ now r ≡ partOf (now (out .entry)) start length ⌝ }
+{
+    if start <= out.len() {
+        if length <= out.len() - start {
+            &out[start..start + length]
+        } else {
+            &out[..0]
+        }
+    } else {
+        &out[..0]
+    }
+}
