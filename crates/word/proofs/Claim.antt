@@ -1,4 +1,4 @@
--- THE CLAIM (specs/Claim.antt), from the promise of the cut polygon.
+-- THE CLAIM (specs/Claim.antt), from what the crate `coset` promises of an accepted symbol: its steps, frames and start.
 --
 -- In order: the walk comes home exactly where a word exists (`joined-home`, `home-product`); the word's letters, its length (`letters-of`,
 -- `bound-of`, `sixteen-of`); the word in its place (`part-placed`); the three answers (`absent`, `fitting`, `too-short`); the claim (`answered`).
@@ -28,7 +28,7 @@ use Rattle.polygon.specs.Step.{startOf}
 use Rattle.polygon.specs.Walk.{followed, walkEnds}
 use Rattle.polygon.specs.Theorem.{Polygon}
 use Rattle.polygon.proofs.SymbolFacts.{length-generators, count-most}
-use Rattle.polygon.proofs.Polygon.{polygon}
+use Rattle.coset.proofs.Answer.{meaning}
 use Rattle.walk.specs.Way.{placed}
 use Rattle.word.specs.Answer.{home, foundWord, fits, roomOf, foundOf, wordLeft, partOf}
 use Rattle.word.specs.Claim.{Joined, Fits, Answered}
@@ -63,7 +63,7 @@ module _ {v : ℕ} {t : List ℤ} (ok : IsSymbol v t) (A B : Mat) (d : det A ≡
   word = foundWord v t A B
 
   g : Polygon v t
-  g = polygon v t ok
+  g = meaning ok .polygon
 
   X-unit : det X ≡ pos 1
   X-unit = det-one B (adj A) e (det-adj A ∙ d)
