@@ -9,7 +9,7 @@ use mathlib.Core.Bool.{Bool, true, false}
 use mathlib.Core.List.{List, [], _∷_}
 use Prim.Native.Nat.{ℕ, _-_, _≤_, _<_}
 use native.Mathlib.Omega.{arith}
-use lib.Dec.{ltb}
+use lib.Dec.{eqb, ltb}
 use lib.IntN.{ℤ}
 use lib.ListN.{length, take, drop}
 use borrow.Author.Tests.{lt-ltb, le-ltb}
@@ -19,24 +19,39 @@ use Rattle.text.specs.Piece.{pieces, numbers}
 use Rattle.text.specs.Reading.{readingOf, vertexCount}
 use Rattle.text.specs.declared.Reading.{Reading}
 use Rattle.line.specs.Line.{line, refusal}
+use Rattle.symbol.specs.Check.{numberOf}
+use Rattle.symbol.specs.declared.Fault.{Fault}
+use Rattle.symbol.specs.declared.Fault.the-variants as fault
 use Rattle.symbol.proofs.Choice.{pick-true, pick-false}
 use Rattle.word.specs.Answer.{queryNumber, queryPlace, foundWord, queryOf}
 use Rattle.word.specs.declared.Queried.{Queried}
 use Rattle.word.specs.declared.Queried.the-variants as queried
 use Rattle.reply.specs.Reply.{wordWord, lettersLent, said, replied, four, repliedTo, queryFormat, replyBy, replyOf}
 
+no-zero : (f : Fault) → eqb (numberOf f) 0 ≡ false
+no-zero fault.VertexCount = refl
+no-zero (fault.TableLength n) = refl
+no-zero (fault.VertexEntry i) = refl
+no-zero (fault.Neighbours i) = refl
+no-zero fault.NoZero = refl
+no-zero (fault.BadPairing i) = refl
+no-zero fault.NoOddSide = refl
+
+other : (r : Queried) → ((s n : ℕ) → r ≡ queried.Word s n → ⊥) → eqb (queryNumber r) 0 ≡ false
+other (queried.Word s n) never = absurd (never s n refl)
+other (queried.Refused f) never = no-zero f
+other (queried.Entry i) never = refl
+other (queried.Determinant i) never = refl
+other queried.Absent never = refl
+other (queried.Short n) never = refl
+
 pub said-other : (r : Queried) (l : List ℤ) → ((s n : ℕ) → r ≡ queried.Word s n → ⊥) → refusal (queryNumber r) (queryPlace r) ≡ said r l
 unfolding said
-said-other (queried.Word s n) l never = absurd (never s n refl)
-said-other (queried.Refused f) l never = refl
-said-other (queried.Entry i) l never = refl
-said-other (queried.Determinant i) l never = refl
-said-other queried.Absent l never = refl
-said-other (queried.Short n) l never = refl
+said-other r l never = sym (pick-false (eqb (queryNumber r) 0) (line wordWord l) (refusal (queryNumber r) (queryPlace r)) (other r never))
 
 pub said-word : (r : Queried) (s n : ℕ) (l : List ℤ) → r ≡ queried.Word s n → line wordWord l ≡ said r l
 unfolding said
-said-word r s n l e = ap (λ (x : Queried). said x l) (sym e)
+said-word r s n l e = sym (pick-true (eqb (queryNumber r) 0) (line wordWord l) (refusal (queryNumber r) (queryPlace r)) (ap (λ (x : Queried). eqb (queryNumber x) 0) e))
 
 pub replied-as : (v : ℕ) (t a b : List ℤ) (r : Queried) (work room : ℕ) → work ≡ workLength → room ≡ lettersLent → r ≡ queryOf v t a b work room 0
     → said r (foundWord v t (ofList a) (ofList b)) ≡ replied v t a b

@@ -2,8 +2,8 @@
 --
 --   wordWord                        `word` as bytes
 --   lettersLent                     the letters that the program lends
---   said r l                        the line for an answer r of a query whose walk writes the letters l: `word` and the letters, or
---                                   `refused`, the number and the place
+--   said r l                        the line for an answer r of a query whose walk writes the letters l: `word` and the letters where
+--                                   its number is 0, for a word; or `refused`, the number and the place
 --   replied v t a b                 the line for the symbol in t and the pair A, B; the word starts at the place 0 of the lent space
 --   four ns i                       the four numbers of ns from the number i on: a matrix, row by row
 --   repliedTo ns                    the line for the numbers ns of a text: v, the symbol's table, A and B. Where v is out of range a text
@@ -14,7 +14,7 @@
 use mathlib.Core.Bool.{Bool}
 use mathlib.Core.List.{List, [], _∷_}
 use Prim.Native.Nat.{ℕ, _+_, _-_}
-use lib.Dec.{ltb}
+use lib.Dec.{eqb, ltb}
 use lib.IntN.{ℤ, pos}
 use lib.ListN.{length, take, drop, getD}
 use Rattle.matrix.specs.Matrix.{nth, ofList}
@@ -28,7 +28,6 @@ use Rattle.text.specs.declared.Reading.the-variants as reading
 use Rattle.line.specs.Line.{line, refusal}
 use Rattle.word.specs.Answer.{queryNumber, queryPlace, foundWord, queryOf}
 use Rattle.word.specs.declared.Queried.{Queried}
-use Rattle.word.specs.declared.Queried.the-variants as queried
 
 abbrev pub wordWord : List ℕ
 wordWord = 119 ∷ 111 ∷ 114 ∷ 100 ∷ []
@@ -37,8 +36,7 @@ abbrev pub lettersLent : ℕ
 lettersLent = 16384
 
 unfoldable pub said : Queried → List ℤ → List ℕ
-said (queried.Word start n) l = line wordWord l
-said r l = refusal (queryNumber r) (queryPlace r)
+said r l = pick (eqb (queryNumber r) 0) (line wordWord l) (refusal (queryNumber r) (queryPlace r))
 
 unfoldable pub replied : (v : ℕ) (t a b : List ℤ) → List ℕ
 replied v t a b = said (queryOf v t a b workLength lettersLent 0) (foundWord v t (ofList a) (ofList b))

@@ -1,7 +1,7 @@
 -- What an answer with a word says: it names the word that the walk writes, from the start place on, and the word fits.
 --
 -- In order: which answers can be a word (`second`, `by-check`, `by-room`); the law (`names-word`); the part that the answer names is the
--- word (`part-found`).
+-- word (`part-found`), which is no longer than the space (`word-most`).
 -- Assumes nothing.
 use mathlib.Core.Path.{_≡_, refl, sym, _∙_, ap}
 use mathlib.Core.Bool.{Bool, true, false}
@@ -92,7 +92,5 @@ module _ (s n : ℕ) where
         ∙ ap (λ (k : ℕ). partOf (placed start word out) start k) (h .length-is)
         ∙ part-placed start word out in-it enough
 
-    pub word-most : n ≤ length out
-    word-most =
-        let h = names-word in
-        omega (arith, h .length-is, leb-true (length word) (length out - start) (and-right (leb start (length out)) (leb (length word) (length out - start)) (h .fitting)))
+    pub word-most : length word ≤ length out
+    word-most = omega (arith, leb-true (length word) (length out - start) (and-right (leb start (length out)) (leb (length word) (length out - start)) (names-word .fitting)))
