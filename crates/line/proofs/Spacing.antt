@@ -1,6 +1,8 @@
 -- Numbers behind spaces.
 --     digits-most                    a number below 10^k has at most k digits
 --     integer-most                   a number of 64 signed bits takes 20 bytes at most
+--     wider                          a number of 16 signed bits is one of 64
+--     letter-most                    and takes 6 at most
 --     spaced-one, spaced-two         one number, two numbers
 --     spaced-last                    one number more
 --     naturals-more, integers-more   the same of the first numbers of a slice
@@ -14,7 +16,7 @@ use native.Mathlib.Omega.{arith}
 use lib.IntN.{ℤ, pos, negsuc, natAbs}
 use lib.ListN.{length, getD, take}
 use lib.Seq.{take-suc}
-use mir.Syntax.{w64}
+use mir.Syntax.{w16, w64}
 use mir.Val.{SFits}
 use borrow.Author.Tests.{lt-ltb, le-ltb}
 use Rattle.text.specs.Decimal.{digitsOnto, digits, decimalOf}
@@ -47,6 +49,14 @@ by-size (negsuc n) h = omega (arith, onto-most (suc n) 19 (suc n) [] (omega arit
 
 pub integer-most : (n : ℤ) → SFits w64 n → length (decimalOf n) ≤ 20
 integer-most n fit = by-size n (abs-most fit)
+
+pub wider : {z : ℤ} → SFits w16 z → SFits w64 z
+wider f = record { sfits = omega (arith, f .sfits) }
+
+pub letter-most : (n : ℤ) → SFits w16 n → length (decimalOf n) ≤ 6
+unfolding decimalOf digits
+letter-most (pos n) fit = omega (arith, onto-most n 5 n [] (omega arith) (omega (arith, fit .sfits)))
+letter-most (negsuc n) fit = omega (arith, onto-most (suc n) 5 (suc n) [] (omega arith) (omega (arith, fit .sfits)))
 
 spaced-last : (zs : List ℤ) (z : ℤ) → spaced (zs ++ (z ∷ [])) ≡ spaced zs ++ (32 ∷ decimalOf z)
 unfolding spaced

@@ -2,6 +2,8 @@
 --     natural n                  the natural number n as an integer
 --     spaced zs                  the numbers zs in decimal form, a space in front of each
 --     line name zs               the name, the numbers and a line feed
+--     refusedWord                `refused` as bytes
+--     refusal n p                the one line for what is refused: the number and the place
 --     Puts bs at end out out'    out' is out with the bytes bs from the offset `at` on, in place of those that stood there; they end
 --                                before the offset `end`
 -- Assumes nothing.
@@ -22,6 +24,12 @@ spaced (z ∷ zs) = (32 ∷ decimalOf z) ++ spaced zs
 
 unfoldable pub line : List ℕ → List ℤ → List ℕ
 line name zs = name ++ (spaced zs ++ (10 ∷ []))
+
+abbrev pub refusedWord : List ℕ
+refusedWord = 114 ∷ 101 ∷ 102 ∷ 117 ∷ 115 ∷ 101 ∷ 100 ∷ []
+
+unfoldable pub refusal : ℕ → ℕ → List ℕ
+refusal n p = line refusedWord (natural n ∷ natural p ∷ [])
 
 pub record Puts (bs : List ℕ) (at end : ℕ) (out out' : List ℕ) : Type 0 where
   pub end-is : end ≡ at + length bs

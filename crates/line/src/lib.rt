@@ -1,6 +1,6 @@
 // Lines of text, put into a lent slice of bytes one after another: each call says where its bytes end, and the next ones start there.
-// The calls ask for room, for the programs that make them know how long a line can get: 21 bytes hold a space and any number, and 11 bytes
-// a space and one of 32 bits.
+// The calls ask for room, for the programs that make them know how long a line can get: 21 bytes hold a space and any number, 11 bytes a
+// space and a natural number of 32 bits, and 7 bytes a space and a signed one of 16 bits.
 use text::Written;
 ghost use mathlib.Core.Path.{_≡_};
 ghost use mathlib.Core.List.{[], _∷_, _++_, map};
@@ -8,7 +8,7 @@ ghost use Prim.Native.Nat.{_+_, _*_, _≤_};
 ghost use lib.ListN.{length, take};
 ghost use lib.IntN.{pos};
 ghost use Rattle.text.specs.Decimal.{digits, decimalOf};
-ghost use Rattle.line.specs.Line.{natural, spaced, line, Puts};
+ghost use Rattle.line.specs.Line.{natural, spaced, line, refusal, Puts};
 
 // The bytes.
 pub fn put(bytes: &[u8], out: &mut [u8], at: usize) -> usize
@@ -77,6 +77,27 @@ pub fn put_naturals(xs: &[u32], out: &mut [u8], at: usize) -> usize
     end
 }
 
+// A letter of a word as a wider number.
+fn wide_letter(x: i16) -> i64
+    ensures { λ r. ⌜ r ≡ x ⌝ }
+{
+    x as i64
+}
+
+// The letters xs, each behind a space.
+pub fn put_letters(xs: &[i16], out: &mut [u8], at: usize) -> usize
+    requires { ⌜ at + (7 * length (now xs) + 21) ≤ length (now out) ⌝ }
+    ensures { λ r. ⌜ Puts (spaced (now (xs .entry))) at r (now (out .entry)) (now (out .exit)) × (r ≤ at + 7 * length (now (xs .entry))) ⌝ }
+{
+    let mut end = at;
+    let mut i = 0;
+    while i < xs.len() {
+        end = put_integer(wide_letter(xs[i]), out, end);
+        i += 1;
+    }
+    end
+}
+
 // The integers xs, each behind a space.
 pub fn put_integers(xs: &[i64], out: &mut [u8], at: usize) -> usize
     requires { ⌜ at + 21 * length (now xs) ≤ length (now out) ⌝ }
@@ -130,4 +151,22 @@ pub fn line_of_integers(name: &[u8], xs: &[i64], out: &mut [u8], at: usize) -> u
     let first = put(name, out, at);
     let second = put_integers(xs, out, first);
     put(b"\n", out, second)
+}
+
+// A line of the letters xs.
+pub fn line_of_letters(name: &[u8], xs: &[i16], out: &mut [u8], at: usize) -> usize
+    requires { ⌜ at + (length (now name) + 7 * length (now xs) + 21) ≤ length (now out) ⌝ }
+    ensures { λ r. ⌜ Puts (line (now (name .entry)) (now (xs .entry))) at r (now (out .entry)) (now (out .exit)) × (r ≤ at + (length (now (name .entry)) + 7 * length (now (xs .entry)) + 1)) ⌝ }
+{
+    let first = put(name, out, at);
+    let second = put_letters(xs, out, first);
+    put(b"\n", out, second)
+}
+
+// The line for what is refused: the number of the refusal and its place, from the front of `out`.
+pub fn refusal_line(number: u64, place: usize, out: &mut [u8]) -> usize
+    requires { ⌜ 50 ≤ length (now out) ⌝ }
+    ensures { λ r. ⌜ Puts (refusal number place) 0 r (now (out .entry)) (now (out .exit)) ⌝ }
+{
+    line_of_two(b"refused", number, place as u64, out, 0)
 }

@@ -2,7 +2,6 @@
 --     first-kind, second-kind, third-kind     the word of a kind, by the tests that the code makes
 --     row-put                                 a generator's line, from its number and the rest
 --     lines-more                              one generator more
---     negative-count, natural-count           the number of vertices, by the test that the code makes
 --     listed-as                               what is listed for an answer of `figures`
 --     listing-longer, listing-by              what is listed for a text that is too long, and for an answer of `read`
 -- Assumes nothing.
@@ -13,13 +12,9 @@ use mathlib.Core.List.{List, [], _∷_, _++_}
 use Prim.Native.Nat.{ℕ, suc, _+_, _*_, _-_, _≤_}
 use native.Mathlib.Numerals.{add-one}
 use native.Mathlib.Omega.{arith}
-use lib.IntN.{ℤ, pos, negsuc}
+use lib.IntN.{ℤ, pos}
 use lib.ListN.{length, getD, take, drop, length-drop}
-use lib.Dec.{T}
-use lib.IntN.{natAbs}
 use lib.Seq.{take-all}
-use lib.Signed.{ltZ, nonNeg}
-use borrow.Author.Tests.{ltb-true}
 use mir.Syntax.{w64}
 use mir.Val.{SFits, ofZ}
 use Rattle.matrix.specs.Euclid.{pick}
@@ -27,9 +22,8 @@ use Rattle.symbol.specs.Check.{eqZ}
 use Rattle.symbol.proofs.Choice.{either, eqZ-true}
 use Rattle.symbol.proofs.Signed.{bits-positive}
 use Rattle.text.specs.Decimal.{digits}
-use Rattle.line.specs.Line.{line, Puts}
+use Rattle.line.specs.Line.{line, refusal, Puts}
 use Rattle.line.proofs.Placing.{puts-as, puts-then}
-use Rattle.symbol.proofs.Choice.{clash}
 use Rattle.space.specs.Space.{workLength}
 use Rattle.text.specs.Piece.{pieces, numbers}
 use Rattle.text.specs.Reading.{readingOf}
@@ -42,7 +36,7 @@ use Rattle.coset.specs.Answer.{Says, figuresOf, figuredBy, figuredOf}
 use Rattle.coset.specs.Answer as answer
 use lib.Dec.{ltb}
 use borrow.Author.Tests.{le-ltb}
-use Rattle.report.specs.Listing.{refusal, listedBy, listed, listingFormat, readBy, listingOf, vertexCount, freeWord, evenWord, oddWord, kindWord, generatorLine, generatorLines}
+use Rattle.report.specs.Listing.{listedBy, listed, listingFormat, readBy, listingOf, freeWord, evenWord, oddWord, kindWord, generatorLine, generatorLines}
 
 module _ (z : ℤ) where
   pub first-kind : SFits w64 z → ofZ w64 z ≡ 1 → kindWord z ≡ freeWord
@@ -68,18 +62,6 @@ row-put j row {word} k f g h =
     let all : take (length row - 1) (drop 1 row) ≡ drop 1 row = take-all (length row - 1) (drop 1 row) (omega (arith, length-drop 1 row)) in
     let same : line word (take (length row - 1) (drop 1 row)) ≡ line (kindWord (getD row 0 (pos 0))) (drop 1 row) = ap (line word) all ∙ ap (λ (l : List ℕ). line l (drop 1 row)) (sym k) in
     puts-then f (puts-as same g) h
-
-pub negative-count : (x : ℤ) → ltZ x (pos 0) ≡ true → 0 ≡ vertexCount x
-negative-count (pos n) h = absurd (omega (arith, ltb-true n 0 h))
-negative-count (negsuc n) h = refl
-
-pub natural-count : (x : ℤ) → ltZ x (pos 0) ≡ false → natAbs x ≡ vertexCount x
-natural-count (pos n) h = refl
-natural-count (negsuc n) h = clash refl h
-
-pub count-natural : (x : ℤ) → ltZ x (pos 0) ≡ false → T (nonNeg x)
-count-natural (pos n) h = tt
-count-natural (negsuc n) h = clash refl h
 
 -- a longer work space is as good
 work-enough : (c : Checked) (n : ℕ) (r : Says) → workLength ≤ n → figuredBy c n r ≡ figuredBy c workLength r

@@ -1,7 +1,6 @@
 -- WHAT THE PROGRAM `listing` WRITES, byte for byte (document 01, "Γ0(2), whole").
 --
 --   indexWord .. oddWord            the words of a listing as bytes; a kind has a space in front
---   refusal n p                     the one line for a symbol or a text that is refused
 --   figureLine name f               the line of a figure: its number, or `refused` with number and place
 --   kindWord k                      free, even or odd, for the kinds 1, 2 and 3 of the generator table
 --   generatorLine j row             generator j: its number, its kind, its four entries
@@ -13,22 +12,21 @@
 --   tableLines s r u                the tables of S, R and T
 --   listed v t                      all of it for the symbol in t, or its refusal
 --   listingFormat                   the form of the text: v from 1 to 1,023, and then 3v + 1 numbers
---   vertexCount z                   the first number as a number of vertices; a negative one is out of range as 0 is
 --   listingOf longer text           the bytes for a text, or for one with more than the 65,536 bytes that fit into the buffer
 use mathlib.Core.Bool.{Bool}
 use mathlib.Core.List.{List, [], _∷_, _++_, map}
 use Prim.Native.Nat.{ℕ, zero, suc, _*_}
-use lib.IntN.{ℤ, pos, negsuc}
+use lib.IntN.{ℤ, pos}
 use lib.ListN.{length, take, drop, getD}
 use Rattle.matrix.specs.Euclid.{pick}
 use Rattle.space.specs.Space.{workLength}
 use Rattle.text.specs.Decimal.{digits}
 use Rattle.text.specs.Piece.{pieces, numbers}
-use Rattle.text.specs.Reading.{readingOf}
+use Rattle.text.specs.Reading.{readingOf, vertexCount}
 use Rattle.text.specs.declared.Format.{Format}
 use Rattle.text.specs.declared.Reading.{Reading}
 use Rattle.text.specs.declared.Reading.the-variants as reading
-use Rattle.line.specs.Line.{natural, line}
+use Rattle.line.specs.Line.{natural, line, refusedWord, refusal}
 use Rattle.symbol.specs.Check.{eqZ}
 use Rattle.symbol.specs.Generator.{leaders, generatorTable}
 use Rattle.figures.specs.Figure as figure
@@ -56,9 +54,6 @@ levelWord = 108 ∷ 101 ∷ 118 ∷ 101 ∷ 108 ∷ []
 abbrev pub generatorsWord : List ℕ
 generatorsWord = 103 ∷ 101 ∷ 110 ∷ 101 ∷ 114 ∷ 97 ∷ 116 ∷ 111 ∷ 114 ∷ 115 ∷ []
 
-abbrev pub refusedWord : List ℕ
-refusedWord = 114 ∷ 101 ∷ 102 ∷ 117 ∷ 115 ∷ 101 ∷ 100 ∷ []
-
 abbrev pub freeWord : List ℕ
 freeWord = 32 ∷ 102 ∷ 114 ∷ 101 ∷ 101 ∷ []
 
@@ -67,9 +62,6 @@ evenWord = 32 ∷ 101 ∷ 118 ∷ 101 ∷ 110 ∷ []
 
 abbrev pub oddWord : List ℕ
 oddWord = 32 ∷ 111 ∷ 100 ∷ 100 ∷ []
-
-unfoldable pub refusal : ℕ → ℕ → List ℕ
-refusal n p = line refusedWord (natural n ∷ natural p ∷ [])
 
 unfoldable pub figureLine : List ℕ → figure.Figure → List ℕ
 figureLine name (figure.value x) = line name (natural x ∷ [])
@@ -112,10 +104,6 @@ listed v t = listedBy v t (figuredOf v t workLength)
 
 abbrev pub listingFormat : Format
 listingFormat = record { most = 1023; each = 3; more = 2 }
-
-abbrev pub vertexCount : ℤ → ℕ
-vertexCount (pos n) = n
-vertexCount (negsuc n) = 0
 
 abbrev pub readBy : Reading → List ℤ → List ℕ
 readBy (reading.Numbers k) ns = listed (vertexCount (getD ns 0 (pos 0))) (drop 1 (take k ns))

@@ -6,14 +6,15 @@ use figures::Level;
 use gather::fill_generators;
 use gather::fill_tables;
 use gather::fill_widths;
+use line::refusal_line;
 use lines::figure_lines;
 use lines::generator_part;
-use lines::refusal_line;
 use lines::table_lines;
 use symbol::fault_number;
 use symbol::fault_place;
 use text::Format;
 use text::Reading;
+use text::vertex_count;
 ghost use mathlib.Core.Path.{_≡_};
 ghost use Prim.Native.Nat.{_+_, _≤_};
 ghost use lib.ListN.{length};
@@ -24,21 +25,11 @@ ghost use Rattle.figures.specs.Figure.{genusSays, levelSays};
 ghost use Rattle.symbol.specs.Generator.{leaders, generatorTable};
 ghost use Rattle.coset.specs.Tables.{tableS, tableR, tableT};
 ghost use Rattle.coset.specs.Answer.{made, widthsOf};
-ghost use Rattle.report.specs.Listing.{figureLines, generatorPart, tableLines, listedBy, listed, listingOf, vertexCount};
+ghost use Rattle.report.specs.Listing.{figureLines, generatorPart, tableLines, listedBy, listed, listingOf};
 ghost use Rattle.report.specs.Spaces.{Spaces};
 
 mod gather;
 mod lines;
-
-// The first number of a text as a number of vertices.
-fn vertex_count(x: i64) -> usize
-    ensures { λ r. ⌜ r ≡ vertexCount x ⌝ }
-{
-    if x < 0 {
-        return 0;
-    }
-    x as usize
-}
 
 // The figures of an accepted symbol, with the widths.
 fn list_widths(

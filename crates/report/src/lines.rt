@@ -11,15 +11,7 @@ ghost use Prim.Native.Nat.{_+_, _*_, _≤_};
 ghost use lib.ListN.{length};
 ghost use Rattle.line.specs.Line.{Puts};
 ghost use Rattle.figures.specs.Figure.{genusSays, levelSays};
-ghost use Rattle.report.specs.Listing.{refusal, genusWord, levelWord, figureLine, countLines, cuspLines, figureLines, generatorLine, generatorLines, generatorPart, tableLines};
-
-// The line of a refused symbol or text.
-pub(crate) fn refusal_line(number: u64, place: usize, out: &mut [u8]) -> usize
-    requires { ⌜ 50 ≤ length (now out) ⌝ }
-    ensures { λ r. ⌜ Puts (refusal number place) 0 r (now (out .entry)) (now (out .exit)) ⌝ }
-{
-    line_of_two(b"refused", number, place as u64, out, 0)
-}
+ghost use Rattle.report.specs.Listing.{genusWord, levelWord, figureLine, countLines, cuspLines, figureLines, generatorLine, generatorLines, generatorPart, tableLines};
 
 // The genus, or refusal 18.
 fn genus_line(genus: Genus, out: &mut [u8], at: usize) -> usize

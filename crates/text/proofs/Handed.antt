@@ -2,6 +2,7 @@
 --     numbers-count     a text without a bad piece has a number for each piece
 --     handed-on         the law
 --     first-entry, other-entries     where they then stand
+--     front-entries     all of them
 -- Assumes nothing.
 use mathlib.Core.Path.{_≡_, refl, sym, ap, _∙_}
 use mathlib.Core.Bool.{Bool, true, false, _&&_}
@@ -133,3 +134,7 @@ module _ (ns out : List ℤ) (k : ℕ) (some-one : 1 ≤ k) (there : k ≤ lengt
       let long = length-take-le k ns there in
       ap (take (k - 1)) (drop-append-le 1 (take k ns) (drop k out) (omega (arith, long)))
       ∙ take-at (drop 1 (take k ns)) (drop k out) (k - 1) (length-drop 1 (take k ns) ∙ ap (λ (n : ℕ). n - 1) long)
+
+  pub front-entries : take k (leftBy (reading.Numbers k) ns out) ≡ take k ns
+  unfolding leftBy
+  front-entries = take-at (take k ns) (drop k out) k (length-take-le k ns there)

@@ -10,4 +10,5 @@ pub mod Answers
 pub mod Decimals
 pub mod Places
 pub mod Handed
+pub mod Counts
 pub mod Examples

@@ -12,6 +12,7 @@
 --     answer p k room       refused at the place p; or else k numbers, where they fit into `room` entries
 --     readingOf f t room    the answer to the text t
 --     leftBy r ns out       what the slice holds in the end, where it held `out` and the text's numbers are ns
+--     vertexCount z         the first number as a number of vertices; a negative one is out of range as 0 is
 -- Assumes nothing.
 use Prim.Native.Nat.{ℕ, _+_, _*_}
 use mathlib.Core.Bool.{_&&_}
@@ -73,3 +74,7 @@ unfoldable pub leftBy : Reading → List ℤ → List ℤ → List ℤ
 leftBy (Numbers k) ns out = take k ns ++ drop k out
 leftBy (Refused p) ns out = out
 leftBy (Short k) ns out = out
+
+abbrev pub vertexCount : ℤ → ℕ
+vertexCount (pos n) = n
+vertexCount (negsuc n) = 0

@@ -9,7 +9,7 @@ ghost use lib.IntN.{pos, negℤ, natAbs};
 ghost use Rattle.text.specs.Blank.{isBlank};
 ghost use Rattle.text.specs.Number.{natural, within, numberOf};
 ghost use Rattle.text.specs.Piece.{pieces, numbers, firstBad, placeAt};
-ghost use Rattle.text.specs.Reading.{readingOf, answer, leftBy, wanted};
+ghost use Rattle.text.specs.Reading.{readingOf, answer, leftBy, wanted, vertexCount};
 ghost use Rattle.text.specs.Decimal.{digits, decimalOf};
 ghost use Rattle.text.specs.Writing.{roomMost, writtenOf, placed, standing};
 ghost use Rattle.text.specs.Inside.{naturalOf, integerOf, pushed, wantedOf, stretch, Steps, surveyOf, countedOf};
@@ -344,6 +344,16 @@ pub fn read(text: &[u8], format: Format, out: &mut [i64]) -> Reading
         Survey::Bad(at) => Reading::Refused(at),
         Survey::Count(count) => count_and_give(text, format, count, out),
     }
+}
+
+// The first number of a text as a number of vertices.
+pub fn vertex_count(x: i64) -> usize
+    ensures { λ r. ⌜ r ≡ vertexCount x ⌝ }
+{
+    if x < 0 {
+        return 0;
+    }
+    x as usize
 }
 
 // The length that k bytes from `at` on need, or the greatest number where that is greater.

@@ -1,6 +1,7 @@
 pub mod Pair
 pub mod Turned
 pub mod Claim
+pub mod Returned
 pub mod Order
 pub mod Finding
 pub mod Instances

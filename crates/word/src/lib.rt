@@ -10,6 +10,8 @@ use steps::prepare;
 use symbol::Checked;
 use symbol::Fault;
 use symbol::check;
+use symbol::fault_number;
+use symbol::fault_place;
 use walk::walk;
 ghost use mathlib.Core.Path.{_≡_};
 ghost use Prim.Native.Nat.{_+_, _-_, _<_};
@@ -22,7 +24,7 @@ ghost use Rattle.space.specs.Space.{zeros};
 ghost use Rattle.symbol.specs.Count.{first};
 ghost use Rattle.symbol.specs.Symbol.{IsSymbol};
 ghost use Rattle.polygon.specs.Walk.{followed};
-ghost use Rattle.word.specs.Answer.{entryAt, large, unit, foundWord, foundOf, queryOf, workLeft, wordLeft, partOf};
+ghost use Rattle.word.specs.Answer.{queryNumber, queryPlace, entryAt, large, unit, foundWord, foundOf, queryOf, workLeft, wordLeft, partOf};
 ghost use Rattle.word.specs.Claim.{Asked, Claim};
 ghost use Rattle.word.specs.Ready.{judgedOf, lettersAlong, endOf, Ready};
 
@@ -199,6 +201,34 @@ pub fn query(
             }
             answer(v, t, a, b, w, out, start)
         }
+    }
+}
+
+// The number of an answer's refusal, and 0 for a word.
+pub fn answer_number(r: Queried) -> u64
+    ensures { λ n. ⌜ n ≡ queryNumber r ⌝ }
+{
+    match r {
+        Queried::Word(_, _) => 0,
+        Queried::Refused(fault) => fault_number(fault),
+        Queried::Entry(_) => 8,
+        Queried::Determinant(_) => 9,
+        Queried::Absent => 10,
+        Queried::Short(_) => 11,
+    }
+}
+
+// Its place, and 0 for a word.
+pub fn answer_place(r: Queried) -> usize
+    ensures { λ n. ⌜ n ≡ queryPlace r ⌝ }
+{
+    match r {
+        Queried::Word(_, _) => 0,
+        Queried::Refused(fault) => fault_place(fault),
+        Queried::Entry(i) => i,
+        Queried::Determinant(i) => i,
+        Queried::Absent => 0,
+        Queried::Short(n) => n,
     }
 }
 

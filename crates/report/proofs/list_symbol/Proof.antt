@@ -3,10 +3,10 @@ use mathlib.Core.Path.{_≡_, refl, sym, ap, _∙_}
 use native.Mathlib.Omega.{arith}
 use Prim.Native.Nat.{ℕ}
 use lib.ListN.{length}
+use Rattle.line.specs.Line.{refusal}
 use Rattle.line.proofs.Placing.{puts-as}
 use Rattle.symbol.specs.Check.{numberOf, placeOf}
 use Rattle.coset.specs.Answer.{saidBy}
-use Rattle.report.specs.Listing.{refusal}
 use Rattle.report.proofs.Listed.{listed-as}
 use borrow.Author.Needs.{needs}
 use Rattle.report.proofs.list_symbol.Statement.{statement}

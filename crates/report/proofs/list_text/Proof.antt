@@ -8,12 +8,12 @@ use lib.ListN.{length, getD, take, drop}
 use mir.Syntax.{w64}
 use mir.Facts.{toZ-ofZ}
 use Rattle.text.specs.Piece.{pieces, numbers}
-use Rattle.text.specs.Reading.{readingOf, leftBy}
+use Rattle.text.specs.Reading.{readingOf, leftBy, vertexCount}
 use Rattle.text.specs.declared.Reading.{Reading}
 use Rattle.text.specs.declared.Reading.the-variants.{Numbers}
 use Rattle.text.proofs.Handed.{Handed, handed-on, first-entry, other-entries}
 use Rattle.line.proofs.Placing.{puts-as}
-use Rattle.report.specs.Listing.{vertexCount, listed, listingFormat, readBy}
+use Rattle.report.specs.Listing.{listed, listingFormat, readBy}
 use Rattle.report.proofs.Listed.{listing-longer, listing-by}
 use borrow.Author.Needs.{needs}
 use Rattle.report.proofs.list_text.Statement.{statement}

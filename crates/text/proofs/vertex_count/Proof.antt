@@ -1,10 +1,10 @@
--- `vertex_count` meets its contract: a negative number counts as 0. Assumes nothing.
+-- `text::vertex_count` meets its contract: a negative number counts as 0. Assumes nothing.
 use mathlib.Core.Path.{_≡_}
 use mir.Facts.{toZ-ofZ, fits-natAbs}
-use Rattle.report.proofs.Listed.{negative-count, natural-count, count-natural}
+use Rattle.text.proofs.Counts.{negative-count, natural-count, count-natural}
 use borrow.Author.Needs.{needs}
-use Rattle.report.proofs.vertex_count.Statement.{statement}
-use Rattle.report.proofs.vertex_count.Tie as tie
+use Rattle.text.proofs.vertex_count.Statement.{statement}
+use Rattle.text.proofs.vertex_count.Tie as tie
 
 returns : tie.Need-returns
 returns c = negative-count (c .before .args .x) (rw (toZ-ofZ (c .before .fits .x)) at (c .if1 .taken))

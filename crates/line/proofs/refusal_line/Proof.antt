@@ -1,8 +1,8 @@
--- `lines::refusal_line` meets its contract: it is one line. Assumes nothing.
-use Rattle.report.specs.Listing.{refusal}
+-- `line::refusal_line` meets its contract: it is one line. Assumes nothing.
+use Rattle.line.specs.Line.{refusal}
 use borrow.Author.Needs.{needs}
-use Rattle.report.proofs.lines.refusal_line.Statement.{statement}
-use Rattle.report.proofs.lines.refusal_line.Tie as tie
+use Rattle.line.proofs.refusal_line.Statement.{statement}
+use Rattle.line.proofs.refusal_line.Tie as tie
 
 slice-aggregate-line-of-two : tie.Need-slice-aggregate-line-of-two
 slice-aggregate-line-of-two c = search needs

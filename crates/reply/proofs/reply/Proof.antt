@@ -1,0 +1,15 @@
+-- `reply` meets its contract: the arrays are long enough. Assumes nothing.
+use native.Mathlib.Omega.{arith}
+use Rattle.line.proofs.Placing.{puts-within}
+use borrow.Author.Needs.{needs}
+use Rattle.reply.proofs.reply.Statement.{statement}
+use Rattle.reply.proofs.reply.Tie as tie
+
+reply-text-requires : tie.Need-reply-text-requires
+reply-text-requires c κs = (omega arith, record { work = omega arith; lent = omega arith; out-long = omega arith })
+
+returns : tie.Need-returns
+returns c = let p = c .reply-text .ensures in (p, omega (arith, puts-within p (omega arith) (omega arith)))
+
+pub reply-spec : {M : Type 1} → statement M
+reply-spec = tie.close (tie.spec reply-text-requires returns)

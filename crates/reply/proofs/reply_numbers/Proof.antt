@@ -1,0 +1,106 @@
+-- `reply_numbers` meets its contract: the numbers behind v are the symbol's table, and then A and B. Assumes nothing.
+use mathlib.Core.Path.{_≡_, refl, sym, ap, _∙_}
+use mathlib.Core.List.{List}
+use Prim.Native.Nat.{ℕ, _-_}
+use native.Mathlib.Omega.{arith}
+use lib.IntN.{ℤ}
+use lib.ListN.{length, take, drop}
+use mir.Syntax.{w64}
+use mir.Facts.{toZ-ofZ}
+use Rattle.matrix.specs.Matrix.{nth}
+use Rattle.text.specs.Reading.{vertexCount}
+use Rattle.line.proofs.Placing.{puts-as}
+use Rattle.reply.specs.Reply.{replied, four}
+use Rattle.reply.proofs.Replied.{few-numbers, enough-numbers}
+use borrow.Author.Needs.{needs}
+use Rattle.reply.proofs.reply_numbers.Statement.{statement}
+use Rattle.reply.proofs.reply_numbers.Tie as tie
+
+refusal-line-requires : tie.Need-refusal-line-requires
+refusal-line-requires c κs = omega (arith, (c .before .before .before .before) .pre .out-long)
+
+same-length : tie.Need-same-length
+same-length c = search needs
+
+returns : tie.Need-returns
+returns c =
+    let s = c .before .before .before .before .before .before .before in
+    puts-as (few-numbers (s .args .ns .now) ((c .before .before .before .before) .if1 .taken)) ((c .before .before) .refusal-line .ensures)
+
+shared-slice-copy-out-vertex-count : tie.Need-shared-slice-copy-out-vertex-count
+shared-slice-copy-out-vertex-count c = search needs
+
+vertex-count-requires : tie.Need-vertex-count-requires
+vertex-count-requires c κs = search needs
+
+sub-end : tie.Need-sub-end
+sub-end c = search needs
+
+four-at-requires : tie.Need-four-at-requires
+four-at-requires c κs = search needs
+
+sub-four-at : tie.Need-sub-four-at
+sub-four-at c = search needs
+
+four-at-requires-2 : tie.Need-four-at-requires-2
+four-at-requires-2 c κs = search needs
+
+sub-reply-pair : tie.Need-sub-reply-pair
+sub-reply-pair c = search needs
+
+part-reply-pair-start : tie.Need-part-reply-pair-start
+part-reply-pair-start c = search needs
+
+part-reply-pair-end : tie.Need-part-reply-pair-end
+part-reply-pair-end c = search needs
+
+reply-pair-requires : tie.Need-reply-pair-requires
+reply-pair-requires c κs = (c .before .before .before .before .before .before .before .before .before .before .before) .pre
+
+same-length-2 : tie.Need-same-length-2
+same-length-2 c = search needs
+
+same-length-3 : tie.Need-same-length-3
+same-length-3 c = search needs
+
+same-length-4 : tie.Need-same-length-4
+same-length-4 c = search needs
+
+returns-2 : tie.Need-returns-2
+returns-2 c =
+    let b = c .before .before .before .before .before .before .before .before .before .before in
+    let a = c .before .before .before .before .before .before .before .before .before .before .before in
+    let n = c .before .before .before .before .before .before .before .before .before .before .before .before in
+    let s = c .before .before .before .before .before .before .before .before .before .before .before .before .before .before .before .before .before in
+    let ns = s .args .ns .now in
+    let e = rw (toZ-ofZ {w = w64} {z = nth ns 0} (record { sfits = (c .before .before .before .before .before .before .before .before .before .before .before .before .before) .vertex-count-arg .given })) at (n .vertex-count .ensures) in
+    let less : length ns - 8 - 1 ≡ length ns - 9 = omega arith in
+    let same =
+    ap (λ (m : ℕ). replied m (take (length ns - 8 - 1) (drop 1 ns)) (a .four-at .result) (b .four-at2 .result)) e
+    ∙ ap (λ (m : ℕ). replied (vertexCount (nth ns 0)) (take m (drop 1 ns)) (a .four-at .result) (b .four-at2 .result)) less
+    ∙ ap (λ (m : List ℤ). replied (vertexCount (nth ns 0)) (take (length ns - 9) (drop 1 ns)) m (b .four-at2 .result)) (a .four-at .ensures)
+    ∙ ap (λ (m : List ℤ). replied (vertexCount (nth ns 0)) (take (length ns - 9) (drop 1 ns)) (four ns (length ns - 8)) m) (b .four-at2 .ensures)
+    ∙ enough-numbers ns ((c .before .before .before .before .before .before .before .before .before .before .before .before .before .before) .if1 .left) in
+    puts-as same ((c .before .before .before .before .before) .reply-pair .ensures)
+
+pub reply-numbers-spec : {M : Type 1} → statement M
+reply-numbers-spec =
+    tie.close
+    (tie.spec
+    refusal-line-requires
+    same-length
+    returns
+    shared-slice-copy-out-vertex-count
+    vertex-count-requires
+    sub-end
+    four-at-requires
+    sub-four-at
+    four-at-requires-2
+    sub-reply-pair
+    part-reply-pair-start
+    part-reply-pair-end
+    reply-pair-requires
+    same-length-2
+    same-length-3
+    same-length-4
+    returns-2)

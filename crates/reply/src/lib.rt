@@ -1,0 +1,110 @@
+// What the program `query` writes for a text: all of it, byte for byte, as specs/Reply.antt says (document 01, "Who can cause a refusal").
+use line::line_of_letters;
+use line::refusal_line;
+use text::Format;
+use text::Reading;
+use text::vertex_count;
+use word::Queried;
+use word::answer_number;
+use word::answer_place;
+use word::query;
+use word::word_part;
+ghost use mathlib.Core.Path.{_≡_};
+ghost use Prim.Native.Nat.{_+_, _≤_};
+ghost use lib.ListN.{length};
+ghost use Rattle.line.specs.Line.{Puts};
+ghost use Rattle.reply.specs.Reply.{replied, four, repliedTo, replyOf};
+ghost use Rattle.reply.specs.Spaces.{Spaces};
+
+// The matrix in the four numbers from the number i on.
+fn four_at(ns: &[i64], i: usize) -> [i64; 4]
+    requires { ⌜ i + 4 ≤ length (now ns) ⌝ }
+    ensures { λ r. ⌜ r ≡ four (now (ns .entry)) i ⌝ }
+{
+    [ns[i], ns[i + 1], ns[i + 2], ns[i + 3]]
+}
+
+// The answer for the symbol in t and the pair: the word, or its refusal.
+fn reply_pair(
+    v: usize,
+    t: &[i64],
+    a: [i64; 4],
+    b: [i64; 4],
+    w: &mut [u16],
+    letters: &mut [i16],
+    out: &mut [u8],
+) -> usize
+    requires { ⌜ Spaces (now w) (now letters) (now out) ⌝ }
+    ensures { λ e. ⌜ Puts (replied v (now (t .entry)) a b) 0 e (now (out .entry)) (now (out .exit)) ⌝ }
+{
+    let answer = query(v, t, a, b, w, letters, 0);
+    let Queried::Word(start, n) = answer else {
+        let number = answer_number(answer);
+        let place = answer_place(answer);
+        return refusal_line(number, place, out);
+    };
+    let word = word_part(letters, start, n);
+    line_of_letters(b"word", word, out, 0)
+}
+
+// The answer for the numbers of a text.
+fn reply_numbers(ns: &[i64], w: &mut [u16], letters: &mut [i16], out: &mut [u8]) -> usize
+    requires { ⌜ Spaces (now w) (now letters) (now out) ⌝ }
+    ensures { λ e. ⌜ Puts (repliedTo (now (ns .entry))) 0 e (now (out .entry)) (now (out .exit)) ⌝ }
+{
+    let k = ns.len();
+    if k < 10 {
+        return refusal_line(1, 0, out);
+    }
+    let v = vertex_count(ns[0]);
+    let end = k - 8;
+    let a = four_at(ns, end);
+    let b = four_at(ns, k - 4);
+    reply_pair(v, &ns[1..end], a, b, w, letters, out)
+}
+
+// The answer for a text, where the slices are long enough.
+fn reply_text(
+    text: &[u8],
+    longer: bool,
+    numbers: &mut [i64],
+    w: &mut [u16],
+    letters: &mut [i16],
+    out: &mut [u8],
+) -> usize
+    requires { ⌜ (length (now numbers) ≡ 3079) × Spaces (now w) (now letters) (now out) ⌝ }
+    ensures { λ e. ⌜ Puts (replyOf longer (now (text .entry))) 0 e (now (out .entry)) (now (out .exit)) ⌝ }
+{
+    if longer {
+        return refusal_line(19, 65536, out);
+    }
+    let read = text::read(
+        text,
+        Format {
+            most: 1023,
+            each: 3,
+            more: 10,
+        },
+        numbers,
+    );
+    match read {
+        Reading::Refused(place) => refusal_line(19, place, out),
+        Reading::Short(k) => refusal_line(11, k, out),
+        Reading::Numbers(k) => reply_numbers(&numbers[..k], w, letters, out),
+    }
+}
+
+// What the program writes for the text, or for one that is longer than its buffer, from the front of `out`; where it ends. The arrays are
+// the program's own, and what stands in them is free.
+pub fn reply(
+    text: &[u8],
+    longer: bool,
+    numbers: &mut [i64; 3079],
+    w: &mut [u16; 32768],
+    letters: &mut [i16; 16384],
+    out: &mut [u8; 131072],
+) -> usize
+    ensures { λ e. ⌜ Puts (replyOf longer (now (text .entry))) 0 e (now (out .entry)) (now (out .exit)) × (e ≤ length (now (out .exit))) ⌝ }
+{
+    reply_text(text, longer, numbers, w, letters, out)
+}

@@ -1,0 +1,96 @@
+-- What an answer with a word says: it names the word that the walk writes, from the start place on, and the word fits.
+--
+-- In order: which answers can be a word (`second`, `by-check`, `by-room`); the law (`names-word`); the part that the answer names is the
+-- word (`part-found`), which is no longer than the space (`word-most`).
+-- Assumes nothing.
+use mathlib.Core.Path.{_≡_, refl, sym, _∙_, ap}
+use mathlib.Core.Bool.{Bool, true, false}
+use mathlib.Core.List.{List}
+use Prim.Native.Nat.{ℕ, _-_, _≤_}
+use native.Mathlib.Omega.{arith}
+use lib.Dec.{leb, ltb}
+use lib.ListN.{length}
+use lib.IntN.{ℤ}
+use borrow.Author.Tests.{leb-true}
+use Rattle.matrix.specs.Matrix.{ofList}
+use Rattle.matrix.specs.Euclid.{pick}
+use Rattle.space.specs.Space.{workLength}
+use Rattle.symbol.specs.Count.{first}
+use Rattle.symbol.specs.Check.{checkOf}
+use Rattle.symbol.specs.declared.Checked.{Checked}
+use Rattle.symbol.specs.declared.Checked.the-variants.{Accepted, Refused}
+use Rattle.symbol.proofs.Choice.{and-left, and-right}
+use Rattle.walk.specs.Way.{placed}
+use Rattle.word.specs.Answer.{large, unit, home, foundWord, fits, roomOf, foundOf, byWork, byDeterminants, byEntries, byCheck, queryOf, wordLeft, partOf}
+use Rattle.word.specs.declared.Queried.{Queried}
+use Rattle.word.specs.declared.Queried.the-variants as queried
+use Rattle.word.proofs.Claim.{part-placed}
+
+module _ (s n : ℕ) where
+  abbrev Is : Queried → Type 0
+  Is r = queried.Word s n ≡ r
+
+  -- of two answers, the one that can be a word
+  second : (b : Bool) (x y : Queried) → (Is x → ⊥) → Is (pick b x y) → Is y
+  second true x y never e = absurd (never e)
+  second false x y never e = e
+
+  first-one : (b : Bool) (x y : Queried) → (Is y → ⊥) → Is (pick b x y) → Is x
+  first-one true x y never e = e
+  first-one false x y never e = absurd (never e)
+
+  no-entry : (i : ℕ) → Is (queried.Entry i) → ⊥
+  no-entry i e = let z : _≡_ {A = ℕ} 0 1 = cc in absurd (omega arith)
+
+  no-determinant : (i : ℕ) → Is (queried.Determinant i) → ⊥
+  no-determinant i e = let z : _≡_ {A = ℕ} 0 1 = cc in absurd (omega arith)
+
+  no-short : (k : ℕ) → Is (queried.Short k) → ⊥
+  no-short k e = let z : _≡_ {A = ℕ} 0 1 = cc in absurd (omega arith)
+
+  no-absent : Is queried.Absent → ⊥
+  no-absent e = let z : _≡_ {A = ℕ} 0 1 = cc in absurd (omega arith)
+
+  by-check : (c : Checked) (r : Queried) → Is (byCheck c r) → Is r
+  by-check (Refused f) r e = let z : _≡_ {A = ℕ} 0 1 = cc in absurd (omega arith)
+  by-check Accepted r e = e
+
+  record Named (k start room : ℕ) : Type 0 where
+    pub place-is : s ≡ start
+    pub length-is : n ≡ k
+    pub fitting : fits start k room ≡ true
+
+  by-room : (k start room : ℕ) → Is (roomOf k start room) → Named k start room
+  by-room k start room e = go (fits start k room) refl
+    where
+      go : (b : Bool) → fits start k room ≡ b → Named k start room
+      go true h = let f : Is (queried.Word start k) = rw h at e in record { place-is = cc; length-is = cc; fitting = h }
+      go false h = let f : Is (queried.Short k) = rw h at e in absurd (no-short k f)
+
+  module _ (v : ℕ) (t a b : List ℤ) (work start : ℕ) (out : List ℤ) (e : Is (queryOf v t a b work (length out) start)) where
+    abbrev word : List ℤ
+    word = foundWord v t (ofList a) (ofList b)
+
+    names-word : Named (length word) start (length out)
+    names-word =
+        let found = foundOf v t a b start (length out) in
+        let enough = byWork work found in
+        let e1 = by-check (checkOf v t) (byEntries a b (byDeterminants a b enough)) e in
+        let e2 = second (ltb (first (large a b) 8) 8) (queried.Entry (first (large a b) 8)) (byDeterminants a b enough) (no-entry (first (large a b) 8)) e1 in
+        let e3 = first-one (unit a) (pick (unit b) enough (queried.Determinant 1)) (queried.Determinant 0) (no-determinant 0) e2 in
+        let e4 = first-one (unit b) enough (queried.Determinant 1) (no-determinant 1) e3 in
+        let e5 = second (ltb work workLength) (queried.Short workLength) found (no-short workLength) e4 in
+        let e6 = first-one (home v t (ofList a) (ofList b)) (roomOf (length word) start (length out)) queried.Absent no-absent e5 in
+        by-room (length word) start (length out) e6
+
+    pub part-found : partOf (placed s word out) s n ≡ word
+    part-found =
+        let h = names-word in
+        let in-it = leb-true start (length out) (and-left (leb start (length out)) (leb (length word) (length out - start)) (h .fitting)) in
+        let enough = leb-true (length word) (length out - start) (and-right (leb start (length out)) (leb (length word) (length out - start)) (h .fitting)) in
+        ap (λ (k : ℕ). partOf (placed k word out) k n) (h .place-is)
+        ∙ ap (λ (k : ℕ). partOf (placed start word out) start k) (h .length-is)
+        ∙ part-placed start word out in-it enough
+
+    pub word-most : length word ≤ length out
+    word-most = omega (arith, leb-true (length word) (length out - start) (and-right (leb start (length out)) (leb (length word) (length out - start)) (names-word .fitting)))
