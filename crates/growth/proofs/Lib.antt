@@ -3,3 +3,6 @@ pub mod Instances
 pub mod Member
 pub mod Lead
 pub mod Split
+pub mod Kept
+pub mod Stabiliser
+pub mod Table
