@@ -6,3 +6,4 @@ pub mod Split
 pub mod Kept
 pub mod Stabiliser
 pub mod Table
+pub mod Finished
