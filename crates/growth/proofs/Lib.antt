@@ -7,3 +7,4 @@ pub mod Kept
 pub mod Stabiliser
 pub mod Table
 pub mod Finished
+pub mod Start
