@@ -8,3 +8,4 @@ pub mod Stabiliser
 pub mod Table
 pub mod Finished
 pub mod Start
+pub mod Small
