@@ -9,3 +9,4 @@ pub mod Table
 pub mod Finished
 pub mod Start
 pub mod Small
+pub mod Visit
