@@ -10,3 +10,4 @@ pub mod Finished
 pub mod Start
 pub mod Small
 pub mod Visit
+pub mod Rounds
