@@ -42,14 +42,14 @@ use Rattle.points.proofs.Find as places
 use Rattle.growth.specs.Side.{Vertex, vertex, minusInfinity, infinity, limit}
 use Rattle.growth.specs.Rule.{least, free}
 use Rattle.growth.specs.Symbol.{labelsOf, tableOf}
-use Rattle.growth.specs.Placed.{Placed, pts}
+use Rattle.growth.specs.Placed.{Placed, pts, rowsOf}
 use Rattle.growth.specs.Theorem.{Precisely}
 use Rattle.growth.proofs.Member.{In, Apart}
 use Rattle.growth.proofs.Lead.{S-twice, Q-Q-right, Q-P-right, Turning, Leads, leads-≈, leads-to, leads-𝟙, leads-step, leads-back}
 use Rattle.growth.proofs.Split.{framed, Closed, AllClosed, in-pts, Pt, pt-of, of-pt, same-side, Turn, t0, t1, t2, turnM, turnX, Corner, Edge}
 use Rattle.growth.proofs.Kept.{Inv, corner-spin, corner-free, corner-one, triangles}
 use Rattle.growth.proofs.Stabiliser.{in-one, in-gen, in-inv, Reach, stabiliser}
-use Rattle.growth.proofs.Table.{At, Numbered, in-at, at-in, Standing, at-get, at-low, at-one, at-place, inner, Chained, chain-den, Ending, inner-at, rowsOf, labels-in, labels-few, mark-free, v-is, table-long, table-num, table-den, pair-even, pair-odd, pair-free, table-frame}
+use Rattle.growth.proofs.Table.{At, Numbered, in-at, at-in, Standing, at-get, at-low, at-one, at-place, inner, Chained, chain-den, Ending, inner-at, labels-in, labels-few, mark-free, v-is, table-long, table-num, table-den, pair-even, pair-odd, pair-free, table-frame}
 
 pub record Shape (l : List Placed) : Type 0 where
   pub chained : Chained minusInfinity l
@@ -275,8 +275,8 @@ module _ (σ κ : ℕ → ℕ) (n : ℕ) (T : Turning σ κ n) (top : n ≤ 3066
     long = table-long σ κ l some;
     numers = λ i h. let g = at-get i l (omega (arith, size)) in rw (table-num σ κ l some i (g .side) (g .is) h) (shape .small (g .side) (at-in i (g .side) l (g .is)) .0);
     denoms = λ i h. let g = at-get i l (omega (arith, size)) in
-      rw (table-den σ κ l some i (g .side) (g .is) h)
-      (chain-den minusInfinity i (g .side) l (shape .chained) (g .is) (omega (arith, size)), shape .small (g .side) (at-in i (g .side) l (g .is)) .1, refl);
+        rw (table-den σ κ l some i (g .side) (g .is) h)
+        (chain-den minusInfinity i (g .side) l (shape .chained) (g .is) (omega (arith, size)), shape .small (g .side) (at-in i (g .side) l (g .is)) .1, refl);
     neighbours = det-at;
     zero = zero-at;
     pairings = kinds;
@@ -471,9 +471,10 @@ module _ (σ κ : ℕ → ℕ) (n : ℕ) (T : Turning σ κ n) (top : n ≤ 3066
       let p : g ⊗ f ≡ f ⊗ matQ = carried-own f matQ f d in
       let i = in-odd u (e .among) q in
       let k : Known f x = inr (o, record { side = u; among = e .among; frame = inl refl; pt = e .pt }) in
-      let r : adj g ⊗ f ≡ f ⊗ matP = ap (λ (y : Mat). adj g ⊗ y) (sym (Q-P-right f) ∙ ap (λ (y : Mat). y ⊗ matP) (sym p) ∙ ⊗-assoc g f matP) ∙ redo g (f ⊗ matP) (carried-det f matQ f d (det-letter word.Q) d) in
-      (record { by = g; frame = f; pt = x; inH = i .there; known = k; is = ≈-right matQ (e .frame) ∙≈ inl (sym p) },
-       record { by = adj g; frame = f; pt = x; inH = i .inverse; known = k; is = ≈-right matP (e .frame) ∙≈ inl (sym r) })
+      let r : adj g ⊗ f ≡ f ⊗ matP = ap (λ (y : Mat). adj g ⊗ y) (sym (Q-P-right f) ∙ ap (λ (y : Mat). y ⊗ matP) (sym p) ∙ ⊗-assoc g f matP) ∙ redo g (f ⊗ matP) (carried-det f matQ f d (det-letter word.Q) d) in (
+        record { by = g; frame = f; pt = x; inH = i .there; known = k; is = ≈-right matQ (e .frame) ∙≈ inl (sym p) },
+        record { by = adj g; frame = f; pt = x; inH = i .inverse; known = k; is = ≈-right matP (e .frame) ∙≈ inl (sym r) },
+      )
 
   shift : (m k : Mat) → m ≈ k → Reached k → Reached m
   shift m k e r = record { by = r .by; frame = r .frame; pt = r .pt; inH = r .inH; known = r .known; is = e ∙≈ r .is }

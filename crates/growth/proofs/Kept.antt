@@ -222,7 +222,7 @@ module _ (σ κ : ℕ → ℕ) (n : ℕ) where
 
       pub new-apart : Apart (pts new)
       new-apart = split-apart s (lowerAt σ κ s) (upperAt σ κ s) after before (inv .apart) (not-old t1) (not-old t2)
-        (λ e. let z : _≡_ {A = Turn} t1 t2 = turn-one (s .pt) moved t1 t2 (sym (T .twice _) ∙ ap σ e ∙ T .twice _) in let q : _≡_ {A = ℕ} 0 1 = cc in omega arith)
+          (λ e. let z : _≡_ {A = Turn} t1 t2 = turn-one (s .pt) moved t1 t2 (sym (T .twice _) ∙ ap σ e ∙ T .twice _) in let q : _≡_ {A = ℕ} 0 1 = cc in omega arith)
 
       -- what is said of old sides and of the two parts holds of the new ones
       each : (P : Placed → Type 0) → ((u : Placed) → In u old → ¬ (u .pt ≡ s .pt) → P u) → P (lowerAt σ κ s) → P (upperAt σ κ s) → (u : Placed) → In u new → P u
@@ -241,9 +241,9 @@ module _ (σ κ : ℕ → ℕ) (n : ℕ) where
 
       new-under : (u : Placed) → In u new → Corner σ κ (s ∷ C) (framed u ⊗ matS) (σ (u .pt))
       new-under = each (λ u. Corner σ κ (s ∷ C) (framed u ⊗ matS) (σ (u .pt)))
-        (λ u h e. corner-more s (inv .under u h))
-        (corner-≈ lower-under (corner-pt (sym (T .twice _)) (corner-new C s t1)))
-        (corner-≈ upper-under (corner-pt (sym (T .twice _)) (corner-new C s t2)))
+          (λ u h e. corner-more s (inv .under u h))
+          (corner-≈ lower-under (corner-pt (sym (T .twice _)) (corner-new C s t1)))
+          (corner-≈ upper-under (corner-pt (sym (T .twice _)) (corner-new C s t2)))
 
       back : (m n : Mat) → m ⊗ matS ≈ n → n ⊗ matS ≈ m
       back m n e = ≈-right matS (≈-sym e) ∙≈ S-twice m
@@ -346,14 +346,20 @@ module _ (σ κ : ℕ → ℕ) (n : ℕ) where
 
       -- A SPLIT KEEPS IT ALL
       pub step : Inv (s ∷ C) new
-      step = record
-        { apart = new-apart; tops = new-tops; under = new-under; beyond = new-beyond; meets = new-meets; home = new-home
-        ; dets = each (λ u. det (framed u) ≡ pos 1) (λ u h e. inv .dets u h) (lower-det s σ κ ∙ inv .dets s has-s) (upper-det s σ κ ∙ inv .dets s has-s)
-        ; leads = each (λ u. Leads σ κ (framed u) (u .pt)) (λ u h e. inv .leads u h)
+      step = record {
+        apart = new-apart;
+        tops = new-tops;
+        under = new-under;
+        beyond = new-beyond;
+        meets = new-meets;
+        home = new-home;
+        dets = each (λ u. det (framed u) ≡ pos 1) (λ u h e. inv .dets u h) (lower-det s σ κ ∙ inv .dets s has-s) (upper-det s σ κ ∙ inv .dets s has-s);
+        leads = each (λ u. Leads σ κ (framed u) (u .pt)) (λ u h e. inv .leads u h)
             (leads-≈ σ κ n T (≈-sym (back _ _ lower-under)) (leads-step σ κ n T word.S (leads-step σ κ n T word.Q (inv .leads s has-s))))
-            (leads-≈ σ κ n T (≈-sym (back _ _ upper-under)) (leads-step σ κ n T word.S (leads-step σ κ n T word.P (inv .leads s has-s))))
-        ; low = each (λ u. u .pt < n) (λ u h e. inv .low u h) (T .σ-low _ (T .κ-low _ (inv .low s has-s))) (T .σ-low _ (T .κ-low _ (T .κ-low _ (inv .low s has-s))))
-        ; grown = new-grown }
+            (leads-≈ σ κ n T (≈-sym (back _ _ upper-under)) (leads-step σ κ n T word.S (leads-step σ κ n T word.P (inv .leads s has-s))));
+        low = each (λ u. u .pt < n) (λ u h e. inv .low u h) (T .σ-low _ (T .κ-low _ (inv .low s has-s))) (T .σ-low _ (T .κ-low _ (T .κ-low _ (inv .low s has-s))));
+        grown = new-grown;
+      }
 
     -- ---- growing ends with all sides closed, and with whatever else each split keeps
 

@@ -77,10 +77,10 @@ module _ (σ κ : ℕ → ℕ) (n : ℕ) (T : Turning σ κ n) where
       record {
         unit = det-one m (adj l) (p .unit) d;
         is = at-⊗ σ κ (T .twice) (T .thrice) 0 m (adj l) (p .unit) d
-          ∙ ap (λ (y : ℕ). at σ κ y (adj l)) (p .is ∙ sym (q .is))
-          ∙ sym (at-⊗ σ κ (T .twice) (T .thrice) 0 l (adj l) (q .unit) d)
-          ∙ ap (at σ κ 0) (⊗-adj l (q .unit))
-          ∙ at-𝟙 σ κ (T .twice) (T .thrice) 0;
+            ∙ ap (λ (y : ℕ). at σ κ y (adj l)) (p .is ∙ sym (q .is))
+            ∙ sym (at-⊗ σ κ (T .twice) (T .thrice) 0 l (adj l) (q .unit) d)
+            ∙ ap (at σ κ 0) (⊗-adj l (q .unit))
+            ∙ at-𝟙 σ κ (T .twice) (T .thrice) 0;
       }
 
   -- what fixes 0 changes nothing on the left

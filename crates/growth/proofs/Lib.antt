@@ -11,3 +11,4 @@ pub mod Start
 pub mod Small
 pub mod Visit
 pub mod Rounds
+pub mod Theorem

@@ -22,12 +22,11 @@ use Rattle.symbol.proofs.Choice.{pick-true, pick-false, either, clash}
 use Rattle.growth.specs.Side.{Side, frame, mediant, lower, upper, fits}
 use Rattle.growth.specs.Rule.{Mark, unpaired, even, odd, free, Row, row, isOpen, Parted, closed, parted, over, after, Grown, finished, refused, goOn, least, pointOf, visitAll, splitFirst, rounds}
 use Rattle.growth.specs.Placed as model
-use Rattle.growth.specs.Placed.{Placed, bare, pts, Grew, grow, cutIn, lowerAt, upperAt, isClosed, markOf}
+use Rattle.growth.specs.Placed.{Placed, bare, pts, Grew, grow, cutIn, lowerAt, upperAt, isClosed, markOf, rowsOf}
 use Rattle.growth.proofs.Member.{In, in-left, in-right, in-either, Apart, in-is}
 use Rattle.growth.proofs.Lead.{Turning, Leads}
 use Rattle.growth.proofs.Split.{framed, Closed, AllClosed, closed-true, closed-false, true-closed, false-closed, Shut, Broken, outcome, in-pts, Pt, pt-of, of-pt, split-from, beside-in, Beside, Turn, t0, t1, t2, turnX}
 use Rattle.growth.proofs.Kept.{Inv, step, not-old, moved, stays, corner-pt, corner-free}
-use Rattle.growth.proofs.Table.{rowsOf}
 use Rattle.growth.proofs.Visit.{pt, points, settle, settles, Vacant, Ready, visits-settle}
 
 -- ---- rows and sides
@@ -355,7 +354,7 @@ module _ (σ κ : ℕ → ℕ) where
       new-fair = each (λ r. (isOpen (r .mark) ≡ true) ⊎ (Closed σ κ B' (pt σ κ r) × (r .mark ≡ markOf σ κ (pt σ κ r)))) (inl refl) (inl refl) (λ u h. go u h (isClosed σ κ B (pointOf σ κ (bare u))) refl)
         where
           go : (u : Placed) → Next u → (b : Bool) → isClosed σ κ B (pointOf σ κ (bare u)) ≡ b
-            → (isOpen (pick b (markOf σ κ (pointOf σ κ (bare u))) unpaired) ≡ true) ⊎ (Closed σ κ B' (pointOf σ κ (bare u)) × (pick b (markOf σ κ (pointOf σ κ (bare u))) unpaired ≡ markOf σ κ (pointOf σ κ (bare u))))
+              → (isOpen (pick b (markOf σ κ (pointOf σ κ (bare u))) unpaired) ≡ true) ⊎ (Closed σ κ B' (pointOf σ κ (bare u)) × (pick b (markOf σ κ (pointOf σ κ (bare u))) unpaired ≡ markOf σ κ (pointOf σ κ (bare u))))
           go u h true e = inr (rw (old-pt u h) (still u h (rw (old-pt u h) at (closed-true σ κ B (pointOf σ κ (bare u)) e))), refl)
           go u h false e = inl refl
 
@@ -380,7 +379,7 @@ module _ (σ κ : ℕ → ℕ) where
         ap (λ (x : List Row). goOn (rounds σ κ f) x (splitFirst σ κ 0 x)) (visits-mark C l rs a) ∙ go (outcome σ κ (pts l) 0 l) (λ C l rs a. rounds-are f C l rs a)
       where
         go : Shut σ κ (pts l) 0 l ⊎ Broken σ κ (pts l) 0 l → ((C l : List Placed) (rs : List Row) → Fit C l rs → rounds σ κ f rs ≡ ruled (grow σ κ f l))
-          → goOn (rounds σ κ f) (marked l) (splitFirst σ κ 0 (marked l)) ≡ ruled (model.goOn (grow σ κ f) l (cutIn σ κ (pts l) 0 l))
+            → goOn (rounds σ κ f) (marked l) (splitFirst σ κ 0 (marked l)) ≡ ruled (model.goOn (grow σ κ f) l (cutIn σ κ (pts l) 0 l))
         go (inl r) ih =
             ap (goOn (rounds σ κ f) (marked l)) (split-shut (pts l) 0 l (placed-points C l (a .inv)) (r .all))
             ∙ sym (ap (λ (x : model.Cut). ruled (model.goOn (grow σ κ f) l x)) (r .is))
@@ -395,8 +394,8 @@ module _ (σ κ : ℕ → ℕ) where
             ∙ sym (ap (λ (x : model.Cut). ruled (model.goOn (grow σ κ f) l x)) (r .is))
           where
             by-fit : (b : Bool) → rounds σ κ f (halves (pts (r .before ++ (r .side ∷ r .after))) (r .before) (r .side) (r .after)) ≡ ruled (grow σ κ f (r .before ++ (lowerAt σ κ (r .side) ∷ upperAt σ κ (r .side) ∷ r .after)))
-              → goOn (rounds σ κ f) (marked l) (pick b (parted (halves (pts (r .before ++ (r .side ∷ r .after))) (r .before) (r .side) (r .after))) (over (0 + length (r .before))))
-              ≡ ruled (model.goOn (grow σ κ f) l (pick b (model.parted (r .before ++ (lowerAt σ κ (r .side) ∷ upperAt σ κ (r .side) ∷ r .after))) (model.over (0 + length (r .before)))))
+                → goOn (rounds σ κ f) (marked l) (pick b (parted (halves (pts (r .before ++ (r .side ∷ r .after))) (r .before) (r .side) (r .after))) (over (0 + length (r .before))))
+                ≡ ruled (model.goOn (grow σ κ f) l (pick b (model.parted (r .before ++ (lowerAt σ κ (r .side) ∷ upperAt σ κ (r .side) ∷ r .after))) (model.over (0 + length (r .before)))))
             by-fit true e = e
             by-fit false e = refl
 

@@ -127,17 +127,24 @@ module _ (σ κ : ℕ → ℕ) where
   outcome B i (s ∷ l) = go (isClosed σ κ B (s .pt)) refl (outcome B (suc i) l)
     where
       by-test : (b : Bool) → isClosed σ κ B (s .pt) ≡ b
-        → cutIn σ κ B i (s ∷ l) ≡ pick b (next s (cutIn σ κ B (suc i) l)) (pick (fits (mediant (s .lo) (s .hi))) (parted (lowerAt σ κ s ∷ upperAt σ κ s ∷ l)) (over i))
+          → cutIn σ κ B i (s ∷ l) ≡ pick b (next s (cutIn σ κ B (suc i) l)) (pick (fits (mediant (s .lo) (s .hi))) (parted (lowerAt σ κ s ∷ upperAt σ κ s ∷ l)) (over i))
       by-test b e = ap (λ (z : Bool). pick z (next s (cutIn σ κ B (suc i) l)) (pick (fits (mediant (s .lo) (s .hi))) (parted (lowerAt σ κ s ∷ upperAt σ κ s ∷ l)) (over i))) e
 
       go : (b : Bool) → isClosed σ κ B (s .pt) ≡ b → Shut B (suc i) l ⊎ Broken B (suc i) l → Shut B i (s ∷ l) ⊎ Broken B i (s ∷ l)
       go false e r = inr (record {
-        before = []; side = s; after = l; was = refl; none = closed-false σ κ B (s .pt) e; shut = λ u h. absurd h;
+        before = [];
+        side = s;
+        after = l;
+        was = refl;
+        none = closed-false σ κ B (s .pt) e;
+        shut = λ u h. absurd h;
         is = by-test false e ∙ ap (λ (j : ℕ). pick (fits (mediant (s .lo) (s .hi))) (parted (lowerAt σ κ s ∷ upperAt σ κ s ∷ l)) (over j)) (zeroth i);
       })
       go true e (inl r) = inl (record { is = by-test true e ∙ ap (next s) (r .is); all = all-more B s l (closed-true σ κ B (s .pt) e) (r .all) })
       go true e (inr r) = inr (record {
-        before = s ∷ r .before; side = r .side; after = r .after;
+        before = s ∷ r .before;
+        side = r .side;
+        after = r .after;
         was = ap (λ (x : List Placed). s ∷ x) (r .was);
         none = r .none;
         shut = all-more B s (r .before) (closed-true σ κ B (s .pt) e) (r .shut);

@@ -128,23 +128,24 @@ module _ (σ κ : ℕ → ℕ) (n : ℕ) (T : Turning σ κ n) where
   back m n e = ≈-right matS (≈-sym e) ∙≈ S-twice m
 
   pub begin : (s o : Placed) (ss : List Placed) → Start s o ss → Inv σ κ n (s ∷ []) ss
-  begin s o ss a = record
-    { apart = a .apart
-    ; tops = (a .moved, a .low, (λ m k. k .among), tt)
-    ; under = each (λ u. Corner σ κ (s ∷ []) (framed u ⊗ matS) (σ (u .pt)))
+  begin s o ss a = record {
+    apart = a .apart;
+    tops = (a .moved, a .low, (λ m k. k .among), tt);
+    under = each (λ u. Corner σ κ (s ∷ []) (framed u ⊗ matS) (σ (u .pt)))
         (new t0 (a .faces) (sym (ap σ (a .pt) ∙ T .twice (s .pt))))
         (new t1 lower-under (sym (T .twice _)))
-        (new t2 upper-under (sym (T .twice _)))
-    ; beyond = beyond
-    ; meets = λ u m h k. meets m (u .pt) k
-    ; home = a .home
-    ; dets = each (λ u. det (framed u) ≡ pos 1) (a .det-o) (lower-det s σ κ ∙ a .det-s) (upper-det s σ κ ∙ a .det-s)
-    ; leads = each (λ u. Leads σ κ (framed u) (u .pt))
+        (new t2 upper-under (sym (T .twice _)));
+    beyond = beyond;
+    meets = λ u m h k. meets m (u .pt) k;
+    home = a .home;
+    dets = each (λ u. det (framed u) ≡ pos 1) (a .det-o) (lower-det s σ κ ∙ a .det-s) (upper-det s σ κ ∙ a .det-s);
+    leads = each (λ u. Leads σ κ (framed u) (u .pt))
         (rw (a .pt) (leads-≈ σ κ n T (≈-sym (back _ _ (a .faces))) (leads-step σ κ n T word.S (a .leads-s))))
         (leads-≈ σ κ n T (≈-sym (back _ _ lower-under)) (leads-step σ κ n T word.S (leads-step σ κ n T word.Q (a .leads-s))))
-        (leads-≈ σ κ n T (≈-sym (back _ _ upper-under)) (leads-step σ κ n T word.S (leads-step σ κ n T word.P (a .leads-s))))
-    ; low = each (λ u. u .pt < n) (rw (a .pt) (T .σ-low _ (a .low))) (T .σ-low _ (T .κ-low _ (a .low))) (T .σ-low _ (T .κ-low _ (T .κ-low _ (a .low))))
-    ; grown = grown }
+        (leads-≈ σ κ n T (≈-sym (back _ _ upper-under)) (leads-step σ κ n T word.S (leads-step σ κ n T word.P (a .leads-s))));
+    low = each (λ u. u .pt < n) (rw (a .pt) (T .σ-low _ (a .low))) (T .σ-low _ (T .κ-low _ (a .low))) (T .σ-low _ (T .κ-low _ (T .κ-low _ (a .low))));
+    grown = grown;
+  }
     where
       each : (P : Placed → Type 0) → P o → P (lowerAt σ κ s) → P (upperAt σ κ s) → (u : Placed) → In u ss → P u
       each P x y z u h = go (a .only u h)
@@ -242,17 +243,21 @@ module _ (σ κ : ℕ → ℕ) (n : ℕ) (T : Turning σ κ n) where
       out0 (inr (inr h)) = h
 
   start-1 : ¬ (κ 0 ≡ 0) → Start σ κ n T (right0 0) (left0 (σ 0)) (start1 σ κ)
-  start-1 h = record
-    { only = only
-    ; has-o = inl refl; has-l = inr (inl refl); has-r = inr (inr (inl refl))
-    ; apart = three _ _ _ (differ 0 h t0 t1 t01) (differ 0 h t0 t2 t02) (differ 0 h t1 t2 t12)
-    ; faces = inl (ap (λ (m : Mat). m ⊗ matS) (left-frame (σ 0))) ∙≈ inr S-S ∙≈ inl (sym (right-frame 0))
-    ; pt = refl; moved = h
-    ; det-s = ap det (right-frame 0) ∙ det-𝟙
-    ; det-o = ap det (left-frame (σ 0)) ∙ det-letter word.S
-    ; leads-s = leads-≈ σ κ n T (inl (right-frame 0)) (leads-𝟙 σ κ n T)
-    ; low = (T .some)
-    ; home = inl (record { tri = right0 0; among = inl refl; turn = t0; frame = inl (sym (right-frame 0)); pt = refl }) }
+  start-1 h = record {
+    only = only;
+    has-o = inl refl;
+    has-l = inr (inl refl);
+    has-r = inr (inr (inl refl));
+    apart = three _ _ _ (differ 0 h t0 t1 t01) (differ 0 h t0 t2 t02) (differ 0 h t1 t2 t12);
+    faces = inl (ap (λ (m : Mat). m ⊗ matS) (left-frame (σ 0))) ∙≈ inr S-S ∙≈ inl (sym (right-frame 0));
+    pt = refl;
+    moved = h;
+    det-s = ap det (right-frame 0) ∙ det-𝟙;
+    det-o = ap det (left-frame (σ 0)) ∙ det-letter word.S;
+    leads-s = leads-≈ σ κ n T (inl (right-frame 0)) (leads-𝟙 σ κ n T);
+    low = (T .some);
+    home = inl (record { tri = right0 0; among = inl refl; turn = t0; frame = inl (sym (right-frame 0)); pt = refl });
+  }
     where
       only : (u : Placed) → In u (start1 σ κ) → (u ≡ left0 (σ 0)) ⊎ (u ≡ lowerAt σ κ (right0 0)) ⊎ (u ≡ upperAt σ κ (right0 0))
       only u (inl e) = inl e
@@ -261,17 +266,21 @@ module _ (σ κ : ℕ → ℕ) (n : ℕ) (T : Turning σ κ n) where
       only u (inr (inr (inr e))) = absurd e
 
   start-2 : κ 0 ≡ 0 → ¬ (κ (σ 0) ≡ σ 0) → Start σ κ n T (left0 (σ 0)) (right0 0) (start2 σ κ)
-  start-2 o h = record
-    { only = only
-    ; has-o = inr (inr (inl refl)); has-l = inl refl; has-r = inr (inl refl)
-    ; apart = three _ _ _ (differ (σ 0) h t1 t2 t12) (λ e. differ (σ 0) h t0 t1 t01 (T .twice 0 ∙ sym e)) (λ e. differ (σ 0) h t0 t2 t02 (T .twice 0 ∙ sym e))
-    ; faces = inl (ap (λ (m : Mat). m ⊗ matS) (right-frame 0) ∙ ⊗-idl matS ∙ sym (left-frame (σ 0)))
-    ; pt = sym (T .twice 0); moved = h
-    ; det-s = ap det (left-frame (σ 0)) ∙ det-letter word.S
-    ; det-o = ap det (right-frame 0) ∙ det-𝟙
-    ; leads-s = leads-≈ σ κ n T (inl (left-frame (σ 0) ∙ sym (⊗-idl matS))) (leads-step σ κ n T word.S (leads-𝟙 σ κ n T))
-    ; low = T .σ-low 0 (T .some)
-    ; home = inr (o, record { side = right0 0; among = inr (inr (inl refl)); frame = inl (sym (right-frame 0)); pt = refl }) }
+  start-2 o h = record {
+    only = only;
+    has-o = inr (inr (inl refl));
+    has-l = inl refl;
+    has-r = inr (inl refl);
+    apart = three _ _ _ (differ (σ 0) h t1 t2 t12) (λ e. differ (σ 0) h t0 t1 t01 (T .twice 0 ∙ sym e)) (λ e. differ (σ 0) h t0 t2 t02 (T .twice 0 ∙ sym e));
+    faces = inl (ap (λ (m : Mat). m ⊗ matS) (right-frame 0) ∙ ⊗-idl matS ∙ sym (left-frame (σ 0)));
+    pt = sym (T .twice 0);
+    moved = h;
+    det-s = ap det (left-frame (σ 0)) ∙ det-letter word.S;
+    det-o = ap det (right-frame 0) ∙ det-𝟙;
+    leads-s = leads-≈ σ κ n T (inl (left-frame (σ 0) ∙ sym (⊗-idl matS))) (leads-step σ κ n T word.S (leads-𝟙 σ κ n T));
+    low = T .σ-low 0 (T .some);
+    home = inr (o, record { side = right0 0; among = inr (inr (inl refl)); frame = inl (sym (right-frame 0)); pt = refl });
+  }
     where
       only : (u : Placed) → In u (start2 σ κ) → (u ≡ right0 0) ⊎ (u ≡ lowerAt σ κ (left0 (σ 0))) ⊎ (u ≡ upperAt σ κ (left0 (σ 0)))
       only u (inl e) = inr (inl e)

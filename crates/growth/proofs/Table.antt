@@ -33,7 +33,7 @@ use Rattle.points.proofs.Order.{add-old, add-new}
 use Rattle.growth.specs.Side.{Vertex, vertex, minusInfinity, infinity}
 use Rattle.growth.specs.Rule.{Mark, unpaired, even, odd, free, Row, row, least}
 use Rattle.growth.specs.Symbol.{noted, labelsFrom, labelsOf, entry, entries, verticesOf, tableOf}
-use Rattle.growth.specs.Placed.{Placed, bare, pts, markOf}
+use Rattle.growth.specs.Placed.{Placed, bare, pts, markOf, rowOf, rowsOf}
 use Rattle.growth.proofs.Member.{In, Apart, in-is}
 use Rattle.growth.proofs.Split.{framed, in-pts}
 
@@ -139,22 +139,15 @@ inner-at x (s ∷ t ∷ l) (inr h) = let k = inner-at x (t ∷ l) h in let m = k
 -- ---- the table
 
 module _ (σ κ : ℕ → ℕ) where
-  abbrev pub rowOf : Placed → Row
-  rowOf u = row (bare u) (markOf σ κ (u .pt))
-
-  abbrev pub rowsOf : List Placed → List Row
-  rowsOf [] = []
-  rowsOf (u ∷ l) = rowOf u ∷ rowsOf l
-
-  pub length-rows : (l : List Placed) → length (rowsOf l) ≡ length l
+  pub length-rows : (l : List Placed) → length (rowsOf σ κ l) ≡ length l
   length-rows [] = refl
   length-rows (u ∷ l) = ap suc (length-rows l)
 
-  pub length-vertices : (s : Placed) (l : List Placed) → length (verticesOf (rowsOf (s ∷ l))) ≡ 2 * length l
+  pub length-vertices : (s : Placed) (l : List Placed) → length (verticesOf (rowsOf σ κ (s ∷ l))) ≡ 2 * length l
   length-vertices s [] = refl
   length-vertices s (t ∷ l) = let k = length-vertices t l in omega arith
 
-  pub length-entries : (L : List ℕ) (l : List Placed) → length (entries L (rowsOf l)) ≡ length l
+  pub length-entries : (L : List ℕ) (l : List Placed) → length (entries L (rowsOf σ κ l)) ≡ length l
   length-entries L [] = refl
   length-entries L (u ∷ l) = ap suc (length-entries L l)
 
@@ -164,19 +157,19 @@ module _ (σ κ : ℕ → ℕ) where
   three-more : (i : ℕ) → 2 * suc i + 1 ≡ suc (suc (2 * i + 1))
   three-more i = omega arith
 
-  vertex-num : (i : ℕ) (u : Placed) (l : List Placed) (ps : List ℤ) → At i u l → suc i < length l → nth (verticesOf (rowsOf l) ++ ps) (2 * i) ≡ u .hi .num
+  vertex-num : (i : ℕ) (u : Placed) (l : List Placed) (ps : List ℤ) → At i u l → suc i < length l → nth (verticesOf (rowsOf σ κ l) ++ ps) (2 * i) ≡ u .hi .num
   vertex-num i u [] ps h e = absurd h
   vertex-num i u (s ∷ []) ps h e = absurd (omega arith)
   vertex-num zero u (s ∷ t ∷ l) ps h e = ap (λ (y : Placed). y .hi .num) (sym h)
-  vertex-num (suc i) u (s ∷ t ∷ l) ps h e = ap (nth (verticesOf (rowsOf (s ∷ t ∷ l)) ++ ps)) (two-more i) ∙ vertex-num i u (t ∷ l) ps h (omega arith)
+  vertex-num (suc i) u (s ∷ t ∷ l) ps h e = ap (nth (verticesOf (rowsOf σ κ (s ∷ t ∷ l)) ++ ps)) (two-more i) ∙ vertex-num i u (t ∷ l) ps h (omega arith)
 
-  vertex-den : (i : ℕ) (u : Placed) (l : List Placed) (ps : List ℤ) → At i u l → suc i < length l → nth (verticesOf (rowsOf l) ++ ps) (2 * i + 1) ≡ pos (u .hi .den)
+  vertex-den : (i : ℕ) (u : Placed) (l : List Placed) (ps : List ℤ) → At i u l → suc i < length l → nth (verticesOf (rowsOf σ κ l) ++ ps) (2 * i + 1) ≡ pos (u .hi .den)
   vertex-den i u [] ps h e = absurd h
   vertex-den i u (s ∷ []) ps h e = absurd (omega arith)
   vertex-den zero u (s ∷ t ∷ l) ps h e = ap (λ (y : Placed). pos (y .hi .den)) (sym h)
-  vertex-den (suc i) u (s ∷ t ∷ l) ps h e = ap (nth (verticesOf (rowsOf (s ∷ t ∷ l)) ++ ps)) (three-more i) ∙ vertex-den i u (t ∷ l) ps h (omega arith)
+  vertex-den (suc i) u (s ∷ t ∷ l) ps h e = ap (nth (verticesOf (rowsOf σ κ (s ∷ t ∷ l)) ++ ps)) (three-more i) ∙ vertex-den i u (t ∷ l) ps h (omega arith)
 
-  entry-at : (L : List ℕ) (i : ℕ) (u : Placed) (l : List Placed) → At i u l → nth (entries L (rowsOf l)) i ≡ entry L (markOf σ κ (u .pt))
+  entry-at : (L : List ℕ) (i : ℕ) (u : Placed) (l : List Placed) → At i u l → nth (entries L (rowsOf σ κ l)) i ≡ entry L (markOf σ κ (u .pt))
   entry-at L i u [] h = absurd h
   entry-at L zero u (s ∷ l) h = ap (λ (y : Placed). entry L (markOf σ κ (y .pt))) (sym h)
   entry-at L (suc i) u (s ∷ l) h = entry-at L i u l h
@@ -228,16 +221,16 @@ module _ (σ κ : ℕ → ℕ) where
   length-from l [] = omega arith
   length-from l (r ∷ rows) = omega (arith, length-from (noted l (r .mark)) rows, length-noted l (r .mark))
 
-  in-rows : (u : Placed) (l : List Placed) → In u l → In (rowOf u) (rowsOf l)
+  in-rows : (u : Placed) (l : List Placed) → In u l → In (rowOf σ κ u) (rowsOf σ κ l)
   in-rows u [] h = h
-  in-rows u (s ∷ l) (inl e) = inl (ap rowOf e)
+  in-rows u (s ∷ l) (inl e) = inl (ap (rowOf σ κ) e)
   in-rows u (s ∷ l) (inr h) = inr (in-rows u l h)
 
-  pub labels-in : (u : Placed) (l : List Placed) (x : ℕ) → In u l → markOf σ κ (u .pt) ≡ free x → x ∈ labelsOf (rowsOf l)
-  labels-in u l x h e = from-in [] x (rowOf u) (rowsOf l) (in-rows u l h) e
+  pub labels-in : (u : Placed) (l : List Placed) (x : ℕ) → In u l → markOf σ κ (u .pt) ≡ free x → x ∈ labelsOf (rowsOf σ κ l)
+  labels-in u l x h e = from-in [] x (rowOf σ κ u) (rowsOf σ κ l) (in-rows u l h) e
 
-  pub labels-few : (l : List Placed) → length (labelsOf (rowsOf l)) ≤ length l
-  labels-few l = omega (arith, length-from [] (rowsOf l), length-rows l)
+  pub labels-few : (l : List Placed) → length (labelsOf (rowsOf σ κ l)) ≤ length l
+  labels-few l = omega (arith, length-from [] (rowsOf σ κ l), length-rows l)
 
   -- ---- the marks that points say
 
@@ -254,35 +247,35 @@ module _ (σ κ : ℕ → ℕ) where
 
   module _ (l : List Placed) (some : 1 ≤ length l) where
     abbrev pub vOf : ℕ
-    vOf = length (rowsOf l) - 1
+    vOf = length (rowsOf σ κ l) - 1
 
     abbrev pub tOf : List ℤ
-    tOf = tableOf (rowsOf l)
+    tOf = tableOf (rowsOf σ κ l)
 
     abbrev pub labels : List ℕ
-    labels = labelsOf (rowsOf l)
+    labels = labelsOf (rowsOf σ κ l)
 
     pub v-is : suc vOf ≡ length l
     v-is = omega (arith, length-rows l)
 
-    vertices-long : length (verticesOf (rowsOf l)) ≡ 2 * vOf
+    vertices-long : length (verticesOf (rowsOf σ κ l)) ≡ 2 * vOf
     vertices-long = go l some v-is
       where
-        go : (l' : List Placed) → 1 ≤ length l' → suc vOf ≡ length l' → length (verticesOf (rowsOf l')) ≡ 2 * vOf
+        go : (l' : List Placed) → 1 ≤ length l' → suc vOf ≡ length l' → length (verticesOf (rowsOf σ κ l')) ≡ 2 * vOf
         go [] h e = absurd (omega arith)
         go (s ∷ l') h e = length-vertices s l' ∙ omega arith
 
     pub table-long : length tOf ≡ 3 * vOf + 1
-    table-long = length-append (verticesOf (rowsOf l)) (entries labels (rowsOf l)) ∙ omega (arith, vertices-long, length-entries labels l, v-is)
+    table-long = length-append (verticesOf (rowsOf σ κ l)) (entries labels (rowsOf σ κ l)) ∙ omega (arith, vertices-long, length-entries labels l, v-is)
 
     pub table-num : (i : ℕ) (u : Placed) → At i u l → i < vOf → numer tOf i ≡ u .hi .num
-    table-num i u h e = vertex-num i u l (entries labels (rowsOf l)) h (omega (arith, v-is))
+    table-num i u h e = vertex-num i u l (entries labels (rowsOf σ κ l)) h (omega (arith, v-is))
 
     pub table-den : (i : ℕ) (u : Placed) → At i u l → i < vOf → denom tOf i ≡ pos (u .hi .den)
-    table-den i u h e = vertex-den i u l (entries labels (rowsOf l)) h (omega (arith, v-is))
+    table-den i u h e = vertex-den i u l (entries labels (rowsOf σ κ l)) h (omega (arith, v-is))
 
     pub table-pairing : (i : ℕ) (u : Placed) → At i u l → pairing vOf tOf i ≡ entry labels (markOf σ κ (u .pt))
-    table-pairing i u h = ap (λ (p : List ℤ). nth p i) (drop-at (verticesOf (rowsOf l)) (entries labels (rowsOf l)) (2 * vOf) vertices-long) ∙ entry-at labels i u l h
+    table-pairing i u h = ap (λ (p : List ℤ). nth p i) (drop-at (verticesOf (rowsOf σ κ l)) (entries labels (rowsOf σ κ l)) (2 * vOf) vertices-long) ∙ entry-at labels i u l h
 
     pub pair-even : (i : ℕ) (u : Placed) → At i u l → σ (u .pt) ≡ u .pt → pairing vOf tOf i ≡ negsuc 1
     pair-even i u h e = table-pairing i u h ∙ ap (entry labels) (mark-even (u .pt) e)

@@ -137,10 +137,14 @@ module _ (σ κ : ℕ → ℕ) (n : ℕ) (T : Turning σ κ n) where
       go q (inl e) b p = h (sym (ap (λ (x : Row). isOpen (x .mark)) e) ∙ b) (sym (ap (λ (x : Row). σ (pt σ κ x)) e) ∙ p)
       go q (inr i) b p = f q i b p
   seen-behind s r rs (found x l) h f = record {
-    before = r ∷ f .before; hit = f .hit; after = f .after;
+    before = r ∷ f .before;
+    hit = f .hit;
+    after = f .after;
     was = ap (λ (y : List Row). r ∷ y) (f .was);
     is = ap (λ (y : List Row). r ∷ y) (f .is);
-    by = f .by; vacant = f .vacant; pairs = f .pairs;
+    by = f .by;
+    vacant = f .vacant;
+    pairs = f .pairs;
   }
 
   sought : (s : Side) (rs : List Row) → det (frame s) ≡ pos 1 → Dets rs → Seen s rs (seek σ κ s rs)
@@ -152,7 +156,13 @@ module _ (σ κ : ℕ → ℕ) (n : ℕ) (T : Turning σ κ n) where
 
       go : (a : Bool) → isOpen (r .mark) ≡ a → (b : Bool) → mates σ κ s (r .side) ≡ b → Seen s rs (seek σ κ s rs) → Seen s (r ∷ rs) (seek σ κ s (r ∷ rs))
       go true p true q f = by-test true (ap (λ (x : Bool). x && mates σ κ s (r .side)) p ∙ q) (record {
-        before = []; hit = r; after = rs; was = refl; is = refl; by = refl; vacant = p;
+        before = [];
+        hit = r;
+        after = rs;
+        was = refl;
+        is = refl;
+        by = refl;
+        vacant = p;
         pairs = mates-yes s (r .side) d (ds r (inl refl)) q;
       })
       go true p false q f = by-test false (ap (λ (x : Bool). x && mates σ κ s (r .side)) p ∙ q) (seen-behind s r rs (seek σ κ s rs) (λ o. mates-no s (r .side) d (ds r (inl refl)) q) f)
@@ -321,8 +331,8 @@ module _ (σ κ : ℕ → ℕ) (n : ℕ) (T : Turning σ κ n) where
 
       -- neither even nor odd: it stays open, or finds its partner
       by-seek : isOpen (r .mark) ≡ true → ¬ (σ (pt σ κ r) ≡ pt σ κ r) → ¬ (κ (pt σ κ r) ≡ pt σ κ r)
-        → ((l : List Row) → Ready B l → length l ≤ f → visitTo σ κ f l ≡ settles σ κ B l)
-        → (o : Sought) → Seen (r .side) rs o → goOn f (visitBy σ κ o r rs) ≡ settle σ κ B r ∷ settles σ κ B rs
+          → ((l : List Row) → Ready B l → length l ≤ f → visitTo σ κ f l ≡ settles σ κ B l)
+          → (o : Sought) → Seen (r .side) rs o → goOn f (visitBy σ κ o r rs) ≡ settle σ κ B r ∷ settles σ κ B rs
       by-seek e ne nq ih nobody s = cons (sym (settle-open B r shut)) (ih rs (drop-first B r rs a (λ q i b p w. s q i b p)) (omega arith))
         where
           away : Vacant (r ∷ rs) (σ (pt σ κ r)) → ⊥
@@ -345,8 +355,8 @@ module _ (σ κ : ℕ → ℕ) (n : ℕ) (T : Turning σ κ n) where
           cons m (ap (visitTo σ κ f) (s .is) ∙ ih _ ready (omega arith) ∙ settles-same B r (s .hit) (s .before) (s .after) x a' (s .by) (s .vacant) (s .pairs) ∙ ap (settles σ κ B) (sym (s .was)))
 
       by-odd : isOpen (r .mark) ≡ true → ¬ (σ (pt σ κ r) ≡ pt σ κ r) → (b : Bool) → isOdd σ κ (r .side) ≡ b
-        → ((l : List Row) → Ready B l → length l ≤ f → visitTo σ κ f l ≡ settles σ κ B l)
-        → goOn f (pick b (visited (row (r .side) odd) rs) (visitBy σ κ (seek σ κ (r .side) rs) r rs)) ≡ settle σ κ B r ∷ settles σ κ B rs
+          → ((l : List Row) → Ready B l → length l ≤ f → visitTo σ κ f l ≡ settles σ κ B l)
+          → goOn f (pick b (visited (row (r .side) odd) rs) (visitBy σ κ (seek σ κ (r .side) rs) r rs)) ≡ settle σ κ B r ∷ settles σ κ B rs
       by-odd e ne true t ih =
           let o = odd-yes (r .side) d t in
           cons (sym (settle-shut B r e (inl o) ∙ ap (row (r .side)) (mark-odd σ κ (pt σ κ r) ne o)))
@@ -354,8 +364,8 @@ module _ (σ κ : ℕ → ℕ) (n : ℕ) (T : Turning σ κ n) where
       by-odd e ne false t ih = by-seek e ne (odd-no (r .side) d t) ih (seek σ κ (r .side) rs) (sought (r .side) rs d (λ q i. a .dets q (inr i)))
 
       by-even : isOpen (r .mark) ≡ true → (b : Bool) → isEven σ κ (r .side) ≡ b
-        → ((l : List Row) → Ready B l → length l ≤ f → visitTo σ κ f l ≡ settles σ κ B l)
-        → goOn f (pick b (visited (row (r .side) even) rs) (pick (isOdd σ κ (r .side)) (visited (row (r .side) odd) rs) (visitBy σ κ (seek σ κ (r .side) rs) r rs))) ≡ settle σ κ B r ∷ settles σ κ B rs
+          → ((l : List Row) → Ready B l → length l ≤ f → visitTo σ κ f l ≡ settles σ κ B l)
+          → goOn f (pick b (visited (row (r .side) even) rs) (pick (isOdd σ κ (r .side)) (visited (row (r .side) odd) rs) (visitBy σ κ (seek σ κ (r .side) rs) r rs))) ≡ settle σ κ B r ∷ settles σ κ B rs
       by-even e true t ih =
           let z = even-yes (r .side) d t in
           cons (sym (settle-shut B r e (inr (rw z (a .within r (inl refl)))) ∙ ap (row (r .side)) (mark-even σ κ (pt σ κ r) z)))

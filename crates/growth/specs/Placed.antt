@@ -9,15 +9,24 @@
 --   Cut                  no side is open; or the leftmost open one was split; or it can't be, and this is its number
 --   cutIn B i l          the leftmost open side of l is split, B being the points of all sides and i the number of the first
 --   grow n l             n splits at the most
+--   Growing l₀ j l       l is l₀ after j splits
 --   markOf m             what a closed side with the point m is paired as
-use mathlib.Core.Bool.{Bool, true, false, _||_}
+--   rowsOf l             the sides of l with these marks
+--   startPlaced          the start of the rule
+--   quickOf n            THE RULE BY POINTS: for every pair of permutations it is `ruleOf` (proofs/Theorem.antt, `rule-is`)
+use mathlib.Core.Path.{_≡_}
+use mathlib.Core.Bool.{Bool, true, false, _||_, _&&_}
 use mathlib.Core.List.{List, [], _∷_}
-use Prim.Native.Nat.{ℕ, zero, suc}
+use Prim.Native.Nat.{ℕ, zero, suc, _-_}
 use lib.Dec.{eqb}
+use lib.ListN.{length}
+use lib.IntN.{ℤ, pos, negsuc}
 use Rattle.matrix.specs.Euclid.{pick}
 use Rattle.points.specs.Find.{isIn}
-use Rattle.growth.specs.Side.{Vertex, Side, side, mediant, fits}
-use Rattle.growth.specs.Rule.{Mark, even, odd, free, least}
+use Rattle.growth.specs.Side.{Vertex, vertex, minusInfinity, infinity, Side, side, mediant, fits}
+use Rattle.growth.specs.Rule.{Mark, even, odd, free, Row, row, least}
+use Rattle.growth.specs.Symbol as symbol
+use Rattle.growth.specs.Symbol.{tableOf, Ruled, made, oneVertex}
 
 pub record Placed : Type 0 where
   pub lo : Vertex
@@ -71,5 +80,35 @@ module _ (σ κ : ℕ → ℕ) where
   grow zero l = finished l
   grow (suc n) l = goOn (grow n) l (cutIn (pts l) 0 l)
 
+  pub data Growing (start : List Placed) : ℕ → List Placed → Type 0 where
+    begun : Growing start 0 start
+    split : {j : ℕ} {l l' : List Placed} → Growing start j l → cutIn (pts l) 0 l ≡ parted l' → Growing start (suc j) l'
+
   abbrev pub markOf : ℕ → Mark
   markOf m = pick (eqb (σ m) m) even (pick (eqb (κ m) m) odd (free (least m (σ m))))
+
+  abbrev pub rowOf : Placed → Row
+  rowOf u = row (bare u) (markOf (u .pt))
+
+  abbrev pub rowsOf : List Placed → List Row
+  rowsOf [] = []
+  rowsOf (u ∷ l) = rowOf u ∷ rowsOf l
+
+  abbrev pub startPlaced : List Placed
+  startPlaced =
+      let o = vertex (pos 0) 1 in
+      let p = vertex (pos 1) 1 in
+      let q = vertex (negsuc 0) 1 in
+      pick (eqb (κ 0) 0)
+      (placed minusInfinity q (σ (κ (σ 0))) ∷ placed q o (σ (κ (κ (σ 0)))) ∷ placed o infinity 0 ∷ [])
+      (placed minusInfinity o (σ 0) ∷ placed o p (σ (κ 0)) ∷ placed p infinity (σ (κ (κ 0))) ∷ [])
+
+  abbrev pub symbolBy : Grew → Ruled
+  symbolBy (finished l) = made (length l - 1) (tableOf (rowsOf l))
+  symbolBy (refused i) = symbol.over i
+
+  abbrev pub quickOf : ℕ → Ruled
+  quickOf n =
+      pick (eqb (σ 0) 0 && eqb (κ 0) 0) (oneVertex (negsuc 1) (negsuc 2))
+      (pick (eqb (κ 0) 0 && eqb (κ (σ 0)) (σ 0)) (oneVertex (negsuc 2) (negsuc 2))
+      (symbolBy (grow n startPlaced)))
