@@ -1,0 +1,2 @@
+-- Why the calls answer and leave what they do, in reading order.
+pub mod Accepted

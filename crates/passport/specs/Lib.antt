@@ -1,0 +1,3 @@
+-- What a reader of the crate `passport` must believe, in reading order.
+pub mod Check
+pub mod Import
