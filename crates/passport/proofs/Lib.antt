@@ -1,2 +1,3 @@
 -- Why the calls answer and leave what they do, in reading order.
 pub mod Accepted
+pub mod Means
