@@ -12,3 +12,4 @@ pub mod Small
 pub mod Visit
 pub mod Rounds
 pub mod Theorem
+pub mod Going

@@ -9,12 +9,10 @@
 --   Cut                  no side is open; or the leftmost open one was split; or it can't be, and this is its number
 --   cutIn B i l          the leftmost open side of l is split, B being the points of all sides and i the number of the first
 --   grow n l             n splits at the most
---   Growing l₀ j l       l is l₀ after j splits
 --   markOf m             what a closed side with the point m is paired as
 --   rowsOf l             the sides of l with these marks
 --   startPlaced          the start of the rule
 --   quickOf n            THE RULE BY POINTS: for every pair of permutations it is `ruleOf` (proofs/Theorem.antt, `rule-is`)
-use mathlib.Core.Path.{_≡_}
 use mathlib.Core.Bool.{Bool, true, false, _||_, _&&_}
 use mathlib.Core.List.{List, [], _∷_}
 use Prim.Native.Nat.{ℕ, zero, suc, _-_}
@@ -79,10 +77,6 @@ module _ (σ κ : ℕ → ℕ) where
   abbrev pub grow : ℕ → List Placed → Grew
   grow zero l = finished l
   grow (suc n) l = goOn (grow n) l (cutIn (pts l) 0 l)
-
-  pub data Growing (start : List Placed) : ℕ → List Placed → Type 0 where
-    begun : Growing start 0 start
-    split : {j : ℕ} {l l' : List Placed} → Growing start j l → cutIn (pts l) 0 l ≡ parted l' → Growing start (suc j) l'
 
   abbrev pub markOf : ℕ → Mark
   markOf m = pick (eqb (σ m) m) even (pick (eqb (κ m) m) odd (free (least m (σ m))))
