@@ -13,3 +13,4 @@ pub mod Visit
 pub mod Rounds
 pub mod Theorem
 pub mod Going
+pub mod Cells

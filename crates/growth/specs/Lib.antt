@@ -5,3 +5,4 @@ pub mod Rule
 pub mod Symbol
 pub mod Placed
 pub mod Theorem
+pub mod Work

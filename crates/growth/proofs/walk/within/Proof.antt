@@ -1,0 +1,20 @@
+use borrow.Author.Needs.{needs}
+use Rattle.growth.proofs.walk.within.Statement.{statement}
+use Rattle.growth.proofs.walk.within.Tie as tie
+use Rattle.growth.proofs.walk.within.Reads as reads
+use Rattle.growth.proofs.walk.within.Lts as lts
+
+-- src/walk.rt:65:9
+returns : tie.Need-returns
+returns c = search needs
+
+-- src/walk.rt:68:9
+returns-2 : tie.Need-returns-2
+returns-2 c = search needs
+
+-- src/walk.rt:61:1
+returns-3 : tie.Need-returns-3
+returns-3 c = search needs
+
+pub within-spec : {M : Type 1} → statement M
+within-spec = tie.close (tie.spec returns returns-2 returns-3)
