@@ -14,3 +14,4 @@ pub mod Rounds
 pub mod Theorem
 pub mod Going
 pub mod Cells
+pub mod Turn

@@ -1,3 +1,5 @@
+use native.Mathlib.Omega.{arith}
+use lib.ListN.{length-set}
 use borrow.Author.Needs.{needs}
 use Rattle.growth.proofs.walk.hold.Statement.{statement}
 use Rattle.growth.proofs.walk.hold.Tie as tie
@@ -26,7 +28,7 @@ mul-w-2 c = search needs
 
 -- src/walk.rt:91:5
 slice-write-w-2 : tie.Need-slice-write-w-2
-slice-write-w-2 c = search needs
+slice-write-w-2 c = simp length-set (omega arith)
 
 -- src/walk.rt:92:7
 add-w-3 : tie.Need-add-w-3
@@ -38,7 +40,7 @@ mul-w-3 c = search needs
 
 -- src/walk.rt:92:5
 slice-write-w-3 : tie.Need-slice-write-w-3
-slice-write-w-3 c = search needs
+slice-write-w-3 c = simp length-set (omega arith)
 
 -- src/walk.rt:86:1
 same-length : tie.Need-same-length

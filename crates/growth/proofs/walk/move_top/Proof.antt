@@ -1,3 +1,4 @@
+use mathlib.Core.Path.{_≡_, refl, sym, _∙_, ap}
 use borrow.Author.Needs.{needs}
 use Rattle.growth.proofs.walk.move_top.Statement.{statement}
 use Rattle.growth.proofs.walk.move_top.Tie as tie
@@ -53,7 +54,7 @@ same-length c = search needs
 
 -- src/walk.rt:74:1
 returns : tie.Need-returns
-returns c = search needs
+returns c = c .before .before .put-cell .ensures ∙ cc (c .before .before .before .before .before .before .before .before .number-at .ensures .0, c .before .before .before .before .before .before .number-at2 .ensures .0, c .before .before .before .before .point-at .ensures .0)
 
 pub move-top-spec : {M : Type 1} → statement M
 move-top-spec =

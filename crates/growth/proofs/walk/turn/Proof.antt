@@ -1,3 +1,9 @@
+use Rattle.growth.proofs.Turn.{within-tells, sums, split-eq, fits-eq}
+use Prim.Native.Nat.{_+_}
+use mathlib.Core.Path.{_≡_, refl, sym, _∙_, ap}
+use native.Mathlib.Omega.{arith}
+use Rattle.growth.specs.Work.{closedIn, moved, over, parted}
+use Rattle.growth.specs.Fixed.{image, byQ}
 use borrow.Author.Needs.{needs}
 use Rattle.growth.proofs.walk.turn.Statement.{statement}
 use Rattle.growth.proofs.walk.turn.Tie as tie
@@ -50,7 +56,7 @@ same-length c = search needs
 
 -- src/walk.rt:120:9
 returns : tie.Need-returns
-returns c = search needs
+returns c = let s = c .before .before .before .before .before .before .before .before .before .before .before .before in let sg = image (s .args .s .now) in let ka = byQ sg (image (s .args .r .now)) in let e = ap (closedIn sg ka (s .args .w .now)) (sym (c .before .before .before .before .before .before .before .point-at .ensures .0)) ∙ sym (c .before .before .before .before .before .is-closed .ensures) ∙ c .before .before .before .before .if1 .taken in moved e (c .before .before .move-top .ensures) refl refl refl
 
 -- src/walk.rt:122:13
 left-num-requires : tie.Need-left-num-requires
@@ -86,11 +92,11 @@ within-requires c κs = search needs
 
 -- src/walk.rt:125:31
 sub-split-top : tie.Need-sub-split-top
-sub-split-top c = search needs
+sub-split-top c = let t = within-tells (c .before .before .before .before .before .before .before .before .before .left-num .result + c .before .before .before .before .before .before .before .number-at .result) (c .before .before .before .before .before .left-den .result + c .before .before .before .number-at2 .result) (sym (c .before .before .within .ensures) ∙ c .before .if2 .taken) in let a = t .0 in let b = t .1 in let d = t .2 in a
 
 -- src/walk.rt:125:9
 split-top-requires : tie.Need-split-top-requires
-split-top-requires c κs = search needs
+split-top-requires c κs = let t = within-tells (c .before .before .before .before .before .before .before .before .before .left-num .result + c .before .before .before .before .before .before .before .number-at .result) (c .before .before .before .before .before .left-den .result + c .before .before .before .number-at2 .result) (sym (c .before .before .within .ensures) ∙ c .before .if2 .taken) in let a = t .0 in let b = t .1 in let d = t .2 in let z = c .before .before .before .before .before .before .before .before .before .before .before .before .before .before .before .before .before .before .before .pre in (z .pair, z .some, z .todo, z .point, z .long, omega arith, omega arith)
 
 -- src/walk.rt:126:46
 add-t37 : tie.Need-add-t37
@@ -102,7 +108,7 @@ same-length-2 c = search needs
 
 -- src/walk.rt:126:9
 returns-2 : tie.Need-returns-2
-returns-2 c = search needs
+returns-2 c = let s = c .before .before .before .before .before .before .before .before .before .before .before .before .before .before .before .before .before .before .before .before .before .before in let sg = image (s .args .s .now) in let ka = byQ sg (image (s .args .r .now)) in let e = ap (closedIn sg ka (s .args .w .now)) (sym (c .before .before .before .before .before .before .before .before .before .before .before .before .before .before .before .before .before .point-at .ensures .0)) ∙ sym (c .before .before .before .before .before .before .before .before .before .before .before .before .before .before .before .is-closed .ensures) ∙ c .before .before .before .before .before .before .before .before .before .before .before .before .before .before .if1 .left in let p = sums _ _ _ _ (c .before .before .before .before .before .before .before .before .before .before .before .before .left-num .ensures .0) (c .before .before .before .before .before .before .before .before .before .before .number-at .ensures .0) in let q = sums _ _ _ _ (c .before .before .before .before .before .before .before .before .left-den .ensures .0) (c .before .before .before .before .before .before .number-at2 .ensures .0) in parted e (sym (fits-eq sg ka (s .args .w .now) (s .args .k) _ _ _ _ p q) ∙ sym (c .before .before .before .before .before .within .ensures) ∙ c .before .before .before .before .if2 .taken) (c .before .before .split-top .ensures ∙ split-eq sg ka (s .args .w .now) (s .args .k) _ _ _ _ p q) refl refl refl
 
 -- src/walk.rt:112:1
 same-length-3 : tie.Need-same-length-3
@@ -110,7 +116,7 @@ same-length-3 c = search needs
 
 -- src/walk.rt:112:1
 returns-3 : tie.Need-returns-3
-returns-3 c = search needs
+returns-3 c = let s = c .before .before .before .before .before .before .before .before .before .before .before .before .before .before .before .before .before .before in let sg = image (s .args .s .now) in let ka = byQ sg (image (s .args .r .now)) in let e = ap (closedIn sg ka (s .args .w .now)) (sym (c .before .before .before .before .before .before .before .before .before .before .before .before .before .point-at .ensures .0)) ∙ sym (c .before .before .before .before .before .before .before .before .before .before .before .is-closed .ensures) ∙ c .before .before .before .before .before .before .before .before .before .before .if1 .left in let p = sums _ _ _ _ (c .before .before .before .before .before .before .before .before .left-num .ensures .0) (c .before .before .before .before .before .before .number-at .ensures .0) in let q = sums _ _ _ _ (c .before .before .before .before .left-den .ensures .0) (c .before .before .number-at2 .ensures .0) in over e (sym (fits-eq sg ka (s .args .w .now) (s .args .k) _ _ _ _ p q) ∙ sym (c .before .within .ensures) ∙ c .if2 .left) refl refl refl
 
 pub turn-spec : {M : Type 1} → statement M
 turn-spec =
