@@ -15,3 +15,5 @@ pub mod Theorem
 pub mod Going
 pub mod Cells
 pub mod Turn
+pub mod Decode
+pub mod Walking
