@@ -98,7 +98,7 @@ module _ (σ κ : ℕ → ℕ) (n : ℕ) (start : List Placed) where
 
     -- one round of growing at an open side
     round : (done : List Placed) (s : Placed) (todo : List Placed) (g : Going done (s ∷ todo)) → ¬ (Closed σ κ (pts (done ++ (s ∷ todo))) (s .pt))
-      → grow σ κ n start ≡ goOn (grow σ κ (g .left - 1)) (done ++ (s ∷ todo)) (pick (fits (mediant (s .lo) (s .hi))) (parted (done ++ (lowerAt σ κ s ∷ upperAt σ κ s ∷ todo))) (over (length done)))
+        → grow σ κ n start ≡ goOn (grow σ κ (g .left - 1)) (done ++ (s ∷ todo)) (pick (fits (mediant (s .lo) (s .hi))) (parted (done ++ (lowerAt σ κ s ∷ upperAt σ κ s ∷ todo))) (over (length done)))
     round done s todo g h =
         let some : suc (g .left - 1) ≡ g .left = omega (arith, triangles σ κ n T (g .tris) (g .inv .tops), g .count, T .some) in
         g .same

@@ -17,3 +17,4 @@ pub mod Cells
 pub mod Turn
 pub mod Decode
 pub mod Walking
+pub mod Begin

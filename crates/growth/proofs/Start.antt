@@ -288,7 +288,7 @@ module _ (σ κ : ℕ → ℕ) (n : ℕ) (T : Turning σ κ n) where
       only u (inr (inr (inl e))) = inl e
       only u (inr (inr (inr e))) = absurd e
 
-  kept-1 : Kept (right0 0 ∷ []) (start1 σ κ)
+  pub kept-1 : Kept (right0 0 ∷ []) (start1 σ κ)
   kept-1 = record { shape = record { chained = (refl, omega arith, (refl, omega arith, (refl, refl))); zero-in = inl refl; many = omega arith; small = small }; count = refl }
     where
       small : (u : Placed) → In u (start1 σ κ) → (natAbs (u .hi .num) ≤ limit) × (u .hi .den ≤ limit)
@@ -297,7 +297,7 @@ module _ (σ κ : ℕ → ℕ) (n : ℕ) (T : Turning σ κ n) where
       small u (inr (inr (inl e))) = rw e (lit≤ tt, lit≤ tt)
       small u (inr (inr (inr e))) = absurd e
 
-  kept-2 : Kept (left0 (σ 0) ∷ []) (start2 σ κ)
+  pub kept-2 : Kept (left0 (σ 0) ∷ []) (start2 σ κ)
   kept-2 = record { shape = record { chained = (refl, omega arith, (refl, omega arith, (refl, refl))); zero-in = inr (inl refl); many = omega arith; small = small }; count = refl }
     where
       small : (u : Placed) → In u (start2 σ κ) → (natAbs (u .hi .num) ≤ limit) × (u .hi .den ≤ limit)

@@ -28,7 +28,7 @@ use Rattle.growth.proofs.Lead.{Turning, turning}
 use Rattle.growth.proofs.Kept.{Inv, Ends}
 use Rattle.growth.proofs.Table.{length-rows}
 use Rattle.growth.proofs.Finished.{finished-precisely}
-use Rattle.growth.proofs.Start.{Kept, left0, right0, start1, start2, inv-1, inv-2, ends-1, ends-2}
+use Rattle.growth.proofs.Start.{Kept, left0, right0, start1, start2, inv-1, inv-2, kept-1, kept-2, ends-1, ends-2}
 use Rattle.growth.proofs.Small.{smallTable, S-point, Q-point, T-point, conjugate-point, precisely-1, precisely-2}
 use Rattle.growth.proofs.Rounds.{opened, marked, ruled, rounds-are, fit-start, marked-closed}
 
@@ -87,6 +87,7 @@ module _ (σ κ : ℕ → ℕ) (n : ℕ) (T : Turning σ κ n) where
   pub record Started (l : List Placed) : Type 0 where
     pub tri : Placed
     pub inv : Inv σ κ n (tri ∷ []) l
+    pub kept : Kept (tri ∷ []) l
     pub ends : (z : List Placed) → grow σ κ n l ≡ model.finished z → Ends σ κ n T Kept z
 
   start-low : eqb (κ 0) 0 ≡ true → startPlaced σ κ ≡ start2 σ κ
@@ -99,10 +100,10 @@ module _ (σ κ : ℕ → ℕ) (n : ℕ) (T : Turning σ κ n) where
   started true e s =
       let o = eqb-true (κ 0) 0 e in
       let h : ¬ (κ (σ 0) ≡ σ 0) = λ q. clash (and-true (eqb (κ 0) 0) (eqb (κ (σ 0)) (σ 0)) e (eq-eqb (κ (σ 0)) (σ 0) q)) s in
-      rw (start-low e) (record { tri = left0 (σ 0); inv = inv-2 σ κ n T o h; ends = ends-2 σ κ n T o h })
+      rw (start-low e) (record { tri = left0 (σ 0); inv = inv-2 σ κ n T o h; kept = kept-2 σ κ n T; ends = ends-2 σ κ n T o h })
   started false e s =
       let h = eqb-false (κ 0) 0 e in
-      rw (start-high e) (record { tri = right0 0; inv = inv-1 σ κ n T h; ends = ends-1 σ κ n T h })
+      rw (start-high e) (record { tri = right0 0; inv = inv-1 σ κ n T h; kept = kept-1 σ κ n T; ends = ends-1 σ κ n T h })
 
   -- the rows that the rule ends with are the placed sides with their marks
   from-start : secondTest ≡ false → symbolFrom (rounds σ κ n (startRows σ κ)) ≡ symbolBy σ κ (grow σ κ n (startPlaced σ κ))

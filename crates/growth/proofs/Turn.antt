@@ -8,11 +8,13 @@ use mathlib.Core.Bool.{Bool, true, false, _&&_}
 use mathlib.Core.List.{List}
 use Prim.Native.Nat.{ℕ, _+_, _-_, _*_, _≤_, _<_}
 use native.Mathlib.Omega.{arith}
-use lib.Dec.{leb}
+use lib.Dec.{leb, eqb}
 use lib.ListN.{length, set, length-set}
-use borrow.Author.Tests.{le-leb, lt-leb, leb-true}
-use Rattle.symbol.proofs.Choice.{and-left, and-right}
-use Rattle.growth.specs.Work.{heldSet, cellSet, topPoint, splitBy}
+use borrow.Author.Tests.{le-leb, lt-leb, leb-true, eq-eqb, ne-eqb}
+use Rattle.matrix.specs.Euclid.{pick}
+use Rattle.symbol.proofs.Choice.{and-left, and-right, pick-true, pick-false}
+use Rattle.growth.specs.Work.{heldSet, cellSet, topPoint, splitBy, heldThree, startBy, startIn}
+use Rattle.growth.proofs.Cells.{cell-length}
 
 and-false : (a b : Bool) → b ≡ false → (a && b) ≡ false
 and-false true b e = e
@@ -63,3 +65,42 @@ split-by σ κ w h x k e c m p q a b em ep eq ea eb eh ex =
     ∙ ap (λ (y : ℕ). cellSet (set (heldSet w y a b) (20480 + 5 * (k - 1) + 4) b) (20480 + 5 * k) e c a) em
     ∙ ap (λ (y : ℕ). cellSet (set (heldSet w (topPoint w k) y b) (20480 + 5 * (k - 1) + 4) b) (20480 + 5 * k) e c y) fa
     ∙ ap (λ (y : ℕ). cellSet (set (heldSet w (topPoint w k) (σ (κ (topPoint w k))) y) (20480 + 5 * (k - 1) + 4) y) (20480 + 5 * k) e c (σ (κ (topPoint w k)))) fb
+
+-- ---- the start, as the code puts it together
+
+module _ (σ κ : ℕ → ℕ) (w w' : List ℕ) (o q : ℕ) (eo : o ≡ σ 0) (eq : q ≡ κ 0) where
+  pub start-low : q ≡ 0 → (x y p2 p1 : ℕ) → x ≡ κ o → y ≡ κ x → p2 ≡ σ x → p1 ≡ σ y → w' ≡ startBy w 999999999 1000000000 p2 p1 0 → w' ≡ startIn σ κ w
+  start-low z x y p2 p1 ex ey e2 e1 e =
+      let f2 : p2 ≡ σ (κ (σ 0)) = e2 ∙ ap σ (ex ∙ ap κ eo) in
+      let f1 : p1 ≡ σ (κ (κ (σ 0))) = e1 ∙ ap σ (ey ∙ ap κ (ex ∙ ap κ eo)) in
+      e ∙ ap (λ (a : ℕ). startBy w 999999999 1000000000 a p1 0) f2 ∙ ap (λ (a : ℕ). startBy w 999999999 1000000000 (σ (κ (σ 0))) a 0) f1
+      ∙ sym (pick-true (eqb (κ 0) 0) (startBy w 999999999 1000000000 (σ (κ (σ 0))) (σ (κ (κ (σ 0)))) 0) (startBy w 1000000000 1000000001 (σ 0) (σ (κ 0)) (σ (κ (κ 0)))) (eq-eqb (κ 0) 0 (sym eq ∙ z)))
+
+  pub start-high : (q ≡ 0 → ⊥) → (y p1 p0 : ℕ) → y ≡ κ q → p1 ≡ σ q → p0 ≡ σ y → w' ≡ startBy w 1000000000 1000000001 o p1 p0 → w' ≡ startIn σ κ w
+  start-high z y p1 p0 ey e1 e0 e =
+      let f1 : p1 ≡ σ (κ 0) = e1 ∙ ap σ eq in
+      let f0 : p0 ≡ σ (κ (κ 0)) = e0 ∙ ap σ (ey ∙ ap κ eq) in
+      e ∙ ap (λ (a : ℕ). startBy w 1000000000 1000000001 a p1 p0) eo ∙ ap (λ (a : ℕ). startBy w 1000000000 1000000001 (σ 0) a p0) f1 ∙ ap (λ (a : ℕ). startBy w 1000000000 1000000001 (σ 0) (σ (κ 0)) a) f0
+      ∙ sym (pick-false (eqb (κ 0) 0) (startBy w 999999999 1000000000 (σ (κ (σ 0))) (σ (κ (κ (σ 0)))) 0) (startBy w 1000000000 1000000001 (σ 0) (σ (κ 0)) (σ (κ (κ 0)))) (ne-eqb (κ 0) 0 (λ t. z (eq ∙ t))))
+
+pub three-cells : (w h x y z : List ℕ) (e2 e1 p2 p1 p0 : ℕ) → h ≡ heldThree w p2 p1 p0 → x ≡ cellSet h 20480 1000000001 0 p0 → y ≡ cellSet x (20480 + 5) e1 1 p1 → z ≡ cellSet y (20480 + 10) e2 1 p2 → z ≡ startBy w e2 e1 p2 p1 p0
+three-cells w h x y z e2 e1 p2 p1 p0 a b c d =
+    d ∙ ap (λ (t : List ℕ). cellSet t (20480 + 10) e2 1 p2) (c ∙ ap (λ (t : List ℕ). cellSet t (20480 + 5) e1 1 p1) (b ∙ ap (λ (t : List ℕ). cellSet t 20480 1000000001 0 p0) a))
+
+-- what the loop's turn keeps of the length
+pub low-less : (x n m : ℕ) → x < n → n ≤ 3066 → m ≡ 4096 → x < m
+low-less x n m h k e = omega arith
+
+pub start-length : (σ κ : ℕ → ℕ) (w w' : List ℕ) → w' ≡ startIn σ κ w → length w' ≡ length w
+start-length σ κ w w' e = ap length e ∙ go (eqb (κ 0) 0)
+  where
+    by : (e2 e1 p2 p1 p0 : ℕ) → length (startBy w e2 e1 p2 p1 p0) ≡ length w
+    by e2 e1 p2 p1 p0 =
+        cell-length (cellSet (cellSet (heldThree w p2 p1 p0) 20480 1000000001 0 p0) (20480 + 5) e1 1 p1) (20480 + 10) e2 1 p2
+        ∙ cell-length (cellSet (heldThree w p2 p1 p0) 20480 1000000001 0 p0) (20480 + 5) e1 1 p1
+        ∙ cell-length (heldThree w p2 p1 p0) 20480 1000000001 0 p0
+        ∙ simp length-set
+
+    go : (b : Bool) → length (pick b (startBy w 999999999 1000000000 (σ (κ (σ 0))) (σ (κ (κ (σ 0)))) 0) (startBy w 1000000000 1000000001 (σ 0) (σ (κ 0)) (σ (κ (κ 0))))) ≡ length w
+    go true = by 999999999 1000000000 (σ (κ (σ 0))) (σ (κ (κ (σ 0)))) 0
+    go false = by 1000000000 1000000001 (σ 0) (σ (κ 0)) (σ (κ (κ 0)))

@@ -39,22 +39,22 @@ use Rattle.growth.proofs.Decode.{sum-code, last-code, fits-in}
 pub record Same (a b : ℕ) (w w' : List ℕ) : Type 0 where
   pub each : (j : ℕ) → a ≤ j → j < b → getD w' j 0 ≡ getD w j 0
 
-vertex-eq : {a a' : ℤ} {b b' : ℕ} → a ≡ a' → b ≡ b' → vertex a b ≡ vertex a' b'
+pub vertex-eq : {a a' : ℤ} {b b' : ℕ} → a ≡ a' → b ≡ b' → vertex a b ≡ vertex a' b'
 vertex-eq p q = λ i. vertex (p i) (q i)
 
-end-same : (a b at : ℕ) (w w' : List ℕ) → Same a b w w' → a ≤ at → at + 5 ≤ b → endAt w' at ≡ endAt w at
+pub end-same : (a b at : ℕ) (w w' : List ℕ) → Same a b w w' → a ≤ at → at + 5 ≤ b → endAt w' at ≡ endAt w at
 end-same a b at w w' s h k =
     vertex-eq (ap (λ (x : ℕ). pos x -ℤ pos limit) (number-same w w' at (s .each at h (omega arith)) (s .each (at + 1) (omega arith) (omega arith))))
     (number-same w w' (at + 2) (s .each (at + 2) (omega arith) (omega arith)) (s .each (at + 2 + 1) (omega arith) (omega arith)))
 
-point-same : (a b at : ℕ) (w w' : List ℕ) → Same a b w w' → a ≤ at → at + 5 ≤ b → pointAt w' at ≡ pointAt w at
+pub point-same : (a b at : ℕ) (w w' : List ℕ) → Same a b w w' → a ≤ at → at + 5 ≤ b → pointAt w' at ≡ pointAt w at
 point-same a b at w w' s h k = s .each (at + 4) (omega arith) (omega arith)
 
 last-same : (w w' : List ℕ) (d e : ℕ) → d ≤ e → Same DONE (cell DONE e) w w' → lastIn w' d ≡ lastIn w d
 last-same w w' zero e h s = refl
 last-same w w' (suc d) e h s = end-same DONE (cell DONE e) (cell DONE d) w w' s (omega arith) (omega arith)
 
-placed-eq : {x x' y y' : Vertex} {m m' : ℕ} → x ≡ x' → y ≡ y' → m ≡ m' → placed x y m ≡ placed x' y' m'
+pub placed-eq : {x x' y y' : Vertex} {m m' : ℕ} → x ≡ x' → y ≡ y' → m ≡ m' → placed x y m ≡ placed x' y' m'
 placed-eq p q r = λ i. placed (p i) (q i) (r i)
 
 done-same : (w w' : List ℕ) (d e : ℕ) → d ≤ e → Same DONE (cell DONE e) w w' → doneIn w' d ≡ doneIn w d
@@ -239,7 +239,7 @@ module _ (s r : List ℕ) (start : List Placed) where
   abbrev n : ℕ
   n = length s
 
-  turn-of : Pair s r → Turning σ κ n
+  pub turn-of : Pair s r → Turning σ κ n
   turn-of p = turning (image s) (image r) n (p .permuting)
 
   pub walk-size : (w : List ℕ) (d k : ℕ) → Walking s r start w d k → d + k ≤ 1024
@@ -290,8 +290,8 @@ module _ (s r : List ℕ) (start : List Placed) where
 
     end-is : endAt w' at ≡ endAt w (cell TODO k)
     end-is = vertex-eq
-      (ap (λ (x : ℕ). pos x -ℤ pos limit) (cell-num w at (numberAt w (cell TODO k)) (numberAt w (cell TODO k + 2)) (pointAt w (cell TODO k)) room))
-      (cell-den w at (numberAt w (cell TODO k)) (numberAt w (cell TODO k + 2)) (pointAt w (cell TODO k)) room)
+        (ap (λ (x : ℕ). pos x -ℤ pos limit) (cell-num w at (numberAt w (cell TODO k)) (numberAt w (cell TODO k + 2)) (pointAt w (cell TODO k)) room))
+        (cell-den w at (numberAt w (cell TODO k)) (numberAt w (cell TODO k + 2)) (pointAt w (cell TODO k)) room)
 
     done-is : doneIn w' (suc d) ≡ doneIn w d ++ (first w d k ∷ [])
     done-is =
@@ -433,7 +433,7 @@ module _ (s r : List ℕ) (start : List Placed) where
         let long3 = cell-length w2 (cell TODO (suc k)) (num - 1000000000) den pa ∙ long2 in
         let i = g .going .inv in
         let hs = held-split σ κ n T (omega (arith, g .pair .most)) (g .going .tris) (doneIn w d) (first w d k) (rest w k) i none w w3 (omega (arith, g .long)) (g .held)
-          (λ x h. let z = g .pair .most in read3 (HELD + x) (λ q. omega arith) (omega arith)) in
+        (λ x h. let z = g .pair .most in read3 (HELD + x) (λ q. omega arith) (omega arith)) in
         record {
           pair = g .pair;
           long = rw long3 (g .long);

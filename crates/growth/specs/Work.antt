@@ -18,6 +18,8 @@
 --   splitBy w k e c      w with the first side to do split at the vertex whose numbers are e and c; splitIn w d k: at its mediant
 --   Turned               what one turn of the walk does: a closed side moves on, an open one is split, or can't be
 --   Pair s r             the tables of an accepted pair
+--   startIn w            w with the sides of the start to do
+--   Ground s r w         what the walk asks for; Walked s r w stop d: what it leaves, with Whole where the rule ends with d sides
 use mathlib.Core.Path.{_≡_}
 use mathlib.Core.Bool.{Bool, true, false, not, _&&_, _||_}
 use mathlib.Core.List.{List, [], _∷_, _++_}
@@ -26,9 +28,9 @@ use lib.Dec.{eqb, leb}
 use lib.ListN.{length, getD, set}
 use lib.IntN.{ℤ, pos, _-ℤ_}
 use Rattle.matrix.specs.Euclid.{pick}
-use Rattle.growth.specs.Fixed.{image, Permuting}
+use Rattle.growth.specs.Fixed.{image, byQ, Permuting}
 use Rattle.growth.specs.Side.{Vertex, vertex, minusInfinity, limit}
-use Rattle.growth.specs.Placed.{Placed, placed}
+use Rattle.growth.specs.Placed.{Placed, placed, finished, refused, grow, startPlaced}
 
 abbrev pub LABEL : ℕ
 LABEL = 4096
@@ -132,3 +134,39 @@ pub record Top (s r w : List ℕ) (d k : ℕ) : Type 0 where
   pub some : 1 ≤ k
   pub todo : k ≤ 1024
   pub point : topPoint w k < length s
+
+-- ---- the whole walk
+
+-- three sides to do, with finite vertices e2/1 and e1/1 (numerators plus 10⁹) and the points p2, p1, p0 from the left
+abbrev pub heldThree : List ℕ → (p2 p1 p0 : ℕ) → List ℕ
+heldThree w p2 p1 p0 = set (set (set w (HELD + p2) 1) (HELD + p1) 1) (HELD + p0) 1
+
+abbrev pub startBy : List ℕ → (e2 e1 p2 p1 p0 : ℕ) → List ℕ
+startBy w e2 e1 p2 p1 p0 = cellSet (cellSet (cellSet (heldThree w p2 p1 p0) TODO 1000000001 0 p0) (TODO + 5) e1 1 p1) (TODO + 10) e2 1 p2
+
+abbrev pub startIn : (σ κ : ℕ → ℕ) → List ℕ → List ℕ
+startIn σ κ w =
+    pick (eqb (κ 0) 0)
+    (startBy w 999999999 1000000000 (σ (κ (σ 0))) (σ (κ (κ (σ 0)))) 0)
+    (startBy w 1000000000 1000000001 (σ 0) (σ (κ 0)) (σ (κ (κ 0))))
+
+-- the walk may begin: the work space is clear, and the group is none of the small ones
+pub record Ground (s r w : List ℕ) : Type 0 where
+  pub pair : Pair s r
+  pub long : 32768 ≤ length w
+  pub clear : (j : ℕ) → getD w j 0 ≡ 0
+  pub large : (eqb (byQ (image s) (image r) 0) 0 && eqb (byQ (image s) (image r) (image s 0)) (image s 0)) ≡ false
+
+-- the sides done are what the rule ends with
+pub record Whole (s r w : List ℕ) (d : ℕ) : Type 0 where
+  pub pair : Pair s r
+  pub long : 32768 ≤ length w
+  pub is : grow (image s) (byQ (image s) (image r)) (length s) (startPlaced (image s) (byQ (image s) (image r))) ≡ finished (doneIn w d)
+  pub some : 3 ≤ d
+  pub most : d ≤ 1024
+  pub points : (i : ℕ) → i < d → pointAt w (cell DONE i) < length s
+  pub labels : (x : ℕ) → x < 4096 → getD w (LABEL + x) 0 ≡ 0
+
+pub data Walked (s r w : List ℕ) (stop : Bool) (d : ℕ) : Type 0 where
+  halted : stop ≡ true → grow (image s) (byQ (image s) (image r)) (length s) (startPlaced (image s) (byQ (image s) (image r))) ≡ refused d → Walked s r w stop d
+  whole : stop ≡ false → Whole s r w d → Walked s r w stop d

@@ -13,13 +13,19 @@ ghost use mathlib.Core.Bool.{_&&_};
 ghost use lib.Dec.{leb};
 ghost use lib.ListN.{length};
 ghost use Rattle.growth.specs.Fixed.{image, byQ};
-ghost use Rattle.growth.specs.Work.{Pair, Top, leftNum, leftDen, closedIn, fitsIn, sumNum, sumDen, topPoint, movedIn, splitBy, heldSet, Turned};
+ghost use Rattle.growth.specs.Work.{Pair, Top, leftNum, leftDen, closedIn, fitsIn, sumNum, sumDen, topPoint, movedIn, splitBy, heldSet, Turned, heldThree, startBy, startIn, Ground, Walked};
 
 // How one turn of the walk ends: whether it stops, and how many sides are done and to do.
 pub struct Progress {
     pub stop: bool,
     pub d: usize,
     pub k: usize,
+}
+
+// How the walk ends.
+pub struct Outcome {
+    pub stop: bool,
+    pub d: usize,
 }
 
 // Whether a side with the point m is closed.
@@ -117,13 +123,82 @@ fn turn(s: &[u32], r: &[u32], w: &mut [u16], d: usize, k: usize) -> Progress
     let m = point_at(w, top);
     if is_closed(s, r, w, m) {
         move_top(w, d, k);
-        return Progress { stop: false, d: d + 1, k: k - 1 };
+        return Progress {
+            stop: false,
+            d: d + 1,
+            k: k - 1,
+        };
     }
     let e = left_num(w, d) + number_at(w, top);
     let c = left_den(w, d) + number_at(w, top + 2);
     if within(e, c) {
         split_top(s, r, w, k, e - 1000000000, c);
-        return Progress { stop: false, d, k: k + 1 };
+        return Progress {
+            stop: false,
+            d,
+            k: k + 1,
+        };
     }
     Progress { stop: true, d, k }
+}
+
+// The points of three sides are held.
+fn hold_three(w: &mut [u16], p2: usize, p1: usize, p0: usize)
+    requires { ⌜ (p2 < 4096) × (p1 < 4096) × (p0 < 4096) × (32768 ≤ length (now w)) ⌝ }
+    ensures { λ _. ⌜ now (w .exit) ≡ heldThree (now (w .entry)) p2 p1 p0 ⌝ }
+{
+    w[HELD + p2] = 1;
+    w[HELD + p1] = 1;
+    w[HELD + p0] = 1;
+}
+
+// Three sides to do, the finite vertices of which have the numerators e2 - 10^9 and e1 - 10^9.
+fn start_by(w: &mut [u16], e2: u64, e1: u64, p2: usize, p1: usize, p0: usize)
+    requires { ⌜ (p2 < 4096) × (p1 < 4096) × (p0 < 4096) × (32768 ≤ length (now w)) × (e2 < 4294967296) × (e1 < 4294967296) ⌝ }
+    ensures { λ _. ⌜ now (w .exit) ≡ startBy (now (w .entry)) e2 e1 p2 p1 p0 ⌝ }
+{
+    hold_three(w, p2, p1, p0);
+    put_cell(w, TODO, 1000000001, 0, p0);
+    put_cell(w, TODO + 5, e1, 1, p1);
+    put_cell(w, TODO + 10, e2, 1, p2);
+}
+
+// The start: 0/1, 1/1 if Q doesn't fix 0, else -1/1, 0/1.
+fn start(s: &[u32], r: &[u32], w: &mut [u16])
+    requires { ⌜ Pair (now s) (now r) × (32768 ≤ length (now w)) ⌝ }
+    ensures { λ _. ⌜ now (w .exit) ≡ startIn (image (now (s .entry))) (byQ (image (now (s .entry))) (image (now (r .entry)))) (now (w .entry)) ⌝ }
+{
+    let o = image(s, 0);
+    let q = turned(s, r, 0);
+    if q == 0 {
+        let x = turned(s, r, o);
+        let y = turned(s, r, x);
+        let p2 = image(s, x);
+        let p1 = image(s, y);
+        start_by(w, 999999999, 1000000000, p2, p1, 0);
+        return;
+    }
+    let y = turned(s, r, q);
+    let p1 = image(s, q);
+    let p0 = image(s, y);
+    start_by(w, 1000000000, 1000000001, o, p1, p0);
+}
+
+// The walk, from a clear work space: whether it stops at a side that can't be split, and how many sides are done.
+pub fn walk(s: &[u32], r: &[u32], w: &mut [u16]) -> Outcome
+    requires { ⌜ Ground (now s) (now r) (now w) ⌝ }
+    ensures { λ o. ⌜ Walked (now (s .entry)) (now (r .entry)) (now (w .exit)) (o .stop) (o .d) ⌝ }
+{
+    start(s, r, w);
+    let mut d: usize = 0;
+    let mut k: usize = 3;
+    while 0 < k {
+        let t = turn(s, r, w, d, k);
+        if t.stop {
+            return Outcome { stop: true, d: t.d };
+        }
+        d = t.d;
+        k = t.k;
+    }
+    Outcome { stop: false, d }
 }

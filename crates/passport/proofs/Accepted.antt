@@ -143,7 +143,7 @@ module _ (s r : List ℕ) (p : Passed s r) where
     one-S = λ i j h k e. sym (S-twice i) ∙ ap (image s) e ∙ S-twice j;
     one-R = λ i j h k e. sym (R-thrice i) ∙ ap (λ (y : ℕ). image r (image r y)) e ∙ R-thrice j;
     reached = λ x h. numbering (image s) (image r) 0 (length s) (record { start-low = counted .0; σ-low = permuting .σ-low; ρ-low = permuting .ρ-low }) .only x
-      (ltb-true (find (orderOf (image s) (image r) 0 (length s)) x) (length (orderOf (image s) (image r) 0 (length s))) (not-false (isIn (orderOf (image s) (image r) 0 (length s)) x) (p .all .none x h)));
+        (ltb-true (find (orderOf (image s) (image r) 0 (length s)) x) (length (orderOf (image s) (image r) 0 (length s))) (not-false (isIn (orderOf (image s) (image r) 0 (length s)) x) (p .all .none x h)));
   }
 
 pub accepted : (s r : List ℕ) → checkOf s r ≡ Accepted → Passport s r
