@@ -18,3 +18,4 @@ pub mod Turn
 pub mod Decode
 pub mod Walking
 pub mod Begin
+pub mod Written

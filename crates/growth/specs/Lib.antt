@@ -6,3 +6,4 @@ pub mod Symbol
 pub mod Placed
 pub mod Theorem
 pub mod Work
+pub mod Writing

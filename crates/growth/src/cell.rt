@@ -5,7 +5,7 @@ ghost use lib.ListN.{length, set};
 ghost use Rattle.growth.specs.Work.{numberAt, pointAt, cellSet};
 
 // A 16-bit number among those of 64 bits.
-fn long(x: u16) -> u64
+pub fn long(x: u16) -> u64
     ensures { λ r. ⌜ (r ≡ x) × (r < 65536) ⌝ }
 {
     x as u64

@@ -8,6 +8,7 @@ ghost use Rattle.growth.specs.Work.{Pair};
 
 mod cell;
 mod walk;
+mod write;
 
 // The places of the tables in the work space.
 pub const LABEL: usize = 4096;
