@@ -11,7 +11,7 @@ use Prim.Native.Nat.{ℕ, zero, suc, _+_, _-_, _*_, _^_, _≤_, _<_}
 use native.Mathlib.Omega.{arith}
 use native.Mathlib.Decide.{decLt, ℕ-discrete}
 use lib.Dec.{ltb, eqb}
-use lib.ListN.{length, getD, set, take, drop, length-set, length-append, length-drop}
+use lib.ListN.{length, getD, set, take, drop, length-set, length-append, length-drop, List·getD-eq-default}
 use lib.Seq.{sets, sets-eq, take-at, drop-at, drop-drop, length-take-le, getD-set-same, getD-set-other}
 use lib.IntN.{ℤ, pos, negsuc, natAbs, _-ℤ_}
 use lib.Signed.{mag}
@@ -31,7 +31,7 @@ use Rattle.growth.specs.Rule.{Mark, unpaired, even, odd, free, Row, leas
 use Rattle.growth.specs.Symbol.{noted, labelsFrom, labelsOf, entry, entries, verticesOf, tableOf}
 use Rattle.growth.specs.Placed.{Placed, placed, markOf, rowOf, rowsOf}
 use Rattle.growth.specs.Work.{LABEL, DONE, TODO, cell, numberAt, endAt, pointAt, lastIn, doneIn, Whole}
-use Rattle.growth.specs.Writing.{verticesTo, Paired, is-even, is-odd, is-new, is-old, pairingsIn, paired, written}
+use Rattle.growth.specs.Writing.{verticesTo, Paired, is-even, is-odd, is-new, is-old, pairingsIn, paired, written, Side}
 use Rattle.growth.proofs.Member.{In}
 use Rattle.growth.proofs.Decode.{abs-diff}
 use Rattle.growth.proofs.Table.{length-rows, length-entries, labels-in, labels-few, mark-even, mark-odd, mark-free}
@@ -348,3 +348,36 @@ module _ (σ κ : ℕ → ℕ) where
       ey
       ∙ ap (λ (l : List ℤ). l ++ pairingsIn σ κ w d ++ drop (3 * v + 1) x) (a ∙ sym g)
       ∙ ap (λ (l : List ℤ). verticesOf (rowsOf σ κ (doneIn w d)) ++ pairingsIn σ κ w d ++ l) b
+
+-- ---- for the sides that the walk leaves
+
+module _ (s r w₀ : List ℕ) (o : List ℤ) (d : ℕ) (whole : Whole s r w₀ d) (room : 3 * (d - 1) + 1 ≤ length o) where
+  abbrev σ : ℕ → ℕ
+  σ = image s
+
+  abbrev κ : ℕ → ℕ
+  κ = byQ (image s) (image r)
+
+  image-small : (x : ℕ) → x < 4096 → image s x < 4096
+  image-small x h = elim (decLt x (length s)) [
+    | yes k ↦ (let a = whole .pair .permuting .σ-low x k in let b = whole .pair .most in omega arith)
+    | no k ↦ (let e : image s x ≡ x = List·getD-eq-default s x (omega arith) in omega arith)
+  ]
+
+  pub pairs-more : (w : List ℕ) (out : List ℤ) (i c : ℕ) → Labelled σ κ w₀ o d w out i c → i < d → (w' : List ℕ) (out' : List ℤ) (c' : ℕ)
+    → Paired σ κ w out (pointAt w (cell DONE i)) (2 * (d - 1) + i) c w' out' c' → Labelled σ κ w₀ o d w' out' (suc i) c'
+  pairs-more w out i c t h w' out' c' p =
+      labelled-more σ κ w₀ o d (λ j k. let a = whole .points j k in let b = whole .pair .most in omega arith) image-small (whole .most) w out i c t h room (whole .long) w' out' c' p
+
+  pub pairs-side : (w : List ℕ) (out : List ℤ) (i c : ℕ) → Labelled σ κ w₀ o d w out i c → i < d → Side s r w out i (2 * (d - 1) + i) c
+  pairs-side w out i c t h =
+      let m = whole .most in
+      let e : pointAt w (cell DONE i) ≡ pointAt w₀ (cell DONE i) = t .same .each (cell DONE i + 4) (omega arith) (omega arith) in
+      record {
+        pair = whole .pair;
+        long = rw (t .long) (whole .long);
+        side = omega arith;
+        low = rw e (whole .points i h);
+        few = omega (arith, labelled-few σ κ w₀ o d w out i c t);
+        room = omega (arith, labelled-length σ κ w₀ o d w out i c t (omega arith));
+      }

@@ -1,0 +1,42 @@
+use borrow.Author.Needs.{needs}
+use Rattle.growth.proofs.write.write_table.Statement.{statement}
+use Rattle.growth.proofs.write.write_table.Tie as tie
+use Rattle.growth.proofs.write.write_table.Reads as reads
+use Rattle.growth.proofs.write.write_table.Lts as lts
+use Rattle.growth.proofs.write.write_pairings.Reads as write-pairings-reads
+use Rattle.growth.proofs.write.write_vertices.Reads as write-vertices-reads
+
+-- src/write.rt:136:23
+sub-write-vertices : tie.Need-sub-write-vertices
+sub-write-vertices c = search needs
+
+-- src/write.rt:136:5
+write-vertices-requires : tie.Need-write-vertices-requires
+write-vertices-requires c κs = search needs
+
+-- src/write.rt:137:5
+write-pairings-requires : tie.Need-write-pairings-requires
+write-pairings-requires c κs = search needs
+
+-- src/write.rt:132:1
+same-length : tie.Need-same-length
+same-length c = search needs
+
+-- src/write.rt:132:1
+same-length-2 : tie.Need-same-length-2
+same-length-2 c = search needs
+
+-- src/write.rt:132:1
+returns : tie.Need-returns
+returns c = search needs
+
+pub write-table-spec : {M : Type 1} → statement M
+write-table-spec =
+    tie.close
+    (tie.spec
+    sub-write-vertices
+    write-vertices-requires
+    write-pairings-requires
+    same-length
+    same-length-2
+    returns)
