@@ -19,3 +19,4 @@ pub mod Decode
 pub mod Walking
 pub mod Begin
 pub mod Written
+pub mod Answers

@@ -239,7 +239,7 @@ module _ (σ κ : ℕ → ℕ) (w₀ : List ℕ) (o : List ℤ) (d : ℕ) where
 
     -- one more entry, where the labels become L'
     stored : (L' : List ℕ) (x : ℤ) (out' : List ℤ) → labelsTo (suc i) ≡ L' → entries L' (rowsOf σ κ (doneIn w₀ i)) ≡ entriesTo i → entry L' (markOf σ κ m) ≡ x → out' ≡ set out (2 * (d - 1) + i) x
-      → out' ≡ (take (2 * (d - 1)) o ++ entriesTo (suc i)) ++ drop (2 * (d - 1) + suc i) o
+        → out' ≡ (take (2 * (d - 1)) o ++ entriesTo (suc i)) ++ drop (2 * (d - 1) + suc i) o
     stored L' x out' el ee ex es =
         let more : suc (2 * (d - 1) + i) ≡ 2 * (d - 1) + suc i = omega arith in
         let rows = rowsOf σ κ (doneIn w₀ i) in
@@ -365,7 +365,7 @@ module _ (s r w₀ : List ℕ) (o : List ℤ) (d : ℕ) (whole : Whole s r w₀ 
   ]
 
   pub pairs-more : (w : List ℕ) (out : List ℤ) (i c : ℕ) → Labelled σ κ w₀ o d w out i c → i < d → (w' : List ℕ) (out' : List ℤ) (c' : ℕ)
-    → Paired σ κ w out (pointAt w (cell DONE i)) (2 * (d - 1) + i) c w' out' c' → Labelled σ κ w₀ o d w' out' (suc i) c'
+      → Paired σ κ w out (pointAt w (cell DONE i)) (2 * (d - 1) + i) c w' out' c' → Labelled σ κ w₀ o d w' out' (suc i) c'
   pairs-more w out i c t h w' out' c' p =
       labelled-more σ κ w₀ o d (λ j k. let a = whole .points j k in let b = whole .pair .most in omega arith) image-small (whole .most) w out i c t h room (whole .long) w' out' c' p
 

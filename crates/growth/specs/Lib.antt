@@ -7,3 +7,4 @@ pub mod Placed
 pub mod Theorem
 pub mod Work
 pub mod Writing
+pub mod Answer

@@ -4,8 +4,6 @@
 --   markAt w i           what side i is paired as
 --   Paired               what writing one pairing does: -2, -3, the label's number, or the next free number where it has none
 --   written w d out      out with the symbol's table at its front; pairingsIn w d: its pairings
---   Grew                 the answer of `grow`: so many vertices, 11 with the length needed, 16 with the side
---   grewOf g room        what the rule gives, put into a result space of that length
 use mathlib.Core.Path.{_≡_}
 use mathlib.Core.Bool.{Bool}
 use mathlib.Core.List.{List, [], _∷_, _++_}

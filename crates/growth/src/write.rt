@@ -7,10 +7,10 @@ use super::cell::point_at;
 use super::image;
 use super::turned;
 ghost use mathlib.Core.Path.{_≡_};
-ghost use mathlib.Core.List.{_++_};
+ghost use mathlib.Core.List.{[], _∷_, _++_};
 ghost use Prim.Native.Nat.{_+_, _-_, _*_, _≤_, _<_};
 ghost use lib.ListN.{length, getD, set, drop};
-ghost use lib.IntN.{pos, _-ℤ_};
+ghost use lib.IntN.{pos, negsuc, _-ℤ_};
 ghost use Rattle.growth.specs.Fixed.{image, byQ};
 ghost use Rattle.growth.specs.Rule.{least};
 ghost use Rattle.growth.specs.Work.{LABEL, DONE, Whole, cell, endAt, pointAt};
@@ -39,6 +39,17 @@ fn numerator(e: u64) -> i64
 {
     let x = signed(e);
     x - 1000000000
+}
+
+// Writes the table 0, 1, x, -3.
+pub fn write_four(out: &mut [i64], x: i64)
+    requires { ⌜ 4 ≤ length (now out) ⌝ }
+    ensures { λ _. ⌜ now (out .exit) ≡ ((pos 0 ∷ pos 1 ∷ x ∷ negsuc 2 ∷ []) ++ drop 4 (now (out .entry))) ⌝ }
+{
+    put(out, 0, 0);
+    put(out, 1, 1);
+    put(out, 2, x);
+    put(out, 3, -3);
 }
 
 // Writes vertex i.
@@ -86,7 +97,15 @@ fn label_at(w: &[u16], l: usize) -> u64
 }
 
 // Writes the pairing of side i at j, where c labels have numbers; returns how many have then.
-fn write_pairing(s: &[u32], r: &[u32], w: &mut [u16], i: usize, j: usize, c: usize, out: &mut [i64]) -> usize
+fn write_pairing(
+    s: &[u32],
+    r: &[u32],
+    w: &mut [u16],
+    i: usize,
+    j: usize,
+    c: usize,
+    out: &mut [i64],
+) -> usize
     requires { ⌜ Side (now s) (now r) (now w) (now out) i j c ⌝ }
     ensures { λ k. ⌜ Paired (image (now (s .entry))) (byQ (image (now (s .entry))) (image (now (r .entry)))) (now (w .entry)) (now (out .entry)) (pointAt (now (w .entry)) (cell DONE i)) j c (now (w .exit)) (now (out .exit)) k ⌝ }
 {

@@ -1,3 +1,7 @@
+use mathlib.Core.Path.{_≡_, refl, sym, _∙_, ap}
+use native.Mathlib.Omega.{arith}
+use Rattle.growth.specs.Fixed.{image, byQ}
+use Rattle.growth.proofs.Written.{table-written}
 use borrow.Author.Needs.{needs}
 use Rattle.growth.proofs.write.write_table.Statement.{statement}
 use Rattle.growth.proofs.write.write_table.Tie as tie
@@ -28,7 +32,7 @@ same-length-2 c = search needs
 
 -- src/write.rt:132:1
 returns : tie.Need-returns
-returns c = search needs
+returns c = let s = c .before .before .before .before .before .before .before .before .before .before .before .before .before in let sg = image (s .args .s .now) in let ka = byQ sg (image (s .args .r .now)) in table-written sg ka (s .args .w .now) (s .args .out .now) _ _ (s .args .d) (let z = s .pre .0 .some in omega arith) (s .pre .1) (c .before .before .before .before .before .before .before .write-vertices .ensures) (c .before .before .before .write-pairings .ensures)
 
 pub write-table-spec : {M : Type 1} → statement M
 write-table-spec =
