@@ -1,3 +1,4 @@
 -- Why the calls answer and leave what they do, in reading order.
 pub mod Accepted
 pub mod Means
+pub mod Marks

@@ -1,3 +1,4 @@
 -- What a reader of the crate `passport` must believe, in reading order.
 pub mod Check
+pub mod Seen
 pub mod Import

@@ -3,7 +3,8 @@
 ghost use mathlib.Core.Path.{_≡_};
 ghost use Prim.Native.Nat.{_<_};
 ghost use lib.ListN.{length};
-ghost use Rattle.growth.specs.Fixed.{image};
+
+mod entries;
 
 // Whether two tables are permutations that generate a transitive group, S of order two and R of order three; document 01's refusals 12
 // to 15 (specs/Check.antt has the number and the place of each).
@@ -34,10 +35,3 @@ pub enum Imported {
     Split(usize),
 }
 
-// The image of the point x in the table t.
-fn image(t: &[u32], x: usize) -> usize
-    requires { ⌜ x < length (now t) ⌝ }
-    ensures { λ r. ⌜ r ≡ image (now (t .entry)) x ⌝ }
-{
-    t[x] as usize
-}

@@ -1,0 +1,41 @@
+use borrow.Author.Needs.{needs}
+use Rattle.passport.proofs.entries.is_bad.Statement.{statement}
+use Rattle.passport.proofs.entries.is_bad.Tie as tie
+use Rattle.passport.proofs.entries.is_bad.Reads as reads
+use Rattle.passport.proofs.entries.is_bad.Lts as lts
+use Rattle.growth.proofs.wide.Reads as wide-reads
+
+-- src/entries.rt:19:18
+mul-wide : tie.Need-mul-wide
+mul-wide c = search needs
+
+-- src/entries.rt:19:18
+shared-slice-read-wide : tie.Need-shared-slice-read-wide
+shared-slice-read-wide c = search needs
+
+-- src/entries.rt:19:9
+wide-requires : tie.Need-wide-requires
+wide-requires c κs = search needs
+
+-- src/entries.rt:21:9
+returns : tie.Need-returns
+returns c = search needs
+
+-- src/entries.rt:23:5
+element-copy-out-result : tie.Need-element-copy-out-result
+element-copy-out-result c = search needs
+
+-- src/entries.rt:15:1
+returns-2 : tie.Need-returns-2
+returns-2 c = search needs
+
+pub is-bad-spec : {M : Type 1} → statement M
+is-bad-spec =
+    tie.close
+    (tie.spec
+    mul-wide
+    shared-slice-read-wide
+    wide-requires
+    returns
+    element-copy-out-result
+    returns-2)

@@ -1,0 +1,21 @@
+use borrow.Author.Needs.{needs}
+use Rattle.passport.proofs.entries.moved_twice.Statement.{statement}
+use Rattle.passport.proofs.entries.moved_twice.Tie as tie
+use Rattle.passport.proofs.entries.moved_twice.Reads as reads
+use Rattle.passport.proofs.entries.moved_twice.Lts as lts
+use Rattle.growth.proofs.image.Reads as image-reads
+
+-- src/entries.rt:65:9
+image-requires : tie.Need-image-requires
+image-requires c κs = search needs
+
+-- src/entries.rt:66:9
+image-requires-2 : tie.Need-image-requires-2
+image-requires-2 c κs = search needs
+
+-- src/entries.rt:61:1
+returns : tie.Need-returns
+returns c = search needs
+
+pub moved-twice-spec : {M : Type 1} → statement M
+moved-twice-spec = tie.close (tie.spec image-requires image-requires-2 returns)

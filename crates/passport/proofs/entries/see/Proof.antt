@@ -1,0 +1,30 @@
+use borrow.Author.Needs.{needs}
+use Rattle.passport.proofs.entries.see.Statement.{statement}
+use Rattle.passport.proofs.entries.see.Tie as tie
+use Rattle.passport.proofs.entries.see.Reads as reads
+use Rattle.passport.proofs.entries.see.Lts as lts
+use Rattle.growth.proofs.wide.Reads as wide-reads
+
+-- src/entries.rt:31:18
+mul-wide : tie.Need-mul-wide
+mul-wide c = search needs
+
+-- src/entries.rt:31:18
+shared-slice-read-wide : tie.Need-shared-slice-read-wide
+shared-slice-read-wide c = search needs
+
+-- src/entries.rt:31:9
+wide-requires : tie.Need-wide-requires
+wide-requires c κs = search needs
+
+-- src/entries.rt:32:5
+element-write-seen : tie.Need-element-write-seen
+element-write-seen c = search needs
+
+-- src/entries.rt:27:1
+returns : tie.Need-returns
+returns c = search needs
+
+pub see-spec : {M : Type 1} → statement M
+see-spec =
+    tie.close (tie.spec mul-wide shared-slice-read-wide wide-requires element-write-seen returns)
