@@ -90,7 +90,7 @@ or-left : (a b : Bool) → (a || b) ≡ false → a ≡ false
 or-left true b e = e
 or-left false b e = refl
 
-entry-low : (l : List ℕ) → Clear (badEntry l) (length l) → (x : ℕ) → x < length l → image l x < length l
+pub entry-low : (l : List ℕ) → Clear (badEntry l) (length l) → (x : ℕ) → x < length l → image l x < length l
 entry-low l c x h = rw (image-in l x 0 h) (ltb-true (getD l x 0) (length l) (not-false (ltb (getD l x 0) (length l)) (or-left (not (ltb (getD l x 0) (length l))) (earlier l x) (c .none x h))))
 
 -- ---- THE CHECKS ACCEPT ONLY PASSPORTS

@@ -2,3 +2,4 @@
 pub mod Accepted
 pub mod Means
 pub mod Marks
+pub mod Queue

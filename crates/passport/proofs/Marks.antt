@@ -8,16 +8,19 @@ use Prim.Native.Nat.{ℕ, zero, suc, _+_, _≤_, _<_}
 use native.Mathlib.Omega.{arith}
 use native.Mathlib.Decide.{ℕ-discrete}
 use lib.Dec.{ltb, eqb}
-use lib.ListN.{length, getD, set, length-set}
+use lib.ListN.{length, getD, set, replicate, length-set}
 use lib.Seq.{getD-set-same, getD-set-other}
 use borrow.Author.Tests.{lt-ltb, le-ltb, eq-eqb, ne-eqb, eqb-true, ltb-true}
 use Rattle.matrix.specs.Euclid.{pick}
 use Rattle.symbol.specs.Count.{first}
 use Rattle.symbol.proofs.Choice.{pick-true, pick-false, either, clash}
-use Rattle.symbol.proofs.Count.{Clear, Found, clear-zero, clear-more, search-first, first-clear, first-hit, found}
+use Rattle.symbol.proofs.Count.{Clear, Found, clear-zero, clear-more, search-first, first-clear, first-hit, found, clear-first, first-le}
 use Rattle.growth.specs.Fixed.{image}
 use Rattle.growth.proofs.Cells.{image-in}
-use Rattle.passport.specs.Check.{badEntry, earlier, twiceMoved, thriceMoved}
+use Rattle.passport.specs.Check.{_orElse_, refuseAt, badEntry, earlier, twiceMoved, thriceMoved}
+use Rattle.passport.specs.declared.Checked.{Checked}
+use Rattle.passport.specs.declared.Checked.the-variants.{Accepted}
+use Rattle.passport.proofs.Accepted.{entry-low}
 use Rattle.passport.specs.Seen.{earlierIn, SeenTo, Entries}
 
 -- ---- a loop that looks for the first place
@@ -108,3 +111,30 @@ thrice-is r x a b c p q t = ap (λ (y : ℕ). not (eqb y x)) (t ∙ ap (image r)
 
 pub entries-low : (t : List ℕ) → Entries t → (x y : ℕ) → x < length t → y ≡ image t x → y < length t
 entries-low t e x y h q = rw q (e .low x h)
+
+-- ---- a cleared array
+
+pub zero-at : (n x : ℕ) → _≡_ {A = ℕ} (getD (replicate n 0) x 0) 0
+zero-at zero x = refl
+zero-at (suc n) zero = refl
+zero-at (suc n) (suc x) = zero-at n x
+
+-- ---- one check and the checks after it
+
+pub accept-at : (test : ℕ → Bool) (n : ℕ) (fault : ℕ → Checked) (rest : Checked) (i : ℕ) → i ≡ first test n → n ≤ i → (refuseAt (first test n) n fault orElse rest) ≡ rest
+accept-at test n fault rest i e h = ap (λ (c : Checked). c orElse rest) (pick-false (ltb (first test n) n) (fault (first test n)) Accepted (le-ltb (first test n) n (omega arith)))
+
+pub refuse-at : (test : ℕ → Bool) (n : ℕ) (fault : ℕ → Checked) (rest : Checked) (i : ℕ) → ((j : ℕ) → (fault j orElse rest) ≡ fault j) → i ≡ first test n → i < n → fault i ≡ (refuseAt (first test n) n fault orElse rest)
+refuse-at test n fault rest i stop e h =
+    sym (ap (λ (c : Checked). c orElse rest) (pick-true (ltb (first test n) n) (fault (first test n)) Accepted (lt-ltb (first test n) n (omega arith))) ∙ ap (λ (k : ℕ). fault k orElse rest) (sym e) ∙ stop i)
+
+-- the last check
+pub accept-last : (test : ℕ → Bool) (n : ℕ) (fault : ℕ → Checked) (i : ℕ) → i ≡ first test n → n ≤ i → Accepted ≡ refuseAt (first test n) n fault
+accept-last test n fault i e h = sym (pick-false (ltb (first test n) n) (fault (first test n)) Accepted (le-ltb (first test n) n (omega arith)))
+
+pub refuse-last : (test : ℕ → Bool) (n : ℕ) (fault : ℕ → Checked) (i : ℕ) → i ≡ first test n → i < n → fault i ≡ refuseAt (first test n) n fault
+refuse-last test n fault i e h = ap fault e ∙ sym (pick-true (ltb (first test n) n) (fault (first test n)) Accepted (lt-ltb (first test n) n (omega arith)))
+
+-- entries that passed are points
+pub entries-of : (t : List ℕ) (i : ℕ) → length t ≤ 3066 → i ≡ first (badEntry t) (length t) → length t ≤ i → Entries t
+entries-of t i m e h = record { most = m; low = λ x k. entry-low t (clear-first (badEntry t) (length t) (omega (arith, first-le (badEntry t) (length t)))) x k }

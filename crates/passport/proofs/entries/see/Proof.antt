@@ -1,3 +1,6 @@
+use mathlib.Core.Path.{_≡_, refl, sym, _∙_, ap}
+use Prim.Native.Nat.{ℕ}
+use lib.ListN.{set}
 use borrow.Author.Needs.{needs}
 use Rattle.passport.proofs.entries.see.Statement.{statement}
 use Rattle.passport.proofs.entries.see.Tie as tie
@@ -23,7 +26,7 @@ element-write-seen c = search needs
 
 -- src/entries.rt:27:1
 returns : tie.Need-returns
-returns c = search needs
+returns c = let s = c .before .before .before in ap (λ (y : ℕ). set (s .args .seen .now) y 1) (c .wide .ensures)
 
 pub see-spec : {M : Type 1} → statement M
 see-spec =

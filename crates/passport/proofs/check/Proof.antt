@@ -1,0 +1,29 @@
+use borrow.Author.Needs.{needs}
+use Rattle.passport.proofs.check.Statement.{statement}
+use Rattle.passport.proofs.check.Tie as tie
+use Rattle.passport.proofs.check.Reads as reads
+use Rattle.passport.proofs.check.Lts as lts
+use Rattle.passport.proofs.check_entries.Reads as check-entries-reads
+
+-- src/lib.rt:90:9
+returns : tie.Need-returns
+returns c = search needs
+
+-- src/lib.rt:93:9
+returns-2 : tie.Need-returns-2
+returns-2 c = search needs
+
+-- src/lib.rt:96:9
+returns-3 : tie.Need-returns-3
+returns-3 c = search needs
+
+-- src/lib.rt:98:5
+check-entries-requires : tie.Need-check-entries-requires
+check-entries-requires c κs = search needs
+
+-- src/lib.rt:86:1
+returns-4 : tie.Need-returns-4
+returns-4 c = search needs
+
+pub check-spec : {M : Type 1} → statement M
+check-spec = tie.close (tie.spec returns returns-2 returns-3 check-entries-requires returns-4)

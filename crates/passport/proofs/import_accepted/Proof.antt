@@ -1,0 +1,82 @@
+use borrow.Author.Needs.{needs}
+use Rattle.passport.proofs.import_accepted.Statement.{statement}
+use Rattle.passport.proofs.import_accepted.Tie as tie
+use Rattle.passport.proofs.import_accepted.Reads as reads
+use Rattle.passport.proofs.import_accepted.Lts as lts
+use Rattle.growth.proofs.grow.Reads as grow-reads
+use Rattle.space.proofs.clear.Reads as clear-reads
+
+-- src/lib.rt:108:9
+grow-requires : tie.Need-grow-requires
+grow-requires c κs = search needs
+
+-- src/lib.rt:109:5
+clear-requires : tie.Need-clear-requires
+clear-requires c κs = search needs
+
+-- src/lib.rt:111:21
+enum-known-grown : tie.Need-enum-known-grown
+enum-known-grown c = search needs
+
+-- src/lib.rt:112:22
+enum-known-grown-2 : tie.Need-enum-known-grown-2
+enum-known-grown-2 c = search needs
+
+-- src/lib.rt:113:21
+enum-known-grown-3 : tie.Need-enum-known-grown-3
+enum-known-grown-3 c = search needs
+
+-- src/lib.rt:102:1
+same-length : tie.Need-same-length
+same-length c = search needs
+
+-- src/lib.rt:102:1
+same-length-2 : tie.Need-same-length-2
+same-length-2 c = search needs
+
+-- src/lib.rt:102:1
+returns : tie.Need-returns
+returns c = search needs
+
+-- src/lib.rt:102:1
+same-length-3 : tie.Need-same-length-3
+same-length-3 c = search needs
+
+-- src/lib.rt:102:1
+same-length-4 : tie.Need-same-length-4
+same-length-4 c = search needs
+
+-- src/lib.rt:102:1
+returns-2 : tie.Need-returns-2
+returns-2 c = search needs
+
+-- src/lib.rt:102:1
+same-length-5 : tie.Need-same-length-5
+same-length-5 c = search needs
+
+-- src/lib.rt:102:1
+same-length-6 : tie.Need-same-length-6
+same-length-6 c = search needs
+
+-- src/lib.rt:102:1
+returns-3 : tie.Need-returns-3
+returns-3 c = search needs
+
+pub import-accepted-spec : {M : Type 1} → statement M
+import-accepted-spec =
+    tie.close
+    (tie.spec
+    grow-requires
+    clear-requires
+    enum-known-grown
+    enum-known-grown-2
+    enum-known-grown-3
+    same-length
+    same-length-2
+    returns
+    same-length-3
+    same-length-4
+    returns-2
+    same-length-5
+    same-length-6
+    returns-3)
