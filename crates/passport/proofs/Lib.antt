@@ -3,3 +3,4 @@ pub mod Accepted
 pub mod Means
 pub mod Marks
 pub mod Queue
+pub mod Answering

@@ -10,7 +10,7 @@
 --                        space are a symbol that generates precisely the matrices that fix point 0, of at most index/3 + 1 vertices
 use mathlib.Core.Path.{_≡_}
 use mathlib.Core.Bool.{Bool}
-use mathlib.Core.List.{List, [], _++_}
+use mathlib.Core.List.{List, _++_}
 use Prim.Native.Nat.{ℕ, _+_, _*_}
 use lib.Dec.{ltb}
 use lib.ListN.{length, take, drop}
@@ -20,6 +20,7 @@ use Rattle.space.specs.Space.{workLength, zeros}
 use Rattle.growth.specs.Fixed.{image, byQ}
 use Rattle.growth.specs.Symbol.{Ruled, made, over, ruleOf}
 use Rattle.growth.specs.Theorem.{Precisely}
+use Rattle.growth.specs.Answer.{tableIn}
 use Rattle.passport.specs.Check.{checkOf, Passport}
 use Rattle.passport.specs.declared.Checked.{Checked}
 use Rattle.passport.specs.declared.Checked.the-variants as checked
@@ -60,11 +61,6 @@ ruleFor s r = ruleOf (image s) (byQ (image s) (image r)) (length s)
 
 abbrev pub importOf : (s r : List ℕ) (work room : ℕ) → Imported
 importOf s r work room = importedBy (checkOf s r) (pick (ltb work workLength) (Short workLength) (roomFor (ruleFor s r) room))
-
--- the table of a symbol
-abbrev pub tableIn : Ruled → List ℤ
-tableIn (made v t) = t
-tableIn (over i) = []
 
 abbrev pub tableLeft : Ruled → Imported → List ℤ → List ℤ
 tableLeft g (Made v) out = tableIn g ++ drop (3 * v + 1) out

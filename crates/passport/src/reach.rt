@@ -22,7 +22,14 @@ fn enter(seen: &mut [u8; 3072], queue: &mut [u16; 3072], size: usize, x: usize, 
 }
 
 // The images of the queue's entry i come to its end, if they are new.
-fn visit(s: &[u32], r: &[u32], seen: &mut [u8; 3072], queue: &mut [u16; 3072], i: usize, n: usize) -> usize
+fn visit(
+    s: &[u32],
+    r: &[u32],
+    seen: &mut [u8; 3072],
+    queue: &mut [u16; 3072],
+    i: usize,
+    n: usize,
+) -> usize
     requires { ⌜ Two (now s) (now r) × Listed n (length (now s)) (now seen) (now queue) × (i < n) ⌝ }
     ensures { λ k. ⌜ VisitedAt (image (now (s .entry))) (image (now (r .entry))) i n (length (now (s .entry))) (now (queue .entry)) (now (seen .exit)) (now (queue .exit)) k ⌝ }
 {

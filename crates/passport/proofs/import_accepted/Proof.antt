@@ -1,3 +1,7 @@
+use Rattle.space.specs.Space.{zeros}
+use mathlib.Core.Path.{_≡_, refl, sym, _∙_, ap}
+use Rattle.passport.proofs.Answering.{arm}
+use Rattle.passport.specs.Import.{ruleFor}
 use borrow.Author.Needs.{needs}
 use Rattle.passport.proofs.import_accepted.Statement.{statement}
 use Rattle.passport.proofs.import_accepted.Tie as tie
@@ -36,7 +40,7 @@ same-length-2 c = search needs
 
 -- src/lib.rt:102:1
 returns : tie.Need-returns
-returns c = search needs
+returns c = let s = c .before .before .before .before .before .before .before .before .before .before .before .before .before .before .before .before in let p = arm (ruleFor (s .args .s .now) (s .args .r .now)) _ _ (s .args .out .now) _ (c .before .before .before .before .before .before .before .before .before .before .grow .ensures .0) (c .before .before .before .before .before .before .before .before .before .before .grow .ensures .1) (c .before .grown .given .1) in (p .0, (c .before .before .before .before .before .clear .ensures ∙ ap zeros (c .before .before .before .before .before .before .before .before .before .w .given), p .1))
 
 -- src/lib.rt:102:1
 same-length-3 : tie.Need-same-length-3
@@ -48,7 +52,7 @@ same-length-4 c = search needs
 
 -- src/lib.rt:102:1
 returns-2 : tie.Need-returns-2
-returns-2 c = search needs
+returns-2 c = let s = c .before .before .before .before .before .before .before .before .before .before .before .before .before .before .before .before in let p = arm (ruleFor (s .args .s .now) (s .args .r .now)) _ _ (s .args .out .now) _ (c .before .before .before .before .before .before .before .before .before .before .grow .ensures .0) (c .before .before .before .before .before .before .before .before .before .before .grow .ensures .1) (c .before .grown2 .given .1) in (p .0, (c .before .before .before .before .before .clear .ensures ∙ ap zeros (c .before .before .before .before .before .before .before .before .before .w .given), p .1))
 
 -- src/lib.rt:102:1
 same-length-5 : tie.Need-same-length-5
@@ -60,7 +64,7 @@ same-length-6 c = search needs
 
 -- src/lib.rt:102:1
 returns-3 : tie.Need-returns-3
-returns-3 c = search needs
+returns-3 c = let s = c .before .before .before .before .before .before .before .before .before .before .before .before .before .before .before .before in let p = arm (ruleFor (s .args .s .now) (s .args .r .now)) _ _ (s .args .out .now) _ (c .before .before .before .before .before .before .before .before .before .before .grow .ensures .0) (c .before .before .before .before .before .before .before .before .before .before .grow .ensures .1) (c .before .grown3 .given .1) in (p .0, (c .before .before .before .before .before .clear .ensures ∙ ap zeros (c .before .before .before .before .before .before .before .before .before .w .given), p .1))
 
 pub import-accepted-spec : {M : Type 1} → statement M
 import-accepted-spec =

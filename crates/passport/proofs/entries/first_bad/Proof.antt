@@ -1,3 +1,5 @@
+use lib.ListN.{length-replicate}
+use Prim.Native.Nat.{ℕ}
 use Rattle.passport.proofs.Marks.{seen-none, zero-at}
 use lib.ListN.{length-replicate}
 use borrow.Author.Needs.{needs}
@@ -9,7 +11,7 @@ use Rattle.passport.proofs.entries.scan.Reads as scan-reads
 
 -- src/entries.rt:57:5
 scan-requires : tie.Need-scan-requires
-scan-requires c κs = (c .before .before .pre, seen-none _ _ (length-replicate 3072 0) (zero-at 3072))
+scan-requires c κs = (c .before .before .pre, seen-none _ _ (length-replicate {A = ℕ} 3072 0) (zero-at 3072))
 
 -- src/entries.rt:52:1
 returns : tie.Need-returns

@@ -1,3 +1,5 @@
+use lib.ListN.{length-replicate}
+use Prim.Native.Nat.{ℕ}
 use Rattle.passport.proofs.Marks.{zero-at}
 use lib.ListN.{length-replicate}
 use borrow.Author.Needs.{needs}
@@ -10,7 +12,7 @@ use Rattle.passport.proofs.reach.list_reached.Reads as list-reached-rea
 
 -- src/reach.rt:73:5
 list-reached-requires : tie.Need-list-reached-requires
-list-reached-requires c κs = (c .before .before .before .before .pre, record { seen-long = length-replicate 3072 0; queue-long = length-replicate 3072 0; clear = zero-at 3072 })
+list-reached-requires c κs = (c .before .before .before .before .pre, record { seen-long = length-replicate {A = ℕ} 3072 0; queue-long = length-replicate {A = ℕ} 3072 0; clear = zero-at 3072 })
 
 -- src/reach.rt:74:5
 first-unmarked-requires : tie.Need-first-unmarked-requires
