@@ -13,10 +13,4 @@ pub mod Visit
 pub mod Rounds
 pub mod Theorem
 pub mod Going
-pub mod Cells
-pub mod Turn
-pub mod Decode
-pub mod Walking
-pub mod Begin
-pub mod Written
-pub mod Answers
+pub mod Images

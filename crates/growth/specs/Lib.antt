@@ -5,6 +5,3 @@ pub mod Rule
 pub mod Symbol
 pub mod Placed
 pub mod Theorem
-pub mod Work
-pub mod Writing
-pub mod Answer

@@ -16,7 +16,7 @@ use Rattle.symbol.specs.Count.{first}
 use Rattle.symbol.proofs.Choice.{pick-true, pick-false, either, clash}
 use Rattle.symbol.proofs.Count.{Clear, Found, clear-zero, clear-more, search-first, first-clear, first-hit, found, clear-first, first-le}
 use Rattle.growth.specs.Fixed.{image}
-use Rattle.growth.proofs.Cells.{image-in}
+use Rattle.growth.proofs.Images.{image-in}
 use Rattle.passport.specs.Check.{_orElse_, refuseAt, badEntry, earlier, twiceMoved, thriceMoved}
 use Rattle.passport.specs.declared.Checked.{Checked}
 use Rattle.passport.specs.declared.Checked.the-variants.{Accepted}

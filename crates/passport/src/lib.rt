@@ -3,13 +3,13 @@
 use entries::first_bad;
 use entries::first_moved_thrice;
 use entries::first_moved_twice;
-use growth::Grown;
 use reach::first_unreached;
+use splitting::Grown;
 ghost use mathlib.Core.Path.{_≡_};
 ghost use Prim.Native.Nat.{_≤_, _<_};
 ghost use lib.ListN.{length};
 ghost use Rattle.space.specs.Space.{zeros};
-ghost use Rattle.growth.specs.Work.{Pair};
+ghost use Rattle.growth.specs.Fixed.{Pair};
 ghost use Rattle.passport.specs.Check.{_orElse_, check13, check14, check15, twiceMoved, thriceMoved, checkOf};
 ghost use Rattle.passport.specs.Reach.{Two};
 ghost use Rattle.passport.specs.Import.{roomFor, ruleFor, importOf, tableLeft, workLeft, ImportMeans};
@@ -105,7 +105,7 @@ fn import_accepted(s: &[u32], r: &[u32], w: &mut [u16], out: &mut [i64]) -> Impo
     ensures { λ a. ⌜ now (w .exit) ≡ zeros (length (now (w .entry))) ⌝ }
     ensures { λ a. ⌜ now (out .exit) ≡ tableLeft (ruleFor (now (s .entry)) (now (r .entry))) a (now (out .entry)) ⌝ }
 {
-    let grown = growth::grow(s, r, w, out);
+    let grown = splitting::grow(s, r, w, out);
     space::clear(w);
     match grown {
         Grown::Made(v) => Imported::Made(v),

@@ -1,11 +1,8 @@
 use mathlib.Core.Path.{sym, _∙_}
-use Rattle.growth.proofs.Cells.{image-in}
+use Rattle.growth.proofs.Images.{image-in}
 use borrow.Author.Needs.{needs}
 use Rattle.growth.proofs.image.Statement.{statement}
 use Rattle.growth.proofs.image.Tie as tie
-use Rattle.growth.proofs.image.Reads as reads
-use Rattle.growth.proofs.image.Lts as lts
-use Rattle.growth.proofs.wide.Reads as wide-reads
 
 -- src/lib.rt:33:10
 mul-wide : tie.Need-mul-wide

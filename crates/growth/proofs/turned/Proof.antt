@@ -1,10 +1,7 @@
-use Rattle.growth.proofs.Cells.{low-S, low-R}
+use Rattle.growth.proofs.Images.{low-S, low-R}
 use borrow.Author.Needs.{needs}
 use Rattle.growth.proofs.turned.Statement.{statement}
 use Rattle.growth.proofs.turned.Tie as tie
-use Rattle.growth.proofs.turned.Reads as reads
-use Rattle.growth.proofs.turned.Lts as lts
-use Rattle.growth.proofs.image.Reads as image-reads
 
 -- src/lib.rt:41:9
 image-requires : tie.Need-image-requires

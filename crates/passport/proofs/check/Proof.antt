@@ -3,9 +3,6 @@ use Rattle.passport.proofs.Answering.{count-low, count-high, count-unev
 use borrow.Author.Needs.{needs}
 use Rattle.passport.proofs.check.Statement.{statement}
 use Rattle.passport.proofs.check.Tie as tie
-use Rattle.passport.proofs.check.Reads as reads
-use Rattle.passport.proofs.check.Lts as lts
-use Rattle.passport.proofs.check_entries.Reads as check-entries-reads
 
 -- src/lib.rt:90:9
 returns : tie.Need-returns

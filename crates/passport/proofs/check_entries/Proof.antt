@@ -6,10 +6,6 @@ use lib.ListN.{length}
 use borrow.Author.Needs.{needs}
 use Rattle.passport.proofs.check_entries.Statement.{statement}
 use Rattle.passport.proofs.check_entries.Tie as tie
-use Rattle.passport.proofs.check_entries.Reads as reads
-use Rattle.passport.proofs.check_entries.Lts as lts
-use Rattle.passport.proofs.check_moves.Reads as check-moves-reads
-use Rattle.passport.proofs.entries.first_bad.Reads as first-bad-reads
 
 -- src/lib.rt:74:9
 first-bad-requires : tie.Need-first-bad-requires

@@ -6,11 +6,6 @@ use lib.ListN.{length}
 use borrow.Author.Needs.{needs}
 use Rattle.passport.proofs.check_moves.Statement.{statement}
 use Rattle.passport.proofs.check_moves.Tie as tie
-use Rattle.passport.proofs.check_moves.Reads as reads
-use Rattle.passport.proofs.check_moves.Lts as lts
-use Rattle.passport.proofs.entries.first_moved_thrice.Reads as first-moved-thrice-reads
-use Rattle.passport.proofs.entries.first_moved_twice.Reads as first-moved-twice-reads
-use Rattle.passport.proofs.reach.first_unreached.Reads as first-unreached-reads
 
 -- src/lib.rt:54:9
 first-moved-twice-requires : tie.Need-first-moved-twice-requires

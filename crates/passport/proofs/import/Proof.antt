@@ -5,10 +5,6 @@ use Rattle.passport.proofs.Answering.{refused, short, long, pair-of}
 use borrow.Author.Needs.{needs}
 use Rattle.passport.proofs.import.Statement.{statement}
 use Rattle.passport.proofs.import.Tie as tie
-use Rattle.passport.proofs.import.Reads as reads
-use Rattle.passport.proofs.import.Lts as lts
-use Rattle.passport.proofs.check.Reads as check-reads
-use Rattle.passport.proofs.import_accepted.Reads as import-accepted-reads
 
 -- src/lib.rt:124:9
 check-requires : tie.Need-check-requires

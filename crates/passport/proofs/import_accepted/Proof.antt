@@ -5,10 +5,6 @@ use Rattle.passport.specs.Import.{ruleFor}
 use borrow.Author.Needs.{needs}
 use Rattle.passport.proofs.import_accepted.Statement.{statement}
 use Rattle.passport.proofs.import_accepted.Tie as tie
-use Rattle.passport.proofs.import_accepted.Reads as reads
-use Rattle.passport.proofs.import_accepted.Lts as lts
-use Rattle.growth.proofs.grow.Reads as grow-reads
-use Rattle.space.proofs.clear.Reads as clear-reads
 
 -- src/lib.rt:108:9
 grow-requires : tie.Need-grow-requires

@@ -5,9 +5,6 @@ use lib.ListN.{length-replicate}
 use borrow.Author.Needs.{needs}
 use Rattle.passport.proofs.entries.first_bad.Statement.{statement}
 use Rattle.passport.proofs.entries.first_bad.Tie as tie
-use Rattle.passport.proofs.entries.first_bad.Reads as reads
-use Rattle.passport.proofs.entries.first_bad.Lts as lts
-use Rattle.passport.proofs.entries.scan.Reads as scan-reads
 
 -- src/entries.rt:57:5
 scan-requires : tie.Need-scan-requires

@@ -9,9 +9,6 @@ use Rattle.passport.specs.Check.{thriceMoved}
 use borrow.Author.Needs.{needs}
 use Rattle.passport.proofs.entries.first_moved_thrice.Statement.{statement}
 use Rattle.passport.proofs.entries.first_moved_thrice.Tie as tie
-use Rattle.passport.proofs.entries.first_moved_thrice.Reads as reads
-use Rattle.passport.proofs.entries.first_moved_thrice.Lts as lts
-use Rattle.passport.proofs.entries.moved_thrice.Reads as moved-thrice-reads
 
 abbrev Inv-loop : tie.InvT-loop
 Inv-loop r x₀ x = (x ≤ length r) × Clear (thriceMoved r) x

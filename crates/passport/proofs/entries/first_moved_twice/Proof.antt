@@ -9,9 +9,6 @@ use Rattle.passport.specs.Check.{twiceMoved}
 use borrow.Author.Needs.{needs}
 use Rattle.passport.proofs.entries.first_moved_twice.Statement.{statement}
 use Rattle.passport.proofs.entries.first_moved_twice.Tie as tie
-use Rattle.passport.proofs.entries.first_moved_twice.Reads as reads
-use Rattle.passport.proofs.entries.first_moved_twice.Lts as lts
-use Rattle.passport.proofs.entries.moved_twice.Reads as moved-twice-reads
 
 abbrev Inv-loop : tie.InvT-loop
 Inv-loop s x₀ x = (x ≤ length s) × Clear (twiceMoved s) x

@@ -2,9 +2,6 @@ use Rattle.passport.proofs.Marks.{bad-high, bad-seen}
 use borrow.Author.Needs.{needs}
 use Rattle.passport.proofs.entries.is_bad.Statement.{statement}
 use Rattle.passport.proofs.entries.is_bad.Tie as tie
-use Rattle.passport.proofs.entries.is_bad.Reads as reads
-use Rattle.passport.proofs.entries.is_bad.Lts as lts
-use Rattle.growth.proofs.wide.Reads as wide-reads
 
 -- src/entries.rt:19:18
 mul-wide : tie.Need-mul-wide

@@ -2,9 +2,6 @@ use Rattle.passport.proofs.Marks.{entries-low, thrice-is}
 use borrow.Author.Needs.{needs}
 use Rattle.passport.proofs.entries.moved_thrice.Statement.{statement}
 use Rattle.passport.proofs.entries.moved_thrice.Tie as tie
-use Rattle.passport.proofs.entries.moved_thrice.Reads as reads
-use Rattle.passport.proofs.entries.moved_thrice.Lts as lts
-use Rattle.growth.proofs.image.Reads as image-reads
 
 -- src/entries.rt:90:9
 image-requires : tie.Need-image-requires

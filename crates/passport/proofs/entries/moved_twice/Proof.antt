@@ -2,9 +2,6 @@ use Rattle.passport.proofs.Marks.{entries-low, twice-is}
 use borrow.Author.Needs.{needs}
 use Rattle.passport.proofs.entries.moved_twice.Statement.{statement}
 use Rattle.passport.proofs.entries.moved_twice.Tie as tie
-use Rattle.passport.proofs.entries.moved_twice.Reads as reads
-use Rattle.passport.proofs.entries.moved_twice.Lts as lts
-use Rattle.growth.proofs.image.Reads as image-reads
 
 -- src/entries.rt:65:9
 image-requires : tie.Need-image-requires

@@ -10,10 +10,6 @@ use Rattle.passport.specs.Seen.{SeenTo}
 use borrow.Author.Needs.{needs}
 use Rattle.passport.proofs.entries.scan.Statement.{statement}
 use Rattle.passport.proofs.entries.scan.Tie as tie
-use Rattle.passport.proofs.entries.scan.Reads as reads
-use Rattle.passport.proofs.entries.scan.Lts as lts
-use Rattle.passport.proofs.entries.is_bad.Reads as is-bad-reads
-use Rattle.passport.proofs.entries.see.Reads as see-reads
 
 abbrev Inv-loop : tie.InvT-loop
 Inv-loop t seen₀ i₀ seen i = (i ≤ length t) × SeenTo t i seen × Clear (badEntry t) i

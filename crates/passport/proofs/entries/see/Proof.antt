@@ -4,9 +4,6 @@ use lib.ListN.{set}
 use borrow.Author.Needs.{needs}
 use Rattle.passport.proofs.entries.see.Statement.{statement}
 use Rattle.passport.proofs.entries.see.Tie as tie
-use Rattle.passport.proofs.entries.see.Reads as reads
-use Rattle.passport.proofs.entries.see.Lts as lts
-use Rattle.growth.proofs.wide.Reads as wide-reads
 
 -- src/entries.rt:31:18
 mul-wide : tie.Need-mul-wide

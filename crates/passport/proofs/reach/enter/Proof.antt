@@ -5,8 +5,6 @@ use Rattle.passport.proofs.Queue.{enter-old, enter-new, enter-room}
 use borrow.Author.Needs.{needs}
 use Rattle.passport.proofs.reach.enter.Statement.{statement}
 use Rattle.passport.proofs.reach.enter.Tie as tie
-use Rattle.passport.proofs.reach.enter.Reads as reads
-use Rattle.passport.proofs.reach.enter.Lts as lts
 
 -- src/reach.rt:16:8
 element-copy-out-if1 : tie.Need-element-copy-out-if1

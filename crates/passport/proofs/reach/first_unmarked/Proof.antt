@@ -10,8 +10,6 @@ use lib.ListN.{length}
 use borrow.Author.Needs.{needs}
 use Rattle.passport.proofs.reach.first_unmarked.Statement.{statement}
 use Rattle.passport.proofs.reach.first_unmarked.Tie as tie
-use Rattle.passport.proofs.reach.first_unmarked.Reads as reads
-use Rattle.passport.proofs.reach.first_unmarked.Lts as lts
 
 abbrev Inv-loop : tie.InvT-loop
 Inv-loop s r seen x₀ x = (x ≤ length s) × Clear (unreached s r) x

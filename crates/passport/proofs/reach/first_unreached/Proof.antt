@@ -5,10 +5,6 @@ use lib.ListN.{length-replicate}
 use borrow.Author.Needs.{needs}
 use Rattle.passport.proofs.reach.first_unreached.Statement.{statement}
 use Rattle.passport.proofs.reach.first_unreached.Tie as tie
-use Rattle.passport.proofs.reach.first_unreached.Reads as reads
-use Rattle.passport.proofs.reach.first_unreached.Lts as lts
-use Rattle.passport.proofs.reach.first_unmarked.Reads as first-unmarked-reads
-use Rattle.passport.proofs.reach.list_reached.Reads as list-reached-reads
 
 -- src/reach.rt:73:5
 list-reached-requires : tie.Need-list-reached-requires

@@ -7,9 +7,6 @@ use lib.ListN.{length}
 use borrow.Author.Needs.{needs}
 use Rattle.passport.proofs.reach.list_reached.Statement.{statement}
 use Rattle.passport.proofs.reach.list_reached.Tie as tie
-use Rattle.passport.proofs.reach.list_reached.Reads as reads
-use Rattle.passport.proofs.reach.list_reached.Lts as lts
-use Rattle.passport.proofs.reach.visit.Reads as visit-reads
 
 abbrev Inv-loop : tie.InvT-loop
 Inv-loop s r seen₀ queue₀ n₀ i₀ seen queue n i = Run s r i n seen queue

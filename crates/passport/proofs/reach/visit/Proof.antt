@@ -5,11 +5,6 @@ use Rattle.passport.proofs.Marks.{entries-low}
 use borrow.Author.Needs.{needs}
 use Rattle.passport.proofs.reach.visit.Statement.{statement}
 use Rattle.passport.proofs.reach.visit.Tie as tie
-use Rattle.passport.proofs.reach.visit.Reads as reads
-use Rattle.passport.proofs.reach.visit.Lts as lts
-use Rattle.growth.proofs.image.Reads as image-reads
-use Rattle.passport.proofs.reach.enter.Reads as enter-reads
-use Rattle.space.proofs.index.Reads as index-reads
 
 -- src/reach.rt:29:26
 mul-index : tie.Need-mul-index

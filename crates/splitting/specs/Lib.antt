@@ -1,0 +1,4 @@
+-- What a reader of the crate `splitting` must believe, in reading order.
+pub mod Work
+pub mod Writing
+pub mod Answer
