@@ -15,9 +15,9 @@ use Rattle.symbol.proofs.Choice.{pick-true, pick-false}
 use Rattle.growth.specs.Fixed.{image}
 use Rattle.growth.specs.Symbol.{Ruled, made, over}
 use Rattle.growth.specs.Fixed.{Pair}
-use Rattle.splitting.specs.Answer.{grownOf, leftBy}
-use Rattle.splitting.specs.declared.Grown.{Grown}
-use Rattle.splitting.specs.declared.Grown.the-variants as grown
+use Rattle.writing.specs.Answer.{grownOf, leftBy}
+use Rattle.writing.specs.declared.Grown.{Grown}
+use Rattle.writing.specs.declared.Grown.the-variants as grown
 use Rattle.passport.specs.Check.{_orElse_, check12, check13, check14, check15, twiceMoved, thriceMoved, checkOf}
 use Rattle.passport.specs.Import.{roomFor, importedBy, ruleFor, importOf, tableLeft, workLeft, ImportMeans}
 use Rattle.passport.specs.declared.Checked.{Checked}

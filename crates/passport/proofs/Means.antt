@@ -13,7 +13,7 @@ use Rattle.matrix.specs.Euclid.{pick}
 use Rattle.space.specs.Space.{workLength}
 use Rattle.growth.specs.Fixed.{image, byQ}
 use Rattle.growth.specs.Symbol.{Ruled, made, over}
-use Rattle.splitting.specs.Answer.{tableIn}
+use Rattle.writing.specs.Answer.{tableIn}
 use Rattle.growth.proofs.Theorem.{rule-precisely}
 use Rattle.passport.specs.Check.{checkOf, Passport}
 use Rattle.passport.specs.Import.{roomFor, importedBy, ruleFor, importOf, tableLeft, Symbolised, ImportMeans}

@@ -20,7 +20,7 @@ use Rattle.space.specs.Space.{workLength, zeros}
 use Rattle.growth.specs.Fixed.{image, byQ}
 use Rattle.growth.specs.Symbol.{Ruled, made, over, ruleOf}
 use Rattle.growth.specs.Theorem.{Precisely}
-use Rattle.splitting.specs.Answer.{tableIn}
+use Rattle.writing.specs.Answer.{tableIn}
 use Rattle.passport.specs.Check.{checkOf, Passport}
 use Rattle.passport.specs.declared.Checked.{Checked}
 use Rattle.passport.specs.declared.Checked.the-variants as checked

@@ -4,7 +4,7 @@ use entries::first_bad;
 use entries::first_moved_thrice;
 use entries::first_moved_twice;
 use reach::first_unreached;
-use splitting::Grown;
+use writing::Grown;
 ghost use mathlib.Core.Path.{_≡_};
 ghost use Prim.Native.Nat.{_≤_, _<_};
 ghost use lib.ListN.{length};
@@ -105,7 +105,7 @@ fn import_accepted(s: &[u32], r: &[u32], w: &mut [u16], out: &mut [i64]) -> Impo
     ensures { λ a. ⌜ now (w .exit) ≡ zeros (length (now (w .entry))) ⌝ }
     ensures { λ a. ⌜ now (out .exit) ≡ tableLeft (ruleFor (now (s .entry)) (now (r .entry))) a (now (out .entry)) ⌝ }
 {
-    let grown = splitting::grow(s, r, w, out);
+    let grown = writing::grow(s, r, w, out);
     space::clear(w);
     match grown {
         Grown::Made(v) => Imported::Made(v),

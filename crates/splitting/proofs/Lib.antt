@@ -4,5 +4,3 @@ pub mod Turn
 pub mod Decode
 pub mod Walking
 pub mod Begin
-pub mod Written
-pub mod Answers
