@@ -1,0 +1,24 @@
+use mathlib.Core.Path.{sym, _∙_}
+use Rattle.growth.proofs.Images.{image-in}
+use borrow.Author.Needs.{needs}
+use Rattle.growth.proofs.image.Statement.{statement}
+use Rattle.growth.proofs.image.Tie as tie
+
+-- src/lib.rt:33:10
+mul-wide : tie.Need-mul-wide
+mul-wide c = search needs
+
+-- src/lib.rt:33:10
+shared-slice-read-wide : tie.Need-shared-slice-read-wide
+shared-slice-read-wide c = search needs
+
+-- src/lib.rt:33:5
+wide-requires : tie.Need-wide-requires
+wide-requires c κs = search needs
+
+-- src/lib.rt:29:1
+returns : tie.Need-returns
+returns c = let s = c .before .before .before in c .wide .ensures ∙ sym (image-in (s .args .t .now) (s .args .x) 0 (s .pre))
+
+pub image-spec : {M : Type 1} → statement M
+image-spec = tie.close (tie.spec mul-wide shared-slice-read-wide wide-requires returns)

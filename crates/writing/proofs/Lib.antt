@@ -1,0 +1,3 @@
+-- Why the table is the one that the rule gives, in reading order.
+pub mod Written
+pub mod Answers

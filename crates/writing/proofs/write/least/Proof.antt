@@ -1,0 +1,15 @@
+use Rattle.writing.proofs.Written.{least-yes, least-no}
+use borrow.Author.Needs.{needs}
+use Rattle.writing.proofs.write.least.Statement.{statement}
+use Rattle.writing.proofs.write.least.Tie as tie
+
+-- src/write.rt:75:9
+returns : tie.Need-returns
+returns c = least-yes (c .before .args .x) (c .before .args .y) (c .if1 .taken)
+
+-- src/write.rt:71:1
+returns-2 : tie.Need-returns-2
+returns-2 c = least-no (c .before .args .x) (c .before .args .y) (c .if1 .left)
+
+pub least-spec : {M : Type 1} → statement M
+least-spec = tie.close (tie.spec returns returns-2)

@@ -1,0 +1,15 @@
+use Rattle.writing.proofs.Written.{signed-is}
+use borrow.Author.Needs.{needs}
+use Rattle.writing.proofs.write.signed.Statement.{statement}
+use Rattle.writing.proofs.write.signed.Tie as tie
+
+-- src/write.rt:32:5
+cast-result : tie.Need-cast-result
+cast-result c = search needs
+
+-- src/write.rt:28:1
+returns : tie.Need-returns
+returns c = signed-is _ (c .pre)
+
+pub signed-spec : {M : Type 1} → statement M
+signed-spec = tie.close (tie.spec cast-result returns)
