@@ -15,8 +15,8 @@ use mathlib.Core.Bool.{Bool}
 use mathlib.Core.List.{List, [], _∷_}
 use Prim.Native.Nat.{ℕ, _+_, _-_}
 use lib.Dec.{eqb, ltb}
-use lib.IntN.{ℤ, pos}
-use lib.ListN.{length, take, drop, getD}
+use lib.IntN.{ℤ}
+use lib.ListN.{length, take, drop}
 use Rattle.matrix.specs.Matrix.{nth, ofList}
 use Rattle.matrix.specs.Euclid.{pick}
 use Rattle.space.specs.Space.{workLength}

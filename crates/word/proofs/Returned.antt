@@ -3,7 +3,7 @@
 -- In order: which answers can be a word (`second`, `by-check`, `by-room`); the law (`names-word`); the part that the answer names is the
 -- word (`part-found`), which is no longer than the space (`word-most`).
 -- Assumes nothing.
-use mathlib.Core.Path.{_≡_, refl, sym, _∙_, ap}
+use mathlib.Core.Path.{_≡_, refl, _∙_, ap}
 use mathlib.Core.Bool.{Bool, true, false}
 use mathlib.Core.List.{List}
 use Prim.Native.Nat.{ℕ, _-_, _≤_}
@@ -21,7 +21,7 @@ use Rattle.symbol.specs.declared.Checked.{Checked}
 use Rattle.symbol.specs.declared.Checked.the-variants.{Accepted, Refused}
 use Rattle.symbol.proofs.Choice.{and-left, and-right}
 use Rattle.walk.specs.Way.{placed}
-use Rattle.word.specs.Answer.{large, unit, home, foundWord, fits, roomOf, foundOf, byWork, byDeterminants, byEntries, byCheck, queryOf, wordLeft, partOf}
+use Rattle.word.specs.Answer.{large, unit, home, foundWord, fits, roomOf, foundOf, byWork, byDeterminants, byEntries, byCheck, queryOf, partOf}
 use Rattle.word.specs.declared.Queried.{Queried}
 use Rattle.word.specs.declared.Queried.the-variants as queried
 use Rattle.word.proofs.Claim.{part-placed}

@@ -1,7 +1,6 @@
 -- `reply` meets its contract: the arrays are long enough. Assumes nothing.
 use native.Mathlib.Omega.{arith}
 use Rattle.line.proofs.Placing.{puts-within}
-use borrow.Author.Needs.{needs}
 use Rattle.reply.proofs.reply.Statement.{statement}
 use Rattle.reply.proofs.reply.Tie as tie
 

@@ -1,10 +1,10 @@
 -- `reply_text` meets its contract: each answer of `read` has its line. Assumes nothing.
-use mathlib.Core.Path.{_≡_, refl, sym, ap, _∙_}
+use mathlib.Core.Path.{_≡_, sym, ap, _∙_}
 use mathlib.Core.List.{List}
 use Prim.Native.Nat.{ℕ}
 use native.Mathlib.Omega.{arith}
 use lib.IntN.{ℤ}
-use lib.ListN.{length, take}
+use lib.ListN.{take}
 use lib.Seq.{length-take-le}
 use Rattle.text.specs.Piece.{pieces, numbers}
 use Rattle.text.specs.Reading.{readingOf, leftBy}
@@ -12,7 +12,7 @@ use Rattle.text.specs.declared.Reading.{Reading}
 use Rattle.text.specs.declared.Reading.the-variants.{Numbers}
 use Rattle.text.proofs.Handed.{Handed, handed-on, front-entries}
 use Rattle.line.proofs.Placing.{puts-as}
-use Rattle.reply.specs.Reply.{repliedTo, queryFormat, replyBy}
+use Rattle.reply.specs.Reply.{repliedTo, queryFormat}
 use Rattle.reply.proofs.Replied.{reply-longer, reply-by}
 use borrow.Author.Needs.{needs}
 use Rattle.reply.proofs.reply_text.Statement.{statement}
