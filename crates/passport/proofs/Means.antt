@@ -12,6 +12,10 @@ use lib.IntN.{ℤ}
 use Rattle.matrix.specs.Euclid.{pick}
 use Rattle.space.specs.Space.{workLength}
 use Rattle.growth.specs.Fixed.{image, byQ}
+use Rattle.points.specs.Order.{Maps}
+use Rattle.coset.specs.Tables.{tableS, tableR, tableT}
+use Rattle.coset.proofs.Answer.{meaning}
+use Rattle.growth.specs.Theorem.{Precisely}
 use Rattle.growth.specs.Symbol.{Ruled, made, over}
 use Rattle.writing.specs.Answer.{tableIn}
 use Rattle.growth.proofs.Theorem.{rule-precisely}
@@ -22,6 +26,7 @@ use Rattle.passport.specs.declared.Checked.the-variants as checked
 use Rattle.passport.specs.declared.Imported.{Imported}
 use Rattle.passport.specs.declared.Imported.the-variants.{Made, Count, Entry, Order, Unreached, Short, Split}
 use Rattle.passport.proofs.Accepted.{accepted}
+use Rattle.passport.proofs.Renumbered.{index-is, renumbered-S, renumbered-R}
 
 -- a symbol of v vertices was made only by an accepted pair, with room for its table
 pub record Success (s r : List ℕ) (v : ℕ) : Type 0 where
@@ -51,6 +56,23 @@ success s r work room v e = by-check (checkOf s r) refl e
     by-check (checked.Order x) c q = let z : _≡_ {A = ℕ} 0 1 = cc in absurd (omega arith)
     by-check (checked.Unreached x) c q = let z : _≡_ {A = ℕ} 0 1 = cc in absurd (omega arith)
 
+-- a symbol that generates precisely the matrices that fix point 0: its tables are the given ones, renumbered
+symbolised : (s r : List ℕ) (v : ℕ) (t : List ℤ) → Passport s r → Precisely (image s) (byQ (image s) (image r)) (length s) v t → Symbolised s r v t
+symbolised s r v t p q =
+    let a = p .permuting in
+    let maps : Maps (image s) (image r) 0 (length s) = record { start-low = a .some; σ-low = a .σ-low; ρ-low = a .ρ-low } in
+    let c = meaning (q .symbol) .cosets in
+    let S = tableS v t in
+    let R = tableR v t in
+    let T = tableT v t in
+    record {
+      passport = p;
+      precisely = q;
+      index = index-is (image s) (image r) (length s) maps (a .twice) (a .thrice) (p .reached) v t S R T c (q .group);
+      S-table = renumbered-S (image s) (image r) (length s) maps (a .twice) (a .thrice) (p .reached) v t S R T c (q .group);
+      R-table = renumbered-R (image s) (image r) (length s) maps (a .twice) (a .thrice) (p .reached) v t S R T c (q .group);
+    }
+
 -- WHAT A MADE SYMBOL MEANS
 pub import-means : (s r : List ℕ) (work room : ℕ) (a : Imported) (out : List ℤ) → a ≡ importOf s r work room → ImportMeans s r a (tableLeft (ruleFor s r) a out)
 import-means s r work room a out e v m =
@@ -61,4 +83,4 @@ import-means s r work room a out e v m =
     ap (λ (x : Imported). take (3 * v + 1) (tableLeft (ruleFor s r) x out)) m
     ∙ ap (λ (g : Ruled). take (3 * v + 1) (tableIn g ++ drop (3 * v + 1) out)) (k .rule)
     ∙ take-at (k .table) (drop (3 * v + 1) out) (3 * v + 1) (q .symbol .long) in
-    rw t (record { passport = p; precisely = q })
+    rw t (symbolised s r v (k .table) p q)

@@ -7,7 +7,8 @@
 --   tableLeft g a out    what the call leaves in the result space: the symbol's table at its front, or all as it was
 --   workLeft c w         what it leaves in the work space: zeros where it got past the length check, else all as it was
 --   ImportMeans s r a t  an answer that is no refusal means this: the pair is a passport, and the 3v + 1 numbers at the front of the result
---                        space are a symbol that generates precisely the matrices that fix point 0, of at most index/3 + 1 vertices
+--                        space are a symbol that generates precisely the matrices that fix point 0, of at most index/3 + 1 vertices; its
+--                        index is the number of points, and its own coset tables are the given permutations, renumbered by the listing's rule
 use mathlib.Core.Path.{_≡_}
 use mathlib.Core.Bool.{Bool}
 use mathlib.Core.List.{List, _++_}
@@ -17,6 +18,9 @@ use lib.ListN.{length, take, drop}
 use lib.IntN.{ℤ}
 use Rattle.matrix.specs.Euclid.{pick}
 use Rattle.space.specs.Space.{workLength, zeros}
+use Rattle.points.specs.Order.{orderOf}
+use Rattle.points.specs.Table.{renamed}
+use Rattle.coset.specs.Tables.{indexOf, tableS, tableR}
 use Rattle.growth.specs.Fixed.{image, byQ}
 use Rattle.growth.specs.Symbol.{Ruled, made, over, ruleOf}
 use Rattle.growth.specs.Theorem.{Precisely}
@@ -78,9 +82,16 @@ workLeft (checked.Entry i) w = w
 workLeft (checked.Order x) w = w
 workLeft (checked.Unreached x) w = w
 
+-- the points, by the number that the listing's rule gives them
+abbrev pub numbering : (s r : List ℕ) → List ℕ
+numbering s r = orderOf (image s) (image r) 0 (length s)
+
 pub record Symbolised (s r : List ℕ) (v : ℕ) (t : List ℤ) : Type 0 where
   pub passport : Passport s r
   pub precisely : Precisely (image s) (byQ (image s) (image r)) (length s) v t
+  pub index : length s ≡ indexOf v t
+  pub S-table : tableS v t ≡ renamed (numbering s r) (image s)
+  pub R-table : tableR v t ≡ renamed (numbering s r) (image r)
 
 abbrev pub ImportMeans : (s r : List ℕ) → Imported → List ℤ → Type 0
 ImportMeans s r a out = (v : ℕ) → a ≡ Made v → Symbolised s r v (take (3 * v + 1) out)
