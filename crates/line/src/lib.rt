@@ -34,17 +34,25 @@ pub fn put_digits(n: u64, out: &mut [u8], at: usize) -> usize
     }
 }
 
+// The number n.
+pub fn put_decimal(n: i64, out: &mut [u8], at: usize) -> usize
+    requires { ⌜ at + 20 ≤ length (now out) ⌝ }
+    ensures { λ r. ⌜ Puts (decimalOf n) at r (now (out .entry)) (now (out .exit)) × (r ≤ at + 20) ⌝ }
+{
+    let written = text::write(n, out, at);
+    match written {
+        Written::To(end) => end,
+        Written::Short(_) => at,
+    }
+}
+
 // A space and the number n.
 pub fn put_integer(n: i64, out: &mut [u8], at: usize) -> usize
     requires { ⌜ at + 21 ≤ length (now out) ⌝ }
     ensures { λ r. ⌜ Puts (32 ∷ decimalOf n) at r (now (out .entry)) (now (out .exit)) × (r ≤ at + 21) ⌝ }
 {
     let from = put(b" ", out, at);
-    let written = text::write(n, out, from);
-    match written {
-        Written::To(end) => end,
-        Written::Short(_) => at,
-    }
+    put_decimal(n, out, from)
 }
 
 // A space and the natural number n.

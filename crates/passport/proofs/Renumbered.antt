@@ -259,9 +259,9 @@ module _ (σ ρ : ℕ → ℕ) where
           ext-getD 0 l (renamed order f) (long ∙ sym o ∙ sym m) (λ j h.
           let k : j < index = omega (arith, long) in
           let here : getD order j 0 ≡ over j =
-                ap (λ (x : List ℕ). getD x j 0) order-is ∙ getD-map over (upTo index) j (omega (arith, upTo-length index)) ∙ ap over (upTo-at index j k) in
+          ap (λ (x : List ℕ). getD x j 0) order-is ∙ getD-map over (upTo index) j (omega (arith, upTo-length index)) ∙ ap over (upTo-at index j k) in
           let there : numberOf order f (getD order j 0) ≡ at l j =
-                ap (λ (x : ℕ). find order (f x)) here ∙ ap (find order) (sym (step j k)) ∙ ap (λ (x : List ℕ). find x (over (at l j))) order-is ∙ number-is (at l j) (low j k) in
+          ap (λ (x : ℕ). find order (f x)) here ∙ ap (find order) (sym (step j k)) ∙ ap (λ (x : List ℕ). find x (over (at l j))) order-is ∙ number-is (at l j) (low j k) in
           sym (getD-map (numberOf order f) order j (omega (arith, o)) ∙ there))
 
       pub renumbered-S : s ≡ renamed order σ

@@ -1,0 +1,4 @@
+-- The laws behind the proofs.
+pub mod Lines
+pub mod Entries
+pub mod Answering
