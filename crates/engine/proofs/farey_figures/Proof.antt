@@ -1,0 +1,142 @@
+-- `farey_figures` meets its contract: in each arm, what the answer says gives the number, the place and the eight numbers. Assumes nothing.
+use mathlib.Core.Path.{_≡_, refl, sym, ap, _∙_}
+use mathlib.Core.List.{List, [], _∷_}
+use Prim.Native.Nat.{ℕ}
+use native.Mathlib.Omega.{arith}
+use Rattle.coset.specs.Answer.{Says, saidBy}
+use Rattle.coset.specs.declared.FigureRecord.{FigureRecord}
+use Rattle.engine.specs.Exported.{saysNumber, saysPlace, figuresLeft}
+use Rattle.engine.proofs.Zero.{fault-above}
+use borrow.Author.Needs.{needs}
+use Rattle.engine.proofs.farey_figures.Statement.{statement}
+use Rattle.engine.proofs.farey_figures.Tie as tie
+
+-- the eight numbers, from what the four functions return
+eight : {gn gv ln lv gn' gv' ln' lv' : ℕ} (f : FigureRecord) → gn ≡ gn' → gv ≡ gv' → ln ≡ ln' → lv ≡ lv' → f .index ∷ f .e2 ∷ f .e3 ∷ f .cusps ∷ gn ∷ gv ∷ ln ∷ lv ∷ [] ≡ f .index ∷ f .e2 ∷ f .e3 ∷ f .cusps ∷ gn' ∷ gv' ∷ ln' ∷ lv' ∷ []
+eight f a b d e = cc
+
+figures-requires : tie.Need-figures-requires
+figures-requires c κs = search needs
+
+enum-known-answer : tie.Need-enum-known-answer
+enum-known-answer c = search needs
+
+fault-place-requires : tie.Need-fault-place-requires
+fault-place-requires c κs = search needs
+
+fault-number-requires : tie.Need-fault-number-requires
+fault-number-requires c κs = search needs
+
+enum-known-answer-2 : tie.Need-enum-known-answer-2
+enum-known-answer-2 c = search needs
+
+enum-known-answer-3 : tie.Need-enum-known-answer-3
+enum-known-answer-3 c = search needs
+
+genus-number-requires : tie.Need-genus-number-requires
+genus-number-requires c κs = search needs
+
+genus-value-requires : tie.Need-genus-value-requires
+genus-value-requires c κs = search needs
+
+level-number-requires : tie.Need-level-number-requires
+level-number-requires c κs = search needs
+
+level-value-requires : tie.Need-level-value-requires
+level-value-requires c κs = search needs
+
+same-length : tie.Need-same-length
+same-length c = search needs
+
+returns : tie.Need-returns
+returns c =
+    let q = c .before .before .before .before .before .before .before .figures in
+    let s = c .before .before .before .before .before .before .before .before .before .before in
+    let a = c .before .before .before in
+    let k = sym (ap saidBy (a .answer .given .1)) ∙ q .ensures .0 in
+    let out = s .args .out .now in (
+      c .fault-number .ensures ∙ ap saysNumber k,
+      (
+        c .before .fault-place .ensures ∙ ap saysPlace k,
+        (
+          q .ensures .1 .0,
+          (
+            ap (λ (x : Says). figuresLeft x out) k,
+            λ z. absurd (fault-above (a .answer .given .0 .0) (sym (c .fault-number .ensures) ∙ z)),
+          ),
+        ),
+      ),
+    )
+
+same-length-2 : tie.Need-same-length-2
+same-length-2 c = search needs
+
+returns-2 : tie.Need-returns-2
+returns-2 c =
+    let q = c .before .before .before .before .before .figures in
+    let s = c .before .before .before .before .before .before .before .before in
+    let a = c .before in
+    let k = sym (ap saidBy (a .answer2 .given .1)) ∙ q .ensures .0 in
+    let out = s .args .out .now in (
+      ap saysNumber k,
+      (
+        ap saysPlace k,
+        (
+          q .ensures .1 .0,
+          (
+            ap (λ (x : Says). figuresLeft x out) k,
+            λ z. absurd (omega (arith, z)),
+          ),
+        ),
+      ),
+    )
+
+same-length-3 : tie.Need-same-length-3
+same-length-3 c = search needs
+
+returns-3 : tie.Need-returns-3
+returns-3 c =
+    let q = c .before .before .before .before .before .before .before .before .before .before .figures in
+    let s = c .before .before .before .before .before .before .before .before .before .before .before .before .before in
+    let a = c .before .before .before .before .before .before in
+    let k = sym (ap saidBy (a .answer3 .given .1)) ∙ q .ensures .0 in
+    let out = s .args .out .now in
+    let f = a .answer3 .given .0 .0 in
+    let g = c .before .before .before .before .genus-number in
+    let h = c .before .before .before .genus-value in
+    let l = c .before .before .level-number in
+    let m = c .before .level-value in (
+      ap saysNumber k,
+      (
+        ap saysPlace k,
+        (
+          q .ensures .1 .0,
+          (
+            eight f (g .ensures) (h .ensures) (l .ensures) (m .ensures)
+                ∙ ap (λ (x : Says). figuresLeft x out) k,
+            λ z. q .ensures .1 .1 f (a .answer3 .given .1),
+          ),
+        ),
+      ),
+    )
+
+pub farey-figures-spec : {M : Type 1} → statement M
+farey-figures-spec =
+    tie.close
+    (tie.spec
+    figures-requires
+    enum-known-answer
+    fault-place-requires
+    fault-number-requires
+    enum-known-answer-2
+    enum-known-answer-3
+    genus-number-requires
+    genus-value-requires
+    level-number-requires
+    level-value-requires
+    same-length
+    returns
+    same-length-2
+    returns-2
+    same-length-3
+    returns-3)

@@ -1,0 +1,60 @@
+-- `farey_query` meets its contract: the number and the count of the answer, what the call leaves, and the claim. Assumes nothing.
+use mathlib.Core.Path.{ap, _∙_, subst}
+use Rattle.matrix.specs.Matrix.{ofList}
+use Rattle.word.specs.Answer.{queryNumber, foundWord, wordLeft}
+use Rattle.word.specs.Claim.{Claim}
+use Rattle.word.specs.declared.Queried.{Queried}
+use Rattle.engine.specs.Exported.{queriedCount}
+use borrow.Author.Needs.{needs}
+use Rattle.engine.proofs.farey_query.Statement.{statement}
+use Rattle.engine.proofs.farey_query.Tie as tie
+
+query-requires : tie.Need-query-requires
+query-requires c κs = search needs
+
+queried-count-requires : tie.Need-queried-count-requires
+queried-count-requires c κs = search needs
+
+answer-number-requires : tie.Need-answer-number-requires
+answer-number-requires c κs = search needs
+
+same-length : tie.Need-same-length
+same-length c = search needs
+
+same-length-2 : tie.Need-same-length-2
+same-length-2 c = search needs
+
+returns : tie.Need-returns
+returns c =
+    let q = c .before .before .before .before .before .query in
+    let s = c .before .before .before .before .before .before .before .before .before .before .before in
+    let v = s .args .v in
+    let t = s .args .t .now in
+    let A = s .args .a .now in
+    let B = s .args .b .now in
+    let O = s .args .out .now in
+    let e = q .ensures .0 in
+    let l = q .ensures .1 .1 in (
+      c .answer-number .ensures ∙ ap queryNumber e,
+      (
+        c .before .queried-count .ensures ∙ ap queriedCount e,
+        (
+          q .ensures .1 .0,
+          (
+            l .0 ∙ ap (λ (r : Queried). wordLeft r (foundWord v t (ofList A) (ofList B)) O) e,
+            subst (λ (r : Queried). Claim v t A B (s .args .w .now) O (s .args .start) r (q .last .1 .1 .1 .1 .1 .0)) e (l .1),
+          ),
+        ),
+      ),
+    )
+
+pub farey-query-spec : {M : Type 1} → statement M
+farey-query-spec =
+    tie.close
+    (tie.spec
+    query-requires
+    queried-count-requires
+    answer-number-requires
+    same-length
+    same-length-2
+    returns)

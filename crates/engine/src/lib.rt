@@ -1,0 +1,220 @@
+// The engine as a library for C, for Rust and for any language that calls C: every call of the three licences, under one name each.
+//
+// An exported function returns 0, or the number of a refusal. Through `place` it writes the refusal's place or, where it returns 0, a
+// count. What it writes elsewhere, and what that means, is the promise of the call beneath it (specs/Exported.antt has the numbers).
+// include/farey.h says all of it in words.
+use answers::checked_number;
+use answers::checked_place;
+use answers::generated_count;
+use answers::generated_number;
+use answers::imported_count;
+use answers::imported_number;
+use answers::queried_count;
+use answers::sameness_count;
+use answers::sameness_number;
+use answers::tabled_count;
+use answers::tabled_number;
+use coset::Figured;
+use figures::Genus;
+use figures::Level;
+use symbol::fault_number;
+use symbol::fault_place;
+ghost use mathlib.Core.Path.{_≡_};
+ghost use mathlib.Core.Logic.{_↔_};
+ghost use Prim.Native.Nat.{_+_, _*_};
+ghost use lib.ListN.{length, take};
+ghost use Rattle.matrix.specs.Matrix.{ofList};
+ghost use Rattle.symbol.specs.Check.{checkOf};
+ghost use Rattle.symbol.specs.Generator.{generatorTable, generatedOf, generatedNumber, tableLeft, workAfter};
+ghost use Rattle.symbol.specs.Same.{samenessOf, samenessNumber, workAfterBoth};
+ghost use Rattle.symbol.specs.Symbol.{IsSymbol};
+ghost use Rattle.coset.specs.Tables.{tableS, tableR, tableT};
+ghost use Rattle.coset.specs.Answer.{tabledOf, tabledNumber, columnLeft, widthsOf, widthedOf, figuredOf, Meaning};
+ghost use Rattle.passport.specs.Check as passport;
+ghost use Rattle.passport.specs.Import as import;
+ghost use Rattle.word.specs.Answer.{queryOf, queryNumber, foundWord, wordLeft, workLeft};
+ghost use Rattle.word.specs.Claim.{Claim};
+ghost use Rattle.engine.specs.Exported.{checkedNumber, checkedPlace, generatedCount, tabledCount, importedCount, queriedCount, samenessCount, saysNumber, saysPlace, figureNumber, figureValue, figuresLeft};
+
+mod answers;
+
+// The checks of a symbol: refusals 1 to 7.
+#[no_mangle]
+pub extern "C" fn farey_check(v: usize, t: &[i64], place: &mut usize) -> u64
+    ensures { λ n. ⌜ n ≡ checkedNumber (checkOf v (now (t .entry))) ⌝ }
+    ensures { λ n. ⌜ now (place .exit) ≡ checkedPlace (checkOf v (now (t .entry))) ⌝ }
+    ensures { λ n. ⌜ (n ≡ 0) ↔ IsSymbol v (now (t .entry)) ⌝ }
+{
+    let answer = symbol::check(v, t);
+    *place = checked_place(answer);
+    checked_number(answer)
+}
+
+// The generators, five numbers each, from the front of out.
+#[no_mangle]
+pub extern "C" fn farey_generators(
+    v: usize,
+    t: &[i64],
+    w: &mut [u16],
+    out: &mut [i64],
+    place: &mut usize,
+) -> u64
+    ensures { λ n. ⌜ n ≡ generatedNumber (generatedOf v (now (t .entry)) (length (now (w .entry))) (length (now (out .entry)))) ⌝ }
+    ensures { λ n. ⌜ now (place .exit) ≡ generatedCount (generatedOf v (now (t .entry)) (length (now (w .entry))) (length (now (out .entry)))) ⌝ }
+    ensures { λ n. ⌜ now (w .exit) ≡ workAfter (checkOf v (now (t .entry))) (now (w .entry)) ⌝ }
+    ensures { λ n. ⌜ now (out .exit) ≡ tableLeft (generatedOf v (now (t .entry)) (length (now (w .entry))) (length (now (out .entry)))) (generatorTable v (now (t .entry))) (now (out .entry)) ⌝ }
+{
+    let answer = symbol::generator::generators(v, t, w, out);
+    *place = generated_count(answer);
+    generated_number(answer)
+}
+
+// The tables of S, R and T, each from the front of its space.
+#[no_mangle]
+pub extern "C" fn farey_tables(
+    v: usize,
+    t: &[i64],
+    w: &mut [u16],
+    s: &mut [u32],
+    r: &mut [u32],
+    u: &mut [u32],
+    place: &mut usize,
+) -> u64
+    ensures { λ n. ⌜ n ≡ tabledNumber (tabledOf v (now (t .entry)) (length (now (w .entry))) (length (now (s .entry))) (length (now (r .entry))) (length (now (u .entry)))) ⌝ }
+    ensures { λ n. ⌜ now (place .exit) ≡ tabledCount (tabledOf v (now (t .entry)) (length (now (w .entry))) (length (now (s .entry))) (length (now (r .entry))) (length (now (u .entry)))) ⌝ }
+    ensures { λ n. ⌜ now (w .exit) ≡ workAfter (checkOf v (now (t .entry))) (now (w .entry)) ⌝ }
+    ensures { λ n. ⌜ now (s .exit) ≡ columnLeft (tabledOf v (now (t .entry)) (length (now (w .entry))) (length (now (s .entry))) (length (now (r .entry))) (length (now (u .entry)))) (tableS v (now (t .entry))) (now (s .entry)) ⌝ }
+    ensures { λ n. ⌜ now (r .exit) ≡ columnLeft (tabledOf v (now (t .entry)) (length (now (w .entry))) (length (now (s .entry))) (length (now (r .entry))) (length (now (u .entry)))) (tableR v (now (t .entry))) (now (r .entry)) ⌝ }
+    ensures { λ n. ⌜ now (u .exit) ≡ columnLeft (tabledOf v (now (t .entry)) (length (now (w .entry))) (length (now (s .entry))) (length (now (r .entry))) (length (now (u .entry)))) (tableT v (now (t .entry))) (now (u .entry)) ⌝ }
+    ensures { λ n. ⌜ (n ≡ 0 → Meaning v (now (t .entry))) ⌝ }
+{
+    let answer = coset::tables(v, t, w, s, r, u);
+    *place = tabled_count(answer);
+    tabled_number(answer)
+}
+
+// The widths of the cusps, from the front of out.
+#[no_mangle]
+pub extern "C" fn farey_widths(
+    v: usize,
+    t: &[i64],
+    w: &mut [u16],
+    out: &mut [u32],
+    place: &mut usize,
+) -> u64
+    ensures { λ n. ⌜ n ≡ tabledNumber (widthedOf v (now (t .entry)) (length (now (w .entry))) (length (now (out .entry)))) ⌝ }
+    ensures { λ n. ⌜ now (place .exit) ≡ tabledCount (widthedOf v (now (t .entry)) (length (now (w .entry))) (length (now (out .entry)))) ⌝ }
+    ensures { λ n. ⌜ now (w .exit) ≡ workAfter (checkOf v (now (t .entry))) (now (w .entry)) ⌝ }
+    ensures { λ n. ⌜ now (out .exit) ≡ columnLeft (widthedOf v (now (t .entry)) (length (now (w .entry))) (length (now (out .entry)))) (widthsOf v (now (t .entry))) (now (out .entry)) ⌝ }
+    ensures { λ n. ⌜ (n ≡ 0 → Meaning v (now (t .entry))) ⌝ }
+{
+    let answer = coset::widths(v, t, w, out);
+    *place = tabled_count(answer);
+    tabled_number(answer)
+}
+
+// The figures: index, e2, e3, cusps, then number and value of the genus, then of the level.
+#[no_mangle]
+pub extern "C" fn farey_figures(
+    v: usize,
+    t: &[i64],
+    w: &mut [u16],
+    out: &mut [u64; 8],
+    place: &mut usize,
+) -> u64
+    ensures { λ n. ⌜ n ≡ saysNumber (figuredOf v (now (t .entry)) (length (now (w .entry)))) ⌝ }
+    ensures { λ n. ⌜ now (place .exit) ≡ saysPlace (figuredOf v (now (t .entry)) (length (now (w .entry)))) ⌝ }
+    ensures { λ n. ⌜ now (w .exit) ≡ workAfter (checkOf v (now (t .entry))) (now (w .entry)) ⌝ }
+    ensures { λ n. ⌜ now (out .exit) ≡ figuresLeft (figuredOf v (now (t .entry)) (length (now (w .entry)))) (now (out .entry)) ⌝ }
+    ensures { λ n. ⌜ (n ≡ 0 → Meaning v (now (t .entry))) ⌝ }
+{
+    let answer = coset::figures(v, t, w);
+    match answer {
+        Figured::Refused(fault) => {
+            *place = fault_place(fault);
+            fault_number(fault)
+        }
+        Figured::Short(n) => {
+            *place = n;
+            11
+        }
+        Figured::Made(f) => {
+            let genus = f.genus;
+            let level = f.level;
+            *place = 0;
+            *out = [
+                f.index as u64,
+                f.e2 as u64,
+                f.e3 as u64,
+                f.cusps as u64,
+                answers::genus_number(genus),
+                answers::genus_value(genus),
+                answers::level_number(level),
+                answers::level_value(level),
+            ];
+            0
+        }
+    }
+}
+
+// The symbol of the matrices that fix point 0, from the tables of S and R, from the front of out.
+#[no_mangle]
+pub extern "C" fn farey_import(
+    s: &[u32],
+    r: &[u32],
+    w: &mut [u16],
+    out: &mut [i64],
+    place: &mut usize,
+) -> u64
+    ensures { λ n. ⌜ n ≡ import.importedNumber (import.importOf (now (s .entry)) (now (r .entry)) (length (now (w .entry))) (length (now (out .entry)))) ⌝ }
+    ensures { λ n. ⌜ now (place .exit) ≡ importedCount (import.importOf (now (s .entry)) (now (r .entry)) (length (now (w .entry))) (length (now (out .entry)))) ⌝ }
+    ensures { λ n. ⌜ now (w .exit) ≡ import.workLeft (passport.checkOf (now (s .entry)) (now (r .entry))) (now (w .entry)) ⌝ }
+    ensures { λ n. ⌜ now (out .exit) ≡ import.tableLeft (import.ruleFor (now (s .entry)) (now (r .entry))) (import.importOf (now (s .entry)) (now (r .entry)) (length (now (w .entry))) (length (now (out .entry)))) (now (out .entry)) ⌝ }
+    ensures { λ n. ⌜ (n ≡ 0 → import.Symbolised (now (s .entry)) (now (r .entry)) (now (place .exit)) (take (3 * now (place .exit) + 1) (now (out .exit)))) ⌝ }
+{
+    let answer = passport::import(s, r, w, out);
+    *place = imported_count(answer);
+    imported_number(answer)
+}
+
+// A word that takes A to B up to sign, in out from the start place on, or 10: there is none.
+#[no_mangle]
+pub extern "C" fn farey_query(
+    v: usize,
+    t: &[i64],
+    a: &[i64; 4],
+    b: &[i64; 4],
+    w: &mut [u16],
+    out: &mut [i16],
+    start: usize,
+    place: &mut usize,
+) -> u64
+    ensures { λ n. ⌜ n ≡ queryNumber (queryOf v (now (t .entry)) (now (a .entry)) (now (b .entry)) (length (now (w .entry))) (length (now (out .entry))) start) ⌝ }
+    ensures { λ n. ⌜ now (place .exit) ≡ queriedCount (queryOf v (now (t .entry)) (now (a .entry)) (now (b .entry)) (length (now (w .entry))) (length (now (out .entry))) start) ⌝ }
+    ensures { λ n. ⌜ now (w .exit) ≡ workLeft v (now (t .entry)) (now (a .entry)) (now (b .entry)) (now (w .entry)) ⌝ }
+    ensures { λ n. ⌜ now (out .exit) ≡ wordLeft (queryOf v (now (t .entry)) (now (a .entry)) (now (b .entry)) (length (now (w .entry))) (length (now (out .entry))) start) (foundWord v (now (t .entry)) (ofList (now (a .entry))) (ofList (now (b .entry)))) (now (out .entry)) ⌝ }
+    ensures { λ n. ⌜ Claim v (now (t .entry)) (now (a .entry)) (now (b .entry)) (now (w .entry)) (now (out .entry)) start (queryOf v (now (t .entry)) (now (a .entry)) (now (b .entry)) (length (now (w .entry))) (length (now (out .entry))) start) (now (out .exit)) ⌝ }
+{
+    let answer = word::query(v, t, *a, *b, w, out, start);
+    *place = queried_count(answer);
+    word::answer_number(answer)
+}
+
+// Whether two tables hold the same symbol: 1 for yes, 0 for no.
+#[no_mangle]
+pub extern "C" fn farey_same(
+    v: usize,
+    t: &[i64],
+    m: usize,
+    u: &[i64],
+    w: &mut [u16],
+    place: &mut usize,
+) -> u64
+    ensures { λ n. ⌜ n ≡ samenessNumber (samenessOf v (now (t .entry)) m (now (u .entry)) (length (now (w .entry)))) ⌝ }
+    ensures { λ n. ⌜ now (place .exit) ≡ samenessCount (samenessOf v (now (t .entry)) m (now (u .entry)) (length (now (w .entry)))) ⌝ }
+    ensures { λ n. ⌜ now (w .exit) ≡ workAfterBoth (checkOf v (now (t .entry))) (checkOf m (now (u .entry))) (now (w .entry)) ⌝ }
+{
+    let answer = symbol::same::same(v, t, m, u, w);
+    *place = sameness_count(answer);
+    sameness_number(answer)
+}

@@ -1,0 +1,106 @@
+/* The Farey symbol engine: finite index subgroups of PSL2(Z) from C.
+ *
+ * Link with libengine.a. Every function below is proved to do what its comment says, for every input that keeps these rules of
+ * C's side, which nothing can check:
+ *   - a pointer with a length points to that many numbers of its type, aligned, also where the length is 0 (then to anything aligned,
+ *     but not NULL); the other pointers point to what their comment says;
+ *   - no two spaces that are lent for writing overlap, and none overlaps what is lent for reading;
+ *   - nobody else writes to any of them during the call.
+ * There is no state between calls. A function allocates nothing, reads and writes no other memory, and always returns.
+ *
+ * THE SYMBOL is lent as v and a table t of t_len numbers: for each of the v finite vertices its numerator and its denominator, from
+ * left to right, then the v + 1 pairings, 3v + 1 numbers in all. A pairing is -2 (even), -3 (odd) or a free label from 1 to v + 1 that
+ * stands on just two sides.
+ *
+ * THE ANSWER of each function is 0, or the number of a refusal. Through `place` it writes the place of the refusal, or where it returns
+ * 0 a count, as said at each. Where it refuses, the result spaces are as they were. Where it returns 0, it has written the part that
+ * its comment names, and all else there is as it was.
+ *
+ * THE WORK SPACE has at least FAREY_WORK numbers; what stands in it at the call is free. It is all zero after a call that got past its
+ * length check, and as it was after any other.
+ *
+ * REFUSALS, number and place:
+ *    1  v isn't from 1 to 1,023                                                             0
+ *    2  the table's length isn't 3v + 1                                                     that length
+ *    3  a denominator isn't from 1 to 10^9, or a numerator is over 10^9 in size             the entry's index
+ *    4  neighbours a/b and a'/b' with a'b - ab' other than 1                                the side, from 0
+ *    5  no vertex is 0/1                                                                    0
+ *    6  a pairing that isn't allowed, or a label that isn't there just twice                the first such side
+ *    7  v is 1 and no side is odd                                                           0
+ *    8  a matrix entry over 1,000,000 in size                                               0 to 3 in A, 4 to 7 in B
+ *    9  a determinant other than 1                                                          0 for A, 1 for B
+ *   10  none: no product of generators and inverses takes A to B                            0
+ *   11  a space is too short                                                                the length that it needs
+ *   12  an index not from 1 to 3,066, or tables unequal in length                           0
+ *   13  an entry outside its table, or equal to an earlier one                              its index, S before R
+ *   14  S twice or R three times moves a point                                              the first such point, S before R
+ *   15  a point that isn't reached from 0                                                   the smallest
+ *   16  a vertex entry over 10^9 would be needed                                            the side to be split
+ *   17  the level is 2^64 or more                                                           (its own figure only)
+ *   18  the genus formula gives no whole number from 0                                      (its own figure only)
+ * 19 is for the programs, which read text.
+ */
+#ifndef FAREY_H
+#define FAREY_H
+
+#include <stddef.h>
+#include <stdint.h>
+
+#ifdef __cplusplus
+extern "C" {
+#endif
+
+/* The length of the work space. */
+#define FAREY_WORK 32768
+/* Lengths that are enough for every symbol: of a symbol's table, of the generators, of a table of cosets or widths. */
+#define FAREY_TABLE 3070
+#define FAREY_GENERATORS 5120
+#define FAREY_COSETS 4090
+
+/* Whether t is a symbol: refusals 1 to 7 in this order. Count: 0. */
+uint64_t farey_check(size_t v, const int64_t *t, size_t t_len, size_t *place);
+
+/* The generators of the side pairings, numbered from 1 by their leftmost side. out: for each, its kind (1 free, 2 even, 3 odd) and its
+ * matrix (a b; c d) as a, b, c, d, from the front. Even side with frame M: M S M^-1; odd: M Q M^-1; free, with partner's frame N:
+ * N S M^-1. Refused: 1 to 7, then 11 for work, then 11 for out. Count: how many generators; 5 numbers each are written. */
+uint64_t farey_generators(size_t v, const int64_t *t, size_t t_len, uint16_t *work, size_t work_len, int64_t *out, size_t out_len,
+                          size_t *place);
+
+/* The figures of the subgroup H that they generate. out points to eight numbers: index; e2 and e3, the numbers of points that S and R
+ * fix; cusps; then 0 and the genus, or 18 and 0; then 0 and the level, or 17 and 0. Refused: 1 to 7, then 11 for work. Count: 0. */
+uint64_t farey_figures(size_t v, const int64_t *t, size_t t_len, uint16_t *work, size_t work_len, uint64_t *out, size_t *place);
+
+/* The widths of the cusps, by the smallest coset of each, from the front of out. They add up to the index. Refused: 1 to 7, then 11
+ * for work, then 11 for out. Count: how many cusps. */
+uint64_t farey_widths(size_t v, const int64_t *t, size_t t_len, uint16_t *work, size_t work_len, uint32_t *out, size_t out_len,
+                      size_t *place);
+
+/* The right cosets of H, as numbers from 0, H itself first: for each coset, its image under multiplication on the right by S, by R and
+ * by T, each table from the front of its space. Two matrices lead from 0 to the same number precisely when they lie in the same right
+ * coset. Refused: 1 to 7, then 11 for work, then 11 for s, r, u. Count: the index, which is how many entries are written to each. */
+uint64_t farey_tables(size_t v, const int64_t *t, size_t t_len, uint16_t *work, size_t work_len, uint32_t *s, size_t s_len, uint32_t *r,
+                      size_t r_len, uint32_t *u, size_t u_len, size_t *place);
+
+/* A symbol from the permutations S and R: it generates precisely the matrices, up to sign, that fix point 0. out: its table, from the
+ * front. It has at most (number of points)/3 + 1 vertices. Refused: 12 to 15, then 11 for work, then 16, then 11 for out. Count: v, the
+ * number of vertices; 3v + 1 numbers are written. */
+uint64_t farey_import(const uint32_t *s, size_t s_len, const uint32_t *r, size_t r_len, uint16_t *work, size_t work_len, int64_t *out,
+                      size_t out_len, size_t *place);
+
+/* A word in the generators that takes A to B, up to sign: the product of its letters from left to right, times A, is B or -B. a and b
+ * point to four numbers each. Letter j is generator j, -j its inverse. The word stands in out from the place `start` on. A word is
+ * found exactly when there is such a product, of whatever length; 10 says that there is none. Refused: 1 to 7, then 8, then 9, A before
+ * B under each, then 11 for work, then 10, then 11 for out, with the word's true length. Count: how many letters. */
+uint64_t farey_query(size_t v, const int64_t *t, size_t t_len, const int64_t *a, const int64_t *b, uint16_t *work, size_t work_len,
+                     int16_t *out, size_t out_len, size_t start, size_t *place);
+
+/* Whether two symbols are the same: equal vertices, and equal pairings once free labels are renumbered by their leftmost side. Refused:
+ * 1 to 7 for the first, then for the second, then 11 for work. Count: 1 for yes, 0 for no. */
+uint64_t farey_same(size_t v, const int64_t *t, size_t t_len, size_t m, const int64_t *u, size_t u_len, uint16_t *work, size_t work_len,
+                    size_t *place);
+
+#ifdef __cplusplus
+}
+#endif
+
+#endif

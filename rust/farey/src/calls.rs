@@ -1,0 +1,269 @@
+//! One safe function for each exported one, on lent slices.
+//!
+//! The types keep the rules of `include/farey.h` that C can't check: slices are
+//! aligned and as long as they say, and what is lent for writing overlaps
+//! nothing else. Each function answers with its count, or with a refusal, and
+//! leaves what the header says.
+
+use crate::refusal::Refusal;
+
+/// The length of the work space.
+pub const WORK: usize = 32_768;
+/// Enough for every symbol's table, generators and cosets.
+pub const TABLE: usize = 3_070;
+pub const GENERATORS: usize = 5_120;
+pub const COSETS: usize = 4_090;
+
+// The engine's functions, as include/farey.h declares them.
+mod engine {
+    extern "C" {
+        pub fn farey_check(v: usize, t: *const i64, t_len: usize, place: *mut usize) -> u64;
+        pub fn farey_generators(
+            v: usize,
+            t: *const i64,
+            t_len: usize,
+            work: *mut u16,
+            work_len: usize,
+            out: *mut i64,
+            out_len: usize,
+            place: *mut usize,
+        ) -> u64;
+        pub fn farey_figures(
+            v: usize,
+            t: *const i64,
+            t_len: usize,
+            work: *mut u16,
+            work_len: usize,
+            out: *mut u64,
+            place: *mut usize,
+        ) -> u64;
+        pub fn farey_widths(
+            v: usize,
+            t: *const i64,
+            t_len: usize,
+            work: *mut u16,
+            work_len: usize,
+            out: *mut u32,
+            out_len: usize,
+            place: *mut usize,
+        ) -> u64;
+        pub fn farey_tables(
+            v: usize,
+            t: *const i64,
+            t_len: usize,
+            work: *mut u16,
+            work_len: usize,
+            s: *mut u32,
+            s_len: usize,
+            r: *mut u32,
+            r_len: usize,
+            u: *mut u32,
+            u_len: usize,
+            place: *mut usize,
+        ) -> u64;
+        pub fn farey_import(
+            s: *const u32,
+            s_len: usize,
+            r: *const u32,
+            r_len: usize,
+            work: *mut u16,
+            work_len: usize,
+            out: *mut i64,
+            out_len: usize,
+            place: *mut usize,
+        ) -> u64;
+        pub fn farey_query(
+            v: usize,
+            t: *const i64,
+            t_len: usize,
+            a: *const i64,
+            b: *const i64,
+            work: *mut u16,
+            work_len: usize,
+            out: *mut i16,
+            out_len: usize,
+            start: usize,
+            place: *mut usize,
+        ) -> u64;
+        pub fn farey_same(
+            v: usize,
+            t: *const i64,
+            t_len: usize,
+            m: usize,
+            u: *const i64,
+            u_len: usize,
+            work: *mut u16,
+            work_len: usize,
+            place: *mut usize,
+        ) -> u64;
+    }
+}
+
+/// A returned number with what stands at `place`.
+fn answer(number: u64, place: usize) -> Result<usize, Refusal> {
+    match number {
+        0 => Ok(place),
+        _ => Err(Refusal { number, place }),
+    }
+}
+
+/// Whether t holds a symbol with v vertices.
+pub fn check(v: usize, t: &[i64]) -> Result<(), Refusal> {
+    let mut place = 0;
+    let number = unsafe { engine::farey_check(v, t.as_ptr(), t.len(), &mut place) };
+    answer(number, place).map(|_| ())
+}
+
+/// The generators to the front of out, five numbers each: how many.
+pub fn generators(
+    v: usize,
+    t: &[i64],
+    work: &mut [u16],
+    out: &mut [i64],
+) -> Result<usize, Refusal> {
+    let mut place = 0;
+    let number = unsafe {
+        engine::farey_generators(
+            v,
+            t.as_ptr(),
+            t.len(),
+            work.as_mut_ptr(),
+            work.len(),
+            out.as_mut_ptr(),
+            out.len(),
+            &mut place,
+        )
+    };
+    answer(number, place)
+}
+
+/// Index, e2, e3, cusps, then number and value of the genus, then of the level.
+pub fn figures(v: usize, t: &[i64], work: &mut [u16], out: &mut [u64; 8]) -> Result<(), Refusal> {
+    let mut place = 0;
+    let number = unsafe {
+        engine::farey_figures(
+            v,
+            t.as_ptr(),
+            t.len(),
+            work.as_mut_ptr(),
+            work.len(),
+            out.as_mut_ptr(),
+            &mut place,
+        )
+    };
+    answer(number, place).map(|_| ())
+}
+
+/// The widths of the cusps to the front of out: how many.
+pub fn widths(v: usize, t: &[i64], work: &mut [u16], out: &mut [u32]) -> Result<usize, Refusal> {
+    let mut place = 0;
+    let number = unsafe {
+        engine::farey_widths(
+            v,
+            t.as_ptr(),
+            t.len(),
+            work.as_mut_ptr(),
+            work.len(),
+            out.as_mut_ptr(),
+            out.len(),
+            &mut place,
+        )
+    };
+    answer(number, place)
+}
+
+/// The tables of S, R and T to the fronts of s, r and u: the index.
+pub fn tables(
+    v: usize,
+    t: &[i64],
+    work: &mut [u16],
+    s: &mut [u32],
+    r: &mut [u32],
+    u: &mut [u32],
+) -> Result<usize, Refusal> {
+    let mut place = 0;
+    let number = unsafe {
+        engine::farey_tables(
+            v,
+            t.as_ptr(),
+            t.len(),
+            work.as_mut_ptr(),
+            work.len(),
+            s.as_mut_ptr(),
+            s.len(),
+            r.as_mut_ptr(),
+            r.len(),
+            u.as_mut_ptr(),
+            u.len(),
+            &mut place,
+        )
+    };
+    answer(number, place)
+}
+
+/// The table of a symbol for S and R to the front of out: its vertices.
+pub fn import(s: &[u32], r: &[u32], work: &mut [u16], out: &mut [i64]) -> Result<usize, Refusal> {
+    let mut place = 0;
+    let number = unsafe {
+        engine::farey_import(
+            s.as_ptr(),
+            s.len(),
+            r.as_ptr(),
+            r.len(),
+            work.as_mut_ptr(),
+            work.len(),
+            out.as_mut_ptr(),
+            out.len(),
+            &mut place,
+        )
+    };
+    answer(number, place)
+}
+
+/// A word that takes a to b, up to sign, in out from `start` on: its letters.
+pub fn query(
+    v: usize,
+    t: &[i64],
+    a: &[i64; 4],
+    b: &[i64; 4],
+    work: &mut [u16],
+    out: &mut [i16],
+    start: usize,
+) -> Result<usize, Refusal> {
+    let mut place = 0;
+    let number = unsafe {
+        engine::farey_query(
+            v,
+            t.as_ptr(),
+            t.len(),
+            a.as_ptr(),
+            b.as_ptr(),
+            work.as_mut_ptr(),
+            work.len(),
+            out.as_mut_ptr(),
+            out.len(),
+            start,
+            &mut place,
+        )
+    };
+    answer(number, place)
+}
+
+/// Whether t and u hold the same symbol.
+pub fn same(v: usize, t: &[i64], m: usize, u: &[i64], work: &mut [u16]) -> Result<bool, Refusal> {
+    let mut place = 0;
+    let number = unsafe {
+        engine::farey_same(
+            v,
+            t.as_ptr(),
+            t.len(),
+            m,
+            u.as_ptr(),
+            u.len(),
+            work.as_mut_ptr(),
+            work.len(),
+            &mut place,
+        )
+    };
+    answer(number, place).map(|yes| yes == 1)
+}

@@ -1,0 +1,29 @@
+//! Finite index subgroups of PSL2(Z) by their Farey symbols.
+//!
+//! The answers are those of the proved engine, `libengine.a`. What each call
+//! promises stands in `include/farey.h` in words, and in `crates/engine` as the
+//! contract that is proved. This crate adds nothing to the answers: it lends
+//! the engine its spaces and gives the results names.
+//!
+//! | module    | what it holds                                             |
+//! |-----------|-----------------------------------------------------------|
+//! | `calls`   | one safe function for each exported one, on lent slices   |
+//! | `refusal` | the error: number, place and a sentence                   |
+//! | `symbol`  | symbols that own their tables, and what can be asked      |
+//!
+//! ```
+//! use farey::Symbol;
+//!
+//! let gamma0_2 = Symbol::new(&[(0, 1), (1, 1)], &[1, -2, 1])?;
+//! assert_eq!(gamma0_2.figures().index, 3);
+//! let (one, t) = ([1, 0, 0, 1], [1, 1, 0, 1]);
+//! assert_eq!(gamma0_2.word(one, t)?, Some(vec![1]));
+//! # Ok::<(), farey::Refusal>(())
+//! ```
+
+pub mod calls;
+pub mod refusal;
+pub mod symbol;
+
+pub use refusal::Refusal;
+pub use symbol::{Figures, Generator, Kind, Symbol, Tables};

@@ -1,0 +1,174 @@
+//! Symbols that own their tables, and what can be asked of them.
+
+use crate::calls::{self, COSETS, GENERATORS, TABLE, WORK};
+use crate::refusal::Refusal;
+
+/// An accepted Farey symbol.
+#[derive(Clone, Debug, PartialEq, Eq)]
+pub struct Symbol {
+    v: usize,
+    table: Vec<i64>,
+}
+
+/// What a side is paired as.
+#[derive(Clone, Copy, Debug, PartialEq, Eq)]
+pub enum Kind {
+    Free,
+    Even,
+    Odd,
+}
+
+/// A generator with the matrix (a b; c d) as [a, b, c, d].
+#[derive(Clone, Copy, Debug, PartialEq, Eq)]
+pub struct Generator {
+    pub kind: Kind,
+    pub matrix: [i64; 4],
+}
+
+/// The figures; genus and level each have a refusal of their own, 18 and 17.
+#[derive(Clone, Debug, PartialEq, Eq)]
+pub struct Figures {
+    pub index: usize,
+    pub e2: usize,
+    pub e3: usize,
+    pub cusps: usize,
+    pub genus: Result<u64, Refusal>,
+    pub level: Result<u64, Refusal>,
+}
+
+/// The image of each coset under multiplication on the right by S, R and T.
+#[derive(Clone, Debug, PartialEq, Eq)]
+pub struct Tables {
+    pub s: Vec<u32>,
+    pub r: Vec<u32>,
+    pub t: Vec<u32>,
+}
+
+/// A fresh work space.
+fn work() -> Vec<u16> {
+    vec![0; WORK]
+}
+
+/// A figure from its number and its value.
+fn figure(number: u64, value: u64) -> Result<u64, Refusal> {
+    match number {
+        0 => Ok(value),
+        _ => Err(Refusal { number, place: 0 }),
+    }
+}
+
+/// An answer that can't be a refusal: the symbol is accepted, and the spaces are
+/// long enough for every symbol.
+fn certain<T>(answer: Result<T, Refusal>) -> T {
+    answer.unwrap_or_else(|refusal| unreachable!("{refusal}"))
+}
+
+impl Symbol {
+    /// The symbol with these vertices, each a numerator and a denominator, and
+    /// these pairings; refusals 1 to 7.
+    pub fn new(vertices: &[(i64, i64)], pairings: &[i64]) -> Result<Symbol, Refusal> {
+        let entries = vertices.iter().flat_map(|&(num, den)| [num, den]);
+        let table = entries.chain(pairings.iter().copied()).collect();
+        Symbol::from_table(vertices.len(), table)
+    }
+
+    /// The symbol in a table: 2v vertex entries and v + 1 pairings.
+    pub fn from_table(v: usize, table: Vec<i64>) -> Result<Symbol, Refusal> {
+        calls::check(v, &table)?;
+        Ok(Symbol { v, table })
+    }
+
+    /// The symbol of the matrices that fix point 0, from the images of the
+    /// points under S and R; refusals 12 to 16.
+    pub fn from_permutations(s: &[u32], r: &[u32]) -> Result<Symbol, Refusal> {
+        let mut table = vec![0; TABLE];
+        let v = calls::import(s, r, &mut work(), &mut table)?;
+        table.truncate(3 * v + 1);
+        Ok(Symbol { v, table })
+    }
+
+    /// The number of finite vertices.
+    pub fn vertices(&self) -> usize {
+        self.v
+    }
+
+    /// The vertex entries and then the pairings.
+    pub fn table(&self) -> &[i64] {
+        &self.table
+    }
+
+    /// The generators; number j of a word's letters is the j-th, counted from 1.
+    pub fn generators(&self) -> Vec<Generator> {
+        let mut out = vec![0; GENERATORS];
+        let count = certain(calls::generators(self.v, &self.table, &mut work(), &mut out));
+        let rows = out[..5 * count].chunks_exact(5);
+        rows.map(|row| Generator {
+            kind: match row[0] {
+                1 => Kind::Free,
+                2 => Kind::Even,
+                _ => Kind::Odd,
+            },
+            matrix: [row[1], row[2], row[3], row[4]],
+        })
+        .collect()
+    }
+
+    /// The figures of the subgroup that they generate.
+    pub fn figures(&self) -> Figures {
+        let mut out = [0; 8];
+        certain(calls::figures(self.v, &self.table, &mut work(), &mut out));
+        Figures {
+            index: out[0] as usize,
+            e2: out[1] as usize,
+            e3: out[2] as usize,
+            cusps: out[3] as usize,
+            genus: figure(out[4], out[5]),
+            level: figure(out[6], out[7]),
+        }
+    }
+
+    /// The widths of the cusps, by the smallest coset of each.
+    pub fn widths(&self) -> Vec<u32> {
+        let mut out = vec![0; COSETS];
+        let count = certain(calls::widths(self.v, &self.table, &mut work(), &mut out));
+        out.truncate(count);
+        out
+    }
+
+    /// The coset tables.
+    pub fn tables(&self) -> Tables {
+        let (mut s, mut r, mut t) = (vec![0; COSETS], vec![0; COSETS], vec![0; COSETS]);
+        let made = calls::tables(self.v, &self.table, &mut work(), &mut s, &mut r, &mut t);
+        let index = certain(made);
+        for table in [&mut s, &mut r, &mut t] {
+            table.truncate(index);
+        }
+        Tables { s, r, t }
+    }
+
+    /// A word in the generators whose value times a is b, up to sign, or `None`:
+    /// then there is none, of whatever length. Refusals 8 and 9.
+    pub fn word(&self, a: [i64; 4], b: [i64; 4]) -> Result<Option<Vec<i16>>, Refusal> {
+        // The first call asks for the length alone, the second for the word.
+        let mut work = work();
+        let mut ask = |out: &mut [i16]| {
+            calls::query(self.v, &self.table, &a, &b, &mut work, out, 0)
+        };
+        match ask(&mut []) {
+            Ok(_) => Ok(Some(Vec::new())),
+            Err(Refusal { number: 10, .. }) => Ok(None),
+            Err(Refusal { number: 11, place }) => {
+                let mut out = vec![0; place];
+                ask(&mut out)?;
+                Ok(Some(out))
+            }
+            Err(refusal) => Err(refusal),
+        }
+    }
+
+    /// Whether the two are the same symbol: equal vertices, and equal pairings
+    /// once free labels are renumbered by their leftmost side.
+    pub fn is_same(&self, other: &Symbol) -> bool {
+        certain(calls::same(self.v, &self.table, other.v, &other.table, &mut work()))
+    }
+}
