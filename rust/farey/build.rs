@@ -11,7 +11,10 @@ fn main() {
     let archive = folder.join("libengine.a");
     println!("cargo:rerun-if-changed={}", archive.display());
     if !archive.is_file() {
-        panic!("there is no {}: run `rt staticlib engine` first", archive.display());
+        panic!(
+            "there is no {}: run `rt staticlib engine` first",
+            archive.display()
+        );
     }
     println!("cargo:rustc-link-search=native={}", folder.display());
     println!("cargo:rustc-link-lib=static=engine");

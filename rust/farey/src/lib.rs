@@ -27,3 +27,8 @@ pub mod symbol;
 
 pub use refusal::Refusal;
 pub use symbol::{Figures, Generator, Kind, Symbol, Tables};
+
+/// The Rust examples of the handbook, which are tests of this crate.
+#[cfg(doctest)]
+#[doc = include_str!("../../../docs/HANDBOOK.md")]
+pub struct Handbook;

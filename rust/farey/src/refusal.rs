@@ -25,7 +25,11 @@ impl Refusal {
                 "the pairing of side {place} isn't allowed, or its label isn't on just two sides"
             ),
             7 => "there is one vertex and no odd side".to_string(),
-            8 => format!("entry {} of {} is over 1,000,000 in size", place % 4, matrix(place / 4)),
+            8 => format!(
+                "entry {} of {} is over 1,000,000 in size",
+                place % 4,
+                matrix(place / 4)
+            ),
             9 => format!("the determinant of {} isn't 1", matrix(place)),
             10 => "no product of generators and inverses takes A to B".to_string(),
             11 => format!("a space is too short: it needs {place}"),
@@ -51,7 +55,13 @@ fn matrix(which: usize) -> &'static str {
 
 impl fmt::Display for Refusal {
     fn fmt(&self, f: &mut fmt::Formatter) -> fmt::Result {
-        write!(f, "refused {} {}: {}", self.number, self.place, self.sentence())
+        write!(
+            f,
+            "refused {} {}: {}",
+            self.number,
+            self.place,
+            self.sentence()
+        )
     }
 }
 

@@ -100,7 +100,12 @@ impl Symbol {
     /// The generators; number j of a word's letters is the j-th, counted from 1.
     pub fn generators(&self) -> Vec<Generator> {
         let mut out = vec![0; GENERATORS];
-        let count = certain(calls::generators(self.v, &self.table, &mut work(), &mut out));
+        let count = certain(calls::generators(
+            self.v,
+            &self.table,
+            &mut work(),
+            &mut out,
+        ));
         let rows = out[..5 * count].chunks_exact(5);
         rows.map(|row| Generator {
             kind: match row[0] {
@@ -151,9 +156,8 @@ impl Symbol {
     pub fn word(&self, a: [i64; 4], b: [i64; 4]) -> Result<Option<Vec<i16>>, Refusal> {
         // The first call asks for the length alone, the second for the word.
         let mut work = work();
-        let mut ask = |out: &mut [i16]| {
-            calls::query(self.v, &self.table, &a, &b, &mut work, out, 0)
-        };
+        let mut ask =
+            |out: &mut [i16]| calls::query(self.v, &self.table, &a, &b, &mut work, out, 0);
         match ask(&mut []) {
             Ok(_) => Ok(Some(Vec::new())),
             Err(Refusal { number: 10, .. }) => Ok(None),
@@ -169,6 +173,12 @@ impl Symbol {
     /// Whether the two are the same symbol: equal vertices, and equal pairings
     /// once free labels are renumbered by their leftmost side.
     pub fn is_same(&self, other: &Symbol) -> bool {
-        certain(calls::same(self.v, &self.table, other.v, &other.table, &mut work()))
+        certain(calls::same(
+            self.v,
+            &self.table,
+            other.v,
+            &other.table,
+            &mut work(),
+        ))
     }
 }

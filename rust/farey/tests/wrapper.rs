@@ -22,8 +22,17 @@ fn one_vertex() {
     assert_eq!(two.tables().r, [0, 1]);
     for pairings in [[-2, -2], [1, 1]] {
         let refusal = Symbol::new(&[(0, 1)], &pairings).expect_err("no odd side");
-        assert_eq!(refusal, Refusal { number: 7, place: 0 });
-        assert_eq!(refusal.to_string(), "refused 7 0: there is one vertex and no odd side");
+        assert_eq!(
+            refusal,
+            Refusal {
+                number: 7,
+                place: 0
+            }
+        );
+        assert_eq!(
+            refusal.to_string(),
+            "refused 7 0: there is one vertex and no odd side"
+        );
     }
 }
 
@@ -33,8 +42,14 @@ fn gamma_2() {
     assert_eq!(group.figures().index, 6);
     let generators = group.generators();
     assert_eq!(generators.len(), 2);
-    assert_eq!((generators[0].kind, generators[0].matrix), (Kind::Free, [1, 2, 0, 1]));
-    assert_eq!((generators[1].kind, generators[1].matrix), (Kind::Free, [3, -2, 2, -1]));
+    assert_eq!(
+        (generators[0].kind, generators[0].matrix),
+        (Kind::Free, [1, 2, 0, 1])
+    );
+    assert_eq!(
+        (generators[1].kind, generators[1].matrix),
+        (Kind::Free, [3, -2, 2, -1])
+    );
     let tables = group.tables();
     assert_eq!(tables.s, [1, 0, 4, 5, 2, 3]);
     assert_eq!(tables.r, [2, 3, 5, 4, 1, 0]);
@@ -45,12 +60,21 @@ fn gamma_2() {
 fn gamma0_2_whole() {
     let group = gamma0_2();
     let figures = group.figures();
-    assert_eq!((figures.index, figures.e2, figures.e3, figures.cusps), (3, 1, 0, 2));
+    assert_eq!(
+        (figures.index, figures.e2, figures.e3, figures.cusps),
+        (3, 1, 0, 2)
+    );
     assert_eq!((figures.genus, figures.level), (Ok(0), Ok(2)));
     assert_eq!(group.widths(), [1, 2]);
     let generators = group.generators();
-    assert_eq!((generators[0].kind, generators[0].matrix), (Kind::Free, [1, 1, 0, 1]));
-    assert_eq!((generators[1].kind, generators[1].matrix), (Kind::Even, [1, -1, 2, -1]));
+    assert_eq!(
+        (generators[0].kind, generators[0].matrix),
+        (Kind::Free, [1, 1, 0, 1])
+    );
+    assert_eq!(
+        (generators[1].kind, generators[1].matrix),
+        (Kind::Even, [1, -1, 2, -1])
+    );
     assert_eq!(group.word(ONE, T), Ok(Some(vec![1])));
     assert_eq!(group.word(ONE, [1, 0, 2, 1]), Ok(Some(vec![2, 1])));
     assert_eq!(group.word(S, [1, -1, 1, 0]), Ok(Some(vec![1])));
@@ -62,12 +86,31 @@ fn gamma0_2_whole() {
 #[test]
 fn matrices_are_refused() {
     let group = gamma0_2();
-    assert_eq!(group.word(ONE, [1, 1_000_000, 0, 1]).map(|word| word.is_some()), Ok(true));
-    let large = group.word(ONE, [1, 1_000_001, 0, 1]).expect_err("too large");
-    assert_eq!(large, Refusal { number: 8, place: 5 });
+    assert_eq!(
+        group
+            .word(ONE, [1, 1_000_000, 0, 1])
+            .map(|word| word.is_some()),
+        Ok(true)
+    );
+    let large = group
+        .word(ONE, [1, 1_000_001, 0, 1])
+        .expect_err("too large");
+    assert_eq!(
+        large,
+        Refusal {
+            number: 8,
+            place: 5
+        }
+    );
     assert_eq!(large.sentence(), "entry 1 of B is over 1,000,000 in size");
     let zero = group.word([0; 4], ONE).expect_err("determinant 0");
-    assert_eq!(zero, Refusal { number: 9, place: 0 });
+    assert_eq!(
+        zero,
+        Refusal {
+            number: 9,
+            place: 0
+        }
+    );
 }
 
 #[test]
@@ -75,7 +118,13 @@ fn permutations_and_back() {
     let group = Symbol::from_permutations(&[1, 0, 2], &[2, 0, 1]).expect("a transitive pair");
     assert_eq!(group, gamma0_2());
     let split = Symbol::from_permutations(&[1, 0, 2], &[0, 1, 2]).expect_err("2 isn't reached");
-    assert_eq!(split, Refusal { number: 15, place: 2 });
+    assert_eq!(
+        split,
+        Refusal {
+            number: 15,
+            place: 2
+        }
+    );
 }
 
 #[test]

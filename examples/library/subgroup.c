@@ -1,0 +1,94 @@
+/* From two permutations to a symbol, its figures, generators and coset tables, and words: every call of the library, from C.
+ *
+ *     rt staticlib engine
+ *     cc -I include examples/library/subgroup.c target/staticlib/libengine.a -o subgroup && ./subgroup
+ *
+ * The group has index 7, and no congruence describes it. The output is in subgroup.output. */
+#include <inttypes.h>
+#include <stdio.h>
+#include <stdlib.h>
+#include "farey.h"
+
+static uint16_t work[FAREY_WORK];
+static int64_t table[FAREY_TABLE];
+static int64_t generators[FAREY_GENERATORS];
+static uint32_t widths[FAREY_COSETS], s[FAREY_COSETS], r[FAREY_COSETS], t[FAREY_COSETS];
+static int16_t word[16];
+
+/* Ends the program where a call is refused. */
+static void expect(uint64_t number, const size_t *place)
+{
+    if (number != 0) {
+        printf("refused %" PRIu64 " %zu\n", number, *place);
+        exit(1);
+    }
+}
+
+static void line(const char *name, const uint32_t *numbers, size_t count)
+{
+    printf("%s", name);
+    for (size_t i = 0; i < count; i++)
+        printf(" %" PRIu32, numbers[i]);
+    printf("\n");
+}
+
+/* The word that carries A to B, or that there is none. */
+static void ask(size_t v, const int64_t *a, const int64_t *b)
+{
+    size_t place;
+    uint64_t number = farey_query(v, table, 3 * v + 1, a, b, work, FAREY_WORK, word, 16, 0, &place);
+    if (number == 10) {
+        printf("none\n");
+        return;
+    }
+    expect(number, &place);
+    printf("word");
+    for (size_t i = 0; i < place; i++)
+        printf(" %d", word[i]);
+    printf("\n");
+}
+
+int main(void)
+{
+    static const uint32_t given_s[7] = {1, 0, 4, 6, 2, 5, 3};
+    static const uint32_t given_r[7] = {2, 3, 5, 6, 4, 0, 1};
+    static const char *kinds[] = {"", "free", "even", "odd"};
+    size_t v, length, count, place;
+    uint64_t figures[8];
+
+    expect(farey_import(given_s, 7, given_r, 7, work, FAREY_WORK, table, FAREY_TABLE, &v), &v);
+    length = 3 * v + 1;
+    printf("symbol");
+    for (size_t i = 0; i < length; i++)
+        printf(" %" PRId64, table[i]);
+    printf("\n");
+    expect(farey_check(v, table, length, &place), &place);
+
+    expect(farey_figures(v, table, length, work, FAREY_WORK, figures, &place), &place);
+    printf("index %" PRIu64 "\n", figures[0]);
+    expect(farey_widths(v, table, length, work, FAREY_WORK, widths, FAREY_COSETS, &count), &count);
+    line("widths", widths, count);
+
+    expect(farey_generators(v, table, length, work, FAREY_WORK, generators, FAREY_GENERATORS, &count), &count);
+    for (size_t i = 0; i < count; i++) {
+        const int64_t *g = generators + 5 * i;
+        printf("%zu %s %" PRId64 " %" PRId64 " %" PRId64 " %" PRId64 "\n", i + 1, kinds[g[0]], g[1], g[2], g[3], g[4]);
+    }
+
+    expect(farey_tables(v, table, length, work, FAREY_WORK, s, FAREY_COSETS, r, FAREY_COSETS, t, FAREY_COSETS, &count), &count);
+    line("S", s, count);
+    line("R", r, count);
+    line("T", t, count);
+
+    static const int64_t one[4] = {1, 0, 0, 1};
+    static const int64_t six[4] = {1, 6, 0, 1};
+    static const int64_t other[4] = {-17, -12, -24, -17};
+    ask(v, one, six);
+    ask(v, one, other);
+
+    /* The same symbol with another label. */
+    static const int64_t relabelled[10] = {-1, 1, 0, 1, 1, 1, -2, -3, 4, 4};
+    expect(farey_same(v, table, length, 3, relabelled, 10, work, FAREY_WORK, &place), &place);
+    printf("same %s\n", place == 1 ? "yes" : "no");
+    return 0;
+}

@@ -1,0 +1,54 @@
+//! From two permutations to a symbol, its figures, generators and coset tables,
+//! and words: the library from Rust.
+//!
+//!     rt staticlib engine
+//!     cargo run --manifest-path rust/Cargo.toml -p farey --example subgroup
+//!
+//! The group has index 7, and no congruence describes it. The output is in
+//! subgroup.output.
+
+use farey::{Kind, Refusal, Symbol};
+
+/// Numbers with a space before each.
+fn spaced<T: ToString>(numbers: &[T]) -> String {
+    let pieces = numbers.iter().map(|n| format!(" {}", n.to_string()));
+    pieces.collect()
+}
+
+fn main() -> Result<(), Refusal> {
+    let symbol = Symbol::from_permutations(&[1, 0, 4, 6, 2, 5, 3], &[2, 3, 5, 6, 4, 0, 1])?;
+    println!("symbol{}", spaced(symbol.table()));
+    println!("index {}", symbol.figures().index);
+    println!("widths{}", spaced(&symbol.widths()));
+    for (i, generator) in symbol.generators().iter().enumerate() {
+        let kind = match generator.kind {
+            Kind::Free => "free",
+            Kind::Even => "even",
+            Kind::Odd => "odd",
+        };
+        println!("{} {kind}{}", i + 1, spaced(&generator.matrix));
+    }
+    let tables = symbol.tables();
+    println!(
+        "S{}\nR{}\nT{}",
+        spaced(&tables.s),
+        spaced(&tables.r),
+        spaced(&tables.t)
+    );
+    for to in [[1, 6, 0, 1], [-17, -12, -24, -17]] {
+        match symbol.word([1, 0, 0, 1], to)? {
+            Some(word) => println!("word{}", spaced(&word)),
+            None => println!("none"),
+        }
+    }
+    let relabelled = Symbol::new(&[(-1, 1), (0, 1), (1, 1)], &[-2, -3, 4, 4])?;
+    println!(
+        "same {}",
+        if symbol.is_same(&relabelled) {
+            "yes"
+        } else {
+            "no"
+        }
+    );
+    Ok(())
+}

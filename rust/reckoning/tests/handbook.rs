@@ -1,0 +1,187 @@
+//! The pages of docs/HANDBOOK.md: what they show of files and of the programs'
+//! answers is so, by the reckoning and by the programs. Its Rust blocks are
+//! tests of the crate `farey`.
+//!
+//! | block                     | what is checked                                   |
+//! |---------------------------|---------------------------------------------------|
+//! | `text PATH`               | the file of that path holds just this             |
+//! | `console`                 | `$ COMMAND`, and then all that the command prints |
+//! | a row of the refusals     | the program answers its example so                |
+
+mod child;
+
+use std::fs;
+
+use child::{repository, Program};
+use reckoning::{import, listing, query};
+
+/// A block between two fences: what stands behind the first one, and the lines.
+struct Block {
+    info: String,
+    text: String,
+}
+
+/// A row of the table of refusals.
+struct Row {
+    number: u32,
+    example: String,
+    answer: String,
+}
+
+fn handbook() -> String {
+    let path = repository().join("docs/HANDBOOK.md");
+    fs::read_to_string(&path).unwrap_or_else(|e| panic!("{}: {e}", path.display()))
+}
+
+fn file(path: &str) -> Vec<u8> {
+    fs::read(repository().join(path)).unwrap_or_else(|e| panic!("{path}: {e}"))
+}
+
+fn blocks(page: &str) -> Vec<Block> {
+    let mut blocks = Vec::new();
+    let mut open: Option<Block> = None;
+    for line in page.lines() {
+        match (line.strip_prefix("```"), &mut open) {
+            (Some(info), None) => {
+                open = Some(Block {
+                    info: info.to_string(),
+                    text: String::new(),
+                })
+            }
+            (Some(_), Some(_)) => blocks.extend(open.take()),
+            (None, Some(block)) => {
+                block.text.push_str(line);
+                block.text.push('\n');
+            }
+            (None, None) => {}
+        }
+    }
+    assert!(open.is_none(), "a block isn't closed");
+    blocks
+}
+
+fn rows(page: &str) -> Vec<Row> {
+    let unmarked = |cell: &str| cell.trim().trim_matches('`').to_string();
+    page.lines()
+        .filter_map(|line| {
+            let cells: Vec<&str> = line.split('|').collect();
+            let number = cells.get(1)?.trim().parse().ok()?;
+            assert_eq!(cells.len(), 7, "{line}");
+            Some(Row {
+                number,
+                example: unmarked(cells[4]),
+                answer: unmarked(cells[5]),
+            })
+        })
+        .collect()
+}
+
+/// What the reckoning says, and what the program says.
+fn answers(program: &str, text: &[u8]) -> [String; 2] {
+    let (variable, reckoned): (_, fn(&[u8]) -> String) = match program {
+        "listing" => ("LISTING_PROGRAM", listing),
+        "query" => ("QUERY_PROGRAM", query),
+        "import" => ("IMPORT_PROGRAM", import),
+        _ => panic!("there is no program {program}"),
+    };
+    let expected = reckoned(text);
+    match Program::named_by(variable) {
+        Some(named) => [expected, named.output(text)],
+        None => [expected.clone(), expected],
+    }
+}
+
+/// The answers to a command `./farey PROGRAM < PATH`, perhaps with `| ./farey
+/// PROGRAM` behind it.
+fn run(command: &str) -> [String; 2] {
+    let mut stages = command.split(" | ");
+    let first = stages.next().expect("there is a command");
+    let (call, path) = first.split_once(" < ").expect("a file is read");
+    let named = |call: &str| {
+        call.strip_prefix("./farey ")
+            .expect("./farey and a program")
+            .to_string()
+    };
+    let mut came = answers(&named(call), &file(path));
+    for stage in stages {
+        assert_eq!(came[0], came[1], "{command}");
+        came = answers(&named(stage), came[0].as_bytes());
+    }
+    came
+}
+
+#[test]
+fn files_are_shown_as_they_are() {
+    let page = handbook();
+    let mut shown = 0;
+    for block in blocks(&page) {
+        if let Some(path) = block.info.strip_prefix("text ") {
+            assert_eq!(block.text.as_bytes(), file(path), "{path}");
+            shown += 1;
+        }
+    }
+    assert!(shown >= 3, "only {shown} files are shown");
+}
+
+#[test]
+fn commands_print_what_is_shown() {
+    let page = handbook();
+    let mut programs = Vec::new();
+    for block in blocks(&page) {
+        if block.info != "console" {
+            continue;
+        }
+        let (command, expected) = block
+            .text
+            .split_once('\n')
+            .expect("a command and its answer");
+        let command = command.strip_prefix("$ ").expect("a command begins with $");
+        for came in run(command) {
+            assert_eq!(came, expected, "{command}");
+        }
+        programs.extend(command.split(' ').nth(1).map(str::to_string));
+    }
+    for program in ["listing", "query", "import"] {
+        assert!(
+            programs.iter().any(|name| name == program),
+            "no example of {program}"
+        );
+    }
+}
+
+#[test]
+fn refusals_are_met() {
+    let rows = rows(&handbook());
+    let numbers: Vec<u32> = rows.iter().map(|row| row.number).collect();
+    assert_eq!(numbers, (1..=19).collect::<Vec<u32>>());
+    for row in rows {
+        // No text has refusal 2, and no symbol with refusal 18 is known.
+        if row.number == 2 || row.number == 18 {
+            assert_eq!(row.answer, "");
+            continue;
+        }
+        let (_, kind) = row.example.rsplit_once('.').expect("a file's name");
+        let program = match kind {
+            "txt" => "listing",
+            "query" => "query",
+            "pair" => "import",
+            _ => panic!("{}: no program reads this", row.example),
+        };
+        assert!(
+            row.answer.contains(&format!("refused {} ", row.number)),
+            "{}",
+            row.answer
+        );
+        for came in answers(program, &file(&row.example)) {
+            let found = came.lines().any(|line| line == row.answer);
+            assert!(found, "{}: no line {}", row.example, row.answer);
+            // 17 spoils only its own line; any other refusal is all there is.
+            assert_eq!(
+                came.lines().count() == 1,
+                row.number != 17,
+                "{}",
+                row.example
+            );
+        }
+    }
+}
