@@ -11,6 +11,7 @@
 //! | `query`   | a symbol and two matrices in, a word out, letter by letter       |
 //! | `import`  | two permutations in, a symbol out                                |
 //! | `inputs`  | texts to measure with                                            |
+//! | `timing`  | wall times of two programs, run by turns                         |
 //!
 //! Every answer is the same, byte for byte, as that of the reckoning beside it;
 //! `tests/` compares the two.
@@ -24,6 +25,7 @@ pub mod polygon;
 pub mod query;
 pub mod symbol;
 pub mod text;
+pub mod timing;
 
 use std::io::{self, Read, Write};
 
