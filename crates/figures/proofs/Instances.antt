@@ -1,4 +1,5 @@
--- The figures, run: document 01's instances, and the borders of the two refusals.
+-- The figures, run on the tables of document 01's groups, and at the borders of the two refusals. Its starred instances are proved in the crate
+-- `instances`.
 -- Assumes nothing.
 use mathlib.Core.Path.{_≡_, refl}
 use mathlib.Core.List.{[], _∷_}

@@ -1,5 +1,4 @@
 -- Why the rule gives what it gives, in reading order.
-pub mod Instances
 pub mod Member
 pub mod Lead
 pub mod Split

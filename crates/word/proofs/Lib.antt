@@ -4,4 +4,3 @@ pub mod Claim
 pub mod Returned
 pub mod Order
 pub mod Finding
-pub mod Instances

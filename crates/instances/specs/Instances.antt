@@ -1,0 +1,233 @@
+-- DOCUMENT 01'S STARRED INSTANCES, all of them, as one table over the definitions that the public calls promise.
+--
+--   Question               a public call with what it is lent: a symbol of v vertices in the table t, matrices a and b, permutations s and r;
+--                          the length of the work space; what stands in the result spaces
+--   Answer                 document 01's number and place of a refusal, both 0 where nothing is refused; and rows of numbers: what the call
+--                          returns, and then what it leaves in each result space
+--   refuses n p rows       the refusal n at the place p
+--   gives rows             no refusal
+--   indexIs n              no refusal, and the index n
+--   word l                 no refusal, and the word l, which fills the lent space
+--   answerTo q             THE ANSWER TO q, by those definitions alone
+--   Instance, q answers a  what is asked, and what document 01 says
+--   instances              THE TABLE, in document 01's order; instanceAt i is the one at the place i
+--   sameAnswer a b         whether the two are the same, number by number
+--   holds x, allHold l     whether the answer is what document 01 says, at x, and at all of l: tests that compute
+--   Holds x                that it is
+--
+-- proofs/Instances.antt: `all-hold`, that `allHold instances` computes to true; `each`, that so each answer is what document 01 says.
+use mathlib.Core.Path.{_≡_}
+use mathlib.Core.Bool.{Bool, true, false, _&&_}
+use mathlib.Core.List.{List, [], _∷_, map}
+use Prim.Native.Nat.{ℕ}
+use lib.Dec.{eqb}
+use lib.ListN.{length, getD, replicate}
+use lib.IntN.{ℤ, pos, negsuc}
+use Rattle.matrix.specs.Matrix.{ofList}
+use Rattle.space.specs.Space.{workLength}
+use Rattle.symbol.specs.Check as symbol
+use Rattle.symbol.specs.Check.{eqZ, numberOf, placeOf}
+use Rattle.symbol.specs.Generator as generator
+use Rattle.symbol.specs.Generator.{generatorTable, generatedOf, generatedNumber, generatedPlace}
+use Rattle.symbol.specs.declared.Checked.{Checked}
+use Rattle.symbol.specs.declared.Checked.the-variants as checked
+use Rattle.coset.specs.Tables.{tableS, tableR, tableT}
+use Rattle.coset.specs.Answer as coset
+use Rattle.coset.specs.Answer.{Says, tabledOf, tabledNumber, tabledPlace, columnLeft, figuredOf}
+use Rattle.word.specs.Answer.{queryOf, queryNumber, queryPlace, foundWord, wordLeft, partOf}
+use Rattle.word.specs.declared.Queried.{Queried}
+use Rattle.word.specs.declared.Queried.the-variants as queried
+use Rattle.passport.specs.Import as passport
+use Rattle.passport.specs.Import.{importOf, importedNumber, importedPlace, ruleFor}
+use Rattle.passport.specs.declared.Imported.{Imported}
+use Rattle.passport.specs.declared.Imported.the-variants as imported
+
+-- ---- what is asked
+
+pub data Question : Type 0 where
+  -- symbol's `check`
+  check : (v : ℕ) (t : List ℤ) → Question
+  -- the index among coset's `figures`
+  index : (v : ℕ) (t : List ℤ) (work : ℕ) → Question
+  -- symbol's `generators`
+  generators : (v : ℕ) (t : List ℤ) (work : ℕ) (out : List ℤ) → Question
+  -- coset's `tables`
+  tables : (v : ℕ) (t : List ℤ) (work : ℕ) (s r u : List ℕ) → Question
+  -- word's `query`, and `word_part` of what it answers
+  query : (v : ℕ) (t a b : List ℤ) (work : ℕ) (out : List ℤ) (start : ℕ) → Question
+  -- passport's `import`
+  import : (s r : List ℕ) (work : ℕ) (out : List ℤ) → Question
+
+-- ---- what is answered
+
+pub record Answer : Type 0 where
+  pub number : ℕ
+  pub place : ℕ
+  pub rows : List (List ℤ)
+
+abbrev pub refuses : ℕ → ℕ → List (List ℤ) → Answer
+refuses n p l = record { number = n; place = p; rows = l }
+
+abbrev pub gives : List (List ℤ) → Answer
+gives l = refuses 0 0 l
+
+abbrev pub indexIs : ℕ → Answer
+indexIs n = gives ((pos n ∷ []) ∷ [])
+
+abbrev pub word : List ℤ → Answer
+word l = gives (l ∷ l ∷ [])
+
+abbrev pub checkSays : Checked → Answer
+checkSays checked.Accepted = gives []
+checkSays (checked.Refused f) = refuses (numberOf f) (placeOf f) []
+
+abbrev pub indexSays : Says → Answer
+indexSays (coset.made n e2 e3 cusps genus level) = indexIs n
+indexSays (coset.refused n p) = refuses n p []
+
+-- the word that an answer names, in the word space that the call leaves
+abbrev pub wordIn : Queried → List ℤ → List ℤ
+wordIn (queried.Word start n) out = partOf out start n
+wordIn (queried.Refused f) out = []
+wordIn (queried.Entry i) out = []
+wordIn (queried.Determinant i) out = []
+wordIn queried.Absent out = []
+wordIn (queried.Short n) out = []
+
+-- the number of vertices
+abbrev pub verticesIn : Imported → List ℤ
+verticesIn (imported.Made v) = pos v ∷ []
+verticesIn imported.Count = []
+verticesIn (imported.Entry i) = []
+verticesIn (imported.Order x) = []
+verticesIn (imported.Unreached x) = []
+verticesIn (imported.Short n) = []
+verticesIn (imported.Split i) = []
+
+abbrev pub answerTo : Question → Answer
+answerTo (check v t) = checkSays (symbol.checkOf v t)
+answerTo (index v t work) = indexSays (figuredOf v t work)
+answerTo (generators v t work out) =
+    let r = generatedOf v t work (length out) in
+    refuses (generatedNumber r) (generatedPlace r) (generator.tableLeft r (generatorTable v t) out ∷ [])
+answerTo (tables v t work s r u) =
+    let a = tabledOf v t work (length s) (length r) (length u) in
+    refuses (tabledNumber a) (tabledPlace a) (map pos (columnLeft a (tableS v t) s) ∷ map pos (columnLeft a (tableR v t) r) ∷ map pos (columnLeft a (tableT v t) u) ∷ [])
+answerTo (query v t a b work out start) =
+    let r = queryOf v t a b work (length out) start in
+    let left = wordLeft r (foundWord v t (ofList a) (ofList b)) out in
+    refuses (queryNumber r) (queryPlace r) (wordIn r left ∷ left ∷ [])
+answerTo (import s r work out) =
+    let a = importOf s r work (length out) in
+    refuses (importedNumber a) (importedPlace a) (verticesIn a ∷ passport.tableLeft (ruleFor s r) a out ∷ [])
+
+-- ---- the symbols and matrices of the table
+
+-- 0/1, pairings -2 -3
+abbrev pub whole : List ℤ
+whole = pos 0 ∷ pos 1 ∷ negsuc 1 ∷ negsuc 2 ∷ []
+
+-- 0/1, pairings -3 -3
+abbrev pub twoOdd : List ℤ
+twoOdd = pos 0 ∷ pos 1 ∷ negsuc 2 ∷ negsuc 2 ∷ []
+
+-- 0/1, pairings -2 -2
+abbrev pub twoEven : List ℤ
+twoEven = pos 0 ∷ pos 1 ∷ negsuc 1 ∷ negsuc 1 ∷ []
+
+-- 0/1, pairings 1 1
+abbrev pub onePair : List ℤ
+onePair = pos 0 ∷ pos 1 ∷ pos 1 ∷ pos 1 ∷ []
+
+-- 0/1, 1/1, 2/1, pairings 1 2 2 1
+abbrev pub Γ2 : List ℤ
+Γ2 = pos 0 ∷ pos 1 ∷ pos 1 ∷ pos 1 ∷ pos 2 ∷ pos 1 ∷ pos 1 ∷ pos 2 ∷ pos 2 ∷ pos 1 ∷ []
+
+-- 0/1, 1/1, pairings 1 -2 1
+abbrev pub Γ0-2 : List ℤ
+Γ0-2 = pos 0 ∷ pos 1 ∷ pos 1 ∷ pos 1 ∷ pos 1 ∷ negsuc 1 ∷ pos 1 ∷ []
+
+abbrev pub I : List ℤ
+I = pos 1 ∷ pos 0 ∷ pos 0 ∷ pos 1 ∷ []
+
+abbrev pub -I : List ℤ
+-I = negsuc 0 ∷ pos 0 ∷ pos 0 ∷ negsuc 0 ∷ []
+
+abbrev pub S : List ℤ
+S = pos 0 ∷ negsuc 0 ∷ pos 1 ∷ pos 0 ∷ []
+
+abbrev pub T : List ℤ
+T = pos 1 ∷ pos 1 ∷ pos 0 ∷ pos 1 ∷ []
+
+-- a space of n numbers, all 0
+abbrev pub lent : ℕ → List ℤ
+lent n = replicate n (pos 0)
+
+abbrev pub lentTable : ℕ → List ℕ
+lentTable n = replicate n 0
+
+-- ---- the table
+
+pub record Instance : Type 0 where
+  pub question : Question
+  pub expected : Answer
+
+infix 4 _answers_
+abbrev pub _answers_ : Question → Answer → Instance
+q answers a = record { question = q; expected = a }
+
+abbrev pub instances : List Instance
+instances =
+    -- v = 1, 0/1, pairings -2 -3: index 1, and I to S: word 1
+    (index 1 whole workLength answers indexIs 1)
+    ∷ (query 1 whole I S workLength (lent 1) 0 answers word (pos 1 ∷ []))
+    -- -3 -3: index 2, S 1 0, R 0 1 (and T, which is S and then R)
+    ∷ (index 1 twoOdd workLength answers indexIs 2)
+    ∷ (tables 1 twoOdd workLength (lentTable 2) (lentTable 2) (lentTable 2) answers gives (map pos (1 ∷ 0 ∷ []) ∷ map pos (0 ∷ 1 ∷ []) ∷ map pos (1 ∷ 0 ∷ []) ∷ []))
+    -- -2 -2 and 1 1: refusal 7
+    ∷ (check 1 twoEven answers refuses 7 0 [])
+    ∷ (check 1 onePair answers refuses 7 0 [])
+    -- 0/1, 1/1, 2/1 with 1 2 2 1: index 6, the free generators (1 2; 0 1), (3 -2; 2 -1), each behind its kind
+    ∷ (index 3 Γ2 workLength answers indexIs 6)
+    ∷ (generators 3 Γ2 workLength (lent 10) answers gives ((pos 1 ∷ pos 1 ∷ pos 2 ∷ pos 0 ∷ pos 1 ∷ pos 1 ∷ pos 3 ∷ negsuc 1 ∷ pos 2 ∷ negsuc 0 ∷ []) ∷ []))
+    -- S 1 0 4 5 2 3, R 2 3 5 4 1 0, T 3 2 1 0 5 4
+    ∷ (tables 3 Γ2 workLength (lentTable 6) (lentTable 6) (lentTable 6) answers gives (map pos (1 ∷ 0 ∷ 4 ∷ 5 ∷ 2 ∷ 3 ∷ []) ∷ map pos (2 ∷ 3 ∷ 5 ∷ 4 ∷ 1 ∷ 0 ∷ []) ∷ map pos (3 ∷ 2 ∷ 1 ∷ 0 ∷ 5 ∷ 4 ∷ []) ∷ []))
+    -- in Γ0(2), I to T: word 1
+    ∷ (query 2 Γ0-2 I T workLength (lent 1) 0 answers word (pos 1 ∷ []))
+    -- I to (1 0; 2 1): 2 1
+    ∷ (query 2 Γ0-2 I (pos 1 ∷ pos 0 ∷ pos 2 ∷ pos 1 ∷ []) workLength (lent 2) 0 answers word (pos 2 ∷ pos 1 ∷ []))
+    -- S to (1 -1; 1 0): 1
+    ∷ (query 2 Γ0-2 S (pos 1 ∷ negsuc 0 ∷ pos 1 ∷ pos 0 ∷ []) workLength (lent 1) 0 answers word (pos 1 ∷ []))
+    -- I to S: 10, and the lent space as it was
+    ∷ (query 2 Γ0-2 I S workLength (lent 1) 0 answers refuses 10 0 ([] ∷ lent 1 ∷ []))
+    -- I to I and to -I: the empty word, space 0 enough
+    ∷ (query 2 Γ0-2 I I workLength (lent 0) 0 answers word [])
+    ∷ (query 2 Γ0-2 I -I workLength (lent 0) 0 answers word [])
+    -- S 1 0 2, R 2 0 1 gives back the symbol above
+    ∷ (import (1 ∷ 0 ∷ 2 ∷ []) (2 ∷ 0 ∷ 1 ∷ []) workLength (lent 7) answers gives ((pos 2 ∷ []) ∷ Γ0-2 ∷ []))
+    ∷ []
+
+-- the instance at the place i of the table, counted from 0; past its end, a symbol without vertices: refusal 1
+abbrev pub instanceAt : ℕ → Instance
+instanceAt i = getD instances i (check 0 [] answers refuses 1 0 [])
+
+-- ---- the test
+
+abbrev pub sameList : {A : Type 0} → (A → A → Bool) → List A → List A → Bool
+sameList same [] [] = true
+sameList same [] (y ∷ m) = false
+sameList same (x ∷ l) [] = false
+sameList same (x ∷ l) (y ∷ m) = same x y && sameList same l m
+
+abbrev pub sameAnswer : Answer → Answer → Bool
+sameAnswer a b = eqb (a .number) (b .number) && (eqb (a .place) (b .place) && sameList (sameList eqZ) (a .rows) (b .rows))
+
+abbrev pub holds : Instance → Bool
+holds x = sameAnswer (answerTo (x .question)) (x .expected)
+
+abbrev pub allHold : List Instance → Bool
+allHold [] = true
+allHold (x ∷ l) = holds x && allHold l
+
+abbrev pub Holds : Instance → Type 0
+Holds x = answerTo (x .question) ≡ x .expected

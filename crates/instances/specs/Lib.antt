@@ -1,0 +1,2 @@
+-- What a reader of the crate `instances` must believe.
+pub mod Instances
