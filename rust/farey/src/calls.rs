@@ -1,18 +1,26 @@
 //! One safe function for each exported one, on lent slices.
 //!
-//! The types keep the rules of `include/farey.h` that C can't check: slices are
-//! aligned and as long as they say, and what is lent for writing overlaps
-//! nothing else. Each function answers with its count, or with a refusal, and
-//! leaves what the header says.
+//! The types keep the rules of `include/farey.h` that C can't check, which is
+//! what makes each unsafe block below sound: a slice's pointer is aligned, isn't
+//! null and is good for the slice's length, also where that is 0; what is lent
+//! for writing overlaps nothing else; and nobody else writes during the call.
+//! Each function answers with its count, or with a refusal, and leaves what the
+//! header says.
 
 use crate::refusal::Refusal;
 
 /// The length of the work space.
 pub const WORK: usize = 32_768;
-/// Enough for every symbol's table, generators and cosets.
+/// Enough for every symbol's table.
 pub const TABLE: usize = 3_070;
+/// Enough for every symbol's generators.
 pub const GENERATORS: usize = 5_120;
+/// Enough for every symbol's widths, and for each table of its cosets.
 pub const COSETS: usize = 4_090;
+
+/// What stands at `place` before a call. No count and no place is as large, so
+/// it would show if the engine didn't write there.
+const UNWRITTEN: usize = usize::MAX;
 
 // The engine's functions, as include/farey.h declares them.
 mod engine {
@@ -109,7 +117,7 @@ fn answer(number: u64, place: usize) -> Result<usize, Refusal> {
 
 /// Whether t holds a symbol with v vertices.
 pub fn check(v: usize, t: &[i64]) -> Result<(), Refusal> {
-    let mut place = 0;
+    let mut place = UNWRITTEN;
     let number = unsafe { engine::farey_check(v, t.as_ptr(), t.len(), &mut place) };
     answer(number, place).map(|_| ())
 }
@@ -121,7 +129,7 @@ pub fn generators(
     work: &mut [u16],
     out: &mut [i64],
 ) -> Result<usize, Refusal> {
-    let mut place = 0;
+    let mut place = UNWRITTEN;
     let number = unsafe {
         engine::farey_generators(
             v,
@@ -139,7 +147,7 @@ pub fn generators(
 
 /// Index, e2, e3, cusps, then number and value of the genus, then of the level.
 pub fn figures(v: usize, t: &[i64], work: &mut [u16], out: &mut [u64; 8]) -> Result<(), Refusal> {
-    let mut place = 0;
+    let mut place = UNWRITTEN;
     let number = unsafe {
         engine::farey_figures(
             v,
@@ -156,7 +164,7 @@ pub fn figures(v: usize, t: &[i64], work: &mut [u16], out: &mut [u64; 8]) -> Res
 
 /// The widths of the cusps to the front of out: how many.
 pub fn widths(v: usize, t: &[i64], work: &mut [u16], out: &mut [u32]) -> Result<usize, Refusal> {
-    let mut place = 0;
+    let mut place = UNWRITTEN;
     let number = unsafe {
         engine::farey_widths(
             v,
@@ -181,7 +189,7 @@ pub fn tables(
     r: &mut [u32],
     u: &mut [u32],
 ) -> Result<usize, Refusal> {
-    let mut place = 0;
+    let mut place = UNWRITTEN;
     let number = unsafe {
         engine::farey_tables(
             v,
@@ -203,7 +211,7 @@ pub fn tables(
 
 /// The table of a symbol for S and R to the front of out: its vertices.
 pub fn import(s: &[u32], r: &[u32], work: &mut [u16], out: &mut [i64]) -> Result<usize, Refusal> {
-    let mut place = 0;
+    let mut place = UNWRITTEN;
     let number = unsafe {
         engine::farey_import(
             s.as_ptr(),
@@ -230,7 +238,7 @@ pub fn query(
     out: &mut [i16],
     start: usize,
 ) -> Result<usize, Refusal> {
-    let mut place = 0;
+    let mut place = UNWRITTEN;
     let number = unsafe {
         engine::farey_query(
             v,
@@ -251,7 +259,7 @@ pub fn query(
 
 /// Whether t and u hold the same symbol.
 pub fn same(v: usize, t: &[i64], m: usize, u: &[i64], work: &mut [u16]) -> Result<bool, Refusal> {
-    let mut place = 0;
+    let mut place = UNWRITTEN;
     let number = unsafe {
         engine::farey_same(
             v,
@@ -266,4 +274,33 @@ pub fn same(v: usize, t: &[i64], m: usize, u: &[i64], work: &mut [u16]) -> Resul
         )
     };
     answer(number, place).map(|yes| yes == 1)
+}
+
+#[cfg(test)]
+mod tests {
+    use super::*;
+
+    /// The calls above drop the count of these two.
+    #[test]
+    fn check_and_figures_count_0() {
+        let (v, t) = (2, [0, 1, 1, 1, 1, -2, 1]);
+        let mut place = UNWRITTEN;
+        let number = unsafe { engine::farey_check(v, t.as_ptr(), t.len(), &mut place) };
+        assert_eq!((number, place), (0, 0));
+
+        let (mut work, mut out) = (vec![0; WORK], [0; 8]);
+        place = UNWRITTEN;
+        let number = unsafe {
+            engine::farey_figures(
+                v,
+                t.as_ptr(),
+                t.len(),
+                work.as_mut_ptr(),
+                work.len(),
+                out.as_mut_ptr(),
+                &mut place,
+            )
+        };
+        assert_eq!((number, place), (0, 0));
+    }
 }

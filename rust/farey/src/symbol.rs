@@ -3,7 +3,8 @@
 use crate::calls::{self, COSETS, GENERATORS, TABLE, WORK};
 use crate::refusal::Refusal;
 
-/// An accepted Farey symbol.
+/// An accepted Farey symbol. Two are equal when their tables are; `is_same` lets
+/// free labels differ.
 #[derive(Clone, Debug, PartialEq, Eq)]
 pub struct Symbol {
     v: usize,
@@ -97,7 +98,7 @@ impl Symbol {
         &self.table
     }
 
-    /// The generators; number j of a word's letters is the j-th, counted from 1.
+    /// The generators; letter j of a word stands for the j-th, counted from 1.
     pub fn generators(&self) -> Vec<Generator> {
         let mut out = vec![0; GENERATORS];
         let count = certain(calls::generators(

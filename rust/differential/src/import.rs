@@ -1,0 +1,104 @@
+//! `import`: from permutations S and R to a symbol; refusals 12 to 15, 11 for
+//! the work space, 16, 11 for the result space.
+
+use farey::calls;
+use reckoning::permutations::Action;
+use reckoning::random::pairs::{pair, put_pair_fault, shallow_pair, PAIR_FAULTS};
+use reckoning::random::Rng;
+use reckoning::symbol::MAX_VERTICES;
+use reckoning::text::MAX_POINTS;
+
+use crate::outcome::{Expected, Outcome};
+use crate::spaces::{work, Space};
+
+pub fn case(rng: &mut Rng) -> Outcome {
+    let [s, r] = tables(rng);
+    let action = Action::new(&wide(&s), &wide(&r));
+    let made = action.as_ref().map(Action::by_points);
+    let needed = match &made {
+        Ok(Ok(imported)) => 3 * imported.v() + 1,
+        _ => 20,
+    };
+    let (s, r) = (Space::holding(rng, &s), Space::holding(rng, &r));
+    let mut work = work(rng);
+    let mut out = Space::around(rng, needed);
+    let expected = Expected::in_order(made.map_err(|&refusal| refusal), &work, |made| {
+        let table = made?.numbers().split_off(1);
+        out.enough(table.len())?;
+        Ok(table)
+    });
+    let came = calls::import(s.read(), r.read(), work.write(), out.write());
+    let vertices = |table: &Vec<i64>| (table.len() - 1) / 3;
+    let mut outcome = Outcome::with_work(&expected, vertices, came, &work);
+    outcome.unchanged("s", &s);
+    outcome.unchanged("r", &r);
+    outcome.filled("out", &out, 0, expected.part(Vec::as_slice));
+    outcome.on(|| {
+        let (work, out) = (work.length(), out.length());
+        format!("s {:?}, r {:?}, work {work}, out {out}", s.read(), r.read())
+    })
+}
+
+fn wide(table: &[u32]) -> Vec<i64> {
+    table.iter().map(|&point| point.into()).collect()
+}
+
+/// The tables of S and R, sound in three of four cases.
+fn tables(rng: &mut Rng) -> [Vec<u32>; 2] {
+    let sound = if rng.chance(2) {
+        shallow_pair(rng, MAX_VERTICES)
+    } else {
+        pair(rng)
+    };
+    let mut numbers = sound.numbers();
+    let draw = rng.below(100);
+    if draw < 15 {
+        let fault = rng.pick(&PAIR_FAULTS[1..]);
+        put_pair_fault(rng, &mut numbers, fault);
+    }
+    // Numbers past 32 bits lose their upper ones here: other faults, or none.
+    let (s, r) = numbers[1..].split_at(numbers[0] as usize);
+    let mut tables = [s, r].map(|table| table.iter().map(|&point| point as u32).collect());
+    if (10..20).contains(&draw) {
+        poke(rng, &mut tables);
+    }
+    if (18..25).contains(&draw) {
+        resize(rng, &mut tables);
+    }
+    tables
+}
+
+/// Overwrites a few entries without asking what comes of it.
+fn poke(rng: &mut Rng, tables: &mut [Vec<u32>; 2]) {
+    for _ in 0..1 + rng.below(3) {
+        let table = &mut tables[rng.below(2)];
+        let n = table.len();
+        let (i, other) = (rng.below(n), table[rng.below(n)]);
+        table[i] = rng.pick(&[
+            0,
+            other,
+            n as u32 - 1,
+            n as u32,
+            n as u32 + 1,
+            table[i] | 1 << 16,
+            table[i] | 1 << 31,
+            u32::MAX - 1,
+            u32::MAX,
+        ]);
+    }
+}
+
+/// Other lengths, for one table or for both.
+fn resize(rng: &mut Rng, tables: &mut [Vec<u32>; 2]) {
+    let n = tables[0].len();
+    let most = MAX_POINTS as usize;
+    let len = rng.pick(&[0, 0, n - 1, n + 1, most, most + 1, most + 2, n + (1 << 16)]);
+    let both = rng.chance(60);
+    let first = rng.below(2);
+    for table in [first, 1 - first].into_iter().take(1 + usize::from(both)) {
+        // New points are fixed.
+        let points = n.min(len) as u32..len as u32;
+        tables[table].truncate(len);
+        tables[table].extend(points);
+    }
+}

@@ -1,0 +1,78 @@
+//! Random calls of the proved engine, compared with the reckoning.
+//!
+//! Each case makes one call through `farey::calls` on spaces full of random
+//! numbers. Its answer, and every number of every space afterwards, is
+//! compared with what the reckoning and the order of refusals give: nothing
+//! that is expected comes from the engine.
+//!
+//! | module       | what it holds                                               |
+//! |--------------|-------------------------------------------------------------|
+//! | `spaces`     | lent spaces: their lengths, random numbers, the comparison  |
+//! | `outcome`    | what is expected of a call and what came                    |
+//! | `symbols`    | v and a table, sound or damaged                             |
+//! | `counts`     | how often each call was answered and refused                |
+//! | `listed`     | what `generators` and `widths` have in common               |
+//! | the others   | one call each: `case` makes an input, calls and compares    |
+
+#![forbid(unsafe_code)]
+
+pub mod check;
+pub mod counts;
+pub mod figures;
+pub mod generators;
+pub mod import;
+pub mod listed;
+pub mod outcome;
+pub mod query;
+pub mod same;
+pub mod spaces;
+pub mod symbols;
+pub mod tables;
+pub mod widths;
+
+use std::ops::Range;
+
+use counts::Tally;
+use outcome::Outcome;
+use reckoning::random::Rng;
+
+/// A call's name and its cases.
+pub type Call = (&'static str, fn(&mut Rng) -> Outcome);
+
+/// All calls.
+pub const CALLS: [Call; 8] = [
+    ("check", check::case),
+    ("generators", generators::case),
+    ("figures", figures::case),
+    ("widths", widths::case),
+    ("tables", tables::case),
+    ("import", import::case),
+    ("query", query::case),
+    ("same", same::case),
+];
+
+/// Makes every call once for each case: the counts of each, in the order of
+/// `CALLS`, or the first difference in words. The same seed and case always
+/// make the same call.
+pub fn run(seed: u64, cases: Range<u64>) -> Result<[Tally; CALLS.len()], String> {
+    let mut tallies: [Tally; CALLS.len()] = Default::default();
+    for case in cases {
+        for (i, (name, make)) in CALLS.iter().enumerate() {
+            let stream = case.wrapping_mul(CALLS.len() as u64).wrapping_add(i as u64);
+            let outcome = make(&mut Rng::for_case(seed, stream));
+            if !outcome.differences.is_empty() {
+                return Err(format!("seed {seed}, case {case}, {name}\n{outcome}"));
+            }
+            tallies[i].add(&outcome);
+        }
+    }
+    Ok(tallies)
+}
+
+/// The counts, a line for each call.
+pub fn table(tallies: &[Tally; CALLS.len()]) -> String {
+    let lines = CALLS.iter().zip(tallies);
+    lines
+        .map(|((name, _), tally)| format!("{name}: {tally}\n"))
+        .collect()
+}

@@ -1,0 +1,18 @@
+//! `widths`: those of the cusps, by the smallest coset of each.
+
+use farey::calls;
+use reckoning::coset::Cosets;
+use reckoning::random::Rng;
+use reckoning::symbol::Symbol;
+
+use crate::listed;
+use crate::outcome::Outcome;
+
+pub fn case(rng: &mut Rng) -> Outcome {
+    listed::case(rng, widths, 1, calls::widths)
+}
+
+fn widths(symbol: &Symbol) -> Vec<u32> {
+    let widths = Cosets::new(symbol).widths();
+    widths.into_iter().map(|width| width as u32).collect()
+}
