@@ -43,29 +43,53 @@ fn wide(table: &[u32]) -> Vec<i64> {
     table.iter().map(|&point| point.into()).collect()
 }
 
-/// The tables of S and R, sound in three of four cases.
+/// The tables of S and R, sound in three of four cases or so.
 fn tables(rng: &mut Rng) -> [Vec<u32>; 2] {
     let sound = if rng.chance(2) {
         shallow_pair(rng, MAX_VERTICES)
     } else {
         pair(rng)
     };
-    let mut numbers = sound.numbers();
-    let draw = rng.below(100);
-    if draw < 15 {
+    if rng.chance(30) {
+        damaged(rng, sound.numbers())
+    } else {
+        narrow(&sound.numbers())
+    }
+}
+
+/// Numbers (n first) as two tables. Those past 32 bits lose their upper ones,
+/// and their fault with them or for another.
+fn narrow(numbers: &[i64]) -> [Vec<u32>; 2] {
+    let (s, r) = numbers[1..].split_at(numbers[0] as usize);
+    [s, r].map(|table| table.iter().map(|&point| point as u32).collect())
+}
+
+/// Tables with one fault or several, or with none after all.
+fn damaged(rng: &mut Rng, mut numbers: Vec<i64>) -> [Vec<u32>; 2] {
+    if rng.chance(50) {
         let fault = rng.pick(&PAIR_FAULTS[1..]);
         put_pair_fault(rng, &mut numbers, fault);
     }
-    // Numbers past 32 bits lose their upper ones here: other faults, or none.
-    let (s, r) = numbers[1..].split_at(numbers[0] as usize);
-    let mut tables = [s, r].map(|table| table.iter().map(|&point| point as u32).collect());
-    if (10..20).contains(&draw) {
+    let mut tables = narrow(&numbers);
+    if rng.chance(25) {
+        exchange(rng, &mut tables);
+    }
+    if rng.chance(25) {
         poke(rng, &mut tables);
     }
-    if (18..25).contains(&draw) {
+    if rng.chance(20) {
         resize(rng, &mut tables);
     }
     tables
+}
+
+/// Exchanges two images in each table: still permutations, but mostly neither S
+/// twice nor R three times keeps all points.
+fn exchange(rng: &mut Rng, tables: &mut [Vec<u32>; 2]) {
+    for table in tables {
+        let n = table.len();
+        table.swap(rng.below(n), rng.below(n));
+    }
 }
 
 /// Overwrites a few entries without asking what comes of it.
