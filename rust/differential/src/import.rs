@@ -57,8 +57,8 @@ fn tables(rng: &mut Rng) -> [Vec<u32>; 2] {
     }
 }
 
-/// Numbers (n first) as two tables. Those past 32 bits lose their upper ones,
-/// and their fault with them or for another.
+/// Numbers (n first) as two tables. Bits past the 32nd are dropped, so that a
+/// fault may become another one or none.
 fn narrow(numbers: &[i64]) -> [Vec<u32>; 2] {
     let (s, r) = numbers[1..].split_at(numbers[0] as usize);
     [s, r].map(|table| table.iter().map(|&point| point as u32).collect())

@@ -1,7 +1,7 @@
 //! Random calls of the proved engine, compared with the reckoning.
 //!
-//! Each case makes one call through `farey::calls` on spaces full of random
-//! numbers. Its answer, and every number of every space afterwards, is
+//! A case makes each call once, through `farey::calls` and on spaces full of
+//! random numbers. The answer, and every number of every space afterwards, is
 //! compared with what the reckoning and the order of refusals give: nothing
 //! that is expected comes from the engine.
 //!

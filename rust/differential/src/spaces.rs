@@ -6,7 +6,7 @@ use std::fmt::Debug;
 use reckoning::random::Rng;
 use reckoning::Refusal;
 
-/// The length of the work space.
+/// The length of the work space, as `include/farey.h` names it.
 pub const WORK: usize = 32_768;
 
 /// The numbers that stand before and behind a lent part, at most.

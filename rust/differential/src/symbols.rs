@@ -74,20 +74,20 @@ fn damaged(rng: &mut Rng, mut numbers: Vec<i64>) -> (usize, Vec<i64>) {
         }
     }
     // A negative v becomes one far out of range.
-    let mut v = numbers.remove(0) as usize;
-    if draw == 7 {
-        v = v_out_of_range(rng, v, numbers.len());
-    } else if draw > 7 || rng.chance(10) {
+    let v = numbers.remove(0) as usize;
+    if draw > 7 || rng.chance(10) {
         resize(rng, &mut numbers);
+    }
+    if draw == 7 || rng.chance(5) {
+        return (v_out_of_range(rng, v, numbers.len()), numbers);
     }
     (v, numbers)
 }
 
 /// A v that no symbol has, or one that this table doesn't fit.
 fn v_out_of_range(rng: &mut Rng, v: usize, len: usize) -> usize {
-    // 3v + 1 is the table's length, modulo 2^64.
-    let third = 0xaaaa_aaaa_aaaa_aaab;
-    let wrapped = len.wrapping_sub(1 + rng.below(3)).wrapping_mul(third);
+    // 3v + 1 is the table's length, modulo 2^64: three times the factor is 1.
+    let wrapped = len.wrapping_sub(1).wrapping_mul(0xaaaa_aaaa_aaaa_aaab);
     rng.pick(&[
         0,
         MAX_VERTICES,
