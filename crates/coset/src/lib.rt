@@ -175,7 +175,7 @@ pub enum Figured {
     Short(usize),
 }
 
-// The figures of an accepted symbol. The widths of its cusps and its tables of S, R and T stay in the work space, for who reads them there.
+// The figures of an accepted symbol. The widths of its cusps and its tables of S, R and T stay in the work space, for whoever reads them there.
 pub fn survey(v: usize, t: &[i64], w: &mut [u16]) -> FigureRecord
     requires { ⌜ IsSymbol v (now t) × (workLength ≤ length (now w)) ⌝ }
     ensures { λ f. ⌜ Surveyed v (now (t .entry)) (now (w .entry)) (now (w .exit)) f ⌝ }

@@ -15,7 +15,7 @@ use text::vertex_count;
 ghost use mathlib.Core.Path.{_≡_};
 ghost use Prim.Native.Nat.{_*_, _≤_};
 ghost use lib.ListN.{length};
-ghost use Rattle.space.specs.Space.{workLength};
+ghost use Rattle.space.specs.Space.{workLength, zeros};
 ghost use Rattle.line.specs.Line.{Puts};
 ghost use Rattle.symbol.specs.Symbol.{IsSymbol};
 ghost use Rattle.symbol.specs.Generator.{leaders, generatorTable};
@@ -35,7 +35,7 @@ fn list_parts(f: FigureRecord, rows: &[i64], g: usize, w: &[u16], out: &mut [u8]
     table_lines(w, f.index, out, second)
 }
 
-// The listing of an accepted symbol, whose g generators are in the rows.
+// The listing of an accepted symbol, whose g generators are in the rows; the work space is cleared after.
 fn list_accepted(
     v: usize,
     t: &[i64],
@@ -46,9 +46,12 @@ fn list_accepted(
 ) -> usize
     requires { ⌜ IsSymbol v (now t) × (g ≡ length (leaders v (now t))) × (now rows ≡ generatorTable v (now t)) × (workLength ≤ length (now w)) × (212992 ≤ length (now out)) ⌝ }
     ensures { λ e. ⌜ Puts (listedBy v (now (t .entry)) (figuresOf v (now (t .entry)))) 0 e (now (out .entry)) (now (out .exit)) ⌝ }
+    ensures { λ e. ⌜ now (w .exit) ≡ zeros (length (now (w .entry))) ⌝ }
 {
     let f = survey(v, t, w);
-    list_parts(f, rows, g, w, out)
+    let end = list_parts(f, rows, g, w, out);
+    space::clear(w);
+    end
 }
 
 // The listing of the symbol in t, or its refusal.

@@ -1,3 +1,4 @@
+-- `coset::make_figures` meets its contract: the figures of `survey`, and then the work space is cleared. Assumes nothing.
 use mathlib.Core.Path.{_∙_, ap}
 use Rattle.space.specs.Space.{zeros}
 use borrow.Author.Needs.{needs}

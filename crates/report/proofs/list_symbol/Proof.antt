@@ -133,7 +133,7 @@ same-length-9 c = search needs
 returns-3 : tie.Need-returns-3
 returns-3 c =
     let s = c .before .before .before .before .before .before .before .before .before .before .before .before .before .before .before .before .before .before .before in
-    puts-as (listed-accepted (s .args .v) (s .args .t .now) (made (c .before .before .before .before .before .before .before .before .before) .0)) ((c .before .before .before .before) .list-accepted .ensures)
+    puts-as (listed-accepted (s .args .v) (s .args .t .now) (made (c .before .before .before .before .before .before .before .before .before) .0)) ((c .before .before .before .before) .list-accepted .ensures .0)
 
 pub list-symbol-spec : {M : Type 1} → statement M
 list-symbol-spec =
