@@ -1,5 +1,5 @@
 -- Laws for the public calls: the result spaces in their order (`room-…`), the tables that were arranged (`Made`, `made`), the order of
--- refusals (`by-…`), what an answer means (`meaning`, `means-refused`), the figures (`said`, `figures-…`).
+-- refusals (`by-…`), what an answer means (`meaning`, `means-refused`), the figures (`said`, `surveyed`, `figures-…`).
 -- Assumes nothing.
 use mathlib.Core.Path.{_≡_, sym, _∙_, ap}
 use mathlib.Core.Bool.{Bool}
@@ -26,11 +26,11 @@ use Rattle.figures.specs.LevelOf.{levelOf}
 use Rattle.figures.specs.Scan.{Permuted, FiguresOf}
 use Rattle.figures.specs.declared.Level as level
 use Rattle.figures.specs.declared.Genus as genus
-use Rattle.figures.proofs.Filled.{filled-permuted}
+use Rattle.figures.proofs.Filled.{filled-permuted, S-stays, R-stays, T-stays}
 use Rattle.figures.proofs.Cusps.{cusps-are}
 use Rattle.coset.specs.Tables.{cosets, tableS, tableR, tableT, indexOf}
 use Rattle.coset.specs.Work.{Arranged}
-use Rattle.coset.specs.Answer.{roomFor, roomOne, tabledBy, figuresOf, figuredBy, figuredOf, Meaning, TablesMean, FiguresMean}
+use Rattle.coset.specs.Answer.{roomFor, roomOne, tabledBy, figuresOf, figuredBy, figuredOf, Surveyed, Meaning, TablesMean, FiguresMean}
 use Rattle.coset.specs.Answer as answer
 use Rattle.coset.specs.declared.Tabled.{Tabled}
 use Rattle.coset.specs.declared.Tabled.the-variants as tabled
@@ -115,14 +115,26 @@ figures-mean-refused f r e = let z : _≡_ {A = ℕ} 0 1 = cc in absurd (omega a
 
 -- ---- figures
 
-pub said : {t : List ℤ} {v n e2 e3 k : ℕ} {w w' : List ℕ} {g : genus.Genus} {l : level.Level} → Made t v w n → FiguresOf n w w' e2 e3 k g l
-    → answer.made n e2 e3 k (genusSays g) (levelSays l) ≡ figuresOf v t
-said {t} {v} m f =
-    let a = f .e2-is ∙ ap (λ (s : List ℕ). fixedPoints s) (m .S-is) in
-    let b = f .e3-is ∙ ap (λ (s : List ℕ). fixedPoints s) (m .R-is) in
-    let c = f .cusps-are .count ∙ ap (λ (s : List ℕ). length (widths s)) (m .T-is) in
-    let d = f .level-is ∙ ap (λ (s : List ℕ). levelOf (widths s)) (m .T-is) in
-    cc (m .index, a, b, c, d, f .genus-is)
+module _ {t : List ℤ} {v n e2 e3 k : ℕ} {w w' : List ℕ} {g : genus.Genus} {l : level.Level} (m : Made t v w n) (f : FiguresOf n w w' e2 e3 k g l) where
+  said : answer.made n e2 e3 k (genusSays g) (levelSays l) ≡ figuresOf v t
+  said =
+      let a = f .e2-is ∙ ap (λ (s : List ℕ). fixedPoints s) (m .S-is) in
+      let b = f .e3-is ∙ ap (λ (s : List ℕ). fixedPoints s) (m .R-is) in
+      let c = f .cusps-are .count ∙ ap (λ (s : List ℕ). length (widths s)) (m .T-is) in
+      let d = f .level-is ∙ ap (λ (s : List ℕ). levelOf (widths s)) (m .T-is) in
+      cc (m .index, a, b, c, d, f .genus-is)
+
+  pub surveyed : {w₀ : List ℕ} → length w ≡ length w₀ → Surveyed v t w₀ w' (record { index = n; e2 = e2; e3 = e3; cusps = k; genus = g; level = l })
+  surveyed same = record {
+    figures = said;
+    same = f .cusps-are .frame .same ∙ same;
+    few = m .few;
+    few-cusps = omega (arith, f .cusps-are .few, m .few);
+    S-is = S-stays (m .permuted) (f .cusps-are) ∙ m .S-is;
+    R-is = R-stays (m .permuted) (f .cusps-are) ∙ m .R-is;
+    T-is = T-stays (m .permuted) (f .cusps-are) ∙ m .T-is;
+    widths-are = f .cusps-are .table ∙ ap widths (m .T-is);
+  }
 
 module _ (v : ℕ) (t : List ℤ) (n : ℕ) where
   pub figures-refused : (f : Fault) → checkOf v t ≡ Refused f → answer.refused (numberOf f) (placeOf f) ≡ figuredOf v t n

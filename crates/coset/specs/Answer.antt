@@ -10,12 +10,13 @@
 --   saidBy r                what the answer r of `figures` says
 --   figuresOf v t           the figures of the symbol's tables: index, e2, e3, cusps, genus (18 for itself), level (17 for itself)
 --   figuredOf v t work      the refusals 1 to 7, then the work space, or the figures
+--   Surveyed v t w w' f     what `survey` answers and leaves: the figures f, and in the work space the tables of S, R and T and the widths
 --   Meaning v t             the symbol is one, the steps of its polygon keep their promise, its tables are those of the right cosets of H,
 --                           and its cusps are the cycles of T
 --   TablesMean, FiguresMean an answer that is no refusal means this
 use mathlib.Core.Path.{_≡_}
 use mathlib.Core.List.{List, _++_}
-use Prim.Native.Nat.{ℕ}
+use Prim.Native.Nat.{ℕ, _≤_}
 use lib.Dec.{ltb}
 use lib.ListN.{length, drop}
 use lib.IntN.{ℤ}
@@ -26,6 +27,7 @@ use Rattle.symbol.specs.Symbol.{IsSymbol}
 use Rattle.symbol.specs.declared.Checked.{Checked}
 use Rattle.symbol.specs.declared.Checked.the-variants.{Accepted, Refused}
 use Rattle.polygon.specs.Theorem.{Polygon}
+use Rattle.points.specs.Space.{ROOM, S-TABLE, WIDTHS, R-TABLE, T-TABLE, entries}
 use Rattle.figures.specs.Cusps.{fixedPoints, widths, Cusps}
 use Rattle.figures.specs.Figure.{Figure, genusSays, levelSays}
 use Rattle.figures.specs.GenusOf.{genusOf}
@@ -98,6 +100,18 @@ figuredBy Accepted work r = pick (ltb work workLength) (refused 11 workLength) r
 
 abbrev pub figuredOf : (v : ℕ) → List ℤ → (work : ℕ) → Says
 figuredOf v t work = figuredBy (checkOf v t) work (figuresOf v t)
+
+-- ---- what stays in the work space
+
+pub record Surveyed (v : ℕ) (t : List ℤ) (w w' : List ℕ) (f : FigureRecord) : Type 0 where
+  pub figures : saidBy (figured.Made f) ≡ figuresOf v t
+  pub same : length w' ≡ length w
+  pub few : f .index ≤ ROOM
+  pub few-cusps : f .cusps ≤ ROOM
+  pub S-is : entries S-TABLE (f .index) w' ≡ tableS v t
+  pub R-is : entries R-TABLE (f .index) w' ≡ tableR v t
+  pub T-is : entries T-TABLE (f .index) w' ≡ tableT v t
+  pub widths-are : entries WIDTHS (f .cusps) w' ≡ widthsOf v t
 
 -- ---- what an answer means
 

@@ -22,7 +22,7 @@ ghost use Rattle.symbol.specs.Symbol.{IsSymbol};
 ghost use Rattle.symbol.specs.Generator.{workAfter};
 ghost use Rattle.points.specs.Space.{S-TABLE, R-TABLE, T-TABLE, WIDTHS, entries};
 ghost use Rattle.coset.specs.Tables.{indexOf, tableS, tableR, tableT};
-ghost use Rattle.coset.specs.Answer.{roomFor, tabledOf, columnLeft, roomOne, widthsOf, widthedOf, saidBy, figuresOf, figuredOf, TablesMean, FiguresMean};
+ghost use Rattle.coset.specs.Answer.{roomFor, tabledOf, columnLeft, roomOne, widthsOf, widthedOf, saidBy, figuresOf, figuredOf, TablesMean, FiguresMean, Surveyed};
 
 mod arrange;
 
@@ -175,28 +175,37 @@ pub enum Figured {
     Short(usize),
 }
 
-// The figures of an accepted symbol; the work space is cleared after.
-fn make_figures(v: usize, t: &[i64], w: &mut [u16]) -> Figured
+// The figures of an accepted symbol. The widths of its cusps and its tables of S, R and T stay in the work space, for whoever reads them there.
+pub fn survey(v: usize, t: &[i64], w: &mut [u16]) -> FigureRecord
     requires { ⌜ IsSymbol v (now t) × (workLength ≤ length (now w)) ⌝ }
-    ensures { λ a. ⌜ saidBy a ≡ figuresOf v (now (t .entry)) ⌝ }
-    ensures { λ a. ⌜ now (w .exit) ≡ zeros (length (now (w .entry))) ⌝ }
+    ensures { λ f. ⌜ Surveyed v (now (t .entry)) (now (w .entry)) (now (w .exit)) f ⌝ }
 {
     let n = arrange(v, t, w);
     let f = figures_of(w, n);
-    space::clear(w);
     let e2 = f.e2;
     let e3 = f.e3;
     let cusps = f.cusps;
     let genus = f.genus;
     let level = f.level;
-    Figured::Made(FigureRecord {
+    FigureRecord {
         index: n,
         e2,
         e3,
         cusps,
         genus,
         level,
-    })
+    }
+}
+
+// The figures of an accepted symbol; the work space is cleared after.
+fn make_figures(v: usize, t: &[i64], w: &mut [u16]) -> Figured
+    requires { ⌜ IsSymbol v (now t) × (workLength ≤ length (now w)) ⌝ }
+    ensures { λ a. ⌜ saidBy a ≡ figuresOf v (now (t .entry)) ⌝ }
+    ensures { λ a. ⌜ now (w .exit) ≡ zeros (length (now (w .entry))) ⌝ }
+{
+    let f = survey(v, t, w);
+    space::clear(w);
+    Figured::Made(f)
 }
 
 // The figures of the symbol in t: checks 1 to 7, then the work space; 17 and 18 are each for its own figure.

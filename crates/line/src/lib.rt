@@ -1,6 +1,6 @@
 // Lines of text, put into a lent slice of bytes one after another: each call says where its bytes end, and the next ones start there.
-// The calls ask for room, for the programs that make them know how long a line can get: 21 bytes hold a space and any number, 11 bytes a
-// space and a natural number of 32 bits, and 7 bytes a space and a signed one of 16 bits.
+// The calls ask for room, for the programs that make them know how long a line can get: 21 bytes hold a space and any number, 6 bytes a
+// space and a natural number of 16 bits, and 7 bytes a space and a signed one of 16 bits.
 use text::Written;
 ghost use mathlib.Core.Path.{_≡_};
 ghost use mathlib.Core.List.{[], _∷_, _++_, map};
@@ -64,17 +64,17 @@ pub fn put_natural(n: u64, out: &mut [u8], at: usize) -> usize
     put_digits(n, out, from)
 }
 
-// A number of 32 bits as a wider one.
-fn wide(x: u32) -> u64
+// A number of 16 bits as a wider one.
+fn wide(x: u16) -> u64
     ensures { λ r. ⌜ r ≡ x ⌝ }
 {
     x as u64
 }
 
 // The naturals xs, each behind a space.
-pub fn put_naturals(xs: &[u32], out: &mut [u8], at: usize) -> usize
-    requires { ⌜ at + (11 * length (now xs) + 21) ≤ length (now out) ⌝ }
-    ensures { λ r. ⌜ Puts (spaced (map natural (now (xs .entry)))) at r (now (out .entry)) (now (out .exit)) × (r ≤ at + 11 * length (now (xs .entry))) ⌝ }
+pub fn put_cells(xs: &[u16], out: &mut [u8], at: usize) -> usize
+    requires { ⌜ at + (6 * length (now xs) + 21) ≤ length (now out) ⌝ }
+    ensures { λ r. ⌜ Puts (spaced (map natural (now (xs .entry)))) at r (now (out .entry)) (now (out .exit)) × (r ≤ at + 6 * length (now (xs .entry))) ⌝ }
 {
     let mut end = at;
     let mut i = 0;
@@ -142,12 +142,12 @@ pub fn line_of_two(name: &[u8], a: u64, b: u64, out: &mut [u8], at: usize) -> us
 }
 
 // A line of the naturals xs.
-pub fn line_of_naturals(name: &[u8], xs: &[u32], out: &mut [u8], at: usize) -> usize
-    requires { ⌜ at + (length (now name) + 11 * length (now xs) + 21) ≤ length (now out) ⌝ }
-    ensures { λ r. ⌜ Puts (line (now (name .entry)) (map natural (now (xs .entry)))) at r (now (out .entry)) (now (out .exit)) × (r ≤ at + (length (now (name .entry)) + 11 * length (now (xs .entry)) + 1)) ⌝ }
+pub fn line_of_cells(name: &[u8], xs: &[u16], out: &mut [u8], at: usize) -> usize
+    requires { ⌜ at + (length (now name) + 6 * length (now xs) + 21) ≤ length (now out) ⌝ }
+    ensures { λ r. ⌜ Puts (line (now (name .entry)) (map natural (now (xs .entry)))) at r (now (out .entry)) (now (out .exit)) × (r ≤ at + (length (now (name .entry)) + 6 * length (now (xs .entry)) + 1)) ⌝ }
 {
     let first = put(name, out, at);
-    let second = put_naturals(xs, out, first);
+    let second = put_cells(xs, out, first);
     put(b"\n", out, second)
 }
 

@@ -31,22 +31,14 @@ fn main() {
     }
     let mut numbers = [0i64; 3071];
     let mut w = [0u16; 32768];
-    let mut widths = [0u32; 4096];
     let mut table = [0i64; 5120];
-    let mut s = [0u32; 4096];
-    let mut r = [0u32; 4096];
-    let mut u = [0u32; 4096];
-    let mut out = [0u8; 327680];
+    let mut out = [0u8; 212992];
     let end = report::list(
         &text[..n],
         0 < extra,
         &mut numbers,
         &mut w,
-        &mut widths,
         &mut table,
-        &mut s,
-        &mut r,
-        &mut u,
         &mut out,
     );
     write_pieces(&out[..end]);

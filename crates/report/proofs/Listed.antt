@@ -2,7 +2,8 @@
 --     first-kind, second-kind, third-kind     the word of a kind, by the tests that the code makes
 --     row-put                                 a generator's line, from its number and the rest
 --     lines-more                              one generator more
---     listed-as                               what is listed for an answer of `figures`
+--     listed-refused, listed-accepted         what is listed by the answer of the checks
+--     parts-listed                            the parts in the slices of a symbol that was surveyed are its listing
 --     listing-longer, listing-by              what is listed for a text that is too long, and for an answer of `read`
 -- Assumes nothing.
 use mathlib.Core.Path.{_≡_, refl, sym, ap, _∙_}
@@ -28,15 +29,16 @@ use Rattle.space.specs.Space.{workLength}
 use Rattle.text.specs.Piece.{pieces, numbers}
 use Rattle.text.specs.Reading.{readingOf}
 use Rattle.text.specs.declared.Reading.{Reading}
-use Rattle.symbol.specs.Check.{checkOf}
-use Rattle.symbol.specs.declared.Checked.{Checked}
+use Rattle.symbol.specs.Check.{numberOf, placeOf, checkOf}
+use Rattle.symbol.specs.Generator.{leaders, generatorTable}
+use Rattle.symbol.specs.declared.Fault.{Fault}
 use Rattle.symbol.specs.declared.Checked.the-variants.{Accepted, Refused}
-use Rattle.symbol.proofs.Choice.{pick-false}
-use Rattle.coset.specs.Answer.{Says, figuresOf, figuredBy, figuredOf}
-use Rattle.coset.specs.Answer as answer
-use lib.Dec.{ltb}
-use borrow.Author.Tests.{le-ltb}
+use Rattle.coset.specs.Answer.{saidBy, figuresOf, Surveyed}
+use Rattle.coset.specs.declared.FigureRecord.{FigureRecord}
+use Rattle.coset.specs.declared.Figured.the-variants as figured
+use Rattle.coset.proofs.Answer.{figures-refused, figures-long}
 use Rattle.report.specs.Listing.{listedBy, listed, listingFormat, readBy, listingOf, freeWord, evenWord, oddWord, kindWord, generatorLine, generatorLines}
+use Rattle.report.specs.Parts.{partsOf}
 
 module _ (z : ℤ) where
   pub first-kind : SFits w64 z → ofZ w64 z ≡ 1 → kindWord z ≡ freeWord
@@ -63,16 +65,21 @@ row-put j row {word} k f g h =
     let same : line word (take (length row - 1) (drop 1 row)) ≡ line (kindWord (getD row 0 (pos 0))) (drop 1 row) = ap (line word) all ∙ ap (λ (l : List ℕ). line l (drop 1 row)) (sym k) in
     puts-then f (puts-as same g) h
 
--- a longer work space is as good
-work-enough : (c : Checked) (n : ℕ) (r : Says) → workLength ≤ n → figuredBy c n r ≡ figuredBy c workLength r
-work-enough (Refused f) n r h = refl
-work-enough Accepted n r h =
-    let x = answer.refused 11 workLength in
-    pick-false (ltb n workLength) x r (le-ltb n workLength h) ∙ sym (pick-false (ltb workLength workLength) x r (le-ltb workLength workLength (omega arith)))
+module _ (v : ℕ) (t : List ℤ) where
+  pub listed-refused : (f : Fault) → checkOf v t ≡ Refused f → refusal (numberOf f) (placeOf f) ≡ listed v t
+  unfolding listed
+  listed-refused f q = ap (listedBy v t) (figures-refused v t workLength f q)
 
-pub listed-as : (v : ℕ) (t : List ℤ) (n : ℕ) (x : Says) → workLength ≤ n → x ≡ figuredOf v t n → listedBy v t x ≡ listed v t
-unfolding listed
-listed-as v t n x h e = ap (listedBy v t) (e ∙ work-enough (checkOf v t) n (figuresOf v t) h)
+  pub listed-accepted : checkOf v t ≡ Accepted → listedBy v t (figuresOf v t) ≡ listed v t
+  unfolding listed
+  listed-accepted q = ap (listedBy v t) (figures-long v t workLength q (omega arith))
+
+-- the parts in the slices are those of the symbol
+pub parts-listed : {v : ℕ} {t : List ℤ} {w w' : List ℕ} {f : FigureRecord} (g : ℕ) (rows : List ℤ) → Surveyed v t w w' f → g ≡ length (leaders v t) → rows ≡ generatorTable v t
+    → partsOf f g rows w' ≡ listedBy v t (figuresOf v t)
+parts-listed {v} {t} {w} {w'} {f} g rows s n r =
+    let same : partsOf f g rows w' ≡ listedBy v t (saidBy (figured.Made f)) = cc (s .widths-are, s .S-is, s .R-is, s .T-is, n, r) in
+    same ∙ ap (listedBy v t) (s .figures)
 
 pub listing-longer : (longer : Bool) (text : List ℕ) → longer ≡ true → refusal 19 65536 ≡ listingOf longer text
 unfolding listingOf

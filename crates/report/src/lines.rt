@@ -1,15 +1,23 @@
 // The lines of a listing, as bytes in a lent slice.
+use coset::FigureRecord;
 use figures::Genus;
 use figures::Level;
+use line::line_of_cells;
 use line::line_of_integers;
-use line::line_of_naturals;
 use line::line_of_one;
 use line::line_of_two;
 use line::put_digits;
+use points::R_TABLE;
+use points::S_TABLE;
+use points::T_TABLE;
+use points::WIDTHS;
 ghost use mathlib.Core.Path.{_≡_};
+ghost use mathlib.Core.List.{map};
 ghost use Prim.Native.Nat.{_+_, _*_, _≤_};
 ghost use lib.ListN.{length};
-ghost use Rattle.line.specs.Line.{Puts};
+ghost use Rattle.space.specs.Space.{workLength};
+ghost use Rattle.points.specs.Space.{S-TABLE, WIDTHS, R-TABLE, T-TABLE, entries};
+ghost use Rattle.line.specs.Line.{natural, line, Puts};
 ghost use Rattle.figures.specs.Figure.{genusSays, levelSays};
 ghost use Rattle.report.specs.Listing.{genusWord, levelWord, figureLine, countLines, cuspLines, figureLines, generatorLine, generatorLines, generatorPart, tableLines};
 
@@ -45,12 +53,21 @@ fn count_lines(index: usize, e2: usize, e3: usize, cusps: usize, out: &mut [u8])
     line_of_one(b"cusps", cusps as u64, out, second)
 }
 
-// Widths, genus and level.
-fn cusp_lines(widths: &[u32], genus: Genus, level: Level, out: &mut [u8], at: usize) -> usize
-    requires { ⌜ at + (11 * length (now widths) + 150) ≤ length (now out) ⌝ }
-    ensures { λ r. ⌜ Puts (cuspLines (now (widths .entry)) (genusSays genus) (levelSays level)) at r (now (out .entry)) (now (out .exit)) × (r ≤ at + (11 * length (now (widths .entry)) + 150)) ⌝ }
+// The n entries of the table at `off` in the work space, as one line.
+fn table_line(name: &[u8], w: &[u16], off: usize, n: usize, out: &mut [u8], at: usize) -> usize
+    requires { ⌜ (off + n ≤ length (now w)) × (at + (length (now name) + 6 * n + 21) ≤ length (now out)) ⌝ }
+    ensures { λ r. ⌜ Puts (line (now (name .entry)) (map natural (entries off n (now (w .entry))))) at r (now (out .entry)) (now (out .exit)) × (r ≤ at + (length (now (name .entry)) + 6 * n + 1)) ⌝ }
 {
-    let first = line_of_naturals(b"widths", widths, out, at);
+    let end = off + n;
+    line_of_cells(name, &w[off..end], out, at)
+}
+
+// The widths of the k cusps, which are in the work space, genus and level.
+fn cusp_lines(w: &[u16], k: usize, genus: Genus, level: Level, out: &mut [u8], at: usize) -> usize
+    requires { ⌜ (WIDTHS + k ≤ length (now w)) × (at + (6 * k + 150) ≤ length (now out)) ⌝ }
+    ensures { λ r. ⌜ Puts (cuspLines (entries WIDTHS k (now (w .entry))) (genusSays genus) (levelSays level)) at r (now (out .entry)) (now (out .exit)) × (r ≤ at + (6 * k + 150)) ⌝ }
+{
+    let first = table_line(b"widths", w, WIDTHS, k, out, at);
     let second = genus_line(genus, out, first);
     level_line(level, out, second)
 }
@@ -96,30 +113,23 @@ pub(crate) fn generator_part(table: &[i64], n: usize, out: &mut [u8], at: usize)
     generator_lines(table, n, out, first)
 }
 
-// The tables of S, R and T.
-pub(crate) fn table_lines(s: &[u32], r: &[u32], u: &[u32], out: &mut [u8], at: usize) -> usize
-    requires { ⌜ (length (now s) ≤ 4096) × (length (now r) ≤ 4096) × (length (now u) ≤ 4096) × (at + 135300 ≤ length (now out)) ⌝ }
-    ensures { λ e. ⌜ Puts (tableLines (now (s .entry)) (now (r .entry)) (now (u .entry))) at e (now (out .entry)) (now (out .exit)) ⌝ }
+// The tables of S, R and T of n cosets, which are in the work space.
+pub(crate) fn table_lines(w: &[u16], n: usize, out: &mut [u8], at: usize) -> usize
+    requires { ⌜ (n ≤ 4096) × (workLength ≤ length (now w)) × (at + 73794 ≤ length (now out)) ⌝ }
+    ensures { λ e. ⌜ Puts (tableLines (entries S-TABLE n (now (w .entry))) (entries R-TABLE n (now (w .entry))) (entries T-TABLE n (now (w .entry)))) at e (now (out .entry)) (now (out .exit)) ⌝ }
 {
-    let first = line_of_naturals(b"S", s, out, at);
-    let second = line_of_naturals(b"R", r, out, first);
-    line_of_naturals(b"T", u, out, second)
+    let first = table_line(b"S", w, S_TABLE, n, out, at);
+    let second = table_line(b"R", w, R_TABLE, n, out, first);
+    table_line(b"T", w, T_TABLE, n, out, second)
 }
 
-// Index to level.
-pub(crate) fn figure_lines(
-    index: usize,
-    e2: usize,
-    e3: usize,
-    cusps: usize,
-    genus: Genus,
-    level: Level,
-    widths: &[u32],
-    out: &mut [u8],
-) -> usize
-    requires { ⌜ (length (now widths) ≤ 4096) × (45400 ≤ length (now out)) ⌝ }
-    ensures { λ r. ⌜ Puts (figureLines index e2 e3 cusps (genusSays genus) (levelSays level) (now (widths .entry))) 0 r (now (out .entry)) (now (out .exit)) × (r ≤ 45400) ⌝ }
+// Index to level, with the widths that are in the work space.
+pub(crate) fn figure_lines(f: FigureRecord, w: &[u16], out: &mut [u8]) -> usize
+    requires { ⌜ (f .cusps ≤ 4096) × (workLength ≤ length (now w)) × (24831 ≤ length (now out)) ⌝ }
+    ensures { λ r. ⌜ Puts (figureLines (f .index) (f .e2) (f .e3) (f .cusps) (genusSays (f .genus)) (levelSays (f .level)) (entries WIDTHS (f .cusps) (now (w .entry)))) 0 r (now (out .entry)) (now (out .exit)) × (r ≤ 24831) ⌝ }
 {
-    let first = count_lines(index, e2, e3, cusps, out);
-    cusp_lines(widths, genus, level, out, first)
+    let genus = f.genus;
+    let level = f.level;
+    let first = count_lines(f.index, f.e2, f.e3, f.cusps, out);
+    cusp_lines(w, f.cusps, genus, level, out, first)
 }

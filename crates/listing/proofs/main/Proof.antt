@@ -33,7 +33,7 @@ array-share-prefix-out c = omega (arith, c .list .ensures .1)
 slice-aggregate-write-pieces : tie.Need-slice-aggregate-write-pieces
 slice-aggregate-write-pieces c =
     let l = c .before .list in
-    sym (length-take-le (l .result) (l .last .1 .1 .1 .1 .1 .1 .1 .1 .1 .0) (omega (arith, l .ensures .1)))
+    sym (length-take-le (l .result) (l .last .1 .1 .1 .1 .1 .0) (omega (arith, l .ensures .1)))
 
 write-pieces-requires : tie.Need-write-pieces-requires
 write-pieces-requires c κs = search needs

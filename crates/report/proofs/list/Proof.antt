@@ -6,18 +6,7 @@ use Rattle.report.proofs.list.Statement.{statement}
 use Rattle.report.proofs.list.Tie as tie
 
 list-text-requires : tie.Need-list-text-requires
-list-text-requires c κs = (
-  omega arith,
-  record {
-    work = omega arith;
-    widths-long = omega arith;
-    table-long = omega arith;
-    s-long = omega arith;
-    r-long = omega arith;
-    u-long = omega arith;
-    out-long = omega arith;
-  },
-)
+list-text-requires c κs = (omega arith, record { work = omega arith; table-long = omega arith; out-long = omega arith })
 
 returns : tie.Need-returns
 returns c = let p = c .list-text .ensures in (p, omega (arith, puts-within p (omega arith) (omega arith)))

@@ -22,7 +22,7 @@ use Rattle.report.proofs.list_text.Tie as tie
 -- the numbers that were read
 module _ (d : tie.After-known-told3) where
   abbrev start : tie.Start
-  start = d .before .before .before .before .before .before .before .before .before .before .before .before .before .before
+  start = d .before .before .before .before .before .before .before .before .before .before
 
   abbrev text : List ℕ
   text = start .args .text .now
@@ -37,13 +37,13 @@ module _ (d : tie.After-known-told3) where
   some-numbers = handed-on listingFormat text 3071 count (omega arith) numbered
 
 refusal-line-requires : tie.Need-refusal-line-requires
-refusal-line-requires c κs = omega (arith, (c .before .before .before .before .before .before .before .before .before) .pre .1 .out-long)
+refusal-line-requires c κs = omega (arith, (c .before .before .before .before .before) .pre .1 .out-long)
 
 same-length : tie.Need-same-length
 same-length c = search needs
 
 returns : tie.Need-returns
-returns c = let s = c .before .before .before .before .before .before .before .before .before .before .before .before in puts-as (listing-longer (s .args .longer) (s .args .text .now) ((c .before .before .before .before) .if1 .taken)) ((c .before .before) .refusal-line .ensures)
+returns c = let s = c .before .before .before .before .before .before .before .before in puts-as (listing-longer (s .args .longer) (s .args .text .now) ((c .before .before .before .before) .if1 .taken)) ((c .before .before) .refusal-line .ensures)
 
 read-requires : tie.Need-read-requires
 read-requires c κs = search needs
@@ -52,19 +52,19 @@ enum-known-read : tie.Need-enum-known-read
 enum-known-read c = search needs
 
 refusal-line-requires-2 : tie.Need-refusal-line-requires-2
-refusal-line-requires-2 c κs = omega (arith, (c .before .before .before .before .before .before .before .before .before .before .before .before .before .before .before) .pre .1 .out-long)
+refusal-line-requires-2 c κs = omega (arith, (c .before .before .before .before .before .before .before .before .before .before .before) .pre .1 .out-long)
 
 enum-known-read-2 : tie.Need-enum-known-read-2
 enum-known-read-2 c = search needs
 
 refusal-line-requires-3 : tie.Need-refusal-line-requires-3
-refusal-line-requires-3 c κs = omega (arith, (c .before .before .before .before .before .before .before .before .before .before .before .before .before .before .before) .pre .1 .out-long)
+refusal-line-requires-3 c κs = omega (arith, (c .before .before .before .before .before .before .before .before .before .before .before) .pre .1 .out-long)
 
 enum-known-read-3 : tie.Need-enum-known-read-3
 enum-known-read-3 c = search needs
 
 slice-copy-out-vertex-count : tie.Need-slice-copy-out-vertex-count
-slice-copy-out-vertex-count c = omega (arith, (c .before .before .before .before .before .before .before .before .before .before .before .before .before .before) .pre .0)
+slice-copy-out-vertex-count c = omega (arith, (c .before .before .before .before .before .before .before .before .before .before) .pre .0)
 
 vertex-count-requires : tie.Need-vertex-count-requires
 vertex-count-requires c κs = search needs
@@ -73,13 +73,13 @@ sub-list-symbol : tie.Need-sub-list-symbol
 sub-list-symbol c = omega (arith, some-numbers (c .before .before) .some-one)
 
 part-list-symbol-start : tie.Need-part-list-symbol-start
-part-list-symbol-start c = omega (arith, some-numbers (c .before .before .before) .some-one, some-numbers (c .before .before .before) .fitting, (c .before .before .before .before .before .before .before .before .before .before .before .before .before .before .before .before .before) .pre .0)
+part-list-symbol-start c = let h = some-numbers (c .before .before .before) in omega (arith, h .some-one, h .fitting, (c .before .before .before .before .before .before .before .before .before .before .before .before .before) .pre .0)
 
 part-list-symbol-end : tie.Need-part-list-symbol-end
-part-list-symbol-end c = omega (arith, some-numbers (c .before .before .before) .some-one, some-numbers (c .before .before .before) .fitting, (c .before .before .before .before .before .before .before .before .before .before .before .before .before .before .before .before .before) .pre .0)
+part-list-symbol-end c = let h = some-numbers (c .before .before .before) in omega (arith, h .some-one, h .fitting, (c .before .before .before .before .before .before .before .before .before .before .before .before .before) .pre .0)
 
 list-symbol-requires : tie.Need-list-symbol-requires
-list-symbol-requires c κs = (c .before .before .before .before .before .before .before .before .before .before .before .before .before .before .before .before .before .before .before .before .before .before .before .before .before) .pre .1
+list-symbol-requires c κs = (c .before .before .before .before .before .before .before .before .before .before .before .before .before .before .before .before .before) .pre .1
 
 same-length-2 : tie.Need-same-length-2
 same-length-2 c = search needs
@@ -90,7 +90,7 @@ same-length-3 c = search needs
 returns-2 : tie.Need-returns-2
 returns-2 c =
     let r = c .before .before .before .before .before .before .before .before in
-    let s = c .before .before .before .before .before .before .before .before .before .before .before .before .before .before .before .before .before .before in
+    let s = c .before .before .before .before .before .before .before .before .before .before .before .before .before .before in
     let e = sym ((c .before .before .before .before .before) .read2 .given .1) ∙ r .read .ensures .0 ∙ ap (readingOf listingFormat (s .args .text .now)) (s .pre .0) in
     puts-as (listing-by (s .args .longer) (s .args .text .now) _ ((c .before .before .before .before .before .before .before .before .before .before) .if1 .left) e) ((c .before .before) .refusal-line2 .ensures)
 
@@ -103,7 +103,7 @@ same-length-5 c = search needs
 returns-3 : tie.Need-returns-3
 returns-3 c =
     let r = c .before .before .before .before .before .before .before .before in
-    let s = c .before .before .before .before .before .before .before .before .before .before .before .before .before .before .before .before .before .before in
+    let s = c .before .before .before .before .before .before .before .before .before .before .before .before .before .before in
     let e = sym ((c .before .before .before .before .before) .read3 .given .1) ∙ r .read .ensures .0 ∙ ap (readingOf listingFormat (s .args .text .now)) (s .pre .0) in
     puts-as (listing-by (s .args .longer) (s .args .text .now) _ ((c .before .before .before .before .before .before .before .before .before .before) .if1 .left) e) ((c .before .before) .refusal-line3 .ensures)
 
@@ -119,23 +119,11 @@ same-length-8 c = search needs
 same-length-9 : tie.Need-same-length-9
 same-length-9 c = search needs
 
-same-length-10 : tie.Need-same-length-10
-same-length-10 c = search needs
-
-same-length-11 : tie.Need-same-length-11
-same-length-11 c = search needs
-
-same-length-12 : tie.Need-same-length-12
-same-length-12 c = search needs
-
-same-length-13 : tie.Need-same-length-13
-same-length-13 c = search needs
-
 returns-4 : tie.Need-returns-4
 returns-4 c =
-    let d = c .before .before .before .before .before .before .before .before .before .before .before .before .before .before .before .before .before .before .before .before .before .before .before .before .before in
-    let r = c .before .before .before .before .before .before .before .before .before .before .before .before .before .before .before .before .before .before .before .before .before .before .before .before .before .before .before .before .before in
-    let s = c .before .before .before .before .before .before .before .before .before .before .before .before .before .before .before .before .before .before .before .before .before .before .before .before .before .before .before .before .before .before .before .before .before .before .before .before .before .before .before in
+    let d = c .before .before .before .before .before .before .before .before .before .before .before .before .before in
+    let r = c .before .before .before .before .before .before .before .before .before .before .before .before .before .before .before .before .before in
+    let s = c .before .before .before .before .before .before .before .before .before .before .before .before .before .before .before .before .before .before .before .before .before .before .before in
     let ns = numbers (pieces (s .args .text .now)) in
     let k = count d in
     let h = some-numbers d in
@@ -143,13 +131,13 @@ returns-4 c =
     let left : stood ≡ leftBy (Numbers k) ns (s .args .numbers .now) = r .read .ensures .1 ∙ ap (λ (x : Reading). leftBy x ns (s .args .numbers .now)) (d .before .read4 .given .1) in
     let first : getD stood 0 (pos 0) ≡ getD ns 0 (pos 0) = ap (λ (l : List ℤ). getD l 0 (pos 0)) left ∙ first-entry ns (s .args .numbers .now) k (h .some-one) (h .there) in
     let others : take (k - 1) (drop 1 stood) ≡ drop 1 (take k ns) = ap (λ (l : List ℤ). take (k - 1) (drop 1 l)) left ∙ other-entries ns (s .args .numbers .now) k (h .some-one) (h .there) in
-    let v = c .before .before .before .before .before .before .before .before .before .before .before .before .before .before .before .before .before .before .before .before .before .before .before in
-    let e = rw (toZ-ofZ {w = w64} {z = getD stood 0 (pos 0)} (record { sfits = (c .before .before .before .before .before .before .before .before .before .before .before .before .before .before .before .before .before .before .before .before .before .before .before .before) .vertex-count-arg .given })) at (v .vertex-count .ensures) in
+    let v = c .before .before .before .before .before .before .before .before .before .before .before in
+    let e = rw (toZ-ofZ {w = w64} {z = getD stood 0 (pos 0)} (record { sfits = (c .before .before .before .before .before .before .before .before .before .before .before .before) .vertex-count-arg .given })) at (v .vertex-count .ensures) in
     let same =
     ap (λ (n : ℕ). listed n (take (k - 1) (drop 1 stood))) (e ∙ ap vertexCount first)
     ∙ ap (λ (l : List ℤ). listed (vertexCount (getD ns 0 (pos 0))) l) others
-    ∙ listing-by (s .args .longer) (s .args .text .now) (Numbers k) ((c .before .before .before .before .before .before .before .before .before .before .before .before .before .before .before .before .before .before .before .before .before .before .before .before .before .before .before .before .before .before .before) .if1 .left) (numbered d) in
-    puts-as same ((c .before .before .before .before .before .before .before .before .before .before .before .before .before) .list-symbol .ensures)
+    ∙ listing-by (s .args .longer) (s .args .text .now) (Numbers k) ((c .before .before .before .before .before .before .before .before .before .before .before .before .before .before .before .before .before .before .before) .if1 .left) (numbered d) in
+    puts-as same ((c .before .before .before .before .before) .list-symbol .ensures)
 
 pub list-text-spec : {M : Type 1} → statement M
 list-text-spec =
@@ -180,8 +168,4 @@ list-text-spec =
     same-length-7
     same-length-8
     same-length-9
-    same-length-10
-    same-length-11
-    same-length-12
-    same-length-13
     returns-4)

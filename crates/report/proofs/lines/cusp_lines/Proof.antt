@@ -6,11 +6,11 @@ use borrow.Author.Needs.{needs}
 use Rattle.report.proofs.lines.cusp_lines.Statement.{statement}
 use Rattle.report.proofs.lines.cusp_lines.Tie as tie
 
-slice-aggregate-line-of-naturals : tie.Need-slice-aggregate-line-of-naturals
-slice-aggregate-line-of-naturals c = search needs
+slice-aggregate-table-line : tie.Need-slice-aggregate-table-line
+slice-aggregate-table-line c = search needs
 
-line-of-naturals-requires : tie.Need-line-of-naturals-requires
-line-of-naturals-requires c κs = search needs
+table-line-requires : tie.Need-table-line-requires
+table-line-requires c κs = search needs
 
 genus-line-requires : tie.Need-genus-line-requires
 genus-line-requires c κs = search needs
@@ -26,16 +26,16 @@ unfolding cuspLines
 returns c =
     let third = (c .before .before) .level-line .ensures in
     let second = (c .before .before .before .before .before .before) .genus-line .ensures in
-    let first = (c .before .before .before .before .before .before .before .before .before .before) .line-of-naturals .ensures in
+    let first = (c .before .before .before .before .before .before .before .before .before .before) .table-line .ensures in
     let s = c .before .before .before .before .before .before .before .before .before .before .before .before .before .before .before in
-    (puts-then (puts-then (first .0) (second .0) (omega (arith, s .pre))) (third .0) (omega (arith, s .pre)), omega (arith, first .1, second .1, third .1))
+    (puts-then (puts-then (first .0) (second .0) (omega (arith, s .pre .1))) (third .0) (omega (arith, s .pre .1)), omega (arith, first .1, second .1, third .1))
 
 pub cusp-lines-spec : {M : Type 1} → statement M
 cusp-lines-spec =
     tie.close
     (tie.spec
-    slice-aggregate-line-of-naturals
-    line-of-naturals-requires
+    slice-aggregate-table-line
+    table-line-requires
     genus-line-requires
     level-line-requires
     same-length

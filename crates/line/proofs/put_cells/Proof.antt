@@ -1,4 +1,4 @@
--- `line::put_naturals` meets its contract: after i turns the first i numbers stand. Assumes nothing.
+-- `line::put_cells` meets its contract: after i turns the first i numbers stand. Assumes nothing.
 use mathlib.Core.Path.{_≡_, refl, sym, ap, _∙_}
 use mathlib.Core.List.{List, map}
 use Prim.Native.Nat.{ℕ, _+_, _-_, _*_, _≤_}
@@ -10,11 +10,11 @@ use Rattle.line.specs.Line.{natural, spaced, Puts}
 use Rattle.line.proofs.Placing.{puts-as, puts-none, puts-then, puts-same}
 use Rattle.line.proofs.Spacing.{naturals-more, digits-most}
 use borrow.Author.Needs.{needs}
-use Rattle.line.proofs.put_naturals.Statement.{statement}
-use Rattle.line.proofs.put_naturals.Tie as tie
+use Rattle.line.proofs.put_cells.Statement.{statement}
+use Rattle.line.proofs.put_cells.Tie as tie
 
 abbrev Inv-loop : tie.InvT-loop
-Inv-loop xs out₀ at end₀ i₀ out end i = Puts (spaced (map natural (take i xs))) at end out₀ out × (end ≤ at + 11 * i) × (i ≤ length xs) × (length out ≡ length out₀)
+Inv-loop xs out₀ at end₀ i₀ out end i = Puts (spaced (map natural (take i xs))) at end out₀ out × (end ≤ at + 6 * i) × (i ≤ length xs) × (length out ≡ length out₀)
 
 abbrev μ-loop : tie.MeasureT-loop
 μ-loop xs out₀ at end₀ i₀ out end i = length xs - i
@@ -50,7 +50,7 @@ loop-again c =
     let s = t .before .before .before .before in
     let e = rw (m .before .before .wide .ensures) at (m .put-natural .ensures) in
     let x = getD (s .args .xs .now) (q .i) 0 in
-    let few = digits-most 10 x (omega arith) (omega (arith, (m .before .before .before .shared-slice-known2 .given (q .i)) .fits)) in
+    let few = digits-most 5 x (omega arith) (omega (arith, (m .before .before .before .shared-slice-known2 .given (q .i)) .fits)) in
     let most = puts-same (e .0) (omega (arith, e .0 .end-is, e .1, q .inv .3, s .pre)) in (
       puts-as (sym (naturals-more (s .args .xs .now) (q .i) (t .loop-test .taken))) (puts-then (q .inv .0) (e .0) (omega (arith, s .pre))),
       omega (arith, e .0 .end-is, few, q .inv .1),
@@ -68,8 +68,8 @@ returns c =
     let all : take (q .i) (s .args .xs .now) ≡ s .args .xs .now = take-all (q .i) (s .args .xs .now) (c .loop-test .left) in
     (puts-as (ap (λ (l : List ℕ). spaced (map natural l)) all) (q .inv .0), omega (arith, q .inv .1, q .inv .2, c .loop-test .left))
 
-pub put-naturals-spec : {M : Type 1} → statement M
-put-naturals-spec =
+pub put-cells-spec : {M : Type 1} → statement M
+put-cells-spec =
     tie.close
     (tie.spec
     Inv-loop
