@@ -2,14 +2,14 @@
 use coset::Tabled;
 use coset::tables;
 use coset::widths;
-use symbol::generator::Generated;
-use symbol::generator::generators;
+use pairing::generator::Generated;
+use pairing::generator::generators;
 ghost use mathlib.Core.Path.{_≡_};
 ghost use Prim.Native.Nat.{_*_, _≤_};
 ghost use lib.ListN.{length, take};
 ghost use Rattle.space.specs.Space.{workLength};
 ghost use Rattle.symbol.specs.Symbol.{IsSymbol};
-ghost use Rattle.symbol.specs.Generator.{leaders, generatorTable};
+ghost use Rattle.pairing.specs.Generator.{leaders, generatorTable};
 ghost use Rattle.coset.specs.Answer.{widthsOf};
 ghost use Rattle.coset.specs.Tables.{indexOf, tableS, tableR, tableT};
 

@@ -22,7 +22,7 @@ ghost use Rattle.space.specs.Space.{workLength};
 ghost use Rattle.line.specs.Line.{Puts};
 ghost use Rattle.symbol.specs.Symbol.{IsSymbol};
 ghost use Rattle.figures.specs.Figure.{genusSays, levelSays};
-ghost use Rattle.symbol.specs.Generator.{leaders, generatorTable};
+ghost use Rattle.pairing.specs.Generator.{leaders, generatorTable};
 ghost use Rattle.coset.specs.Tables.{tableS, tableR, tableT};
 ghost use Rattle.coset.specs.Answer.{made, widthsOf};
 ghost use Rattle.report.specs.Listing.{figureLines, generatorPart, tableLines, listedBy, listed, listingOf};

@@ -7,7 +7,7 @@ use lib.IntN.{ℤ}
 use lib.ListN.{length, take}
 use lib.Seq.{length-take-le}
 use Rattle.line.proofs.Placing.{puts-as}
-use Rattle.symbol.specs.Generator.{generatorTable}
+use Rattle.pairing.specs.Generator.{generatorTable}
 use Rattle.report.specs.Listing.{generatorPart}
 use borrow.Author.Needs.{needs}
 use Rattle.report.proofs.list_generators.Statement.{statement}

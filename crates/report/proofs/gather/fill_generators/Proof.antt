@@ -2,7 +2,7 @@
 use mathlib.Core.Path.{_≡_, refl, sym, ap, _∙_}
 use native.Mathlib.Omega.{arith}
 use lib.ListN.{length}
-use Rattle.symbol.specs.Generator.{generatorTable}
+use Rattle.pairing.specs.Generator.{generatorTable}
 use Rattle.report.proofs.Gathered.{leaders-most, rows-long, generators-made, generators-are, rows-filled, generators-accepted, generators-long}
 use borrow.Author.Needs.{needs}
 use Rattle.report.proofs.gather.fill_generators.Statement.{statement}
