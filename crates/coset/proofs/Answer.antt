@@ -13,7 +13,7 @@ use borrow.Author.Tests.{lt-ltb, le-ltb}
 use Rattle.space.specs.Space.{workLength, zeros}
 use Rattle.symbol.specs.Check.{numberOf, placeOf, checkOf}
 use Rattle.symbol.specs.Symbol.{IsSymbol}
-use Rattle.symbol.specs.Generator.{workAfter}
+use Rattle.pairing.specs.Generator.{workAfter}
 use Rattle.symbol.specs.declared.Fault.{Fault}
 use Rattle.symbol.specs.declared.Checked.{Checked}
 use Rattle.symbol.specs.declared.Checked.the-variants.{Accepted, Refused}

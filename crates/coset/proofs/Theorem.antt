@@ -22,7 +22,7 @@ use Rattle.matrix.proofs.Matrix.{T-is, R-is, ⊗-idr, det-letter}
 use Rattle.matrix.proofs.Action.{acts}
 use Rattle.matrix.proofs.Sign.{det-value}
 use Rattle.symbol.specs.Count.{count}
-use Rattle.symbol.specs.Generator.{generators}
+use Rattle.pairing.specs.Generator.{generators}
 use Rattle.symbol.proofs.Choice.{either, clash}
 use Rattle.polygon.specs.Cut.{corners, places}
 use Rattle.polygon.specs.Step.{oddAt, real, Real, stepS, turnQ, turned, startOf, originOf}

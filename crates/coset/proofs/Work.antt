@@ -22,7 +22,7 @@ use Rattle.matrix.specs.Matrix.{nth}
 use Rattle.space.specs.Space.{workLength}
 use Rattle.symbol.specs.Table.{pairing, pairingOf}
 use Rattle.symbol.specs.Symbol.{IsSymbol}
-use Rattle.symbol.specs.Generator.{pairingAt}
+use Rattle.pairing.specs.Generator.{pairingAt}
 use Rattle.symbol.specs.declared.Pairing.{Pairing}
 use Rattle.symbol.specs.declared.Pairing.the-variants.{Even, Odd, Free, Bad}
 use Rattle.symbol.proofs.Choice.{either}

@@ -19,7 +19,7 @@ use lib.ListN.{length}
 use lib.IntN.{ℤ, pos}
 use Rattle.matrix.specs.Matrix.{Mat, _⊗_, 𝟙, det, matS, matR, matT}
 use Rattle.matrix.specs.Action as action
-use Rattle.symbol.specs.Generator.{generators}
+use Rattle.pairing.specs.Generator.{generators}
 use Rattle.polygon.specs.Theorem.{SameCoset}
 use Rattle.points.specs.Order.{orderOf, upTo}
 use Rattle.points.specs.Table.{at, _thenTable_, Permutations}

@@ -19,7 +19,7 @@ ghost use lib.ListN.{length};
 ghost use Rattle.space.specs.Space.{workLength, zeros};
 ghost use Rattle.symbol.specs.Check.{checkOf};
 ghost use Rattle.symbol.specs.Symbol.{IsSymbol};
-ghost use Rattle.symbol.specs.Generator.{workAfter};
+ghost use Rattle.pairing.specs.Generator.{workAfter};
 ghost use Rattle.points.specs.Space.{S-TABLE, R-TABLE, T-TABLE, WIDTHS, entries};
 ghost use Rattle.coset.specs.Tables.{indexOf, tableS, tableR, tableT};
 ghost use Rattle.coset.specs.Answer.{roomFor, tabledOf, columnLeft, roomOne, widthsOf, widthedOf, saidBy, figuresOf, figuredOf, TablesMean, FiguresMean, Surveyed};

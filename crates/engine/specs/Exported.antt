@@ -17,10 +17,10 @@ use Prim.Native.Nat.{ℕ}
 use Rattle.symbol.specs.Check.{numberOf, placeOf}
 use Rattle.symbol.specs.declared.Checked.{Checked}
 use Rattle.symbol.specs.declared.Checked.the-variants as checked
-use Rattle.symbol.specs.declared.generator.Generated.{Generated}
-use Rattle.symbol.specs.declared.generator.Generated.the-variants as generated
-use Rattle.symbol.specs.declared.same.Sameness.{Sameness}
-use Rattle.symbol.specs.declared.same.Sameness.the-variants as sameness
+use Rattle.pairing.specs.declared.generator.Generated.{Generated}
+use Rattle.pairing.specs.declared.generator.Generated.the-variants as generated
+use Rattle.pairing.specs.declared.same.Sameness.{Sameness}
+use Rattle.pairing.specs.declared.same.Sameness.the-variants as sameness
 use Rattle.figures.specs.Figure as figure
 use Rattle.coset.specs.Answer.{Says, made, refused}
 use Rattle.coset.specs.declared.Tabled.{Tabled}

@@ -25,8 +25,8 @@ ghost use Prim.Native.Nat.{_+_, _*_};
 ghost use lib.ListN.{length, take};
 ghost use Rattle.matrix.specs.Matrix.{ofList};
 ghost use Rattle.symbol.specs.Check.{checkOf};
-ghost use Rattle.symbol.specs.Generator.{generatorTable, generatedOf, generatedNumber, tableLeft, workAfter};
-ghost use Rattle.symbol.specs.Same.{samenessOf, samenessNumber, workAfterBoth};
+ghost use Rattle.pairing.specs.Generator.{generatorTable, generatedOf, generatedNumber, tableLeft, workAfter};
+ghost use Rattle.pairing.specs.Same.{samenessOf, samenessNumber, workAfterBoth};
 ghost use Rattle.symbol.specs.Symbol.{IsSymbol};
 ghost use Rattle.coset.specs.Tables.{tableS, tableR, tableT};
 ghost use Rattle.coset.specs.Answer.{tabledOf, tabledNumber, columnLeft, widthsOf, widthedOf, figuredOf, Meaning};
@@ -64,7 +64,7 @@ pub extern "C" fn farey_generators(
     ensures { λ n. ⌜ now (w .exit) ≡ workAfter (checkOf v (now (t .entry))) (now (w .entry)) ⌝ }
     ensures { λ n. ⌜ now (out .exit) ≡ tableLeft (generatedOf v (now (t .entry)) (length (now (w .entry))) (length (now (out .entry)))) (generatorTable v (now (t .entry))) (now (out .entry)) ⌝ }
 {
-    let answer = symbol::generator::generators(v, t, w, out);
+    let answer = pairing::generator::generators(v, t, w, out);
     *place = generated_count(answer);
     generated_number(answer)
 }
@@ -214,7 +214,7 @@ pub extern "C" fn farey_same(
     ensures { λ n. ⌜ now (place .exit) ≡ samenessCount (samenessOf v (now (t .entry)) m (now (u .entry)) (length (now (w .entry)))) ⌝ }
     ensures { λ n. ⌜ now (w .exit) ≡ workAfterBoth (checkOf v (now (t .entry))) (checkOf m (now (u .entry))) (now (w .entry)) ⌝ }
 {
-    let answer = symbol::same::same(v, t, m, u, w);
+    let answer = pairing::same::same(v, t, m, u, w);
     *place = sameness_count(answer);
     sameness_number(answer)
 }

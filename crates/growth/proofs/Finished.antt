@@ -26,17 +26,17 @@ use Rattle.matrix.specs.Euclid.{pick}
 use Rattle.matrix.specs.Action.{at}
 use Rattle.matrix.proofs.Matrix.{⊗-assoc, ⊗-idl, ⊗-idr, adj-⊗, det-one, det-adj, det-letter, redo, ≈-sym, _∙≈_, ≈-left, ≈-right}
 use Rattle.symbol.specs.Count.{first, count, those}
-use Rattle.symbol.specs.Table.{numer, denom, pairing, pairingOf}
+use Rattle.symbol.specs.Table.{numer, denom, pairing, pairingOf, carried}
 use Rattle.symbol.specs.Check.{eqZ, sides}
 use Rattle.symbol.specs.Symbol.{ZeroAt, FreeLabel, IsSymbol}
-use Rattle.symbol.specs.Generator.{partner, pairingAt, leadsBy, leads, leaders, frameAt, carried, generatorBy, generator, generators}
-use Rattle.symbol.specs.Subgroup.{InH}
+use Rattle.pairing.specs.Generator.{partner, pairingAt, leadsBy, leads, leaders, frameAt, generatorBy, generator, generators}
+use Rattle.pairing.specs.Subgroup.{InH}
 use Rattle.symbol.specs.declared.Pairing.{Pairing}
 use Rattle.symbol.specs.declared.Pairing.the-variants.{Even, Odd, Free, Bad}
 use Rattle.symbol.proofs.Choice.{pick-true, pick-false, either, clash, eqZ-true, eq-eqZ, eqZ-refl}
 use Rattle.symbol.proofs.Count.{without, without-at, without-other, count-without, count-none, count-yes, count-mono, length-those, Clear}
 use Rattle.symbol.proofs.Pairings.{pairing-free}
-use Rattle.symbol.proofs.Facts.{Partner, partner-of, map-at, generator-at}
+use Rattle.pairing.proofs.Facts.{Partner, partner-of, map-at, generator-at}
 use Rattle.points.specs.Find.{find, _∈_}
 use Rattle.points.proofs.Find as places
 use Rattle.growth.specs.Side.{Vertex, vertex, minusInfinity, infinity, limit}

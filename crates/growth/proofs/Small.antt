@@ -15,10 +15,10 @@ use Rattle.matrix.specs.Matrix.{Mat, mat, _⊗_, 𝟙, neg, adj, det, matS, mat
 use Rattle.matrix.specs.Words as word
 use Rattle.matrix.specs.Action.{at}
 use Rattle.matrix.proofs.Matrix.{⊗-assoc, ⊗-idl, ⊗-idr, S-S, T-is, ≈-sym, _∙≈_, ≈-left, ≈-right}
-use Rattle.symbol.specs.Table.{pairing, sideAt, frame, numer, denom}
+use Rattle.symbol.specs.Table.{pairing, sideAt, frame, numer, denom, carried}
 use Rattle.symbol.specs.Symbol.{ZeroAt, FreeLabel, IsSymbol}
-use Rattle.symbol.specs.Generator.{carried, generators}
-use Rattle.symbol.specs.Subgroup.{InH}
+use Rattle.pairing.specs.Generator.{generators}
+use Rattle.pairing.specs.Subgroup.{InH}
 use Rattle.growth.specs.Theorem.{Precisely}
 use Rattle.growth.proofs.Lead.{Turning, Leads, leads-≈, leads-to, leads-𝟙, leads-step, leads-back}
 use Rattle.growth.proofs.Stabiliser.{in-one, in-gen, in-inv, Reach, stabiliser}

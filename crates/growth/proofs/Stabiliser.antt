@@ -17,7 +17,7 @@ use Rattle.matrix.specs.Action.{at}
 use Rattle.matrix.specs.Euclid as euclid
 use Rattle.matrix.proofs.Matrix.{⊗-assoc, ⊗-idl, ⊗-idr, ≈-sym, _∙≈_, ≈-left, ≈-right}
 use Rattle.matrix.proofs.Existence.{existence}
-use Rattle.symbol.specs.Subgroup.{IsLetter, IsWord, letterOf, wordOf, InH}
+use Rattle.pairing.specs.Subgroup.{IsLetter, IsWord, letterOf, wordOf, InH}
 use Rattle.growth.proofs.Lead.{Turning, Leads, leads-one, leads-≈, leads-𝟙, leads-back, leads-fix}
 
 -- ---- members of H

@@ -23,7 +23,7 @@ use borrow.Author.Tests.{lt-ltb, le-ltb, eq-eqb, ne-eqb}
 use Rattle.matrix.specs.Matrix.{Mat, mat, nth}
 use Rattle.matrix.specs.Euclid.{pick}
 use Rattle.symbol.specs.Table.{numer, denom, pairings, pairing, leftNum, leftDen, rightNum, rightDen}
-use Rattle.symbol.specs.Generator.{frameAt}
+use Rattle.pairing.specs.Generator.{frameAt}
 use Rattle.symbol.proofs.Choice.{pick-true, pick-false}
 use Rattle.symbol.proofs.Sides.{right-inside, right-last}
 use Rattle.points.specs.Find.{find, _∈_}

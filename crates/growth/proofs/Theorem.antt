@@ -16,7 +16,7 @@ use lib.IntN.{ℤ, pos, negsuc}
 use borrow.Author.Tests.{eq-eqb, ne-eqb, eqb-true, eqb-false}
 use Rattle.matrix.specs.Matrix.{matS, matT, matQ}
 use Rattle.matrix.specs.Euclid.{pick}
-use Rattle.symbol.specs.Generator.{carried}
+use Rattle.symbol.specs.Table.{carried}
 use Rattle.symbol.proofs.Choice.{pick-true, pick-false, either, clash, and-left, and-right}
 use Rattle.growth.specs.Fixed.{byQ, fixes, Permuting}
 use Rattle.growth.specs.Rule.{Row, Grown, finished, refused, rounds, startRows}

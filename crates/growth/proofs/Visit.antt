@@ -25,7 +25,7 @@ use Rattle.matrix.specs.Euclid.{pick}
 use Rattle.matrix.specs.Action.{at}
 use Rattle.matrix.proofs.Matrix.{⊗-assoc, ⊗-idr, adj-⊗, det-one, det-adj}
 use Rattle.symbol.proofs.Choice.{pick-true, pick-false, either, clash, and-left, and-right}
-use Rattle.symbol.specs.Generator.{carried}
+use Rattle.symbol.specs.Table.{carried}
 use Rattle.growth.specs.Fixed.{fixes}
 use Rattle.growth.specs.Side.{Side, frame}
 use Rattle.growth.specs.Rule.{Mark, unpaired, even, odd, free, Row, row, isOpen, Sought, nobody, found, behind, Visited, visited, least, pointOf, isEven, isOdd, mates, label, seek, visitBy, visit, visitTo, visitAll}

@@ -23,7 +23,7 @@ use lib.IntN.{pos, negsuc}
 use Rattle.matrix.specs.Matrix.{matS, matQ}
 use Rattle.matrix.specs.Euclid.{pick}
 use Rattle.matrix.specs.Action.{at}
-use Rattle.symbol.specs.Generator.{carried}
+use Rattle.symbol.specs.Table.{carried}
 use Rattle.growth.specs.Fixed.{fixes}
 use Rattle.growth.specs.Side.{Vertex, vertex, minusInfinity, infinity, Side, side, frame, mediant, lower, upper, fits}
 

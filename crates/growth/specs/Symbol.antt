@@ -14,7 +14,7 @@ use lib.ListN.{length}
 use lib.IntN.{ℤ, pos, negsuc}
 use Rattle.matrix.specs.Matrix.{matS, matT, matQ}
 use Rattle.matrix.specs.Euclid.{pick}
-use Rattle.symbol.specs.Generator.{carried}
+use Rattle.symbol.specs.Table.{carried}
 use Rattle.points.specs.Find.{find}
 use Rattle.points.specs.Order.{add}
 use Rattle.growth.specs.Fixed.{fixes}

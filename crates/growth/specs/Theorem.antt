@@ -14,8 +14,8 @@ use lib.IntN.{ℤ, pos}
 use Rattle.matrix.specs.Matrix.{Mat, det}
 use Rattle.matrix.specs.Action.{at}
 use Rattle.symbol.specs.Symbol.{IsSymbol}
-use Rattle.symbol.specs.Generator.{generators}
-use Rattle.symbol.specs.Subgroup.{InH}
+use Rattle.pairing.specs.Generator.{generators}
+use Rattle.pairing.specs.Subgroup.{InH}
 
 pub record Precisely (σ κ : ℕ → ℕ) (n v : ℕ) (t : List ℤ) : Type 0 where
   pub symbol : IsSymbol v t

@@ -27,8 +27,8 @@ use Rattle.matrix.specs.Matrix.{ofList}
 use Rattle.space.specs.Space.{workLength}
 use Rattle.symbol.specs.Check as symbol
 use Rattle.symbol.specs.Check.{eqZ, numberOf, placeOf}
-use Rattle.symbol.specs.Generator as generator
-use Rattle.symbol.specs.Generator.{generatorTable, generatedOf, generatedNumber, generatedPlace}
+use Rattle.pairing.specs.Generator as generator
+use Rattle.pairing.specs.Generator.{generatorTable, generatedOf, generatedNumber, generatedPlace}
 use Rattle.symbol.specs.declared.Checked.{Checked}
 use Rattle.symbol.specs.declared.Checked.the-variants as checked
 use Rattle.coset.specs.Tables.{tableS, tableR, tableT}

@@ -23,8 +23,8 @@ use Rattle.matrix.specs.Action.{Involution, OrderThree}
 use Rattle.matrix.specs.Theorems.{Acts}
 use Rattle.matrix.proofs.Matrix.{⊗-assoc, ⊗-idr, ⊗-adj, adj-⊗, det-one, det-adj, det-𝟙, R-is, ≈-refl, ≈-sym, _∙≈_, ≈-right, det-letter}
 use Rattle.matrix.proofs.Action.{acts}
-use Rattle.symbol.specs.Subgroup.{InH, wordOf}
-use Rattle.symbol.specs.Generator.{generators}
+use Rattle.pairing.specs.Subgroup.{InH, wordOf}
+use Rattle.pairing.specs.Generator.{generators}
 use Rattle.polygon.specs.Theorem.{SameCoset}
 use Rattle.points.specs.Find.{find, _∈_, Once}
 use Rattle.points.specs.Order.{add, visit, orderTo, orderOf, upTo, Maps, Reached, here, by-σ, by-ρ, Numbering}

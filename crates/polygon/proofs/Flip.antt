@@ -16,7 +16,7 @@ use Rattle.matrix.specs.Matrix.{Mat, _⊗_, det, matS, matQ, matP, _≈_}
 use Rattle.matrix.specs.Action.{OrderThree}
 use Rattle.matrix.proofs.Matrix.{⊗-assoc, ⊗-idr, Q-Q, P-Q}
 use Rattle.symbol.specs.Symbol.{IsSymbol}
-use Rattle.symbol.specs.Generator.{frameAt}
+use Rattle.pairing.specs.Generator.{frameAt}
 use Rattle.polygon.specs.Cut.{corners, outer, places, flipOf, flip, underZero}
 use Rattle.polygon.specs.Step.{oddAt, real, Real, turnQ}
 use Rattle.polygon.proofs.SymbolFacts.{odd-in}

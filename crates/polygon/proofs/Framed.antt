@@ -23,7 +23,7 @@ use Rattle.matrix.specs.Action.{step, run, at, Involution, OrderThree}
 use Rattle.matrix.proofs.Matrix.{⊗-assoc, ⊗-idl, ⊗-idr, det-𝟙, det-adj, det-letter, det-one, ⊗-adj, adj-⊗, undo, redo, ≈-sym, _∙≈_, ≈-left, ≈-right}
 use Rattle.matrix.proofs.Existence.{existence}
 use Rattle.matrix.proofs.Action.{at-word, at-≈, at-⊗, at-𝟙}
-use Rattle.symbol.specs.Subgroup.{IsLetter, IsWord, letterOf, wordOf, InH}
+use Rattle.pairing.specs.Subgroup.{IsLetter, IsWord, letterOf, wordOf, InH}
 use Rattle.polygon.specs.Walk.{wrote}
 use Rattle.polygon.specs.Theorem.{SameCoset}
 

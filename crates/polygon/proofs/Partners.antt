@@ -20,9 +20,9 @@ use borrow.Author.Count.{below-more}
 use Rattle.matrix.specs.Euclid.{pick}
 use Rattle.symbol.specs.Count.{count}
 use Rattle.symbol.specs.Table.{pairings}
-use Rattle.symbol.specs.Work as symbol
+use Rattle.pairing.specs.Work as pairing
 use Rattle.symbol.specs.Symbol.{IsSymbol}
-use Rattle.symbol.specs.Generator.{partner, pairingAt, leads, leadsBy, numberAt}
+use Rattle.pairing.specs.Generator.{partner, pairingAt, leads, leadsBy, numberAt}
 use Rattle.symbol.specs.declared.Pairing.{Pairing}
 use Rattle.symbol.specs.declared.Pairing.the-variants.{Even, Odd, Free, Bad}
 use Rattle.polygon.specs.Cut.{places}
@@ -106,7 +106,7 @@ number-count t v w i n p = rw (p .count) (count-most (leads v t) i)
 
 -- ---- the tables together
 
-pub partnered-in : {t : List ℤ} {v : ℕ} {w : List ℕ} → symbol.Partnered v (pairings v t) w → Partnered t v w
+pub partnered-in : {t : List ℤ} {v : ℕ} {w : List ℕ} → pairing.Partnered v (pairings v t) w → Partnered t v w
 partnered-in q = record { partners = q .partners }
 
 pub tables-built : {t : List ℤ} {v : ℕ} {w w' : List ℕ} {under : ℕ} → IsSymbol v t → 32768 ≤ length w → Partnered t v w → Numbered t v w → CutLeft t v w w' under → Tables t v w'

@@ -19,7 +19,7 @@ use Rattle.matrix.proofs.Uniqueness.{wordOf-≈}
 use Rattle.matrix.proofs.Action.{at-≈, at-⊗, at-S}
 use Rattle.symbol.specs.Count.{count}
 use Rattle.symbol.specs.Symbol.{IsSymbol}
-use Rattle.symbol.specs.Generator.{generators}
+use Rattle.pairing.specs.Generator.{generators}
 use Rattle.polygon.specs.Cut.{corners, outer, places}
 use Rattle.polygon.specs.Step.{oddAt, real, Real, stepS, turnQ, written, startOf, originOf}
 use Rattle.polygon.specs.Walk.{arrives, followed}

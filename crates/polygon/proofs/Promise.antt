@@ -20,13 +20,13 @@ use Rattle.matrix.specs.Matrix.{Mat, _⊗_, 𝟙, adj, det, matS, matQ, matP, _
 use Rattle.matrix.specs.Words.{Letter, S, Q, P, letter}
 use Rattle.matrix.specs.Euclid.{pick}
 use Rattle.matrix.proofs.Matrix.{⊗-assoc, ⊗-idl, ⊗-idr, det-𝟙, adj-⊗, redo, Q-P, Q-Q, ≈-sym, _∙≈_, ≈-left}
-use Rattle.symbol.specs.Table.{pairingOf}
+use Rattle.symbol.specs.Table.{pairingOf, carried}
 use Rattle.symbol.specs.Symbol.{IsSymbol}
-use Rattle.symbol.specs.Generator.{partner, pairingAt, leadsBy, leads, numberAt, frameAt, carried, generatorBy, generator, generators}
-use Rattle.symbol.specs.Subgroup.{IsWord, letterOf, wordOf}
+use Rattle.pairing.specs.Generator.{partner, pairingAt, leadsBy, leads, numberAt, frameAt, generatorBy, generator, generators}
+use Rattle.pairing.specs.Subgroup.{IsWord, letterOf, wordOf}
 use Rattle.symbol.specs.declared.Pairing.{Pairing}
 use Rattle.symbol.specs.declared.Pairing.the-variants.{Even, Odd, Free, Bad}
-use Rattle.symbol.proofs.Facts.{frame-det, generator-det}
+use Rattle.pairing.proofs.Facts.{frame-det, generator-det}
 use Rattle.polygon.specs.Cut.{corners, outer, places, flip}
 use Rattle.polygon.specs.Step.{oddAt, Real, stepS, turnQ, crossed, atSide, written, forth, back}
 use Rattle.polygon.specs.Walk.{goes}

@@ -26,9 +26,9 @@ use Rattle.symbol.specs.Count.{first}
 use Rattle.symbol.specs.Table.{numer, denom, leftNum, leftDen}
 use Rattle.symbol.specs.Check.{isZero, eqZ}
 use Rattle.symbol.specs.Symbol.{IsSymbol}
-use Rattle.symbol.specs.Generator.{frameAt}
+use Rattle.pairing.specs.Generator.{frameAt}
 use Rattle.polygon.specs.Cut.{corners, outer, places, den, Cell, below, handle, Scan, link, attach, push, pushed, scanned, flipOf, underZero}
-use Rattle.symbol.proofs.Facts.{last-integer}
+use Rattle.pairing.proofs.Facts.{last-integer}
 use Rattle.symbol.proofs.Count.{found}
 use Rattle.symbol.proofs.Choice.{either, eqZ-true, and-left, and-right}
 use Rattle.polygon.proofs.SymbolFacts.{below-suc, first-below}

@@ -21,7 +21,7 @@ use Rattle.matrix.proofs.Integer.{abs-neg}
 use Rattle.symbol.specs.Table.{numer, denom, leftNum}
 use Rattle.symbol.specs.Check.{isZero, eqZ}
 use Rattle.symbol.specs.Symbol.{IsSymbol}
-use Rattle.symbol.specs.Generator.{frameAt}
+use Rattle.pairing.specs.Generator.{frameAt}
 use Rattle.polygon.specs.Cut.{den, flip, underZero}
 use Rattle.polygon.specs.Step.{oddAt, real, Real, stepS, turned, startOf, startFrame, originOf}
 use Rattle.symbol.proofs.Choice.{either, clash, eqZ-true, and-left, and-right}

@@ -19,7 +19,7 @@ use Rattle.matrix.specs.Euclid.{pick}
 use Rattle.symbol.specs.Table.{pairingOf}
 use Rattle.symbol.specs.Check.{eqZ}
 use Rattle.symbol.specs.Symbol.{IsSymbol}
-use Rattle.symbol.specs.Generator.{partner, pairingAt, numberAt}
+use Rattle.pairing.specs.Generator.{partner, pairingAt, numberAt}
 use Rattle.symbol.specs.declared.Pairing.{Pairing}
 use Rattle.symbol.specs.declared.Pairing.the-variants.{Even, Free}
 use Rattle.polygon.specs.Cut.{corners, outer, places, flip}

@@ -23,13 +23,13 @@ use Rattle.symbol.specs.Count.{first, count}
 use Rattle.symbol.specs.Table.{pairings, pairing, pairingOf}
 use Rattle.symbol.specs.Check.{eqZ}
 use Rattle.symbol.specs.Symbol.{IsSymbol, FreeLabel}
-use Rattle.symbol.specs.Generator.{partner, pairingAt, leads, leaders, numberAt, generator, generators}
+use Rattle.pairing.specs.Generator.{partner, pairingAt, leads, leaders, numberAt, generator, generators}
 use Rattle.symbol.specs.declared.Pairing.the-variants.{Even, Odd, Free}
 use Rattle.symbol.proofs.Choice.{either, clash, eqZ-refl, eq-eqZ}
 use Rattle.symbol.proofs.Count.{search-first, count-yes, count-mono, another, length-those}
 use Rattle.symbol.proofs.Pairings.{pairing-view, pairing-free}
 use Rattle.symbol.proofs.Pairings as Pairings
-use Rattle.symbol.proofs.Facts.{partner-of, generator-at}
+use Rattle.pairing.proofs.Facts.{partner-of, generator-at}
 use Rattle.polygon.specs.Step.{oddAt}
 
 -- ---- searching, counting and listing

@@ -9,7 +9,7 @@ use Prim.Native.Nat.{ℕ, _+_, _≤_, _<_}
 use lib.ListN.{length, getD}
 use lib.IntN.{ℤ}
 use Rattle.symbol.specs.Count.{count}
-use Rattle.symbol.specs.Generator.{partner, pairingAt, leads, numberAt}
+use Rattle.pairing.specs.Generator.{partner, pairingAt, leads, numberAt}
 use Rattle.symbol.specs.declared.Pairing.the-variants.{Free}
 use Rattle.polygon.specs.Space.{PARTNER, GENERATOR}
 

@@ -24,7 +24,7 @@ use Rattle.matrix.specs.Words.{Letter, S, Q, P}
 use Rattle.matrix.specs.Euclid.{pick}
 use Rattle.symbol.specs.Table.{pairing}
 use Rattle.symbol.specs.Check.{isZero, eqZ}
-use Rattle.symbol.specs.Generator.{partner, pairingAt, numberAt}
+use Rattle.pairing.specs.Generator.{partner, pairingAt, numberAt}
 use Rattle.symbol.specs.declared.Pairing.{Pairing}
 use Rattle.symbol.specs.declared.Pairing.the-variants.{Even, Odd, Free, Bad}
 use Rattle.polygon.specs.Cut.{corners, outer, flip, underZero}

@@ -19,8 +19,8 @@ use Rattle.matrix.specs.Matrix.{Mat, _⊗_, det, _≈_}
 use Rattle.matrix.specs.Words.{Letter, letter, value}
 use Rattle.matrix.specs.Action.{Involution, OrderThree}
 use Rattle.symbol.specs.Count.{count}
-use Rattle.symbol.specs.Generator.{generators}
-use Rattle.symbol.specs.Subgroup.{IsWord, wordOf, InH}
+use Rattle.pairing.specs.Generator.{generators}
+use Rattle.pairing.specs.Subgroup.{IsWord, wordOf, InH}
 use Rattle.polygon.specs.Cut.{corners, places}
 use Rattle.polygon.specs.Step.{oddAt, real, Real, stepS, turnQ, written, startOf, startFrame, originOf}
 use Rattle.polygon.specs.Walk.{goes, ends, writes, arrives, walkEnds, walkWrites}

@@ -3,8 +3,8 @@
 // specs/Cut.antt says what the cut is, specs/Step.antt what a step does and writes, specs/Theorem.antt what that is good for, and
 // specs/Space.antt where the tables lie. Each call asks for an accepted symbol: refusals are the business of the calls above.
 use cutting::cut;
+use pairing::partner::pair_sides;
 use pairs::number_sides;
-use symbol::partner::pair_sides;
 use walking::start_position;
 ghost use mathlib.Core.Path.{_≡_};
 ghost use Prim.Native.Nat.{_≤_};

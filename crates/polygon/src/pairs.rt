@@ -7,7 +7,7 @@ ghost use mathlib.Core.Path.{_≡_};
 ghost use Prim.Native.Nat.{_+_, _≤_};
 ghost use lib.ListN.{length};
 ghost use Rattle.symbol.specs.Symbol.{IsSymbol};
-ghost use Rattle.symbol.specs.Generator.{leads};
+ghost use Rattle.pairing.specs.Generator.{leads};
 ghost use Rattle.polygon.specs.Space.{Above};
 ghost use Rattle.polygon.specs.Partners.{Partnered, NumberedTo, Numbered};
 

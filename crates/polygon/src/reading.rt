@@ -1,8 +1,8 @@
 // Reading the symbol, and the tables in the work space.
 use super::FLIP;
 use super::GENERATOR;
+use pairing::partner::PARTNER;
 use symbol::Pairing;
-use symbol::partner::PARTNER;
 use symbol::read_pairing;
 ghost use mathlib.Core.Path.{_≡_};
 ghost use Prim.Native.Nat.{_+_, _*_, _≤_, _<_};
@@ -10,7 +10,7 @@ ghost use lib.ListN.{length, getD};
 ghost use Rattle.symbol.specs.Check.{isZero};
 ghost use Rattle.symbol.specs.Symbol.{IsSymbol};
 ghost use Rattle.matrix.specs.Matrix.{nth};
-ghost use Rattle.symbol.specs.Generator.{pairingAt};
+ghost use Rattle.pairing.specs.Generator.{pairingAt};
 ghost use Rattle.polygon.specs.Cut.{den};
 ghost use Rattle.polygon.specs.Space.{FLIP, PARTNER, GENERATOR};
 

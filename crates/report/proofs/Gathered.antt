@@ -17,16 +17,16 @@ use borrow.Author.Tests.{le-ltb}
 use Rattle.space.specs.Space.{workLength}
 use Rattle.symbol.specs.Check.{checkOf}
 use Rattle.symbol.specs.Symbol.{IsSymbol}
-use Rattle.symbol.specs.Generator.{leads, leaders, generatorTable, roomOf, listedOf, generatedBy, generatedOf, tableLeft}
+use Rattle.pairing.specs.Generator.{leads, leaders, generatorTable, roomOf, listedOf, generatedBy, generatedOf, tableLeft}
 use Rattle.symbol.specs.declared.Fault.{Fault}
 use Rattle.symbol.specs.declared.Checked.{Checked}
 use Rattle.symbol.specs.declared.Checked.the-variants.{Accepted, Refused}
-use Rattle.symbol.specs.declared.generator.Generated.{Generated}
-use Rattle.symbol.specs.declared.generator.Generated.the-variants as generated
+use Rattle.pairing.specs.declared.generator.Generated.{Generated}
+use Rattle.pairing.specs.declared.generator.Generated.the-variants as generated
 use Rattle.symbol.proofs.Accepted.{accepted}
 use Rattle.symbol.proofs.Choice.{pick-false}
 use Rattle.symbol.proofs.Count.{length-those}
-use Rattle.symbol.proofs.Rows.{length-rows}
+use Rattle.pairing.proofs.Rows.{length-rows}
 use Rattle.polygon.proofs.SymbolFacts.{count-most}
 
 pub leaders-most : (v : ℕ) (t : List ℤ) → IsSymbol v t → length (leaders v t) ≤ 1024

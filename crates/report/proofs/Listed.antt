@@ -30,7 +30,7 @@ use Rattle.text.specs.Piece.{pieces, numbers}
 use Rattle.text.specs.Reading.{readingOf}
 use Rattle.text.specs.declared.Reading.{Reading}
 use Rattle.symbol.specs.Check.{numberOf, placeOf, checkOf}
-use Rattle.symbol.specs.Generator.{leaders, generatorTable}
+use Rattle.pairing.specs.Generator.{leaders, generatorTable}
 use Rattle.symbol.specs.declared.Fault.{Fault}
 use Rattle.symbol.specs.declared.Checked.the-variants.{Accepted, Refused}
 use Rattle.coset.specs.Answer.{saidBy, figuresOf, Surveyed}

@@ -28,7 +28,7 @@ use Rattle.text.specs.declared.Reading.{Reading}
 use Rattle.text.specs.declared.Reading.the-variants as reading
 use Rattle.line.specs.Line.{natural, line, refusedWord, refusal}
 use Rattle.symbol.specs.Check.{eqZ}
-use Rattle.symbol.specs.Generator.{leaders, generatorTable}
+use Rattle.pairing.specs.Generator.{leaders, generatorTable}
 use Rattle.figures.specs.Figure as figure
 use Rattle.coset.specs.Tables.{tableS, tableR, tableT}
 use Rattle.coset.specs.Answer.{Says, made, refused, widthsOf, figuredOf}

@@ -21,8 +21,8 @@ use Rattle.matrix.specs.Matrix.{nth}
 use Rattle.matrix.specs.Words.{S}
 use Rattle.symbol.specs.Table.{pairing}
 use Rattle.symbol.specs.Symbol.{IsSymbol}
-use Rattle.symbol.specs.Generator.{generators, leads}
-use Rattle.symbol.specs.Subgroup.{IsWord}
+use Rattle.pairing.specs.Generator.{generators, leads}
+use Rattle.pairing.specs.Subgroup.{IsWord}
 use Rattle.symbol.proofs.Choice.{clash}
 use Rattle.polygon.specs.Cut.{corners, places}
 use Rattle.polygon.specs.Step.{oddAt, real, Real, stepS, turnQ, written}

@@ -5,11 +5,6 @@ pub mod Signed
 pub mod Pairings
 pub mod Sides
 pub mod Accepted
-pub mod Facts
 pub mod Marking
-pub mod Partners
 pub mod Seeking
 pub mod Order
-pub mod Relabel
-pub mod Alike
-pub mod Rows

@@ -5,8 +5,3 @@ pub mod Check
 pub mod Marks
 pub mod Ready
 pub mod Symbol
-pub mod Generator
-pub mod Work
-pub mod Subgroup
-pub mod Same
-pub mod Alike

@@ -7,6 +7,7 @@
 --   sideAt v t i             side i: -1/0 stands before the first vertex, and 1/0 after the last
 --   frame s                  the side's frame, (c a; d b)
 --   gap s                    c b - a d, which is 1 where the two ends are neighbours
+--   carried n x m            n x m⁻¹, for matrices of determinant 1
 --   Pairing                  Even, Odd, Free with its label, or Bad
 --   pairingOf v x            the pairing that x stands for in a symbol of v vertices: -2 even, -3 odd, 1 to v + 1 a free label
 use mathlib.Core.Bool.{Bool, true, false}
@@ -15,7 +16,7 @@ use Prim.Native.Nat.{ℕ, zero, suc, _+_, _*_}
 use lib.Dec.{ltb}
 use lib.ListN.{drop}
 use lib.IntN.{ℤ, pos, negsuc, _-ℤ_, _*ℤ_}
-use Rattle.matrix.specs.Matrix.{Mat, mat, nth}
+use Rattle.matrix.specs.Matrix.{Mat, mat, _⊗_, adj, nth}
 use Rattle.matrix.specs.Euclid.{pick}
 use Rattle.symbol.specs.declared.Side.{Side}
 use Rattle.symbol.specs.declared.Pairing.{Pairing}
@@ -59,6 +60,9 @@ frame s = mat (s .c) (s .a) (s .d) (s .b)
 
 abbrev pub gap : Side → ℤ
 gap s = s .c *ℤ s .b -ℤ s .a *ℤ s .d
+
+abbrev pub carried : Mat → Mat → Mat → Mat
+carried n x m = n ⊗ x ⊗ adj m
 
 abbrev pub pairingOf : ℕ → ℤ → Pairing
 pairingOf v (pos zero) = Bad

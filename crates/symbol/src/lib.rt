@@ -1,4 +1,4 @@
-// A Farey symbol in a lent table: the checks of document 01, its sides and its generators.
+// A Farey symbol in a lent table: the checks of document 01, and its sides with their frames and generators.
 //
 // A table of a symbol with v vertices holds 2v vertex entries and then v + 1 pairings. specs/ says what each call returns and leaves.
 ghost use mathlib.Core.Path.{_≡_};
@@ -7,17 +7,14 @@ ghost use lib.Dec.{leb};
 ghost use lib.IntN.{pos, natAbs};
 ghost use Rattle.matrix.specs.Euclid.{positive};
 ghost use lib.ListN.{length};
-ghost use Rattle.matrix.specs.Matrix.{nth, toList};
+ghost use Rattle.matrix.specs.Matrix.{nth, ofList, toList, matS, matQ};
+ghost use Rattle.matrix.specs.Bounds.{Small};
 ghost use Rattle.symbol.specs.Count.{first};
-ghost use Rattle.symbol.specs.Table.{leftNum, leftDen, rightNum, rightDen, sideAt, frame, gap, pairingOf};
+ghost use Rattle.symbol.specs.Table.{leftNum, leftDen, rightNum, rightDen, sideAt, frame, gap, carried, pairingOf};
 ghost use Rattle.symbol.specs.Check.{numberOf, placeOf, _orElse_, eqZ, outOfRange, apart, isZero, unpairedIn, check3, check4, check5, lacksOdd, check6, check7};
 ghost use Rattle.symbol.specs.Marks.{digit, Marked, Noted, Tallied};
 ghost use Rattle.symbol.specs.Symbol.{Verdict};
 ghost use Rattle.symbol.specs.Ready.{SmallSide, failsOf, placesOf, Ready};
-
-pub mod generator;
-pub mod partner;
-pub mod same;
 
 // A side of the polygon, from a/b on the left to c/d on the right.
 pub struct Side {
@@ -155,9 +152,19 @@ fn right_end(v: usize, t: &[i64], i: usize) -> Vertex
     Vertex { num: 1, den: 0 }
 }
 
+// n x m⁻¹ for frames n and m and one of the matrices S and Q.
+fn carry(n: [i64; 4], x: [i64; 4], m: [i64; 4]) -> [i64; 4]
+    requires { ⌜ Small 1000000000 (ofList n) × Small 1 (ofList x) × Small 1000000000 (ofList m) ⌝ }
+    ensures { λ r. ⌜ r ≡ toList (carried (ofList n) (ofList x) (ofList m)) ⌝ }
+{
+    let left = matrix::product(n, x);
+    let right = matrix::inverse(m);
+    matrix::product(left, right)
+}
+
 impl Side {
     // Side i of the symbol in t.
-    pub(crate) fn at(v: usize, t: &[i64], i: usize) -> Side
+    pub fn at(v: usize, t: &[i64], i: usize) -> Side
         requires { ⌜ (v ≤ 1023) × (2 * v ≤ length (now t)) × (i ≤ v) ⌝ }
         ensures { λ r. ⌜ r ≡ sideAt v (now (t .entry)) i ⌝ }
     {
@@ -185,6 +192,30 @@ impl Side {
     {
         let m = self.frame();
         matrix::determinant(m) == 1
+    }
+
+    // The generator of an even side: M S M⁻¹, a half turn about a point of the side.
+    pub fn even(self) -> [i64; 4]
+        requires { ⌜ SmallSide self ⌝ }
+        ensures { λ r. ⌜ r ≡ toList (carried (frame self) matS (frame self)) ⌝ }
+    {
+        carry(self.frame(), matrix::matrix_s(), self.frame())
+    }
+
+    // The generator of an odd side: M Q M⁻¹, a turn of order three about a point outside the polygon.
+    pub fn odd(self) -> [i64; 4]
+        requires { ⌜ SmallSide self ⌝ }
+        ensures { λ r. ⌜ r ≡ toList (carried (frame self) matQ (frame self)) ⌝ }
+    {
+        carry(self.frame(), matrix::matrix_q(), self.frame())
+    }
+
+    // The generator of a free side and its partner to the right: N S M⁻¹ carries the side to the partner, turned round.
+    pub fn free(self, partner: Side) -> [i64; 4]
+        requires { ⌜ SmallSide self × SmallSide partner ⌝ }
+        ensures { λ r. ⌜ r ≡ toList (carried (frame partner) matS (frame self)) ⌝ }
+    {
+        carry(partner.frame(), matrix::matrix_s(), self.frame())
     }
 }
 

@@ -21,8 +21,8 @@ use Rattle.matrix.specs.Matrix.{Mat, _⊗_, adj, det, _≈_, ofList}
 use Rattle.matrix.specs.Euclid as euclid
 use Rattle.matrix.proofs.Matrix.{⊗-assoc, ⊗-idr, ⊗-adj, adj-⊗, det-adj, det-one, ≈-sym, _∙≈_, ≈-right}
 use Rattle.symbol.specs.Symbol.{IsSymbol}
-use Rattle.symbol.specs.Generator.{generators, leads}
-use Rattle.symbol.specs.Subgroup.{IsWord, wordOf}
+use Rattle.pairing.specs.Generator.{generators, leads}
+use Rattle.pairing.specs.Subgroup.{IsWord, wordOf}
 use Rattle.symbol.proofs.Choice.{either, clash, pick-true, pick-false, and-left, and-right}
 use Rattle.polygon.specs.Step.{startOf}
 use Rattle.polygon.specs.Walk.{followed, walkEnds}

@@ -18,7 +18,7 @@ use Rattle.space.specs.Space.{workLength, zeros}
 use Rattle.symbol.specs.Count.{first}
 use Rattle.symbol.specs.Check.{checkOf}
 use Rattle.symbol.specs.Symbol.{IsSymbol}
-use Rattle.symbol.specs.Generator.{workAfter}
+use Rattle.pairing.specs.Generator.{workAfter}
 use Rattle.symbol.specs.declared.Fault.{Fault}
 use Rattle.symbol.specs.declared.Checked.{Checked}
 use Rattle.symbol.specs.declared.Checked.the-variants.{Accepted, Refused}

@@ -25,7 +25,7 @@ use Rattle.matrix.specs.Euclid.{pick}
 use Rattle.space.specs.Space.{workLength}
 use Rattle.symbol.specs.Count.{first}
 use Rattle.symbol.specs.Check.{eqZ, numberOf, placeOf, checkOf}
-use Rattle.symbol.specs.Generator.{workAfter}
+use Rattle.pairing.specs.Generator.{workAfter}
 use Rattle.symbol.specs.declared.Checked.{Checked}
 use Rattle.symbol.specs.declared.Checked.the-variants.{Accepted, Refused}
 use Rattle.polygon.specs.Step.{startOf}

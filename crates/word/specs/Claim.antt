@@ -29,8 +29,8 @@ use Rattle.matrix.specs.Bounds.{Small}
 use Rattle.matrix.specs.Euclid as euclid
 use Rattle.space.specs.Space.{workLength}
 use Rattle.symbol.specs.Symbol.{IsSymbol}
-use Rattle.symbol.specs.Generator.{generators}
-use Rattle.symbol.specs.Subgroup.{IsWord, wordOf}
+use Rattle.pairing.specs.Generator.{generators}
+use Rattle.pairing.specs.Subgroup.{IsWord, wordOf}
 use Rattle.polygon.specs.Theorem.{SameCoset}
 use Rattle.walk.specs.Way.{placed}
 use Rattle.word.specs.Answer.{queryNumber, queryPlace, foundWord, partOf}

@@ -2,8 +2,8 @@
 use mathlib.Core.Path.{ap, _∙_}
 use mathlib.Core.List.{List}
 use lib.IntN.{ℤ}
-use Rattle.symbol.specs.Generator.{generatorTable, generatedNumber, tableLeft}
-use Rattle.symbol.specs.declared.generator.Generated.{Generated}
+use Rattle.pairing.specs.Generator.{generatorTable, generatedNumber, tableLeft}
+use Rattle.pairing.specs.declared.generator.Generated.{Generated}
 use Rattle.engine.specs.Exported.{generatedCount}
 use borrow.Author.Needs.{needs}
 use Rattle.engine.proofs.farey_generators.Statement.{statement}

@@ -1,6 +1,6 @@
 -- `farey_same` meets its contract: the number and the count of the answer, and what the call leaves. Assumes nothing.
 use mathlib.Core.Path.{ap, _∙_}
-use Rattle.symbol.specs.Same.{samenessNumber}
+use Rattle.pairing.specs.Same.{samenessNumber}
 use Rattle.engine.specs.Exported.{samenessCount}
 use borrow.Author.Needs.{needs}
 use Rattle.engine.proofs.farey_same.Statement.{statement}

@@ -3,10 +3,10 @@ use native.Mathlib.Omega.{arith}
 use lib.ListN.{length}
 use Rattle.space.proofs.Zeros.{length-zeros}
 use Rattle.symbol.specs.Table.{pairings}
-use Rattle.symbol.specs.Work as symbol
+use Rattle.pairing.specs.Work as pairing
 use Rattle.symbol.proofs.Order.{behind}
-use Rattle.symbol.proofs.Partners.{paired-none}
-use Rattle.symbol.proofs.Rows.{symbol-paired}
+use Rattle.pairing.proofs.Partners.{paired-none}
+use Rattle.pairing.proofs.Rows.{symbol-paired}
 use Rattle.polygon.specs.Partners.{Partnered}
 use Rattle.polygon.specs.Tables.{Tables}
 use Rattle.polygon.proofs.Space.{still}

@@ -10,7 +10,7 @@ use Rattle.line.specs.Line.{refusal}
 use Rattle.line.proofs.Placing.{puts-as}
 use Rattle.symbol.specs.Check.{numberOf, checkOf}
 use Rattle.symbol.specs.Symbol.{IsSymbol}
-use Rattle.symbol.specs.Generator.{leaders}
+use Rattle.pairing.specs.Generator.{leaders}
 use Rattle.symbol.specs.declared.Checked.the-variants.{Accepted}
 use Rattle.report.proofs.Gathered.{leaders-most, Gathered, gathered, gathered-made, gathered-refused, gathered-long, rows-filled}
 use Rattle.report.proofs.Listed.{listed-refused, listed-accepted}

@@ -4,7 +4,7 @@ use native.Mathlib.Omega.{arith}
 use Rattle.matrix.specs.Matrix.{nth}
 use Rattle.matrix.proofs.Bounds.{kept}
 use Rattle.symbol.specs.Table.{pairingOf}
-use Rattle.symbol.specs.Generator.{pairingAt}
+use Rattle.pairing.specs.Generator.{pairingAt}
 use Rattle.symbol.specs.declared.Pairing.{Pairing}
 use Rattle.symbol.specs.declared.Pairing.the-variants.{Even, Odd, Free, Bad}
 use Rattle.polygon.specs.Cut.{corners}

@@ -1,0 +1,47 @@
+use mathlib.Core.Path.{_≡_, sym, _∙_, ap}
+use lib.ListN.{length}
+use Rattle.symbol.specs.Check.{checkOf}
+use Rattle.pairing.specs.Same.{answered, samenessBy, workAfterBoth}
+use Rattle.symbol.specs.declared.Checked.{Checked}
+use borrow.Author.Needs.{needs}
+use Rattle.pairing.proofs.same.same.Statement.{statement}
+use Rattle.pairing.proofs.same.same.Tie as tie
+
+check-requires : tie.Need-check-requires
+check-requires c κs = search needs
+
+enum-known-first : tie.Need-enum-known-first
+enum-known-first c = search needs
+
+enum-told : tie.Need-enum-told
+enum-told c = search needs
+
+same-second-requires : tie.Need-same-second-requires
+same-second-requires c κs = let e = c .before in let r = e .before .before in sym (r .check .ensures .returned) ∙ e .enum-told .given .1
+
+returns : tie.Need-returns
+returns c =
+    let k = c .before in
+    let r = k .before .before in
+    let s = r .before .before in
+    let w = s .args .w .now in
+    let no = sym (r .check .ensures .returned) ∙ k .first .given .1 in
+    (sym (ap (λ (x : Checked). samenessBy x (checkOf (s .args .n) (s .args .u .now)) (answered (s .args .v) (s .args .t .now) (s .args .n) (s .args .u .now) (length w))) no), sym (ap (λ (x : Checked). workAfterBoth x (checkOf (s .args .n) (s .args .u .now)) w) no))
+
+same-length : tie.Need-same-length
+same-length c = search needs
+
+returns-2 : tie.Need-returns-2
+returns-2 c = search needs
+
+pub same-spec : {M : Type 1} → statement M
+same-spec =
+    tie.close
+    (tie.spec
+    check-requires
+    enum-known-first
+    enum-told
+    same-second-requires
+    returns
+    same-length
+    returns-2)

@@ -1,0 +1,126 @@
+-- The generators of a symbol.
+--
+--   partner v t i         the other side with the free label of side i
+--   leads v t i           whether side i is the leftmost side of its generator
+--   leaders v t           those sides, from the left
+--   numberAt v t i        the number, from 1, of the generator that side i belongs to
+--   generator v t i       the generator that side i leads: even M S M⁻¹, odd M Q M⁻¹, free N S M⁻¹ with N the partner's frame
+--   generators v t        the list of generators; number j, counted from 1, belongs to the j-th leading side
+--   kindOf                1 free, 2 even, 3 odd
+--   Generated             the answer of the call that lists them
+--   generatedNumber, generatedPlace     document 01's number and place of its refusing cases, and 0 for the other
+--   generatedOf           the refusals 1 to 7, then the work space, then the result space, or the number of generators
+--   workAfter             what a call leaves in the work space: zeros where it got past the length check, else all as it was
+--   tableLeft             what the call leaves in the result space: the table at its front, or all as it was
+--   generatorTable v t    for each generator its kind and its four entries, one after another
+use mathlib.Core.Bool.{Bool, true, false, not, _&&_}
+use mathlib.Core.List.{List, [], _∷_, _++_, map}
+use Prim.Native.Nat.{ℕ, suc, _+_, _*_}
+use lib.Dec.{ltb, eqb}
+use lib.IntN.{ℤ, pos}
+use lib.ListN.{length, drop}
+use Rattle.matrix.specs.Matrix.{nth, Mat, 𝟙, matS, matQ, toList}
+use Rattle.matrix.specs.Euclid.{pick}
+use Rattle.symbol.specs.Count.{first, count, those}
+use Rattle.symbol.specs.Table.{pairings, pairing, sideAt, frame, carried, pairingOf}
+use Rattle.space.specs.Space.{workLength, zeros}
+use Rattle.symbol.specs.Check.{eqZ, numberOf, placeOf, checkOf}
+use Rattle.symbol.specs.declared.Checked.{Checked}
+use Rattle.symbol.specs.declared.Checked.the-variants.{Accepted, Refused}
+use Rattle.pairing.specs.declared.generator.Generated.{Generated}
+use Rattle.pairing.specs.declared.generator.Generated.the-variants as generated
+use Rattle.symbol.specs.declared.Pairing.{Pairing}
+use Rattle.symbol.specs.declared.Pairing.the-variants.{Even, Odd, Free, Bad}
+
+abbrev pub partnerIn : ℕ → List ℤ → ℕ → ℕ
+partnerIn v p i = first (λ (k : ℕ). not (eqb k i) && eqZ (nth p k) (nth p i)) (v + 1)
+
+abbrev pub partner : ℕ → List ℤ → ℕ → ℕ
+partner v t i = partnerIn v (pairings v t) i
+
+-- what side i is paired as
+abbrev pub pairingAt : ℕ → List ℤ → ℕ → Pairing
+pairingAt v t i = pairingOf v (pairing v t i)
+
+abbrev pub leadsBy : Pairing → ℕ → ℕ → Bool
+leadsBy Even i k = true
+leadsBy Odd i k = true
+leadsBy (Free l) i k = ltb i k
+leadsBy Bad i k = false
+
+abbrev pub leadsIn : ℕ → List ℤ → ℕ → Bool
+leadsIn v p i = leadsBy (pairingOf v (nth p i)) i (partnerIn v p i)
+
+abbrev pub leads : ℕ → List ℤ → ℕ → Bool
+leads v t i = leadsIn v (pairings v t) i
+
+abbrev pub leaders : ℕ → List ℤ → List ℕ
+leaders v t = those (leads v t) (v + 1)
+
+abbrev pub numberAt : ℕ → List ℤ → ℕ → ℕ
+numberAt v t i = count (leads v t) (pick (leads v t i) i (partner v t i)) + 1
+
+abbrev pub frameAt : ℕ → List ℤ → ℕ → Mat
+frameAt v t i = frame (sideAt v t i)
+
+abbrev pub generatorBy : Pairing → Mat → Mat → Mat
+generatorBy Even m n = carried m matS m
+generatorBy Odd m n = carried m matQ m
+generatorBy (Free l) m n = carried n matS m
+generatorBy Bad m n = 𝟙
+
+abbrev pub generator : ℕ → List ℤ → ℕ → Mat
+generator v t i = generatorBy (pairingAt v t i) (frameAt v t i) (frameAt v t (partner v t i))
+
+abbrev pub generators : ℕ → List ℤ → List Mat
+generators v t = map (generator v t) (leaders v t)
+
+abbrev pub kindOf : Pairing → ℕ
+kindOf Even = 2
+kindOf Odd = 3
+kindOf (Free l) = 1
+kindOf Bad = 0
+
+abbrev pub row : ℕ → List ℤ → ℕ → List ℤ
+row v t i = pos (kindOf (pairingAt v t i)) ∷ toList (generator v t i)
+
+abbrev pub rows : ℕ → List ℤ → List ℕ → List ℤ
+rows v t [] = []
+rows v t (i ∷ l) = row v t i ++ rows v t l
+
+abbrev pub generatorTable : ℕ → List ℤ → List ℤ
+generatorTable v t = rows v t (leaders v t)
+
+-- n generators, or 11 with the length that the result space needs for them
+abbrev pub roomOf : ℕ → ℕ → Generated
+roomOf n out = pick (ltb out (5 * n)) (generated.Short (5 * n)) (generated.Made n)
+
+-- the work space's length comes first
+abbrev pub listedOf : ℕ → ℕ → ℕ → Generated
+listedOf n work out = pick (ltb work workLength) (generated.Short workLength) (roomOf n out)
+
+abbrev pub generatedBy : Checked → Generated → Generated
+generatedBy (Refused f) g = generated.Refused f
+generatedBy Accepted g = g
+
+abbrev pub generatedOf : ℕ → List ℤ → ℕ → ℕ → Generated
+generatedOf v t work out = generatedBy (checkOf v t) (listedOf (length (leaders v t)) work out)
+
+abbrev pub workAfter : Checked → List ℕ → List ℕ
+workAfter (Refused f) w = w
+workAfter Accepted w = pick (ltb (length w) workLength) w (zeros (length w))
+
+abbrev pub tableLeft : Generated → List ℤ → List ℤ → List ℤ
+tableLeft (generated.Made n) table out = table ++ drop (5 * n) out
+tableLeft (generated.Refused f) table out = out
+tableLeft (generated.Short n) table out = out
+
+abbrev pub generatedNumber : Generated → ℕ
+generatedNumber (generated.Made n) = 0
+generatedNumber (generated.Refused f) = numberOf f
+generatedNumber (generated.Short n) = 11
+
+abbrev pub generatedPlace : Generated → ℕ
+generatedPlace (generated.Made n) = 0
+generatedPlace (generated.Refused f) = placeOf f
+generatedPlace (generated.Short n) = n

@@ -1,0 +1,86 @@
+-- Sameness of two symbols: equal vertices, and equal pairings after the free labels are renumbered by their leftmost side.
+--
+--   relabelled v t i     the pairing of side i after that: -2, -3, or the number of the label, counted from 1 by leftmost sides
+--   sameSymbol           yes or no
+--   Sameness             the answer of the call
+--   samenessOf           the first symbol's refusals, then the second's, then the work space, then yes or no
+--   samenessNumber, samenessPlace     document 01's number and place of its refusing cases, and 0 for the others
+--   workAfterBoth        what the call leaves in the work space
+use mathlib.Core.Bool.{Bool, true, false, not, _&&_}
+use mathlib.Core.List.{List}
+use Prim.Native.Nat.{ℕ, zero, suc, _+_, _*_}
+use lib.Dec.{ltb, eqb}
+use lib.IntN.{ℤ, pos}
+use Rattle.matrix.specs.Matrix.{nth}
+use Rattle.matrix.specs.Euclid.{pick}
+use Rattle.symbol.specs.Count.{first, count}
+use Rattle.symbol.specs.Table.{pairing, pairingOf}
+use Rattle.symbol.specs.Check.{eqZ, numberOf, placeOf, checkOf}
+use Rattle.pairing.specs.Generator.{partner, pairingAt, workAfter}
+use Rattle.space.specs.Space.{workLength}
+use Rattle.symbol.specs.declared.Checked.{Checked}
+use Rattle.symbol.specs.declared.Checked.the-variants.{Accepted, Refused}
+use Rattle.pairing.specs.declared.same.Sameness.{Sameness}
+use Rattle.pairing.specs.declared.same.Sameness.the-variants as sameness
+use Rattle.symbol.specs.declared.Pairing.{Pairing}
+use Rattle.symbol.specs.declared.Pairing.the-variants.{Even, Odd, Free, Bad}
+
+-- whether side i is the leftmost side of a free label
+abbrev pub firstBy : Pairing → ℕ → ℕ → Bool
+firstBy Even i k = false
+firstBy Odd i k = false
+firstBy (Free l) i k = ltb i k
+firstBy Bad i k = false
+
+abbrev pub firstOfLabel : ℕ → List ℤ → ℕ → Bool
+firstOfLabel v t i = firstBy (pairingAt v t i) i (partner v t i)
+
+-- the number of the label whose leftmost side is i
+abbrev pub labelNumber : ℕ → List ℤ → ℕ → ℕ
+labelNumber v t i = count (firstOfLabel v t) i + 1
+
+abbrev pub relabelledBy : Pairing → ℤ → ℕ → ℤ
+relabelledBy Even x n = x
+relabelledBy Odd x n = x
+relabelledBy (Free l) x n = pos n
+relabelledBy Bad x n = x
+
+abbrev pub relabelled : ℕ → List ℤ → ℕ → ℤ
+relabelled v t i = relabelledBy (pairingAt v t i) (pairing v t i) (labelNumber v t (pick (ltb i (partner v t i)) i (partner v t i)))
+
+-- no i < n at which the two differ
+abbrev pub agreeBelow : (ℕ → ℤ) → (ℕ → ℤ) → ℕ → Bool
+agreeBelow f g n = not (ltb (first (λ (i : ℕ). not (eqZ (f i) (g i))) n) n)
+
+abbrev pub sameSymbol : ℕ → List ℤ → ℕ → List ℤ → Bool
+sameSymbol v t v' t' = eqb v v' && agreeBelow (nth t) (nth t') (2 * v) && agreeBelow (relabelled v t) (relabelled v' t') (v + 1)
+
+abbrev pub samenessBy : Checked → Checked → Sameness → Sameness
+samenessBy (Refused f) c s = sameness.First f
+samenessBy Accepted (Refused f) s = sameness.Second f
+samenessBy Accepted Accepted s = s
+
+-- for two accepted symbols
+abbrev pub answered : ℕ → List ℤ → ℕ → List ℤ → ℕ → Sameness
+answered v t v' t' work = pick (ltb work workLength) (sameness.Short workLength) (pick (sameSymbol v t v' t') sameness.Yes sameness.No)
+
+abbrev pub samenessOf : ℕ → List ℤ → ℕ → List ℤ → ℕ → Sameness
+samenessOf v t v' t' work = samenessBy (checkOf v t) (checkOf v' t') (answered v t v' t' work)
+
+abbrev pub workAfterBoth : Checked → Checked → List ℕ → List ℕ
+workAfterBoth (Refused f) c w = w
+workAfterBoth Accepted c w = workAfter c w
+
+abbrev pub samenessNumber : Sameness → ℕ
+samenessNumber sameness.Yes = 0
+samenessNumber sameness.No = 0
+samenessNumber (sameness.First f) = numberOf f
+samenessNumber (sameness.Second f) = numberOf f
+samenessNumber (sameness.Short n) = 11
+
+abbrev pub samenessPlace : Sameness → ℕ
+samenessPlace sameness.Yes = 0
+samenessPlace sameness.No = 0
+samenessPlace (sameness.First f) = placeOf f
+samenessPlace (sameness.Second f) = placeOf f
+samenessPlace (sameness.Short n) = n

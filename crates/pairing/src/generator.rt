@@ -1,0 +1,174 @@
+// The generators of a symbol: leading sides, and the call that lists the generators with their kinds.
+use super::partner::PARTNER;
+use super::partner::kind_at;
+use super::partner::pair_sides;
+use symbol::Checked;
+use symbol::Fault;
+use symbol::Pairing;
+use symbol::Side;
+use symbol::check;
+use symbol::read_pairing;
+ghost use mathlib.Core.Path.{_≡_};
+ghost use Prim.Native.Nat.{_+_, _*_, _≤_, _<_};
+ghost use lib.ListN.{length, drop};
+ghost use mathlib.Core.Bool.{true};
+ghost use mathlib.Core.List.{_∷_, _++_};
+ghost use Rattle.matrix.specs.Matrix.{ofList, toList};
+ghost use Rattle.space.specs.Space.{workLength, zeros};
+ghost use Rattle.symbol.specs.Count.{count};
+ghost use Rattle.symbol.specs.Check.{checkOf};
+ghost use Rattle.symbol.specs.Symbol.{IsSymbol};
+ghost use Rattle.pairing.specs.Generator.{leadsIn, leads, generator, generatorTable, leaders, roomOf, generatedOf, workAfter, tableLeft};
+ghost use Rattle.pairing.specs.Work.{Partnered, Prepared, putRow, RowsTo, Listed};
+
+// The answer of `generators`.
+pub enum Generated {
+    // So many generators stand at the front of the result space, five numbers each: its kind and its four entries.
+    Made(usize),
+    // The table is no symbol.
+    Refused(Fault),
+    // Refusal 11: the length that a space needs.
+    Short(usize),
+}
+
+// Whether side i is the leftmost side of its generator.
+fn leads_at(v: usize, p: &[i64], w: &[u16], i: usize) -> bool
+    requires { ⌜ (v ≤ 1023) × (i ≤ v) × (v + 1 ≤ length (now p)) × Partnered v (now p) (now w) ⌝ }
+    ensures { λ r. ⌜ r ≡ leadsIn v (now (p .entry)) i ⌝ }
+{
+    let pairing = read_pairing(v, p[i]);
+    match pairing {
+        Pairing::Even => true,
+        Pairing::Odd => true,
+        Pairing::Free(_) => i < space::index(w[PARTNER + i]),
+        Pairing::Bad => false,
+    }
+}
+
+// How many generators there are.
+fn count_leaders(v: usize, p: &[i64], w: &[u16]) -> usize
+    requires { ⌜ (v ≤ 1023) × (v + 1 ≤ length (now p)) × Partnered v (now p) (now w) ⌝ }
+    ensures { λ r. ⌜ r ≡ count (leadsIn v (now (p .entry))) (v + 1) ⌝ }
+{
+    let mut n = 0;
+    let mut i = 0;
+    while i <= v {
+        if leads_at(v, p, w, i) {
+            n += 1;
+        }
+        i += 1;
+    }
+    n
+}
+
+// The generator that side i leads.
+fn generator_at(v: usize, t: &[i64], p: &[i64], w: &[u16], i: usize) -> [i64; 4]
+    requires { ⌜ Prepared v (now t) (now p) (now w) × (i ≤ v) ⌝ }
+    ensures { λ r. ⌜ r ≡ toList (generator v (now (t .entry)) i) ⌝ }
+{
+    let side = Side::at(v, t, i);
+    let pairing = read_pairing(v, p[i]);
+    match pairing {
+        Pairing::Even => side.even(),
+        Pairing::Odd => side.odd(),
+        Pairing::Free(_) => {
+            let other = Side::at(v, t, space::index(w[PARTNER + i]));
+            side.free(other)
+        }
+        Pairing::Bad => matrix::identity(),
+    }
+}
+
+// Writes a kind and a matrix as the row n of out.
+fn put_row(out: &mut [i64], n: usize, kind: i64, m: [i64; 4])
+    requires { ⌜ (n ≤ 1024) × (5 * n + 5 ≤ length (now out)) ⌝ }
+    ensures { λ r. ⌜ now (out .exit) ≡ putRow n (kind ∷ toList (ofList m)) (now (out .entry)) ⌝ }
+{
+    let at = 5 * n;
+    out[at] = kind;
+    out[at + 1] = m[0];
+    out[at + 2] = m[1];
+    out[at + 3] = m[2];
+    out[at + 4] = m[3];
+}
+
+// Lists the generator that side i leads behind n others, if it leads one: how many there are then.
+fn list_side(
+    v: usize,
+    t: &[i64],
+    p: &[i64],
+    w: &[u16],
+    i: usize,
+    n: usize,
+    out: &mut [i64],
+) -> usize
+    requires { ⌜ Prepared v (now t) (now p) (now w) × (i ≤ v) × (n ≤ i) × (leads v (now t) i ≡ true → 5 * n + 5 ≤ length (now out)) ⌝ }
+    ensures { λ r. ⌜ Listed v (now (t .entry)) i n r (now (out .entry)) (now (out .exit)) ⌝ }
+{
+    if leads_at(v, p, w, i) {
+        put_row(out, n, kind_at(v, p, i), generator_at(v, t, p, w, i));
+        return n + 1;
+    }
+    n
+}
+
+// Lists all generators from the front of out, which has room for them.
+fn list_all(v: usize, t: &[i64], p: &[i64], w: &[u16], out: &mut [i64])
+    requires { ⌜ Prepared v (now t) (now p) (now w) × (5 * count (leads v (now t)) (v + 1) ≤ length (now out)) ⌝ }
+    ensures { λ r. ⌜ now (out .exit) ≡ generatorTable v (now (t .entry)) ++ drop (5 * count (leads v (now (t .entry))) (v + 1)) (now (out .entry)) ⌝ }
+{
+    let mut n = 0;
+    let mut i = 0;
+    while i <= v {
+        n = list_side(v, t, p, w, i, n, out);
+        i += 1;
+    }
+}
+
+// Lists the generators where out has room for them.
+fn list_if_room(v: usize, t: &[i64], p: &[i64], w: &[u16], out: &mut [i64]) -> Generated
+    requires { ⌜ Prepared v (now t) (now p) (now w) ⌝ }
+    ensures { λ r. ⌜ r ≡ roomOf (length (leaders v (now (t .entry)))) (length (now (out .entry))) ⌝ }
+    ensures { λ r. ⌜ now (out .exit) ≡ tableLeft r (generatorTable v (now (t .entry))) (now (out .entry)) ⌝ }
+{
+    let n = count_leaders(v, p, w);
+    let needed = 5 * n;
+    if out.len() < needed {
+        return Generated::Short(needed);
+    }
+    list_all(v, t, p, w, out);
+    Generated::Made(n)
+}
+
+// The same for an accepted symbol; the work space is cleared before and after.
+fn list_accepted(v: usize, t: &[i64], w: &mut [u16], out: &mut [i64]) -> Generated
+    requires { ⌜ IsSymbol v (now t) × (workLength ≤ length (now w)) ⌝ }
+    ensures { λ r. ⌜ r ≡ roomOf (length (leaders v (now (t .entry)))) (length (now (out .entry))) ⌝ }
+    ensures { λ r. ⌜ now (w .exit) ≡ zeros (length (now (w .entry))) ⌝ }
+    ensures { λ r. ⌜ now (out .exit) ≡ tableLeft r (generatorTable v (now (t .entry))) (now (out .entry)) ⌝ }
+{
+    let p = &t[2 * v..];
+    space::clear(w);
+    pair_sides(v, p, w);
+    let made = list_if_room(v, t, p, w, out);
+    space::clear(w);
+    made
+}
+
+// The generators of the symbol in t with their kinds, from the front of out: checks 1 to 7, then the work space, then the result space.
+pub fn generators(v: usize, t: &[i64], w: &mut [u16], out: &mut [i64]) -> Generated
+    ensures { λ r. ⌜ r ≡ generatedOf v (now (t .entry)) (length (now (w .entry))) (length (now (out .entry))) ⌝ }
+    ensures { λ r. ⌜ now (w .exit) ≡ workAfter (checkOf v (now (t .entry))) (now (w .entry)) ⌝ }
+    ensures { λ r. ⌜ now (out .exit) ≡ tableLeft r (generatorTable v (now (t .entry))) (now (out .entry)) ⌝ }
+{
+    let checked = check(v, t);
+    match checked {
+        Checked::Refused(fault) => Generated::Refused(fault),
+        Checked::Accepted => {
+            if w.len() < space::WORK {
+                return Generated::Short(space::WORK);
+            }
+            list_accepted(v, t, w, out)
+        }
+    }
+}
