@@ -49,7 +49,7 @@ fn scan(t: &[u32], seen: &mut [u8; 3072]) -> usize
 }
 
 // The same, with memory of its own.
-pub fn first_bad(t: &[u32]) -> usize
+pub(crate) fn first_bad(t: &[u32]) -> usize
     requires { ⌜ length (now t) ≤ 3066 ⌝ }
     ensures { λ r. ⌜ r ≡ first (badEntry (now (t .entry))) (length (now (t .entry))) ⌝ }
 {
@@ -68,7 +68,7 @@ fn moved_twice(s: &[u32], x: usize) -> bool
 }
 
 // The first point that S twice moves, or the length.
-pub fn first_moved_twice(s: &[u32]) -> usize
+pub(crate) fn first_moved_twice(s: &[u32]) -> usize
     requires { ⌜ Entries (now s) ⌝ }
     ensures { λ r. ⌜ r ≡ first (twiceMoved (now (s .entry))) (length (now (s .entry))) ⌝ }
 {
@@ -94,7 +94,7 @@ fn moved_thrice(r: &[u32], x: usize) -> bool
 }
 
 // The first point that R three times moves, or the length.
-pub fn first_moved_thrice(r: &[u32]) -> usize
+pub(crate) fn first_moved_thrice(r: &[u32]) -> usize
     requires { ⌜ Entries (now r) ⌝ }
     ensures { λ b. ⌜ b ≡ first (thriceMoved (now (r .entry))) (length (now (r .entry))) ⌝ }
 {

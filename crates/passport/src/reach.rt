@@ -71,7 +71,7 @@ fn first_unmarked(s: &[u32], r: &[u32], seen: &[u8; 3072]) -> usize
 }
 
 // The smallest point that isn't reached from 0, or the number of points.
-pub fn first_unreached(s: &[u32], r: &[u32]) -> usize
+pub(crate) fn first_unreached(s: &[u32], r: &[u32]) -> usize
     requires { ⌜ Two (now s) (now r) ⌝ }
     ensures { λ x. ⌜ x ≡ first (unreached (now (s .entry)) (now (r .entry))) (length (now (s .entry))) ⌝ }
 {

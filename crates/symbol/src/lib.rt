@@ -104,7 +104,6 @@ fn above_zero(x: i64) -> bool
 
 // The pairing that x stands for in a symbol of v vertices.
 pub fn read_pairing(v: usize, x: i64) -> Pairing
-    requires { ⌜ v ≤ 1023 ⌝ }
     ensures { λ r. ⌜ r ≡ pairingOf v x ⌝ }
 {
     if x == -2 {
@@ -117,7 +116,7 @@ pub fn read_pairing(v: usize, x: i64) -> Pairing
         return Pairing::Bad;
     }
     let l = x as usize;
-    if v + 1 < l {
+    if v < l - 1 {
         return Pairing::Bad;
     }
     Pairing::Free(l)

@@ -42,7 +42,7 @@ fn numerator(e: u64) -> i64
 }
 
 // Writes the table 0, 1, x, -3.
-pub fn write_four(out: &mut [i64], x: i64)
+pub(crate) fn write_four(out: &mut [i64], x: i64)
     requires { ⌜ 4 ≤ length (now out) ⌝ }
     ensures { λ _. ⌜ now (out .exit) ≡ ((pos 0 ∷ pos 1 ∷ x ∷ negsuc 2 ∷ []) ++ drop 4 (now (out .entry))) ⌝ }
 {
@@ -148,7 +148,7 @@ fn write_pairings(s: &[u32], r: &[u32], w: &mut [u16], d: usize, out: &mut [i64]
 }
 
 // Writes the symbol's table.
-pub fn write_table(s: &[u32], r: &[u32], w: &mut [u16], d: usize, out: &mut [i64])
+pub(crate) fn write_table(s: &[u32], r: &[u32], w: &mut [u16], d: usize, out: &mut [i64])
     requires { ⌜ Whole (now s) (now r) (now w) d × (3 * (d - 1) + 1 ≤ length (now out)) ⌝ }
     ensures { λ _. ⌜ now (out .exit) ≡ written (image (now (s .entry))) (byQ (image (now (s .entry))) (image (now (r .entry)))) (now (w .entry)) d (now (out .entry)) ⌝ }
 {

@@ -1,4 +1,6 @@
 use mathlib.Core.Path.{sym, _∙_}
+use native.Mathlib.Omega.{arith}
+use lib.ListN.{List·getD-eq-default}
 use Rattle.growth.proofs.Images.{image-in}
 use borrow.Author.Needs.{needs}
 use Rattle.growth.proofs.image.Statement.{statement}
@@ -18,7 +20,12 @@ wide-requires c κs = search needs
 
 -- src/lib.rt:29:1
 returns : tie.Need-returns
-returns c = let s = c .before .before .before in c .wide .ensures ∙ sym (image-in (s .args .t .now) (s .args .x) 0 (s .pre))
+returns c =
+    let s = c .before .before .before .before in
+    c .wide .ensures ∙ sym (image-in (s .args .t .now) (s .args .x) 0 (c .before .before .if1 .taken))
+
+returns-2 : tie.Need-returns-2
+returns-2 c = let s = c .before .before in sym (List·getD-eq-default (s .args .t .now) (s .args .x) (omega (arith, c .if1 .left)))
 
 pub image-spec : {M : Type 1} → statement M
-image-spec = tie.close (tie.spec mul-wide shared-slice-read-wide wide-requires returns)
+image-spec = tie.close (tie.spec mul-wide shared-slice-read-wide wide-requires returns returns-2)

@@ -1,4 +1,3 @@
-use Rattle.growth.proofs.Images.{low-S, low-R}
 use borrow.Author.Needs.{needs}
 use Rattle.growth.proofs.turned.Statement.{statement}
 use Rattle.growth.proofs.turned.Tie as tie
@@ -9,15 +8,15 @@ image-requires c κs = search needs
 
 -- src/lib.rt:42:9
 image-requires-2 : tie.Need-image-requires-2
-image-requires-2 c κs = let s = c .before .before .before in low-S _ _ (s .pre .0) _ _ (s .pre .1) (c .image .ensures) .1
+image-requires-2 c κs = search needs
 
 -- src/lib.rt:43:9
 image-requires-3 : tie.Need-image-requires-3
-image-requires-3 c κs = let s = c .before .before .before .before in low-R _ _ (s .pre .0) _ _ (low-S _ _ (s .pre .0) _ _ (s .pre .1) (c .before .image .ensures) .0) (c .image2 .ensures) .1
+image-requires-3 c κs = search needs
 
 -- src/lib.rt:44:5
 image-requires-4 : tie.Need-image-requires-4
-image-requires-4 c κs = let s = c .before .before .before .before .before in low-R _ _ (s .pre .0) _ _ (low-R _ _ (s .pre .0) _ _ (low-S _ _ (s .pre .0) _ _ (s .pre .1) (c .before .before .image .ensures) .0) (c .before .image2 .ensures) .0) (c .image3 .ensures) .0
+image-requires-4 c κs = search needs
 
 -- src/lib.rt:37:1
 returns : tie.Need-returns

@@ -30,8 +30,8 @@ least c = let s = c .before .before .before in at-least-one (s .args .x) (rw (to
 cast-l : tie.Need-cast-l
 cast-l c = let f = c .before .before .before .fits .x in rw (toZ-ofZ f) (least c .natural, fits-natAbs tt f)
 
-add-if4 : tie.Need-add-if4
-add-if4 c = search needs
+sub-if4 : tie.Need-sub-if4
+sub-if4 c = rw (toZ-ofZ (c .before .before .before .fits .x)) (least c .low)
 
 returns-4 : tie.Need-returns-4
 returns-4 c =
@@ -39,7 +39,7 @@ returns-4 c =
     let k = least (c .before) in
     let e = toZ-ofZ (s .fits .x) in
     let h = rw e at (c .if4 .taken) in
-    sym (ap (pairingOf (s .args .v)) (k .is) ∙ pairing-above (s .args .v) (natAbs (s .args .x)) h)
+    sym (ap (pairingOf (s .args .v)) (k .is) ∙ pairing-above (s .args .v) (natAbs (s .args .x)) (omega (arith, k .low, h)))
 
 returns-5 : tie.Need-returns-5
 returns-5 c =
@@ -47,7 +47,7 @@ returns-5 c =
     let k = least (c .before) in
     let e = toZ-ofZ (s .fits .x) in
     let h = rw e at (c .if4 .left) in
-    rw e (sym (ap (pairingOf (s .args .v)) (k .is) ∙ pairing-free (s .args .v) (natAbs (s .args .x)) (k .low) h))
+    rw e (sym (ap (pairingOf (s .args .v)) (k .is) ∙ pairing-free (s .args .v) (natAbs (s .args .x)) (k .low) (omega (arith, k .low, h))))
 
 pub read-pairing-spec : {M : Type 1} → statement M
-read-pairing-spec = tie.close (tie.spec returns returns-2 returns-3 cast-l add-if4 returns-4 returns-5)
+read-pairing-spec = tie.close (tie.spec returns returns-2 returns-3 cast-l sub-if4 returns-4 returns-5)

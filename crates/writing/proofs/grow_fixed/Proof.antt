@@ -1,7 +1,6 @@
 use mathlib.Core.Path.{_≡_, refl, sym, _∙_, ap}
 use native.Mathlib.Omega.{arith}
 use Rattle.writing.proofs.Answers.{answers, rule-first, rule-second, rule-large, neither, first-no}
-use Rattle.growth.proofs.Images.{low-S}
 use borrow.Author.Needs.{needs}
 use Rattle.writing.proofs.grow_fixed.Statement.{statement}
 use Rattle.writing.proofs.grow_fixed.Tie as tie
@@ -24,7 +23,7 @@ returns c = let s = c .before .before .before .before .before .before .before .b
 
 -- src/lib.rt:109:9
 turned-requires : tie.Need-turned-requires
-turned-requires c κs = let s = c .before .before .before .before .before in let S = s .args .s .now in let R = s .args .r .now in let O = s .args .out .now in let z = s .pre in (z .0, low-S _ _ (z .0) 0 _ (z .0 .permuting .some) (c .before .image .ensures) .0)
+turned-requires c κs = search needs
 
 -- src/lib.rt:111:9
 grow-small-requires-2 : tie.Need-grow-small-requires-2

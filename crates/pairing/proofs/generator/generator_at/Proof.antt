@@ -32,7 +32,7 @@ shared-slice-copy-out-read-pairing : tie.Need-shared-slice-copy-out-read-pairing
 shared-slice-copy-out-read-pairing c = let s = c .before .before in omega (arith, ap length (s .pre .0 .part), length-drop (2 * s .args .v) (s .args .t .now), s .pre .0 .symbol .long, s .pre .1)
 
 read-pairing-requires : tie.Need-read-pairing-requires
-read-pairing-requires c κs = c .before .before .before .pre .0 .symbol .most
+read-pairing-requires c κs = search needs
 
 -- what was read is the pairing of side i
 is-read : (c : tie.After-read-pairing) → c .read-pairing .result ≡ pairingAt (c .before .before .before .before .args .v) (c .before .before .before .before .args .t .now) (c .before .before .before .before .args .i)

@@ -17,7 +17,7 @@ shared-slice-copy-out-read-pairing : tie.Need-shared-slice-copy-out-read-pairing
 shared-slice-copy-out-read-pairing c = search needs
 
 read-pairing-requires : tie.Need-read-pairing-requires
-read-pairing-requires c κs = c .before .pre .0
+read-pairing-requires c κs = search needs
 
 -- the kind of side i, for its pairing q
 kind : (c : tie.After-read-pairing) (q : Pairing) → c .read-pairing .result ≡ q → pos (kindOf (pairingOf (c .before .before .args .v) (nth (c .before .before .args .p .now) (c .before .before .args .i)))) ≡ pos (kindOf q)

@@ -1,4 +1,4 @@
-use Rattle.passport.proofs.Marks.{entries-low, thrice-is}
+use Rattle.passport.proofs.Marks.{thrice-is}
 use borrow.Author.Needs.{needs}
 use Rattle.passport.proofs.entries.moved_thrice.Statement.{statement}
 use Rattle.passport.proofs.entries.moved_thrice.Tie as tie
@@ -9,11 +9,11 @@ image-requires c κs = search needs
 
 -- src/entries.rt:91:9
 image-requires-2 : tie.Need-image-requires-2
-image-requires-2 c κs = let s = c .before .before in let z = s .pre in let T = s .args .r .now in entries-low _ (z .0) _ _ (z .1) (c .image .ensures)
+image-requires-2 c κs = search needs
 
 -- src/entries.rt:92:9
 image-requires-3 : tie.Need-image-requires-3
-image-requires-3 c κs = let s = c .before .before .before in let z = s .pre in let T = s .args .r .now in entries-low _ (z .0) _ _ (entries-low _ (z .0) _ _ (z .1) (c .before .image .ensures)) (c .image2 .ensures)
+image-requires-3 c κs = search needs
 
 -- src/entries.rt:86:1
 returns : tie.Need-returns

@@ -1,4 +1,4 @@
-use Rattle.passport.proofs.Marks.{entries-low, twice-is}
+use Rattle.passport.proofs.Marks.{twice-is}
 use borrow.Author.Needs.{needs}
 use Rattle.passport.proofs.entries.moved_twice.Statement.{statement}
 use Rattle.passport.proofs.entries.moved_twice.Tie as tie
@@ -9,7 +9,7 @@ image-requires c κs = search needs
 
 -- src/entries.rt:66:9
 image-requires-2 : tie.Need-image-requires-2
-image-requires-2 c κs = let s = c .before .before in let z = s .pre in let T = s .args .s .now in entries-low _ (z .0) _ _ (z .1) (c .image .ensures)
+image-requires-2 c κs = search needs
 
 -- src/entries.rt:61:1
 returns : tie.Need-returns

@@ -20,11 +20,11 @@ index-requires c κs = search needs
 
 -- src/reach.rt:30:9
 image-requires : tie.Need-image-requires
-image-requires c κs = let s = c .before .before .before .before in let z = s .pre in let xl = visit-low (s .args .n) _ (s .args .i) _ (s .args .seen .now) (s .args .queue .now) (z .1) (z .2) (c .index .ensures) in xl
+image-requires c κs = search needs
 
 -- src/reach.rt:31:9
 image-requires-2 : tie.Need-image-requires-2
-image-requires-2 c κs = let s = c .before .before .before .before .before in let z = s .pre in let xl = visit-low (s .args .n) _ (s .args .i) _ (s .args .seen .now) (s .args .queue .now) (z .1) (z .2) (c .before .index .ensures) in rw (z .0 .even) xl
+image-requires-2 c κs = search needs
 
 -- src/reach.rt:32:9
 enter-requires : tie.Need-enter-requires

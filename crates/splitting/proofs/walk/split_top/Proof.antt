@@ -32,15 +32,15 @@ turned-requires c κs = search needs
 
 -- src/walk.rt:103:9
 turned-requires-2 : tie.Need-turned-requires-2
-turned-requires-2 c κs = let s = c .before .before .before .before .before .before in let z = s .pre in let mlow = low-is _ _ _ (c .before .point-at .ensures .0) (z .3) in let plow = low-Q _ _ (z .0) _ _ mlow (c .turned .ensures) in (z .0, plow)
+turned-requires-2 c κs = search needs
 
 -- src/walk.rt:104:9
 image-requires : tie.Need-image-requires
-image-requires c κs = let s = c .before .before .before .before .before .before .before in let z = s .pre in let mlow = low-is _ _ _ (c .before .before .point-at .ensures .0) (z .3) in let plow = low-Q _ _ (z .0) _ _ mlow (c .before .turned .ensures) in plow
+image-requires c κs = search needs
 
 -- src/walk.rt:105:9
 image-requires-2 : tie.Need-image-requires-2
-image-requires-2 c κs = let s = c .before .before .before .before .before .before .before .before in let z = s .pre in let mlow = low-is _ _ _ (c .before .before .before .point-at .ensures .0) (z .3) in let plow = low-Q _ _ (z .0) _ _ mlow (c .before .before .turned .ensures) in let qlow = low-Q _ _ (z .0) _ _ plow (c .before .turned2 .ensures) in qlow
+image-requires-2 c κs = search needs
 
 -- src/walk.rt:106:5
 hold-requires : tie.Need-hold-requires

@@ -17,19 +17,19 @@ turned-requires c κs = search needs
 
 -- src/walk.rt:166:13
 turned-requires-2 : tie.Need-turned-requires-2
-turned-requires-2 c κs = let z = c .before .before .before .before .before .before .pre in let pr = z .0 in let n0 = pr .permuting .some in let mo = pr .most in let ol = low-S _ _ pr 0 _ n0 (c .before .before .image .ensures) .0 in (pr, ol)
+turned-requires-2 c κs = search needs
 
 -- src/walk.rt:167:13
 turned-requires-3 : tie.Need-turned-requires-3
-turned-requires-3 c κs = let z = c .before .before .before .before .before .before .before .pre in let pr = z .0 in let n0 = pr .permuting .some in let mo = pr .most in let ol = low-S _ _ pr 0 _ n0 (c .before .before .before .image .ensures) .0 in let xl = low-Q _ _ pr _ _ ol (c .turned2 .ensures) in (pr, xl)
+turned-requires-3 c κs = search needs
 
 -- src/walk.rt:168:13
 image-requires-2 : tie.Need-image-requires-2
-image-requires-2 c κs = let z = c .before .before .before .before .before .before .before .before .pre in let pr = z .0 in let n0 = pr .permuting .some in let mo = pr .most in let ol = low-S _ _ pr 0 _ n0 (c .before .before .before .before .image .ensures) .0 in let xl = low-Q _ _ pr _ _ ol (c .before .turned2 .ensures) in xl
+image-requires-2 c κs = search needs
 
 -- src/walk.rt:169:13
 image-requires-3 : tie.Need-image-requires-3
-image-requires-3 c κs = let z = c .before .before .before .before .before .before .before .before .before .pre in let pr = z .0 in let n0 = pr .permuting .some in let mo = pr .most in let ol = low-S _ _ pr 0 _ n0 (c .before .before .before .before .before .image .ensures) .0 in let xl = low-Q _ _ pr _ _ ol (c .before .before .turned2 .ensures) in let yl = low-Q _ _ pr _ _ xl (c .before .turned3 .ensures) in yl
+image-requires-3 c κs = search needs
 
 -- src/walk.rt:170:9
 start-by-requires : tie.Need-start-by-requires
@@ -45,15 +45,15 @@ returns c = let s = c .before .before .before .before .before .before .before .b
 
 -- src/walk.rt:173:9
 turned-requires-4 : tie.Need-turned-requires-4
-turned-requires-4 c κs = let z = c .before .before .before .before .before .before .pre in let pr = z .0 in let n0 = pr .permuting .some in let mo = pr .most in let ql = low-Q _ _ pr 0 _ n0 (c .before .turned .ensures) in (pr, ql)
+turned-requires-4 c κs = search needs
 
 -- src/walk.rt:174:9
 image-requires-4 : tie.Need-image-requires-4
-image-requires-4 c κs = let z = c .before .before .before .before .before .before .before .pre in let pr = z .0 in let n0 = pr .permuting .some in let mo = pr .most in let ql = low-Q _ _ pr 0 _ n0 (c .before .before .turned .ensures) in ql
+image-requires-4 c κs = search needs
 
 -- src/walk.rt:175:9
 image-requires-5 : tie.Need-image-requires-5
-image-requires-5 c κs = let z = c .before .before .before .before .before .before .before .before .pre in let pr = z .0 in let n0 = pr .permuting .some in let mo = pr .most in let ql = low-Q _ _ pr 0 _ n0 (c .before .before .before .turned .ensures) in let yl = low-Q _ _ pr _ _ ql (c .before .turned4 .ensures) in yl
+image-requires-5 c κs = search needs
 
 -- src/walk.rt:176:5
 start-by-requires-2 : tie.Need-start-by-requires-2
