@@ -27,7 +27,6 @@ use Rattle.symbol.proofs.Choice.{either, clash}
 use Rattle.polygon.specs.Cut.{corners, places}
 use Rattle.polygon.specs.Step.{oddAt, real, Real, stepS, turnQ, turned, startOf, originOf}
 use Rattle.polygon.specs.Walk.{goes, ends, arrives}
-use Rattle.polygon.specs.Theorem as polygon
 use Rattle.polygon.specs.Theorem.{Polygon, SameCoset}
 use Rattle.points.specs.Find.{find, _∈_}
 use Rattle.points.specs.Select.{select}

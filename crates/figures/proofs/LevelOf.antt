@@ -26,12 +26,16 @@ euclid-same zero (suc j) a (suc b) h g = none-below h
 euclid-same (suc k) zero a zero h g = refl
 euclid-same (suc k) zero a (suc b) h g = none-below g
 euclid-same (suc k) (suc j) a zero h g = refl
-euclid-same (suc k) (suc j) a (suc b) h g = let m = mod-lt a {m = suc b} (omega arith) in euclid-same k j (suc b) (a % suc b) (omega arith) (omega arith)
+euclid-same (suc k) (suc j) a (suc b) h g =
+    let m = mod-lt a {m = suc b} (omega arith) in
+    euclid-same k j (suc b) (a % suc b) (omega arith) (omega arith)
 
 pub gcd-step : (a b : ℕ) → 0 < b → gcd a b ≡ gcd b (a % b)
 unfolding euclid
 gcd-step a zero h = none-below h
-gcd-step a (suc b) h = let m = mod-lt a {m = suc b} (omega arith) in euclid-same b (a % suc b) (suc b) (a % suc b) (omega arith) (omega arith)
+gcd-step a (suc b) h =
+    let m = mod-lt a {m = suc b} (omega arith) in
+    euclid-same b (a % suc b) (suc b) (a % suc b) (omega arith) (omega arith)
 
 pub gcd-zero : (a : ℕ) → gcd a 0 ≡ a
 unfolding euclid
@@ -120,7 +124,9 @@ lcm-from-is m (x ∷ l) h p =
     each-of m x l hx h r (suc j) k = r .each j (omega arith)
 
 pub lcm-of-is : (l : List ℕ) → Positive l → LeastMultiple l (lcmOf l)
-lcm-of-is l p = let r = lcm-from-is 1 l (omega arith) p in record { some = r .some; each = r .each; least = λ c e. r .least c (one-dvd c) e }
+lcm-of-is l p =
+    let r = lcm-from-is 1 l (omega arith) p in
+    record { some = r .some; each = r .each; least = λ c e. r .least c (one-dvd c) e }
 
 -- it never falls: once over 2^64, over it for good
 pub lcm-from-le : (m : ℕ) (l : List ℕ) → 0 < m → Positive l → m ≤ lcmFrom m l

@@ -134,7 +134,10 @@ pub inner-at : (x : Vertex) (l : List Placed) → In x (inner l) → Ending x l
 inner-at x [] h = absurd h
 inner-at x (s ∷ []) h = absurd h
 inner-at x (s ∷ t ∷ l) (inl e) = record { number = 0; side = s; is = refl; more = omega arith; end = sym e }
-inner-at x (s ∷ t ∷ l) (inr h) = let k = inner-at x (t ∷ l) h in let m = k .more in record { number = suc (k .number); side = k .side; is = k .is; more = omega arith; end = k .end }
+inner-at x (s ∷ t ∷ l) (inr h) =
+    let k = inner-at x (t ∷ l) h in
+    let m = k .more in
+    record { number = suc (k .number); side = k .side; is = k .is; more = omega arith; end = k .end }
 
 -- ---- the table
 

@@ -3,24 +3,6 @@
 //
 // The crate `report` makes all that is written; here it is read and written.
 
-// The most that is written at once.
-const PIECE: usize = 16384;
-
-// Writes the bytes to standard output, in pieces.
-fn write_pieces(bytes: &[u8]) {
-    let mut from = 0;
-    while from < bytes.len() {
-        let left = bytes.len() - from;
-        if left < PIECE {
-            io::write_all(1, &bytes[from..]);
-            return;
-        }
-        let to = from + PIECE;
-        io::write_all(1, &bytes[from..to]);
-        from = to;
-    }
-}
-
 fn main() {
     let mut text = [0u8; 65536];
     let n = io::read_full(0, &mut text);
@@ -41,5 +23,5 @@ fn main() {
         &mut table,
         &mut out,
     );
-    write_pieces(&out[..end]);
+    io::write_all(1, &out[..end]);
 }

@@ -46,7 +46,9 @@ pub ⊗-neg : (m n : Mat) → m ⊗ neg n ≡ neg (m ⊗ n)
 
 pub det-⊗ : (m n : Mat) → det (m ⊗ n) ≡ det m *ℤ det n
 unfolding det
-det-⊗ m n = let r = with m (with n []) in det-val r (block 0 ⊛ block 4) ∙ ring r (detᵉ (block 0 ⊛ block 4)) (detᵉ (block 0) ⊙ detᵉ (block 4)) tt
+det-⊗ m n =
+    let r = with m (with n []) in
+    det-val r (block 0 ⊛ block 4) ∙ ring r (detᵉ (block 0 ⊛ block 4)) (detᵉ (block 0) ⊙ detᵉ (block 4)) tt
 
 pub det-neg : (m : Mat) → det (neg m) ≡ det m
 unfolding det

@@ -45,7 +45,9 @@ follow [] a = record { word = stop; is = refl }
 follow (S ∷ []) a = record { word = last; is = refl }
 follow (S ∷ S ∷ l) a = absurd (a .1 .0)
 follow (S ∷ Q ∷ l) a = let k = follow l (a .1 .1) in record { word = sq (k .word); is = ap (λ (r : List Letter). S ∷ Q ∷ r) (k .is) }
-follow (S ∷ P ∷ l) a = let k = follow l (other l .1 (a .1 .1)) in record { word = sp (k .word); is = ap (λ (r : List Letter). S ∷ P ∷ r) (k .is) }
+follow (S ∷ P ∷ l) a =
+    let k = follow l (other l .1 (a .1 .1)) in
+    record { word = sp (k .word); is = ap (λ (r : List Letter). S ∷ P ∷ r) (k .is) }
 follow (Q ∷ l) a = absurd (a .0)
 follow (P ∷ l) a = absurd (a .0)
 

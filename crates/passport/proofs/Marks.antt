@@ -95,7 +95,9 @@ or-left false b e = refl
 
 -- an entry that isn't bad is a point
 pub good-low : (t : List ℕ) (i : ℕ) → badEntry t i ≡ false → length t ≤ 3066 → getD t i 0 < 3072
-good-low t i e h = let k = ltb-true (getD t i 0) (length t) (not-not (ltb (getD t i 0) (length t)) (or-left (not (ltb (getD t i 0) (length t))) (earlier t i) e)) in omega arith
+good-low t i e h =
+    let k = ltb-true (getD t i 0) (length t) (not-not (ltb (getD t i 0) (length t)) (or-left (not (ltb (getD t i 0) (length t))) (earlier t i) e)) in
+    omega arith
   where
     not-not : (b : Bool) → not b ≡ false → b ≡ true
     not-not true q = refl

@@ -126,4 +126,7 @@ pub agree-first : (m : Mat) (x y : ℤ) → x ≡ m .a → y ≡ m .c → positi
 agree-first m x y e f h = let k : positive (m .a *ℤ m .c) ≡ true = cc in sym (ap (λ (b : Bool). b || positive (m .b *ℤ m .d)) k)
 
 pub agree-second : (m : Mat) (x y z u : ℤ) → x ≡ m .a → y ≡ m .c → z ≡ m .b → u ≡ m .d → positive (x *ℤ y) ≡ false → positive (z *ℤ u) ≡ agree m
-agree-second m x y z u e f g i h = let k : positive (m .a *ℤ m .c) ≡ false = cc in let l : positive (z *ℤ u) ≡ positive (m .b *ℤ m .d) = cc in l ∙ sym (ap (λ (b : Bool). b || positive (m .b *ℤ m .d)) k)
+agree-second m x y z u e f g i h =
+    let k : positive (m .a *ℤ m .c) ≡ false = cc in
+    let l : positive (z *ℤ u) ≡ positive (m .b *ℤ m .d) = cc in
+    l ∙ sym (ap (λ (b : Bool). b || positive (m .b *ℤ m .d)) k)

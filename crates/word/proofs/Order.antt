@@ -217,7 +217,10 @@ module _ (v : ℕ) (t a b : List ℤ) (w : List ℕ) (room start : ℕ) (e : che
 
 -- the tests that were passed, as the determinants and the walk ask for them
 pub passed-small : (a b : List ℤ) → 8 ≤ first (large a b) 8 → Small 1000000 (ofList a) × Small 1000000 (ofList b)
-passed-small a b h = let k = first-le (large a b) 8 in let z : first (large a b) 8 ≡ 8 = omega arith in clear-small a b (clear-first (large a b) 8 z)
+passed-small a b h =
+    let k = first-le (large a b) 8 in
+    let z : first (large a b) 8 ≡ 8 = omega arith in
+    clear-small a b (clear-first (large a b) 8 z)
 
 pub asked : {v : ℕ} {t : List ℤ} {w : List ℕ} (a b : List ℤ) → IsSymbol v t → workLength ≤ length w → Passed a b → Asked v t a b w
 asked a b ok k p =

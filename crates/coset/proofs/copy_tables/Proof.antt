@@ -6,13 +6,22 @@ use Rattle.coset.proofs.copy_tables.Statement.{statement}
 use Rattle.coset.proofs.copy_tables.Tie as tie
 
 returns : tie.Need-returns
-returns c = let s = c .before .before .before .before .before in (room-first (s .args .n) (length (s .args .s .now)) (length (s .args .r .now)) (length (s .args .u .now)) (c .if1 .taken), (refl, (refl, refl)))
+returns c =
+    let s = c .before .before .before .before .before in
+    (room-first (s .args .n) (length (s .args .s .now)) (length (s .args .r .now)) (length (s .args .u .now)) (c .if1 .taken), (refl, (refl, refl)))
 
 returns-2 : tie.Need-returns-2
-returns-2 c = let e = c .before in let s = e .before .before .before .before .before in (room-second (s .args .n) (length (s .args .s .now)) (length (s .args .r .now)) (length (s .args .u .now)) (e .if1 .left) (c .if2 .taken), (refl, (refl, refl)))
+returns-2 c =
+    let e = c .before in
+    let s = e .before .before .before .before .before in
+    (room-second (s .args .n) (length (s .args .s .now)) (length (s .args .r .now)) (length (s .args .u .now)) (e .if1 .left) (c .if2 .taken), (refl, (refl, refl)))
 
 returns-3 : tie.Need-returns-3
-returns-3 c = let f = c .before in let e = f .before in let s = e .before .before .before .before .before in (room-third (s .args .n) (length (s .args .s .now)) (length (s .args .r .now)) (length (s .args .u .now)) (e .if1 .left) (f .if2 .left) (c .if3 .taken), (refl, (refl, refl)))
+returns-3 c =
+    let f = c .before in
+    let e = f .before in
+    let s = e .before .before .before .before .before in
+    (room-third (s .args .n) (length (s .args .s .now)) (length (s .args .r .now)) (length (s .args .u .now)) (e .if1 .left) (f .if2 .left) (c .if3 .taken), (refl, (refl, refl)))
 
 copy-out-requires : tie.Need-copy-out-requires
 copy-out-requires c κs = search needs

@@ -14,7 +14,9 @@ arrange-requires : tie.Need-arrange-requires
 arrange-requires c κs = search needs
 
 cusp-widths-requires : tie.Need-cusp-widths-requires
-cusp-widths-requires c κs = let a = c .before .before .before in made (a .before .before .before .before .pre .0) (a .arrange .ensures .0) .permuted
+cusp-widths-requires c κs =
+    let a = c .before .before .before in
+    made (a .before .before .before .before .pre .0) (a .arrange .ensures .0) .permuted
 
 copy-widths-requires : tie.Need-copy-widths-requires
 copy-widths-requires c κs = search needs

@@ -17,7 +17,9 @@ div-if1 : tie.Need-div-if1
 div-if1 c = search needs
 
 returns : tie.Need-returns
-returns c = let o = over _ (c .before .before .args .b) (c .before .before .pre .1) (c .if1 .taken) in fitting-no _ (rw (c .before .gcd-of .ensures) at o)
+returns c =
+    let o = over _ (c .before .before .args .b) (c .before .before .pre .1) (c .if1 .taken) in
+    fitting-no _ (rw (c .before .gcd-of .ensures) at o)
 
 mul-t5 : tie.Need-mul-t5
 mul-t5 c = omega (arith, under (c .before .before .args .a / c .before .gcd-of .result) (c .before .before .args .b) (c .before .before .pre .1) (omega arith))

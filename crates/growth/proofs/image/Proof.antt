@@ -6,19 +6,15 @@ use borrow.Author.Needs.{needs}
 use Rattle.growth.proofs.image.Statement.{statement}
 use Rattle.growth.proofs.image.Tie as tie
 
--- src/lib.rt:33:10
 mul-wide : tie.Need-mul-wide
 mul-wide c = search needs
 
--- src/lib.rt:33:10
 shared-slice-read-wide : tie.Need-shared-slice-read-wide
 shared-slice-read-wide c = search needs
 
--- src/lib.rt:33:5
 wide-requires : tie.Need-wide-requires
 wide-requires c κs = search needs
 
--- src/lib.rt:29:1
 returns : tie.Need-returns
 returns c =
     let s = c .before .before .before .before in

@@ -18,7 +18,9 @@ same-length : tie.Need-same-length
 same-length c = search needs
 
 returns : tie.Need-returns
-returns c = let s = c .before .before .before .before .before .before .before .before .before in puts-as (few-numbers (s .args .numbers .now) ((c .before .before .before .before) .if1 .taken)) ((c .before .before) .refusal-line .ensures)
+returns c =
+    let s = c .before .before .before .before .before .before .before .before .before in
+    puts-as (few-numbers (s .args .numbers .now) ((c .before .before .before .before) .if1 .taken)) ((c .before .before) .refusal-line .ensures)
 
 sub-n : tie.Need-sub-n
 sub-n c = search needs
@@ -77,7 +79,9 @@ slice-aggregate-import-lines-2 c =
     sym (length-take-le ((length (s .args .numbers .now) - 1) / 2) ((c .before .before .before .before) .fill-points2 .last .1 .0) (omega (arith, s .pre .1, s .pre .2 .r-long)))
 
 import-lines-requires : tie.Need-import-lines-requires
-import-lines-requires c κs = let s = c .before .before .before .before .before .before .before .before .before .before .before .before .before .before .before .before .before .before .before .before in (s .pre .2 .work, s .pre .2 .table-long, s .pre .2 .out-long)
+import-lines-requires c κs =
+    let s = c .before .before .before .before .before .before .before .before .before .before .before .before .before .before .before .before .before .before .before .before in
+    (s .pre .2 .work, s .pre .2 .table-long, s .pre .2 .out-long)
 
 same-length-2 : tie.Need-same-length-2
 same-length-2 c = search needs

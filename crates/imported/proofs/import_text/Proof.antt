@@ -53,7 +53,9 @@ same-length : tie.Need-same-length
 same-length c = search needs
 
 returns : tie.Need-returns
-returns c = let s = c .before .before .before .before .before .before .before .before .before .before in puts-as (imported-longer (s .args .longer) (s .args .text .now) ((c .before .before .before .before) .if1 .taken)) ((c .before .before) .refusal-line .ensures)
+returns c =
+    let s = c .before .before .before .before .before .before .before .before .before .before in
+    puts-as (imported-longer (s .args .longer) (s .args .text .now) ((c .before .before .before .before) .if1 .taken)) ((c .before .before) .refusal-line .ensures)
 
 read-requires : tie.Need-read-requires
 read-requires c κs = search needs

@@ -20,7 +20,9 @@ mul-middle : tie.Need-mul-middle
 mul-middle c = search needs
 
 slice-aggregate-number-line : tie.Need-slice-aggregate-number-line
-slice-aggregate-number-line c = let s = c .before .before .before .before .before .before in sym (length-take-le (2 * s .args .v) (s .args .table .now) (omega (arith, s .pre .1)))
+slice-aggregate-number-line c =
+    let s = c .before .before .before .before .before .before in
+    sym (length-take-le (2 * s .args .v) (s .args .table .now) (omega (arith, s .pre .1)))
 
 number-line-requires : tie.Need-number-line-requires
 number-line-requires c κs =

@@ -30,13 +30,13 @@ list-requires c κs = search needs
 array-share-prefix-out : tie.Need-array-share-prefix-out
 array-share-prefix-out c = omega (arith, c .list .ensures .1)
 
-slice-aggregate-write-pieces : tie.Need-slice-aggregate-write-pieces
-slice-aggregate-write-pieces c =
+slice-aggregate-write-all : tie.Need-slice-aggregate-write-all
+slice-aggregate-write-all c =
     let l = c .before .list in
     sym (length-take-le (l .result) (l .last .1 .1 .1 .1 .1 .0) (omega (arith, l .ensures .1)))
 
-write-pieces-requires : tie.Need-write-pieces-requires
-write-pieces-requires c κs = search needs
+write-all-requires : tie.Need-write-all-requires
+write-all-requires c κs = search needs
 
 returns : tie.Need-returns
 returns c = search needs
@@ -53,6 +53,6 @@ main-spec =
     slice-aggregate-list
     list-requires
     array-share-prefix-out
-    slice-aggregate-write-pieces
-    write-pieces-requires
+    slice-aggregate-write-all
+    write-all-requires
     returns)

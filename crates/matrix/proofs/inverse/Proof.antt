@@ -18,7 +18,9 @@ array-copy-out-t12 : tie.Need-array-copy-out-t12
 array-copy-out-t12 c = search needs
 
 sub-t13 : tie.Need-sub-t13
-sub-t13 c = let m = c .before .before .before .args .t1 in rw (kept (nth m 2) (c .t12 .given)) (minus-fits (nth m 2) (c .before .before .before .pre .in-c))
+sub-t13 c =
+    let m = c .before .before .before .args .t1 in
+    rw (kept (nth m 2) (c .t12 .given)) (minus-fits (nth m 2) (c .before .before .before .pre .in-c))
 
 array-copy-out-t16 : tie.Need-array-copy-out-t16
 array-copy-out-t16 c = search needs

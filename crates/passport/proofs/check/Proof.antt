@@ -4,25 +4,32 @@ use borrow.Author.Needs.{needs}
 use Rattle.passport.proofs.check.Statement.{statement}
 use Rattle.passport.proofs.check.Tie as tie
 
--- src/lib.rt:90:9
 returns : tie.Need-returns
 returns c = let s = c .before .before .before in let S = s .args .s .now in let R = s .args .r .now in count-low S R (c .if1 .taken)
 
--- src/lib.rt:93:9
 returns-2 : tie.Need-returns-2
-returns-2 c = let s = c .before .before .before .before in let S = s .args .s .now in let R = s .args .r .now in count-high S R (c .if2 .taken)
+returns-2 c =
+    let s = c .before .before .before .before in
+    let S = s .args .s .now in
+    let R = s .args .r .now in
+    count-high S R (c .if2 .taken)
 
--- src/lib.rt:96:9
 returns-3 : tie.Need-returns-3
-returns-3 c = let s = c .before .before .before .before .before in let S = s .args .s .now in let R = s .args .r .now in count-uneven S R (c .if3 .taken)
+returns-3 c =
+    let s = c .before .before .before .before .before in
+    let S = s .args .s .now in
+    let R = s .args .r .now in
+    count-uneven S R (c .if3 .taken)
 
--- src/lib.rt:98:5
 check-entries-requires : tie.Need-check-entries-requires
 check-entries-requires c κs = search needs
 
--- src/lib.rt:86:1
 returns-4 : tie.Need-returns-4
-returns-4 c = let s = c .before .before .before .before .before .before in let S = s .args .s .now in let R = s .args .r .now in c .check-entries .ensures ∙ count-passed S R (c .before .before .before .if1 .left) (c .before .before .if2 .left) (c .before .if3 .left)
+returns-4 c =
+    let s = c .before .before .before .before .before .before in
+    let S = s .args .s .now in
+    let R = s .args .r .now in
+    c .check-entries .ensures ∙ count-passed S R (c .before .before .before .if1 .left) (c .before .before .if2 .left) (c .before .if3 .left)
 
 pub check-spec : {M : Type 1} → statement M
 check-spec = tie.close (tie.spec returns returns-2 returns-3 check-entries-requires returns-4)

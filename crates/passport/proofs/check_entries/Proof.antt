@@ -7,29 +7,43 @@ use borrow.Author.Needs.{needs}
 use Rattle.passport.proofs.check_entries.Statement.{statement}
 use Rattle.passport.proofs.check_entries.Tie as tie
 
--- src/lib.rt:74:9
 first-bad-requires : tie.Need-first-bad-requires
 first-bad-requires c κs = search needs
 
--- src/lib.rt:76:9
 returns : tie.Need-returns
-returns c = let s = c .before .before .before .before in let S = s .args .s .now in let R = s .args .r .now in let z = s .pre in refuse-at (badEntry S) (length S) Entry (check13 R orElse check14 twiceMoved S orElse check14 thriceMoved R orElse check15 S R) _ (λ j. refl) (c .before .first-bad .ensures) (c .if1 .taken)
+returns c =
+    let s = c .before .before .before .before in
+    let S = s .args .s .now in
+    let R = s .args .r .now in
+    let z = s .pre in
+    refuse-at (badEntry S) (length S) Entry (check13 R orElse check14 twiceMoved S orElse check14 thriceMoved R orElse check15 S R) _ (λ j. refl) (c .before .first-bad .ensures) (c .if1 .taken)
 
--- src/lib.rt:78:9
 first-bad-requires-2 : tie.Need-first-bad-requires-2
 first-bad-requires-2 c κs = search needs
 
--- src/lib.rt:80:9
 returns-2 : tie.Need-returns-2
-returns-2 c = let s = c .before .before .before .before .before .before in let S = s .args .s .now in let R = s .args .r .now in let z = s .pre in refuse-at (badEntry R) (length R) Entry (check14 twiceMoved S orElse check14 thriceMoved R orElse check15 S R) _ (λ j. refl) (c .before .first-bad2 .ensures) (c .if2 .taken) ∙ sym (accept-at (badEntry S) (length S) Entry (check13 R orElse check14 twiceMoved S orElse check14 thriceMoved R orElse check15 S R) _ (c .before .before .before .first-bad .ensures) (c .before .before .if1 .left))
+returns-2 c =
+    let s = c .before .before .before .before .before .before in
+    let S = s .args .s .now in
+    let R = s .args .r .now in
+    let z = s .pre in
+    refuse-at (badEntry R) (length R) Entry (check14 twiceMoved S orElse check14 thriceMoved R orElse check15 S R) _ (λ j. refl) (c .before .first-bad2 .ensures) (c .if2 .taken) ∙ sym (accept-at (badEntry S) (length S) Entry (check13 R orElse check14 twiceMoved S orElse check14 thriceMoved R orElse check15 S R) _ (c .before .before .before .first-bad .ensures) (c .before .before .if1 .left))
 
--- src/lib.rt:82:5
 check-moves-requires : tie.Need-check-moves-requires
-check-moves-requires c κs = let s = c .before .before .before .before .before .before in let S = s .args .s .now in let R = s .args .r .now in let z = s .pre in record { S = entries-of S _ (z .1) (c .before .before .before .first-bad .ensures) (c .before .before .if1 .left); R = entries-of R _ (rw (z .2) (z .1)) (c .before .first-bad2 .ensures) (c .if2 .left); even = z .2; some = z .0 }
+check-moves-requires c κs =
+    let s = c .before .before .before .before .before .before in
+    let S = s .args .s .now in
+    let R = s .args .r .now in
+    let z = s .pre in
+    record { S = entries-of S _ (z .1) (c .before .before .before .first-bad .ensures) (c .before .before .if1 .left); R = entries-of R _ (rw (z .2) (z .1)) (c .before .first-bad2 .ensures) (c .if2 .left); even = z .2; some = z .0 }
 
--- src/lib.rt:70:1
 returns-3 : tie.Need-returns-3
-returns-3 c = let s = c .before .before .before .before .before .before .before in let S = s .args .s .now in let R = s .args .r .now in let z = s .pre in c .check-moves .ensures ∙ sym (accept-at (badEntry R) (length R) Entry (check14 twiceMoved S orElse check14 thriceMoved R orElse check15 S R) _ (c .before .before .first-bad2 .ensures) (c .before .if2 .left)) ∙ sym (accept-at (badEntry S) (length S) Entry (check13 R orElse check14 twiceMoved S orElse check14 thriceMoved R orElse check15 S R) _ (c .before .before .before .before .first-bad .ensures) (c .before .before .before .if1 .left))
+returns-3 c =
+    let s = c .before .before .before .before .before .before .before in
+    let S = s .args .s .now in
+    let R = s .args .r .now in
+    let z = s .pre in
+    c .check-moves .ensures ∙ sym (accept-at (badEntry R) (length R) Entry (check14 twiceMoved S orElse check14 thriceMoved R orElse check15 S R) _ (c .before .before .first-bad2 .ensures) (c .before .if2 .left)) ∙ sym (accept-at (badEntry S) (length S) Entry (check13 R orElse check14 twiceMoved S orElse check14 thriceMoved R orElse check15 S R) _ (c .before .before .before .before .first-bad .ensures) (c .before .before .before .if1 .left))
 
 pub check-entries-spec : {M : Type 1} → statement M
 check-entries-spec =

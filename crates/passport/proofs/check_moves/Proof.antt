@@ -7,33 +7,46 @@ use borrow.Author.Needs.{needs}
 use Rattle.passport.proofs.check_moves.Statement.{statement}
 use Rattle.passport.proofs.check_moves.Tie as tie
 
--- src/lib.rt:54:9
 first-moved-twice-requires : tie.Need-first-moved-twice-requires
 first-moved-twice-requires c κs = search needs
 
--- src/lib.rt:56:9
 returns : tie.Need-returns
-returns c = let s = c .before .before .before .before in let S = s .args .s .now in let R = s .args .r .now in let z = s .pre in refuse-at (twiceMoved S) (length S) Order (check14 thriceMoved R orElse check15 S R) _ (λ j. refl) (c .before .first-moved-twice .ensures) (c .if1 .taken)
+returns c =
+    let s = c .before .before .before .before in
+    let S = s .args .s .now in
+    let R = s .args .r .now in
+    let z = s .pre in
+    refuse-at (twiceMoved S) (length S) Order (check14 thriceMoved R orElse check15 S R) _ (λ j. refl) (c .before .first-moved-twice .ensures) (c .if1 .taken)
 
--- src/lib.rt:58:9
 first-moved-thrice-requires : tie.Need-first-moved-thrice-requires
 first-moved-thrice-requires c κs = search needs
 
--- src/lib.rt:60:9
 returns-2 : tie.Need-returns-2
-returns-2 c = let s = c .before .before .before .before .before .before in let S = s .args .s .now in let R = s .args .r .now in let z = s .pre in refuse-at (thriceMoved R) (length R) Order (check15 S R) _ (λ j. refl) (c .before .first-moved-thrice .ensures) (c .if2 .taken) ∙ sym (accept-at (twiceMoved S) (length S) Order (check14 thriceMoved R orElse check15 S R) _ (c .before .before .before .first-moved-twice .ensures) (c .before .before .if1 .left))
+returns-2 c =
+    let s = c .before .before .before .before .before .before in
+    let S = s .args .s .now in
+    let R = s .args .r .now in
+    let z = s .pre in
+    refuse-at (thriceMoved R) (length R) Order (check15 S R) _ (λ j. refl) (c .before .first-moved-thrice .ensures) (c .if2 .taken) ∙ sym (accept-at (twiceMoved S) (length S) Order (check14 thriceMoved R orElse check15 S R) _ (c .before .before .before .first-moved-twice .ensures) (c .before .before .if1 .left))
 
--- src/lib.rt:62:9
 first-unreached-requires : tie.Need-first-unreached-requires
 first-unreached-requires c κs = search needs
 
--- src/lib.rt:64:9
 returns-3 : tie.Need-returns-3
-returns-3 c = let s = c .before .before .before .before .before .before .before .before in let S = s .args .s .now in let R = s .args .r .now in let z = s .pre in refuse-last (unreached S R) (length S) Unreached _ (c .before .first-unreached .ensures) (c .if3 .taken) ∙ sym (accept-at (thriceMoved R) (length R) Order (check15 S R) _ (c .before .before .before .first-moved-thrice .ensures) (c .before .before .if2 .left)) ∙ sym (accept-at (twiceMoved S) (length S) Order (check14 thriceMoved R orElse check15 S R) _ (c .before .before .before .before .before .first-moved-twice .ensures) (c .before .before .before .before .if1 .left))
+returns-3 c =
+    let s = c .before .before .before .before .before .before .before .before in
+    let S = s .args .s .now in
+    let R = s .args .r .now in
+    let z = s .pre in
+    refuse-last (unreached S R) (length S) Unreached _ (c .before .first-unreached .ensures) (c .if3 .taken) ∙ sym (accept-at (thriceMoved R) (length R) Order (check15 S R) _ (c .before .before .before .first-moved-thrice .ensures) (c .before .before .if2 .left)) ∙ sym (accept-at (twiceMoved S) (length S) Order (check14 thriceMoved R orElse check15 S R) _ (c .before .before .before .before .before .first-moved-twice .ensures) (c .before .before .before .before .if1 .left))
 
--- src/lib.rt:50:1
 returns-4 : tie.Need-returns-4
-returns-4 c = let s = c .before .before .before .before .before .before .before .before in let S = s .args .s .now in let R = s .args .r .now in let z = s .pre in accept-last (unreached S R) (length S) Unreached _ (c .before .first-unreached .ensures) (c .if3 .left) ∙ sym (accept-at (thriceMoved R) (length R) Order (check15 S R) _ (c .before .before .before .first-moved-thrice .ensures) (c .before .before .if2 .left)) ∙ sym (accept-at (twiceMoved S) (length S) Order (check14 thriceMoved R orElse check15 S R) _ (c .before .before .before .before .before .first-moved-twice .ensures) (c .before .before .before .before .if1 .left))
+returns-4 c =
+    let s = c .before .before .before .before .before .before .before .before in
+    let S = s .args .s .now in
+    let R = s .args .r .now in
+    let z = s .pre in
+    accept-last (unreached S R) (length S) Unreached _ (c .before .first-unreached .ensures) (c .if3 .left) ∙ sym (accept-at (thriceMoved R) (length R) Order (check15 S R) _ (c .before .before .before .first-moved-thrice .ensures) (c .before .before .if2 .left)) ∙ sym (accept-at (twiceMoved S) (length S) Order (check14 thriceMoved R orElse check15 S R) _ (c .before .before .before .before .before .first-moved-twice .ensures) (c .before .before .before .before .if1 .left))
 
 pub check-moves-spec : {M : Type 1} → statement M
 check-moves-spec =

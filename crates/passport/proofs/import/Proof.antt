@@ -6,65 +6,106 @@ use borrow.Author.Needs.{needs}
 use Rattle.passport.proofs.import.Statement.{statement}
 use Rattle.passport.proofs.import.Tie as tie
 
--- src/lib.rt:124:9
 check-requires : tie.Need-check-requires
 check-requires c κs = search needs
 
--- src/lib.rt:126:27
 enum-told : tie.Need-enum-told
 enum-told c = search needs
 
--- src/lib.rt:127:24
 enum-known-checked : tie.Need-enum-known-checked
 enum-known-checked c = search needs
 
--- src/lib.rt:128:24
 enum-known-checked-2 : tie.Need-enum-known-checked-2
 enum-known-checked-2 c = search needs
 
--- src/lib.rt:129:28
 enum-known-checked-3 : tie.Need-enum-known-checked-3
 enum-known-checked-3 c = search needs
 
--- src/lib.rt:131:16
 enum-told-2 : tie.Need-enum-told-2
 enum-told-2 c = search needs
 
--- src/lib.rt:132:17
 returns : tie.Need-returns
-returns c = let s = c .before .before .before .before .before .before .before in let S = s .args .s .now in let R = s .args .r .now in let W = s .args .w .now in let O = s .args .out .now in let e = sym (c .before .before .before .check .ensures) ∙ c .before .enum-told2 .given .1 in let b = short S R W O e (c .if1 .taken) in (b .returned, (b .work, (b .result, b .means)))
+returns c =
+    let s = c .before .before .before .before .before .before .before in
+    let S = s .args .s .now in
+    let R = s .args .r .now in
+    let W = s .args .w .now in
+    let O = s .args .out .now in
+    let e = sym (c .before .before .before .check .ensures) ∙ c .before .enum-told2 .given .1 in
+    let b = short S R W O e (c .if1 .taken) in
+    (b .returned, (b .work, (b .result, b .means)))
 
--- src/lib.rt:134:13
 import-accepted-requires : tie.Need-import-accepted-requires
-import-accepted-requires c κs = let s = c .before .before .before .before .before .before .before .before .before in let S = s .args .s .now in let R = s .args .r .now in let W = s .args .w .now in let O = s .args .out .now in let e = sym (c .before .before .before .before .before .check .ensures) ∙ c .before .before .before .enum-told2 .given .1 in (pair-of S R e, c .before .before .if1 .left)
+import-accepted-requires c κs =
+    let s = c .before .before .before .before .before .before .before .before .before in
+    let S = s .args .s .now in
+    let R = s .args .r .now in
+    let W = s .args .w .now in
+    let O = s .args .out .now in
+    let e = sym (c .before .before .before .before .before .check .ensures) ∙ c .before .before .before .enum-told2 .given .1 in
+    (pair-of S R e, c .before .before .if1 .left)
 
--- src/lib.rt:118:1
 returns-2 : tie.Need-returns-2
-returns-2 c = let s = c .before .before .before .before .before .before in let S = s .args .s .now in let R = s .args .r .now in let W = s .args .w .now in let O = s .args .out .now in let e = sym (c .before .before .check .ensures) ∙ c .enum-told .given .1 in let b = refused S R W O checked.Count Count e refl refl refl in (b .returned, (b .work, (b .result, b .means)))
+returns-2 c =
+    let s = c .before .before .before .before .before .before in
+    let S = s .args .s .now in
+    let R = s .args .r .now in
+    let W = s .args .w .now in
+    let O = s .args .out .now in
+    let e = sym (c .before .before .check .ensures) ∙ c .enum-told .given .1 in
+    let b = refused S R W O checked.Count Count e refl refl refl in
+    (b .returned, (b .work, (b .result, b .means)))
 
--- src/lib.rt:118:1
 returns-3 : tie.Need-returns-3
-returns-3 c = let s = c .before .before .before .before .before .before .before in let S = s .args .s .now in let R = s .args .r .now in let W = s .args .w .now in let O = s .args .out .now in let e = sym (c .before .before .before .check .ensures) ∙ c .before .checked .given .1 in let b = refused S R W O (checked.Entry (c .before .checked .given .0 .0)) (Entry (c .before .checked .given .0 .0)) e refl refl refl in (b .returned, (b .work, (b .result, b .means)))
+returns-3 c =
+    let s = c .before .before .before .before .before .before .before in
+    let S = s .args .s .now in
+    let R = s .args .r .now in
+    let W = s .args .w .now in
+    let O = s .args .out .now in
+    let e = sym (c .before .before .before .check .ensures) ∙ c .before .checked .given .1 in
+    let b = refused S R W O (checked.Entry (c .before .checked .given .0 .0)) (Entry (c .before .checked .given .0 .0)) e refl refl refl in
+    (b .returned, (b .work, (b .result, b .means)))
 
--- src/lib.rt:118:1
 returns-4 : tie.Need-returns-4
-returns-4 c = let s = c .before .before .before .before .before .before .before in let S = s .args .s .now in let R = s .args .r .now in let W = s .args .w .now in let O = s .args .out .now in let e = sym (c .before .before .before .check .ensures) ∙ c .before .checked2 .given .1 in let b = refused S R W O (checked.Order (c .before .checked2 .given .0 .0)) (Order (c .before .checked2 .given .0 .0)) e refl refl refl in (b .returned, (b .work, (b .result, b .means)))
+returns-4 c =
+    let s = c .before .before .before .before .before .before .before in
+    let S = s .args .s .now in
+    let R = s .args .r .now in
+    let W = s .args .w .now in
+    let O = s .args .out .now in
+    let e = sym (c .before .before .before .check .ensures) ∙ c .before .checked2 .given .1 in
+    let b = refused S R W O (checked.Order (c .before .checked2 .given .0 .0)) (Order (c .before .checked2 .given .0 .0)) e refl refl refl in
+    (b .returned, (b .work, (b .result, b .means)))
 
--- src/lib.rt:118:1
 returns-5 : tie.Need-returns-5
-returns-5 c = let s = c .before .before .before .before .before .before .before in let S = s .args .s .now in let R = s .args .r .now in let W = s .args .w .now in let O = s .args .out .now in let e = sym (c .before .before .before .check .ensures) ∙ c .before .checked3 .given .1 in let b = refused S R W O (checked.Unreached (c .before .checked3 .given .0 .0)) (Unreached (c .before .checked3 .given .0 .0)) e refl refl refl in (b .returned, (b .work, (b .result, b .means)))
+returns-5 c =
+    let s = c .before .before .before .before .before .before .before in
+    let S = s .args .s .now in
+    let R = s .args .r .now in
+    let W = s .args .w .now in
+    let O = s .args .out .now in
+    let e = sym (c .before .before .before .check .ensures) ∙ c .before .checked3 .given .1 in
+    let b = refused S R W O (checked.Unreached (c .before .checked3 .given .0 .0)) (Unreached (c .before .checked3 .given .0 .0)) e refl refl refl in
+    (b .returned, (b .work, (b .result, b .means)))
 
--- src/lib.rt:118:1
 same-length : tie.Need-same-length
 same-length c = search needs
 
--- src/lib.rt:118:1
 same-length-2 : tie.Need-same-length-2
 same-length-2 c = search needs
 
--- src/lib.rt:118:1
 returns-6 : tie.Need-returns-6
-returns-6 c = let s = c .before .before .before .before .before .before .before .before .before .before .before .before .before in let S = s .args .s .now in let R = s .args .r .now in let W = s .args .w .now in let O = s .args .out .now in let e = sym (c .before .before .before .before .before .before .before .before .before .check .ensures) ∙ c .before .before .before .before .before .before .before .enum-told2 .given .1 in let g = c .before .before .before .import-accepted .ensures in let b = long S R W O e (c .before .before .before .before .before .before .if1 .left) _ _ _ (g .0) (g .1 .0) (g .1 .1) in (b .returned, (b .work, (b .result, b .means)))
+returns-6 c =
+    let s = c .before .before .before .before .before .before .before .before .before .before .before .before .before in
+    let S = s .args .s .now in
+    let R = s .args .r .now in
+    let W = s .args .w .now in
+    let O = s .args .out .now in
+    let e = sym (c .before .before .before .before .before .before .before .before .before .check .ensures) ∙ c .before .before .before .before .before .before .before .enum-told2 .given .1 in
+    let g = c .before .before .before .import-accepted .ensures in
+    let b = long S R W O e (c .before .before .before .before .before .before .if1 .left) _ _ _ (g .0) (g .1 .0) (g .1 .1) in
+    (b .returned, (b .work, (b .result, b .means)))
 
 pub import-spec : {M : Type 1} → statement M
 import-spec =

@@ -6,61 +6,56 @@ use borrow.Author.Needs.{needs}
 use Rattle.passport.proofs.import_accepted.Statement.{statement}
 use Rattle.passport.proofs.import_accepted.Tie as tie
 
--- src/lib.rt:108:9
 grow-requires : tie.Need-grow-requires
 grow-requires c κs = search needs
 
--- src/lib.rt:109:5
 clear-requires : tie.Need-clear-requires
 clear-requires c κs = search needs
 
--- src/lib.rt:111:21
 enum-known-grown : tie.Need-enum-known-grown
 enum-known-grown c = search needs
 
--- src/lib.rt:112:22
 enum-known-grown-2 : tie.Need-enum-known-grown-2
 enum-known-grown-2 c = search needs
 
--- src/lib.rt:113:21
 enum-known-grown-3 : tie.Need-enum-known-grown-3
 enum-known-grown-3 c = search needs
 
--- src/lib.rt:102:1
 same-length : tie.Need-same-length
 same-length c = search needs
 
--- src/lib.rt:102:1
 same-length-2 : tie.Need-same-length-2
 same-length-2 c = search needs
 
--- src/lib.rt:102:1
 returns : tie.Need-returns
-returns c = let s = c .before .before .before .before .before .before .before .before .before .before .before .before .before .before .before .before in let p = arm (ruleFor (s .args .s .now) (s .args .r .now)) _ _ (s .args .out .now) _ (c .before .before .before .before .before .before .before .before .before .before .grow .ensures .0) (c .before .before .before .before .before .before .before .before .before .before .grow .ensures .1) (c .before .grown .given .1) in (p .0, (c .before .before .before .before .before .clear .ensures ∙ ap zeros (c .before .before .before .before .before .before .before .before .before .w .given), p .1))
+returns c =
+    let s = c .before .before .before .before .before .before .before .before .before .before .before .before .before .before .before .before in
+    let p = arm (ruleFor (s .args .s .now) (s .args .r .now)) _ _ (s .args .out .now) _ (c .before .before .before .before .before .before .before .before .before .before .grow .ensures .0) (c .before .before .before .before .before .before .before .before .before .before .grow .ensures .1) (c .before .grown .given .1) in
+    (p .0, (c .before .before .before .before .before .clear .ensures ∙ ap zeros (c .before .before .before .before .before .before .before .before .before .w .given), p .1))
 
--- src/lib.rt:102:1
 same-length-3 : tie.Need-same-length-3
 same-length-3 c = search needs
 
--- src/lib.rt:102:1
 same-length-4 : tie.Need-same-length-4
 same-length-4 c = search needs
 
--- src/lib.rt:102:1
 returns-2 : tie.Need-returns-2
-returns-2 c = let s = c .before .before .before .before .before .before .before .before .before .before .before .before .before .before .before .before in let p = arm (ruleFor (s .args .s .now) (s .args .r .now)) _ _ (s .args .out .now) _ (c .before .before .before .before .before .before .before .before .before .before .grow .ensures .0) (c .before .before .before .before .before .before .before .before .before .before .grow .ensures .1) (c .before .grown2 .given .1) in (p .0, (c .before .before .before .before .before .clear .ensures ∙ ap zeros (c .before .before .before .before .before .before .before .before .before .w .given), p .1))
+returns-2 c =
+    let s = c .before .before .before .before .before .before .before .before .before .before .before .before .before .before .before .before in
+    let p = arm (ruleFor (s .args .s .now) (s .args .r .now)) _ _ (s .args .out .now) _ (c .before .before .before .before .before .before .before .before .before .before .grow .ensures .0) (c .before .before .before .before .before .before .before .before .before .before .grow .ensures .1) (c .before .grown2 .given .1) in
+    (p .0, (c .before .before .before .before .before .clear .ensures ∙ ap zeros (c .before .before .before .before .before .before .before .before .before .w .given), p .1))
 
--- src/lib.rt:102:1
 same-length-5 : tie.Need-same-length-5
 same-length-5 c = search needs
 
--- src/lib.rt:102:1
 same-length-6 : tie.Need-same-length-6
 same-length-6 c = search needs
 
--- src/lib.rt:102:1
 returns-3 : tie.Need-returns-3
-returns-3 c = let s = c .before .before .before .before .before .before .before .before .before .before .before .before .before .before .before .before in let p = arm (ruleFor (s .args .s .now) (s .args .r .now)) _ _ (s .args .out .now) _ (c .before .before .before .before .before .before .before .before .before .before .grow .ensures .0) (c .before .before .before .before .before .before .before .before .before .before .grow .ensures .1) (c .before .grown3 .given .1) in (p .0, (c .before .before .before .before .before .clear .ensures ∙ ap zeros (c .before .before .before .before .before .before .before .before .before .w .given), p .1))
+returns-3 c =
+    let s = c .before .before .before .before .before .before .before .before .before .before .before .before .before .before .before .before in
+    let p = arm (ruleFor (s .args .s .now) (s .args .r .now)) _ _ (s .args .out .now) _ (c .before .before .before .before .before .before .before .before .before .before .grow .ensures .0) (c .before .before .before .before .before .before .before .before .before .before .grow .ensures .1) (c .before .grown3 .given .1) in
+    (p .0, (c .before .before .before .before .before .clear .ensures ∙ ap zeros (c .before .before .before .before .before .before .before .before .before .w .given), p .1))
 
 pub import-accepted-spec : {M : Type 1} → statement M
 import-accepted-spec =

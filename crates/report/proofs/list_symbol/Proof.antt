@@ -20,7 +20,9 @@ use Rattle.report.proofs.list_symbol.Tie as tie
 
 -- the answer of `generators`
 told : (f : tie.After-generators) → Gathered (f .before .before .before .before .before .args .v) (f .before .before .before .before .before .args .t .now) (f .generators .result)
-told f = let s = f .before .before .before .before .before in gathered (s .args .v) (s .args .t .now) (length (s .args .w .now)) (length (s .args .table .now)) (f .generators .result) (s .pre .work) (s .pre .table-long) (f .generators .ensures .0)
+told f =
+    let s = f .before .before .before .before .before in
+    gathered (s .args .v) (s .args .t .now) (length (s .args .w .now)) (length (s .args .table .now)) (f .generators .result) (s .pre .work) (s .pre .table-long) (f .generators .ensures .0)
 
 -- the symbol was accepted
 module _ (d : tie.After-made3) where
@@ -119,7 +121,9 @@ same-length-6 : tie.Need-same-length-6
 same-length-6 c = search needs
 
 returns-2 : tie.Need-returns-2
-returns-2 c = let a = c .before .before .before .before .before in gathered-long (told (c .before .before .before .before .before .before .before .before .before .before)) (a .made2 .given .0 .0) (a .made2 .given .1)
+returns-2 c =
+    let a = c .before .before .before .before .before in
+    gathered-long (told (c .before .before .before .before .before .before .before .before .before .before)) (a .made2 .given .0 .0) (a .made2 .given .1)
 
 same-length-7 : tie.Need-same-length-7
 same-length-7 c = search needs

@@ -43,7 +43,9 @@ same-length : tie.Need-same-length
 same-length c = search needs
 
 returns : tie.Need-returns
-returns c = let s = c .before .before .before .before .before .before .before .before in puts-as (listing-longer (s .args .longer) (s .args .text .now) ((c .before .before .before .before) .if1 .taken)) ((c .before .before) .refusal-line .ensures)
+returns c =
+    let s = c .before .before .before .before .before .before .before .before in
+    puts-as (listing-longer (s .args .longer) (s .args .text .now) ((c .before .before .before .before) .if1 .taken)) ((c .before .before) .refusal-line .ensures)
 
 read-requires : tie.Need-read-requires
 read-requires c κs = search needs
@@ -73,10 +75,14 @@ sub-list-symbol : tie.Need-sub-list-symbol
 sub-list-symbol c = omega (arith, some-numbers (c .before .before) .some-one)
 
 part-list-symbol-start : tie.Need-part-list-symbol-start
-part-list-symbol-start c = let h = some-numbers (c .before .before .before) in omega (arith, h .some-one, h .fitting, (c .before .before .before .before .before .before .before .before .before .before .before .before .before) .pre .0)
+part-list-symbol-start c =
+    let h = some-numbers (c .before .before .before) in
+    omega (arith, h .some-one, h .fitting, (c .before .before .before .before .before .before .before .before .before .before .before .before .before) .pre .0)
 
 part-list-symbol-end : tie.Need-part-list-symbol-end
-part-list-symbol-end c = let h = some-numbers (c .before .before .before) in omega (arith, h .some-one, h .fitting, (c .before .before .before .before .before .before .before .before .before .before .before .before .before) .pre .0)
+part-list-symbol-end c =
+    let h = some-numbers (c .before .before .before) in
+    omega (arith, h .some-one, h .fitting, (c .before .before .before .before .before .before .before .before .before .before .before .before .before) .pre .0)
 
 list-symbol-requires : tie.Need-list-symbol-requires
 list-symbol-requires c κs = (c .before .before .before .before .before .before .before .before .before .before .before .before .before .before .before .before .before) .pre .1

@@ -33,7 +33,9 @@ loop-less : tie.Need-loop-less Inv-loop μ-loop
 loop-less c = search needs
 
 loop-again : tie.Need-loop-again Inv-loop μ-loop
-loop-again c = let l = c .before in (rw (l .loop .inv .0) (fill-more (l .loop .i) 0 (l .before .args .w .now) (omega arith)), omega arith, search needs)
+loop-again c =
+    let l = c .before in
+    (rw (l .loop .inv .0) (fill-more (l .loop .i) 0 (l .before .args .w .now) (omega arith)), omega arith, search needs)
 
 same-length : tie.Need-same-length Inv-loop μ-loop
 same-length c = search needs

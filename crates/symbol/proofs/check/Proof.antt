@@ -17,7 +17,9 @@ returns : tie.Need-returns
 returns c = let s = c .before in verdict (s .args .v) (s .args .t .now) _ (sym (too-few (s .args .v) (s .args .t .now) (c .if1 .taken)))
 
 returns-2 : tie.Need-returns-2
-returns-2 c = let s = c .before .before in verdict (s .args .v) (s .args .t .now) _ (sym (too-many (s .args .v) (s .args .t .now) (c .before .if1 .left) (c .if2 .taken)))
+returns-2 c =
+    let s = c .before .before in
+    verdict (s .args .v) (s .args .t .now) _ (sym (too-many (s .args .v) (s .args .t .now) (c .before .if1 .left) (c .if2 .taken)))
 
 mul-if3 : tie.Need-mul-if3
 mul-if3 c = search needs
@@ -26,14 +28,20 @@ add-if3 : tie.Need-add-if3
 add-if3 c = search needs
 
 returns-3 : tie.Need-returns-3
-returns-3 c = let d = c .before in let s = d .before .before in verdict (s .args .v) (s .args .t .now) _ (sym (wrong-length (s .args .v) (s .args .t .now) (d .before .if1 .left) (d .if2 .left) (c .if3 .taken)))
+returns-3 c =
+    let d = c .before in
+    let s = d .before .before in
+    verdict (s .args .v) (s .args .t .now) _ (sym (wrong-length (s .args .v) (s .args .t .now) (d .before .if1 .left) (d .if2 .left) (c .if3 .taken)))
 
 check-vertices-requires : tie.Need-check-vertices-requires
 check-vertices-requires c κs = (c .before .before .if2 .left, c .before .if3 .left)
 
 -- what the checks from the third on say, once the first two passed
 rest : (c : tie.After-check-vertices) → checkOf (c .before .before .before .before .before .args .v) (c .before .before .before .before .before .args .t .now) ≡ later (c .before .before .before .before .before .args .v) (c .before .before .before .before .before .args .t .now)
-rest c = let d = c .before .before in let s = d .before .before .before in first-two (s .args .v) (s .args .t .now) (d .before .before .if1 .left) (d .before .if2 .left) (d .if3 .left)
+rest c =
+    let d = c .before .before in
+    let s = d .before .before .before in
+    first-two (s .args .v) (s .args .t .now) (d .before .before .if1 .left) (d .before .if2 .left) (d .if3 .left)
 
 enum-known-vertices : tie.Need-enum-known-vertices
 enum-known-vertices c = search needs

@@ -15,7 +15,9 @@ add-first-place : tie.Need-add-first-place
 add-first-place c = search needs
 
 first-place-requires : tie.Need-first-place-requires
-first-place-requires c κs = let s = c .before .before .before in (ready-6 (s .args .v) (s .args .p .now) _ (s .pre .1) (s .pre .2) (c .before .tally .ensures), refl)
+first-place-requires c κs =
+    let s = c .before .before .before in
+    (ready-6 (s .args .v) (s .args .p .now) _ (s .pre .1) (s .pre .2) (c .before .tally .ensures), refl)
 
 add-if1 : tie.Need-add-if1
 add-if1 c = search needs

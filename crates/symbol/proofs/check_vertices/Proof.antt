@@ -39,7 +39,9 @@ add-first-place c = search needs
 
 -- check 3 passed
 three : (c : tie.Else1) → check3 (c .before .before .args .v) (c .before .before .args .t .now) ≡ Accepted
-three c = let s = c .before .before in accept-at (outOfRange (s .args .t .now)) (2 * s .args .v) (c .before .first-place .result) VertexEntry (c .before .first-place .ensures) (c .if1 .left)
+three c =
+    let s = c .before .before in
+    accept-at (outOfRange (s .args .t .now)) (2 * s .args .v) (c .before .first-place .result) VertexEntry (c .before .first-place .ensures) (c .if1 .left)
 
 first-place-requires-2 : tie.Need-first-place-requires-2
 first-place-requires-2 c κs =
@@ -60,7 +62,9 @@ returns-2 c =
     sym (next-check _ (three d) ∙ first-refused (check5 v t) (refuse-at (apart v t) (v + 1) (c .before .first-place2 .result) Neighbours (c .before .first-place2 .ensures) (c .if2 .taken)))
 
 first-place-requires-3 : tie.Need-first-place-requires-3
-first-place-requires-3 c κs = let s = c .before .before .before .before in (ready-5 (s .args .v) (s .args .t .now) (s .args .marks .now) (s .pre .0) (long s), refl)
+first-place-requires-3 c κs =
+    let s = c .before .before .before .before in
+    (ready-5 (s .args .v) (s .args .t .now) (s .args .marks .now) (s .pre .0) (long s), refl)
 
 -- check 4 passed
 four : (c : tie.Else2) → check4 (c .before .before .before .before .args .v) (c .before .before .before .before .args .t .now) ≡ Accepted

@@ -16,7 +16,9 @@ out-of-range-requires c κs =
     omega (arith, places-3 (s .args .check) (s .args .v) e, s .pre .0 .long (omega arith), s .pre .1)
 
 returns : tie.Need-returns
-returns c = let s = c .before .before in c .out-of-range .ensures ∙ sym (fails-3 (s .args .check) (s .args .v) (s .args .t .now) (s .args .i) (c .before .if1 .taken))
+returns c =
+    let s = c .before .before in
+    c .out-of-range .ensures ∙ sym (fails-3 (s .args .check) (s .args .v) (s .args .t .now) (s .args .i) (c .before .if1 .taken))
 
 at-requires : tie.Need-at-requires
 at-requires c κs =
@@ -44,11 +46,15 @@ is-zero-requires c κs =
     (omega (arith, s .pre .0 .most, s .pre .1), omega (arith, s .pre .0 .long (omega arith), s .pre .1))
 
 returns-3 : tie.Need-returns-3
-returns-3 c = let s = c .before .before .before .before in c .is-zero .ensures ∙ sym (fails-5 (s .args .check) (s .args .v) (s .args .t .now) (s .args .i) (c .before .if3 .taken))
+returns-3 c =
+    let s = c .before .before .before .before in
+    c .is-zero .ensures ∙ sym (fails-5 (s .args .check) (s .args .v) (s .args .t .now) (s .args .i) (c .before .if3 .taken))
 
 -- what is neither 3 nor 4 nor 5 is 6
 six : (c : tie.Else3) → c .before .before .before .args .check ≡ 6
-six c = let s = c .before .before .before in omega (arith, s .pre .0 .from, s .pre .0 .to, c .if3 .left, c .before .if2 .left, c .before .before .if1 .left)
+six c =
+    let s = c .before .before .before in
+    omega (arith, s .pre .0 .from, s .pre .0 .to, c .if3 .left, c .before .if2 .left, c .before .before .if1 .left)
 
 is-unpaired-requires : tie.Need-is-unpaired-requires
 is-unpaired-requires c κs =
@@ -57,7 +63,9 @@ is-unpaired-requires c κs =
     (s .pre .0 .most, omega (arith, s .pre .1), s .pre .0 .paired (six c), s .pre .0 .tallied (six c))
 
 returns-4 : tie.Need-returns-4
-returns-4 c = let s = c .before .before .before .before in c .is-unpaired .ensures ∙ sym (fails-6 (s .args .check) (s .args .v) (s .args .t .now) (s .args .i) (six (c .before)))
+returns-4 c =
+    let s = c .before .before .before .before in
+    c .is-unpaired .ensures ∙ sym (fails-6 (s .args .check) (s .args .v) (s .args .t .now) (s .args .i) (six (c .before)))
 
 pub finds-spec : {M : Type 1} → statement M
 finds-spec = tie.close (tie.spec out-of-range-requires returns at-requires neighbours-requires returns-2 is-zero-requires returns-3 is-unpaired-requires returns-4)

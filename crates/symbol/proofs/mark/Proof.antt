@@ -21,16 +21,24 @@ element-write-marks-2 : tie.Need-element-write-marks-2
 element-write-marks-2 c = search needs
 
 returns : tie.Need-returns
-returns c = let s = c .before .before .before .before in rw (c .next .ensures) (marked-low (s .args .marks .now) (s .args .k) (omega arith) (c .before .before .if1 .taken) (c .before .if2 .taken))
+returns c =
+    let s = c .before .before .before .before in
+    rw (c .next .ensures) (marked-low (s .args .marks .now) (s .args .k) (omega arith) (c .before .before .if1 .taken) (c .before .if2 .taken))
 
 returns-2 : tie.Need-returns-2
-returns-2 c = let s = c .before .before .before in marked-full (s .args .marks .now) (s .args .k) (rw (digit-low (s .args .marks .now) (s .args .k) (c .before .if1 .taken)) (c .if2 .left))
+returns-2 c =
+    let s = c .before .before .before in
+    marked-full (s .args .marks .now) (s .args .k) (rw (digit-low (s .args .marks .now) (s .args .k) (c .before .if1 .taken)) (c .if2 .left))
 
 returns-3 : tie.Need-returns-3
-returns-3 c = let s = c .before .before .before in marked-high (s .args .marks .now) (s .args .k) (omega arith) (c .before .if1 .left) (c .if3 .taken)
+returns-3 c =
+    let s = c .before .before .before in
+    marked-high (s .args .marks .now) (s .args .k) (omega arith) (c .before .if1 .left) (c .if3 .taken)
 
 returns-4 : tie.Need-returns-4
-returns-4 c = let s = c .before .before .before in marked-full (s .args .marks .now) (s .args .k) (rw (digit-high (s .args .marks .now) (s .args .k) (c .before .if1 .left)) (c .if3 .left))
+returns-4 c =
+    let s = c .before .before .before in
+    marked-full (s .args .marks .now) (s .args .k) (rw (digit-high (s .args .marks .now) (s .args .k) (c .before .if1 .left)) (c .if3 .left))
 
 pub mark-spec : {M : Type 1} → statement M
 mark-spec = tie.close (tie.spec element-copy-out-m next-requires element-write-marks add-marks element-write-marks-2 returns returns-2 returns-3 returns-4)

@@ -31,7 +31,10 @@ label : (c : tie.After-pairing) → pairingOf (c .before .before .before .args .
 label c = sym (is-read (c .before .before)) ∙ c .pairing .given .1
 
 sub-mark : tie.Need-sub-mark
-sub-mark c = let a = c .before .before in let s = a .before .before .before in label-of (s .args .v) (s .args .x) (a .pairing .given .0 .0) (label a) .1
+sub-mark c =
+    let a = c .before .before in
+    let s = a .before .before .before in
+    label-of (s .args .v) (s .args .x) (a .pairing .given .0 .0) (label a) .1
 
 mark-requires : tie.Need-mark-requires
 mark-requires c κs =
@@ -44,10 +47,16 @@ enum-told-3 : tie.Need-enum-told-3
 enum-told-3 c = search needs
 
 returns : tie.Need-returns
-returns c = let r = c .before .before in let s = r .before in noted-none (s .args .v) (s .args .x) Even (s .args .marks .now) (sym (is-read r) ∙ c .enum-told .given .1) (λ l e. let z : _≡_ {A = ℕ} 0 1 = cc in omega arith)
+returns c =
+    let r = c .before .before in
+    let s = r .before in
+    noted-none (s .args .v) (s .args .x) Even (s .args .marks .now) (sym (is-read r) ∙ c .enum-told .given .1) (λ l e. let z : _≡_ {A = ℕ} 0 1 = cc in omega arith)
 
 returns-2 : tie.Need-returns-2
-returns-2 c = let r = c .before .before in let s = r .before in noted-none (s .args .v) (s .args .x) Odd (s .args .marks .now) (sym (is-read r) ∙ c .enum-told2 .given .1) (λ l e. let z : _≡_ {A = ℕ} 0 1 = cc in omega arith)
+returns-2 c =
+    let r = c .before .before in
+    let s = r .before in
+    noted-none (s .args .v) (s .args .x) Odd (s .args .marks .now) (sym (is-read r) ∙ c .enum-told2 .given .1) (λ l e. let z : _≡_ {A = ℕ} 0 1 = cc in omega arith)
 
 returns-3 : tie.Need-returns-3
 returns-3 c =
@@ -56,7 +65,10 @@ returns-3 c =
     noted-free (s .args .v) (s .args .x) (a .pairing .given .0 .0) (s .args .marks .now) (c .mark .last .0) (label a) (c .mark .ensures)
 
 returns-4 : tie.Need-returns-4
-returns-4 c = let r = c .before .before in let s = r .before in noted-none (s .args .v) (s .args .x) Bad (s .args .marks .now) (sym (is-read r) ∙ c .enum-told3 .given .1) (λ l e. let z : _≡_ {A = ℕ} 0 1 = cc in omega arith)
+returns-4 c =
+    let r = c .before .before in
+    let s = r .before in
+    noted-none (s .args .v) (s .args .x) Bad (s .args .marks .now) (sym (is-read r) ∙ c .enum-told3 .given .1) (λ l e. let z : _≡_ {A = ℕ} 0 1 = cc in omega arith)
 
 pub note-spec : {M : Type 1} → statement M
 note-spec = tie.close (tie.spec read-pairing-requires enum-told enum-told-2 enum-known-pairing sub-mark mark-requires enum-told-3 returns returns-2 returns-3 returns-4)

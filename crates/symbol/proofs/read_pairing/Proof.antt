@@ -16,7 +16,9 @@ returns : tie.Need-returns
 returns c = let s = c .before in sym (ap (pairingOf (s .args .v)) (bits-negative (s .args .x) 1 (s .fits .x) (lit< tt) (c .if1 .taken)))
 
 returns-2 : tie.Need-returns-2
-returns-2 c = let s = c .before .before in sym (ap (pairingOf (s .args .v)) (bits-negative (s .args .x) 2 (s .fits .x) (lit< tt) (c .if2 .taken)))
+returns-2 c =
+    let s = c .before .before in
+    sym (ap (pairingOf (s .args .v)) (bits-negative (s .args .x) 2 (s .fits .x) (lit< tt) (c .if2 .taken)))
 
 returns-3 : tie.Need-returns-3
 returns-3 c =

@@ -10,7 +10,9 @@ returns : tie.Need-returns
 returns c = negative-count (c .before .args .x) (rw (toZ-ofZ (c .before .fits .x)) at (c .if1 .taken))
 
 cast-result : tie.Need-cast-result
-cast-result c = let f = c .before .fits .x in rw (toZ-ofZ f) (count-natural (c .before .args .x) (rw (toZ-ofZ f) at (c .if1 .left)), fits-natAbs tt f)
+cast-result c =
+    let f = c .before .fits .x in
+    rw (toZ-ofZ f) (count-natural (c .before .args .x) (rw (toZ-ofZ f) at (c .if1 .left)), fits-natAbs tt f)
 
 returns-2 : tie.Need-returns-2
 returns-2 c = let f = c .before .fits .x in rw (toZ-ofZ f) (natural-count (c .before .args .x) (rw (toZ-ofZ f) at (c .if1 .left)))

@@ -5,41 +5,44 @@ use borrow.Author.Needs.{needs}
 use Rattle.writing.proofs.grow.Statement.{statement}
 use Rattle.writing.proofs.grow.Tie as tie
 
--- src/lib.rt:122:9
 turned-requires : tie.Need-turned-requires
 turned-requires c κs = search needs
 
--- src/lib.rt:124:9
 grow-fixed-requires : tie.Need-grow-fixed-requires
 grow-fixed-requires c κs = search needs
 
--- src/lib.rt:124:9
 same-length : tie.Need-same-length
 same-length c = search needs
 
--- src/lib.rt:124:9
 same-length-2 : tie.Need-same-length-2
 same-length-2 c = search needs
 
--- src/lib.rt:124:9
 returns : tie.Need-returns
 returns c = search needs
 
--- src/lib.rt:126:5
 grow-large-requires : tie.Need-grow-large-requires
-grow-large-requires c κs = let s = c .before .before .before .before .before .before .before in let S = s .args .s .now in let R = s .args .r .now in let O = s .args .out .now in let z = s .pre in (z .0, z .1, moved-by-Q S R (z .0) _ (c .before .before .before .turned .ensures) (c .before .before .if1 .left))
+grow-large-requires c κs =
+    let s = c .before .before .before .before .before .before .before in
+    let S = s .args .s .now in
+    let R = s .args .r .now in
+    let O = s .args .out .now in
+    let z = s .pre in
+    (z .0, z .1, moved-by-Q S R (z .0) _ (c .before .before .before .turned .ensures) (c .before .before .if1 .left))
 
--- src/lib.rt:117:1
 same-length-3 : tie.Need-same-length-3
 same-length-3 c = search needs
 
--- src/lib.rt:117:1
 same-length-4 : tie.Need-same-length-4
 same-length-4 c = search needs
 
--- src/lib.rt:117:1
 returns-2 : tie.Need-returns-2
-returns-2 c = let s = c .before .before .before .before .before .before .before .before .before .before .before in let S = s .args .s .now in let R = s .args .r .now in let O = s .args .out .now in let z = s .pre in answers _ _ _ O _ (rule-large S R (z .0) (moved-by-Q S R (z .0) _ (c .before .before .before .before .before .before .before .turned .ensures) (c .before .before .before .before .before .before .if1 .left)) (first-moved S R (z .0) _ (c .before .before .before .before .before .before .before .turned .ensures) (c .before .before .before .before .before .before .if1 .left))) (c .before .before .before .grow-large .ensures .0) (c .before .before .before .grow-large .ensures .1)
+returns-2 c =
+    let s = c .before .before .before .before .before .before .before .before .before .before .before in
+    let S = s .args .s .now in
+    let R = s .args .r .now in
+    let O = s .args .out .now in
+    let z = s .pre in
+    answers _ _ _ O _ (rule-large S R (z .0) (moved-by-Q S R (z .0) _ (c .before .before .before .before .before .before .before .turned .ensures) (c .before .before .before .before .before .before .if1 .left)) (first-moved S R (z .0) _ (c .before .before .before .before .before .before .before .turned .ensures) (c .before .before .before .before .before .before .if1 .left))) (c .before .before .before .grow-large .ensures .0) (c .before .before .before .grow-large .ensures .1)
 
 pub grow-spec : {M : Type 1} → statement M
 grow-spec =

@@ -5,61 +5,101 @@ use borrow.Author.Needs.{needs}
 use Rattle.writing.proofs.grow_large.Statement.{statement}
 use Rattle.writing.proofs.grow_large.Tie as tie
 
--- src/lib.rt:85:5
 clear-requires : tie.Need-clear-requires
 clear-requires c κs = search needs
 
--- src/lib.rt:86:9
 walk-requires : tie.Need-walk-requires
-walk-requires c κs = let s = c .before .before .before .before .before .before .before .before in let z = s .pre in ground (s .args .s .now) (s .args .r .now) (s .args .w .now) _ (z .0) (z .1) (c .before .before .before .clear .ensures) (z .2)
+walk-requires c κs =
+    let s = c .before .before .before .before .before .before .before .before in
+    let z = s .pre in
+    ground (s .args .s .now) (s .args .r .now) (s .args .w .now) _ (z .0) (z .1) (c .before .before .before .clear .ensures) (z .2)
 
--- src/lib.rt:89:9
 same-length : tie.Need-same-length
 same-length c = search needs
 
--- src/lib.rt:89:9
 returns : tie.Need-returns
-returns c = let s = c .before .before .before .before .before .before .before .before .before .before .before .before in large-over (s .args .s .now) (s .args .r .now) _ _ _ (s .args .out .now) (c .before .before .before .walk .ensures) (c .if1 .taken)
+returns c =
+    let s = c .before .before .before .before .before .before .before .before .before .before .before .before in
+    large-over (s .args .s .now) (s .args .r .now) _ _ _ (s .args .out .now) (c .before .before .before .walk .ensures) (c .if1 .taken)
 
--- src/lib.rt:91:18
 sub-n : tie.Need-sub-n
-sub-n c = let s = c .before .before .before .before .before .before .before .before .before .before .before .before in let S = s .args .s .now in let R = s .args .r .now in let g = whole-of S R _ _ _ (c .before .before .before .walk .ensures) (c .if1 .left) in let so = g .some in let mo = g .most in omega arith
+sub-n c =
+    let s = c .before .before .before .before .before .before .before .before .before .before .before .before in
+    let S = s .args .s .now in
+    let R = s .args .r .now in
+    let g = whole-of S R _ _ _ (c .before .before .before .walk .ensures) (c .if1 .left) in
+    let so = g .some in
+    let mo = g .most in
+    omega arith
 
--- src/lib.rt:91:13
 mul-n : tie.Need-mul-n
-mul-n c = let s = c .before .before .before .before .before .before .before .before .before .before .before .before in let S = s .args .s .now in let R = s .args .r .now in let g = whole-of S R _ _ _ (c .before .before .before .walk .ensures) (c .if1 .left) in let so = g .some in let mo = g .most in omega arith
+mul-n c =
+    let s = c .before .before .before .before .before .before .before .before .before .before .before .before in
+    let S = s .args .s .now in
+    let R = s .args .r .now in
+    let g = whole-of S R _ _ _ (c .before .before .before .walk .ensures) (c .if1 .left) in
+    let so = g .some in
+    let mo = g .most in
+    omega arith
 
--- src/lib.rt:91:13
 add-n : tie.Need-add-n
-add-n c = let s = c .before .before .before .before .before .before .before .before .before .before .before .before in let S = s .args .s .now in let R = s .args .r .now in let g = whole-of S R _ _ _ (c .before .before .before .walk .ensures) (c .if1 .left) in let so = g .some in let mo = g .most in omega arith
+add-n c =
+    let s = c .before .before .before .before .before .before .before .before .before .before .before .before in
+    let S = s .args .s .now in
+    let R = s .args .r .now in
+    let g = whole-of S R _ _ _ (c .before .before .before .walk .ensures) (c .if1 .left) in
+    let so = g .some in
+    let mo = g .most in
+    omega arith
 
--- src/lib.rt:93:9
 same-length-2 : tie.Need-same-length-2
 same-length-2 c = search needs
 
--- src/lib.rt:93:9
 returns-2 : tie.Need-returns-2
-returns-2 c = let s = c .before .before .before .before .before .before .before .before .before .before .before .before .before in let S = s .args .s .now in let R = s .args .r .now in let g = whole-of S R _ _ _ (c .before .before .before .before .walk .ensures) (c .before .if1 .left) in let so = g .some in let mo = g .most in large-short S R _ _ (s .args .out .now) g (c .if2 .taken)
+returns-2 c =
+    let s = c .before .before .before .before .before .before .before .before .before .before .before .before .before in
+    let S = s .args .s .now in
+    let R = s .args .r .now in
+    let g = whole-of S R _ _ _ (c .before .before .before .before .walk .ensures) (c .before .if1 .left) in
+    let so = g .some in
+    let mo = g .most in
+    large-short S R _ _ (s .args .out .now) g (c .if2 .taken)
 
--- src/lib.rt:95:5
 write-table-requires : tie.Need-write-table-requires
-write-table-requires c κs = let s = c .before .before .before .before .before .before .before .before .before .before .before .before .before .before .before in let S = s .args .s .now in let R = s .args .r .now in let g = whole-of S R _ _ _ (c .before .before .before .before .before .before .walk .ensures) (c .before .before .before .if1 .left) in let so = g .some in let mo = g .most in (g, c .before .before .if2 .left)
+write-table-requires c κs =
+    let s = c .before .before .before .before .before .before .before .before .before .before .before .before .before .before .before in
+    let S = s .args .s .now in
+    let R = s .args .r .now in
+    let g = whole-of S R _ _ _ (c .before .before .before .before .before .before .walk .ensures) (c .before .before .before .if1 .left) in
+    let so = g .some in
+    let mo = g .most in
+    (g, c .before .before .if2 .left)
 
--- src/lib.rt:96:17
 sub-t15 : tie.Need-sub-t15
-sub-t15 c = let s = c .before .before .before .before .before .before .before .before .before .before .before .before .before .before .before .before .before .before .before in let S = s .args .s .now in let R = s .args .r .now in let g = whole-of S R _ _ _ (c .before .before .before .before .before .before .before .before .before .before .walk .ensures) (c .before .before .before .before .before .before .before .if1 .left) in let so = g .some in let mo = g .most in omega arith
+sub-t15 c =
+    let s = c .before .before .before .before .before .before .before .before .before .before .before .before .before .before .before .before .before .before .before in
+    let S = s .args .s .now in
+    let R = s .args .r .now in
+    let g = whole-of S R _ _ _ (c .before .before .before .before .before .before .before .before .before .before .walk .ensures) (c .before .before .before .before .before .before .before .if1 .left) in
+    let so = g .some in
+    let mo = g .most in
+    omega arith
 
--- src/lib.rt:80:1
 same-length-3 : tie.Need-same-length-3
 same-length-3 c = search needs
 
--- src/lib.rt:80:1
 same-length-4 : tie.Need-same-length-4
 same-length-4 c = search needs
 
--- src/lib.rt:80:1
 returns-3 : tie.Need-returns-3
-returns-3 c = let s = c .before .before .before .before .before .before .before .before .before .before .before .before .before .before .before .before .before .before .before in let S = s .args .s .now in let R = s .args .r .now in let g = whole-of S R _ _ _ (c .before .before .before .before .before .before .before .before .before .before .walk .ensures) (c .before .before .before .before .before .before .before .if1 .left) in let so = g .some in let mo = g .most in large-made S R _ _ (s .args .out .now) _ g (c .before .before .before .before .before .before .if2 .left) (c .before .before .before .write-table .ensures)
+returns-3 c =
+    let s = c .before .before .before .before .before .before .before .before .before .before .before .before .before .before .before .before .before .before .before in
+    let S = s .args .s .now in
+    let R = s .args .r .now in
+    let g = whole-of S R _ _ _ (c .before .before .before .before .before .before .before .before .before .before .walk .ensures) (c .before .before .before .before .before .before .before .if1 .left) in
+    let so = g .some in
+    let mo = g .most in
+    large-made S R _ _ (s .args .out .now) _ g (c .before .before .before .before .before .before .if2 .left) (c .before .before .before .write-table .ensures)
 
 pub grow-large-spec : {M : Type 1} → statement M
 grow-large-spec =

@@ -4,21 +4,19 @@ use borrow.Author.Needs.{needs}
 use Rattle.writing.proofs.grow_small.Statement.{statement}
 use Rattle.writing.proofs.grow_small.Tie as tie
 
--- src/lib.rt:73:9
 returns : tie.Need-returns
 returns c = let s = c .before in small-short (s .args .x) (s .args .out .now) (c .if1 .taken)
 
--- src/lib.rt:75:5
 write-four-requires : tie.Need-write-four-requires
 write-four-requires c κs = search needs
 
--- src/lib.rt:68:1
 same-length : tie.Need-same-length
 same-length c = search needs
 
--- src/lib.rt:68:1
 returns-2 : tie.Need-returns-2
-returns-2 c = let s = c .before .before .before .before in small-made (s .args .x) (s .args .out .now) _ (c .before .before .before .if1 .left) (rw (toZ-ofZ (s .fits .x)) at (c .before .write-four .ensures))
+returns-2 c =
+    let s = c .before .before .before .before in
+    small-made (s .args .x) (s .args .out .now) _ (c .before .before .before .if1 .left) (rw (toZ-ofZ (s .fits .x)) at (c .before .write-four .ensures))
 
 pub grow-small-spec : {M : Type 1} → statement M
 grow-small-spec = tie.close (tie.spec returns write-four-requires same-length returns-2)

@@ -65,7 +65,9 @@ same-length : tie.Need-same-length Inv-loop μ-loop
 same-length c = search needs
 
 returns : tie.Need-returns Inv-loop μ-loop
-returns c = let l = c .before in (moved-all (l .loop .p) (l .loop .inv .0) (omega (arith, l .loop .inv .1, c .loop-test .left)), l .loop .inv .2)
+returns c =
+    let l = c .before in
+    (moved-all (l .loop .p) (l .loop .inv .0) (omega (arith, l .loop .inv .1, c .loop-test .left)), l .loop .inv .2)
 
 pub fill-s-spec : {M : Type 1} → statement M
 fill-s-spec =

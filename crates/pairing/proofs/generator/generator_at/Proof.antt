@@ -29,7 +29,9 @@ mul-read-pairing : tie.Need-mul-read-pairing
 mul-read-pairing c = search needs
 
 shared-slice-copy-out-read-pairing : tie.Need-shared-slice-copy-out-read-pairing
-shared-slice-copy-out-read-pairing c = let s = c .before .before in omega (arith, ap length (s .pre .0 .part), length-drop (2 * s .args .v) (s .args .t .now), s .pre .0 .symbol .long, s .pre .1)
+shared-slice-copy-out-read-pairing c =
+    let s = c .before .before in
+    omega (arith, ap length (s .pre .0 .part), length-drop (2 * s .args .v) (s .args .t .now), s .pre .0 .symbol .long, s .pre .1)
 
 read-pairing-requires : tie.Need-read-pairing-requires
 read-pairing-requires c κs = search needs
@@ -43,7 +45,9 @@ is-read c =
 
 -- side i is small
 small : (c : tie.After-at) → SmallSide (c .at .result)
-small c = let s = c .before .before in rw (c .at .ensures) (symbol-small (s .args .v) (s .args .t .now) (s .pre .0 .symbol) (s .args .i) (s .pre .1))
+small c =
+    let s = c .before .before in
+    rw (c .at .ensures) (symbol-small (s .args .v) (s .args .t .now) (s .pre .0 .symbol) (s .args .i) (s .pre .1))
 
 enum-told : tie.Need-enum-told
 enum-told c = search needs
@@ -90,7 +94,9 @@ partner-within c =
     rw (partner-read c) (partner-in (s .args .v) (pairings (s .args .v) (s .args .t .now)) (all-paired (s .args .v) (pairings (s .args .v) (s .args .t .now)) (symbol-paired (s .args .v) (s .args .t .now) (s .pre .0 .symbol))) (s .args .i) (e .enum-told3 .given .0 .0) (s .pre .1) x .within)
 
 at-requires-2 : tie.Need-at-requires-2
-at-requires-2 c κs = let s = c .before .before .before .before .before .before .before .before in (s .pre .0 .symbol .most, long s, partner-within c)
+at-requires-2 c κs =
+    let s = c .before .before .before .before .before .before .before .before in
+    (s .pre .0 .symbol .most, long s, partner-within c)
 
 free-requires : tie.Need-free-requires
 free-requires c κs =

@@ -22,7 +22,9 @@ number : (c : tie.After-count-leaders) → c .count-leaders .result ≡ length (
 number c = c .count-leaders .ensures ∙ prepared-count _ _ _ _ (c .before .before .pre)
 
 mul-needed : tie.Need-mul-needed
-mul-needed c = let s = c .before .before in omega (arith, c .count-leaders .ensures, count-le (leadsIn (s .args .v) (s .args .p .now)) (s .args .v + 1), s .pre .symbol .most)
+mul-needed c =
+    let s = c .before .before in
+    omega (arith, c .count-leaders .ensures, count-le (leadsIn (s .args .v) (s .args .p .now)) (s .args .v + 1), s .pre .symbol .most)
 
 returns : tie.Need-returns
 returns c =

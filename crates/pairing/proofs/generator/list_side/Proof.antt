@@ -18,7 +18,9 @@ leads-at-requires : tie.Need-leads-at-requires
 leads-at-requires c κs = let s = c .before in (s .pre .0 .symbol .most, s .pre .1, prepared-long _ _ _ _ (s .pre .0), s .pre .0 .partnered)
 
 kind-at-requires : tie.Need-kind-at-requires
-kind-at-requires c κs = let s = c .before .before .before .before in (s .pre .0 .symbol .most, omega (arith, prepared-long _ _ _ _ (s .pre .0), s .pre .1))
+kind-at-requires c κs =
+    let s = c .before .before .before .before in
+    (s .pre .0 .symbol .most, omega (arith, prepared-long _ _ _ _ (s .pre .0), s .pre .1))
 
 generator-at-requires : tie.Need-generator-at-requires
 generator-at-requires c κs = let s = c .before .before .before .before .before in (s .pre .0, s .pre .1)

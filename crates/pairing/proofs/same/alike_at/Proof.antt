@@ -73,13 +73,17 @@ mul-result : tie.Need-mul-result
 mul-result c = let s = c .before .before .before .before .before .before .before in omega (arith, partner-read c .1, s .pre .0 .most)
 
 shared-slice-copy-out-result : tie.Need-shared-slice-copy-out-result
-shared-slice-copy-out-result c = let s = c .before .before .before .before .before .before .before in omega (arith, partner-read c .1, s .pre .0 .other .long)
+shared-slice-copy-out-result c =
+    let s = c .before .before .before .before .before .before .before in
+    omega (arith, partner-read c .1, s .pre .0 .other .long)
 
 mul-result-2 : tie.Need-mul-result-2
 mul-result-2 c = search needs
 
 shared-slice-copy-out-result-2 : tie.Need-shared-slice-copy-out-result-2
-shared-slice-copy-out-result-2 c = let s = c .before .before .before .before .before .before .before .before in omega (arith, s .pre .1, s .pre .0 .other .long)
+shared-slice-copy-out-result-2 c =
+    let s = c .before .before .before .before .before .before .before .before in
+    omega (arith, s .pre .1, s .pre .0 .other .long)
 
 returns-3 : tie.Need-returns-3
 returns-3 c =

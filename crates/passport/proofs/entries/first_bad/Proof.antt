@@ -6,11 +6,9 @@ use borrow.Author.Needs.{needs}
 use Rattle.passport.proofs.entries.first_bad.Statement.{statement}
 use Rattle.passport.proofs.entries.first_bad.Tie as tie
 
--- src/entries.rt:57:5
 scan-requires : tie.Need-scan-requires
 scan-requires c κs = (c .before .before .pre, seen-none _ _ (length-replicate {A = ℕ} 3072 0) (zero-at 3072))
 
--- src/entries.rt:52:1
 returns : tie.Need-returns
 returns c = search needs
 

@@ -16,33 +16,39 @@ Inv-loop r x₀ x = (x ≤ length r) × Clear (thriceMoved r) x
 abbrev μ-loop : tie.MeasureT-loop
 μ-loop r x₀ x = length r - x
 
--- src/entries.rt:102:5
 loop-holds : tie.Need-loop-holds Inv-loop μ-loop
 loop-holds c = let s = c .before in (omega arith, clear-zero (thriceMoved (s .args .r .now)))
 
--- src/entries.rt:103:12
 moved-thrice-requires : tie.Need-moved-thrice-requires Inv-loop μ-loop
 moved-thrice-requires c κs = let s = c .before .before .before in let l = c .before .loop in (s .pre, omega arith)
 
--- src/entries.rt:104:13
 returns : tie.Need-returns Inv-loop μ-loop
-returns c = let s = c .before .before .before .before .before in let l = c .before .before .before .loop in at-first (thriceMoved (s .args .r .now)) (length (s .args .r .now)) (l .x) (omega arith) (l .inv .1) (sym (c .before .moved-thrice .ensures) ∙ c .if1 .taken)
+returns c =
+    let s = c .before .before .before .before .before in
+    let l = c .before .before .before .loop in
+    at-first (thriceMoved (s .args .r .now)) (length (s .args .r .now)) (l .x) (omega arith) (l .inv .1) (sym (c .before .moved-thrice .ensures) ∙ c .if1 .taken)
 
--- src/entries.rt:106:9
 add-x : tie.Need-add-x Inv-loop μ-loop
-add-x c = let s = c .before .before .before .before .before in let l = c .before .before .before .loop in let m = s .pre .most in omega arith
+add-x c =
+    let s = c .before .before .before .before .before in
+    let l = c .before .before .before .loop in
+    let m = s .pre .most in
+    omega arith
 
--- src/entries.rt:102:5
 loop-less : tie.Need-loop-less Inv-loop μ-loop
 loop-less c = let s = c .before .before .before .before .before in let l = c .before .before .before .loop in omega arith
 
--- src/entries.rt:102:5
 loop-again : tie.Need-loop-again Inv-loop μ-loop
-loop-again c = let s = c .before .before .before .before .before in let l = c .before .before .before .loop in (omega arith, rw add-one (clear-more (thriceMoved (s .args .r .now)) (l .x) (l .inv .1) (sym (c .before .moved-thrice .ensures) ∙ c .if1 .left)))
+loop-again c =
+    let s = c .before .before .before .before .before in
+    let l = c .before .before .before .loop in
+    (omega arith, rw add-one (clear-more (thriceMoved (s .args .r .now)) (l .x) (l .inv .1) (sym (c .before .moved-thrice .ensures) ∙ c .if1 .left)))
 
--- src/entries.rt:97:1
 returns-2 : tie.Need-returns-2 Inv-loop μ-loop
-returns-2 c = let s = c .before .before .before in let l = c .before .loop in past-all (thriceMoved (s .args .r .now)) (length (s .args .r .now)) (l .x) (omega (arith, l .inv .0)) (l .inv .1)
+returns-2 c =
+    let s = c .before .before .before in
+    let l = c .before .loop in
+    past-all (thriceMoved (s .args .r .now)) (length (s .args .r .now)) (l .x) (omega (arith, l .inv .0)) (l .inv .1)
 
 pub first-moved-thrice-spec : {M : Type 1} → statement M
 first-moved-thrice-spec =

@@ -16,33 +16,39 @@ Inv-loop s x₀ x = (x ≤ length s) × Clear (twiceMoved s) x
 abbrev μ-loop : tie.MeasureT-loop
 μ-loop s x₀ x = length s - x
 
--- src/entries.rt:76:5
 loop-holds : tie.Need-loop-holds Inv-loop μ-loop
 loop-holds c = let s = c .before in (omega arith, clear-zero (twiceMoved (s .args .s .now)))
 
--- src/entries.rt:77:12
 moved-twice-requires : tie.Need-moved-twice-requires Inv-loop μ-loop
 moved-twice-requires c κs = let s = c .before .before .before in let l = c .before .loop in (s .pre, omega arith)
 
--- src/entries.rt:78:13
 returns : tie.Need-returns Inv-loop μ-loop
-returns c = let s = c .before .before .before .before .before in let l = c .before .before .before .loop in at-first (twiceMoved (s .args .s .now)) (length (s .args .s .now)) (l .x) (omega arith) (l .inv .1) (sym (c .before .moved-twice .ensures) ∙ c .if1 .taken)
+returns c =
+    let s = c .before .before .before .before .before in
+    let l = c .before .before .before .loop in
+    at-first (twiceMoved (s .args .s .now)) (length (s .args .s .now)) (l .x) (omega arith) (l .inv .1) (sym (c .before .moved-twice .ensures) ∙ c .if1 .taken)
 
--- src/entries.rt:80:9
 add-x : tie.Need-add-x Inv-loop μ-loop
-add-x c = let s = c .before .before .before .before .before in let l = c .before .before .before .loop in let m = s .pre .most in omega arith
+add-x c =
+    let s = c .before .before .before .before .before in
+    let l = c .before .before .before .loop in
+    let m = s .pre .most in
+    omega arith
 
--- src/entries.rt:76:5
 loop-less : tie.Need-loop-less Inv-loop μ-loop
 loop-less c = let s = c .before .before .before .before .before in let l = c .before .before .before .loop in omega arith
 
--- src/entries.rt:76:5
 loop-again : tie.Need-loop-again Inv-loop μ-loop
-loop-again c = let s = c .before .before .before .before .before in let l = c .before .before .before .loop in (omega arith, rw add-one (clear-more (twiceMoved (s .args .s .now)) (l .x) (l .inv .1) (sym (c .before .moved-twice .ensures) ∙ c .if1 .left)))
+loop-again c =
+    let s = c .before .before .before .before .before in
+    let l = c .before .before .before .loop in
+    (omega arith, rw add-one (clear-more (twiceMoved (s .args .s .now)) (l .x) (l .inv .1) (sym (c .before .moved-twice .ensures) ∙ c .if1 .left)))
 
--- src/entries.rt:71:1
 returns-2 : tie.Need-returns-2 Inv-loop μ-loop
-returns-2 c = let s = c .before .before .before in let l = c .before .loop in past-all (twiceMoved (s .args .s .now)) (length (s .args .s .now)) (l .x) (omega (arith, l .inv .0)) (l .inv .1)
+returns-2 c =
+    let s = c .before .before .before in
+    let l = c .before .loop in
+    past-all (twiceMoved (s .args .s .now)) (length (s .args .s .now)) (l .x) (omega (arith, l .inv .0)) (l .inv .1)
 
 pub first-moved-twice-spec : {M : Type 1} → statement M
 first-moved-twice-spec =

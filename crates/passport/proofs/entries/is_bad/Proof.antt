@@ -3,29 +3,27 @@ use borrow.Author.Needs.{needs}
 use Rattle.passport.proofs.entries.is_bad.Statement.{statement}
 use Rattle.passport.proofs.entries.is_bad.Tie as tie
 
--- src/entries.rt:19:18
 mul-wide : tie.Need-mul-wide
 mul-wide c = search needs
 
--- src/entries.rt:19:18
 shared-slice-read-wide : tie.Need-shared-slice-read-wide
 shared-slice-read-wide c = search needs
 
--- src/entries.rt:19:9
 wide-requires : tie.Need-wide-requires
 wide-requires c κs = search needs
 
--- src/entries.rt:21:9
 returns : tie.Need-returns
-returns c = let s = c .before .before .before .before in bad-high (s .args .t .now) (s .args .i) _ (c .before .wide .ensures) (c .if1 .taken)
+returns c =
+    let s = c .before .before .before .before in
+    bad-high (s .args .t .now) (s .args .i) _ (c .before .wide .ensures) (c .if1 .taken)
 
--- src/entries.rt:23:5
 element-copy-out-result : tie.Need-element-copy-out-result
 element-copy-out-result c = search needs
 
--- src/entries.rt:15:1
 returns-2 : tie.Need-returns-2
-returns-2 c = let s = c .before .before .before .before .before in bad-seen (s .args .t .now) (s .args .seen .now) (s .args .i) _ (s .pre .2) (s .pre .0) (c .before .before .wide .ensures) (c .before .if1 .left)
+returns-2 c =
+    let s = c .before .before .before .before .before in
+    bad-seen (s .args .t .now) (s .args .seen .now) (s .args .i) _ (s .pre .2) (s .pre .0) (c .before .before .wide .ensures) (c .before .if1 .left)
 
 pub is-bad-spec : {M : Type 1} → statement M
 is-bad-spec =

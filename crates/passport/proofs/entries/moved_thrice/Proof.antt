@@ -3,21 +3,21 @@ use borrow.Author.Needs.{needs}
 use Rattle.passport.proofs.entries.moved_thrice.Statement.{statement}
 use Rattle.passport.proofs.entries.moved_thrice.Tie as tie
 
--- src/entries.rt:90:9
 image-requires : tie.Need-image-requires
 image-requires c κs = search needs
 
--- src/entries.rt:91:9
 image-requires-2 : tie.Need-image-requires-2
 image-requires-2 c κs = search needs
 
--- src/entries.rt:92:9
 image-requires-3 : tie.Need-image-requires-3
 image-requires-3 c κs = search needs
 
--- src/entries.rt:86:1
 returns : tie.Need-returns
-returns c = let s = c .before .before .before .before in let z = s .pre in let T = s .args .r .now in thrice-is T (s .args .x) _ _ _ (c .before .before .image .ensures) (c .before .image2 .ensures) (c .image3 .ensures)
+returns c =
+    let s = c .before .before .before .before in
+    let z = s .pre in
+    let T = s .args .r .now in
+    thrice-is T (s .args .x) _ _ _ (c .before .before .image .ensures) (c .before .image2 .ensures) (c .image3 .ensures)
 
 pub moved-thrice-spec : {M : Type 1} → statement M
 moved-thrice-spec = tie.close (tie.spec image-requires image-requires-2 image-requires-3 returns)

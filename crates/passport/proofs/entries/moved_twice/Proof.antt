@@ -3,17 +3,18 @@ use borrow.Author.Needs.{needs}
 use Rattle.passport.proofs.entries.moved_twice.Statement.{statement}
 use Rattle.passport.proofs.entries.moved_twice.Tie as tie
 
--- src/entries.rt:65:9
 image-requires : tie.Need-image-requires
 image-requires c κs = search needs
 
--- src/entries.rt:66:9
 image-requires-2 : tie.Need-image-requires-2
 image-requires-2 c κs = search needs
 
--- src/entries.rt:61:1
 returns : tie.Need-returns
-returns c = let s = c .before .before .before in let z = s .pre in let T = s .args .s .now in twice-is T (s .args .x) _ _ (c .before .image .ensures) (c .image2 .ensures)
+returns c =
+    let s = c .before .before .before in
+    let z = s .pre in
+    let T = s .args .s .now in
+    twice-is T (s .args .x) _ _ (c .before .image .ensures) (c .image2 .ensures)
 
 pub moved-twice-spec : {M : Type 1} → statement M
 moved-twice-spec = tie.close (tie.spec image-requires image-requires-2 returns)

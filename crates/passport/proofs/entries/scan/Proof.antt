@@ -17,37 +17,49 @@ Inv-loop t seen₀ i₀ seen i = (i ≤ length t) × SeenTo t i seen × Clear (b
 abbrev μ-loop : tie.MeasureT-loop
 μ-loop t seen₀ i₀ seen i = length t - i
 
--- src/entries.rt:41:5
 loop-holds : tie.Need-loop-holds Inv-loop μ-loop
 loop-holds c = let s = c .before in (omega arith, s .pre .1, clear-zero (badEntry (s .args .t .now)))
 
--- src/entries.rt:42:12
 is-bad-requires : tie.Need-is-bad-requires Inv-loop μ-loop
 is-bad-requires c κs = let s = c .before .before .before .before in let l = c .before .before .loop in (s .pre .0, omega arith, l .inv .1)
 
--- src/entries.rt:43:13
 returns : tie.Need-returns Inv-loop μ-loop
-returns c = let s = c .before .before .before .before .before .before in let l = c .before .before .before .before .loop in at-first (badEntry (s .args .t .now)) (length (s .args .t .now)) (l .i) (omega arith) (l .inv .2) (sym (c .before .is-bad .ensures) ∙ c .if1 .taken)
+returns c =
+    let s = c .before .before .before .before .before .before in
+    let l = c .before .before .before .before .loop in
+    at-first (badEntry (s .args .t .now)) (length (s .args .t .now)) (l .i) (omega arith) (l .inv .2) (sym (c .before .is-bad .ensures) ∙ c .if1 .taken)
 
--- src/entries.rt:45:9
 see-requires : tie.Need-see-requires Inv-loop μ-loop
-see-requires c κs = let s = c .before .before .before .before .before .before .before in let l = c .before .before .before .before .before .loop in (omega arith, good-low (s .args .t .now) (l .i) (sym (c .before .before .is-bad .ensures) ∙ c .before .if1 .left) (s .pre .0), l .inv .1 .long)
+see-requires c κs =
+    let s = c .before .before .before .before .before .before .before in
+    let l = c .before .before .before .before .before .loop in
+    (omega arith, good-low (s .args .t .now) (l .i) (sym (c .before .before .is-bad .ensures) ∙ c .before .if1 .left) (s .pre .0), l .inv .1 .long)
 
--- src/entries.rt:46:9
 add-i : tie.Need-add-i Inv-loop μ-loop
-add-i c = let s = c .before .before .before .before .before .before .before .before in let l = c .before .before .before .before .before .before .loop in let m = s .pre .0 in omega arith
+add-i c =
+    let s = c .before .before .before .before .before .before .before .before in
+    let l = c .before .before .before .before .before .before .loop in
+    let m = s .pre .0 in
+    omega arith
 
--- src/entries.rt:41:5
 loop-less : tie.Need-loop-less Inv-loop μ-loop
-loop-less c = let s = c .before .before .before .before .before .before .before .before in let l = c .before .before .before .before .before .before .loop in omega arith
+loop-less c =
+    let s = c .before .before .before .before .before .before .before .before in
+    let l = c .before .before .before .before .before .before .loop in
+    omega arith
 
--- src/entries.rt:41:5
 loop-again : tie.Need-loop-again Inv-loop μ-loop
-loop-again c = let s = c .before .before .before .before .before .before .before .before in let l = c .before .before .before .before .before .before .loop in let e = sym (c .before .before .before .is-bad .ensures) ∙ c .before .before .if1 .left in (omega arith, rw (add-one, c .see .ensures) (seen-more (s .args .t .now) (l .seen) (l .i) (l .inv .1) (good-low (s .args .t .now) (l .i) e (s .pre .0))), rw add-one (clear-more (badEntry (s .args .t .now)) (l .i) (l .inv .2) e))
+loop-again c =
+    let s = c .before .before .before .before .before .before .before .before in
+    let l = c .before .before .before .before .before .before .loop in
+    let e = sym (c .before .before .before .is-bad .ensures) ∙ c .before .before .if1 .left in
+    (omega arith, rw (add-one, c .see .ensures) (seen-more (s .args .t .now) (l .seen) (l .i) (l .inv .1) (good-low (s .args .t .now) (l .i) e (s .pre .0))), rw add-one (clear-more (badEntry (s .args .t .now)) (l .i) (l .inv .2) e))
 
--- src/entries.rt:36:1
 returns-2 : tie.Need-returns-2 Inv-loop μ-loop
-returns-2 c = let s = c .before .before .before in let l = c .before .loop in past-all (badEntry (s .args .t .now)) (length (s .args .t .now)) (l .i) (omega (arith, l .inv .0)) (l .inv .2)
+returns-2 c =
+    let s = c .before .before .before in
+    let l = c .before .loop in
+    past-all (badEntry (s .args .t .now)) (length (s .args .t .now)) (l .i) (omega (arith, l .inv .0)) (l .inv .2)
 
 pub scan-spec : {M : Type 1} → statement M
 scan-spec =

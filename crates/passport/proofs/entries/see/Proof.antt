@@ -5,23 +5,18 @@ use borrow.Author.Needs.{needs}
 use Rattle.passport.proofs.entries.see.Statement.{statement}
 use Rattle.passport.proofs.entries.see.Tie as tie
 
--- src/entries.rt:31:18
 mul-wide : tie.Need-mul-wide
 mul-wide c = search needs
 
--- src/entries.rt:31:18
 shared-slice-read-wide : tie.Need-shared-slice-read-wide
 shared-slice-read-wide c = search needs
 
--- src/entries.rt:31:9
 wide-requires : tie.Need-wide-requires
 wide-requires c κs = search needs
 
--- src/entries.rt:32:5
 element-write-seen : tie.Need-element-write-seen
 element-write-seen c = search needs
 
--- src/entries.rt:27:1
 returns : tie.Need-returns
 returns c = let s = c .before .before .before in ap (λ (y : ℕ). set (s .args .seen .now) y 1) (c .wide .ensures)
 

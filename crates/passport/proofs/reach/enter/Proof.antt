@@ -6,37 +6,67 @@ use borrow.Author.Needs.{needs}
 use Rattle.passport.proofs.reach.enter.Statement.{statement}
 use Rattle.passport.proofs.reach.enter.Tie as tie
 
--- src/reach.rt:16:8
 element-copy-out-if1 : tie.Need-element-copy-out-if1
 element-copy-out-if1 c = search needs
 
--- src/reach.rt:17:9
 returns : tie.Need-returns
-returns c = let s = c .before .before in let z = s .pre in enter-old (s .args .n) (s .args .size) (s .args .x) (s .args .seen .now) (s .args .queue .now) (z .0) (z .1) (c .if1 .taken)
+returns c =
+    let s = c .before .before in
+    let z = s .pre in
+    enter-old (s .args .n) (s .args .size) (s .args .x) (s .args .seen .now) (s .args .queue .now) (z .0) (z .1) (c .if1 .taken)
 
--- src/reach.rt:19:5
 element-write-seen : tie.Need-element-write-seen
 element-write-seen c = search needs
 
--- src/reach.rt:20:16
 cast-queue : tie.Need-cast-queue
-cast-queue c = let s = c .before .before in let z = s .pre in let a = enter-room (s .args .n) (s .args .size) (s .args .x) (s .args .seen .now) (s .args .queue .now) (z .0) (z .1) (c .if1 .left) in let b = z .0 .most in let c' = z .0 .queue-long in let d = z .0 .seen-long in let e = z .1 in omega arith
+cast-queue c =
+    let s = c .before .before in
+    let z = s .pre in
+    let a = enter-room (s .args .n) (s .args .size) (s .args .x) (s .args .seen .now) (s .args .queue .now) (z .0) (z .1) (c .if1 .left) in
+    let b = z .0 .most in
+    let c' = z .0 .queue-long in
+    let d = z .0 .seen-long in
+    let e = z .1 in
+    omega arith
 
--- src/reach.rt:20:5
 mul-queue : tie.Need-mul-queue
-mul-queue c = let s = c .before .before in let z = s .pre in let a = enter-room (s .args .n) (s .args .size) (s .args .x) (s .args .seen .now) (s .args .queue .now) (z .0) (z .1) (c .if1 .left) in let b = z .0 .most in let c' = z .0 .queue-long in let d = z .0 .seen-long in let e = z .1 in omega arith
+mul-queue c =
+    let s = c .before .before in
+    let z = s .pre in
+    let a = enter-room (s .args .n) (s .args .size) (s .args .x) (s .args .seen .now) (s .args .queue .now) (z .0) (z .1) (c .if1 .left) in
+    let b = z .0 .most in
+    let c' = z .0 .queue-long in
+    let d = z .0 .seen-long in
+    let e = z .1 in
+    omega arith
 
--- src/reach.rt:20:5
 element-write-queue : tie.Need-element-write-queue
-element-write-queue c = let s = c .before .before in let z = s .pre in let a = enter-room (s .args .n) (s .args .size) (s .args .x) (s .args .seen .now) (s .args .queue .now) (z .0) (z .1) (c .if1 .left) in let b = z .0 .most in let c' = z .0 .queue-long in let d = z .0 .seen-long in let e = z .1 in omega arith
+element-write-queue c =
+    let s = c .before .before in
+    let z = s .pre in
+    let a = enter-room (s .args .n) (s .args .size) (s .args .x) (s .args .seen .now) (s .args .queue .now) (z .0) (z .1) (c .if1 .left) in
+    let b = z .0 .most in
+    let c' = z .0 .queue-long in
+    let d = z .0 .seen-long in
+    let e = z .1 in
+    omega arith
 
--- src/reach.rt:21:5
 add-result : tie.Need-add-result
-add-result c = let s = c .before .before in let z = s .pre in let a = enter-room (s .args .n) (s .args .size) (s .args .x) (s .args .seen .now) (s .args .queue .now) (z .0) (z .1) (c .if1 .left) in let b = z .0 .most in let c' = z .0 .queue-long in let d = z .0 .seen-long in let e = z .1 in omega arith
+add-result c =
+    let s = c .before .before in
+    let z = s .pre in
+    let a = enter-room (s .args .n) (s .args .size) (s .args .x) (s .args .seen .now) (s .args .queue .now) (z .0) (z .1) (c .if1 .left) in
+    let b = z .0 .most in
+    let c' = z .0 .queue-long in
+    let d = z .0 .seen-long in
+    let e = z .1 in
+    omega arith
 
--- src/reach.rt:12:1
 returns-2 : tie.Need-returns-2
-returns-2 c = let s = c .before .before in let z = s .pre in rw add-one (enter-new (s .args .n) (s .args .size) (s .args .x) (s .args .seen .now) (s .args .queue .now) (z .0) (z .1) (c .if1 .left))
+returns-2 c =
+    let s = c .before .before in
+    let z = s .pre in
+    rw add-one (enter-new (s .args .n) (s .args .size) (s .args .x) (s .args .seen .now) (s .args .queue .now) (z .0) (z .1) (c .if1 .left))
 
 pub enter-spec : {M : Type 1} → statement M
 enter-spec =

@@ -17,33 +17,68 @@ Inv-loop s r seen x₀ x = (x ≤ length s) × Clear (unreached s r) x
 abbrev μ-loop : tie.MeasureT-loop
 μ-loop s r seen x₀ x = length s - x
 
--- src/reach.rt:57:5
 loop-holds : tie.Need-loop-holds Inv-loop μ-loop
 loop-holds c = let s = c in (omega arith, clear-zero (unreached (s .args .s .now) (s .args .r .now)))
 
--- src/reach.rt:58:12
 element-copy-out-if1 : tie.Need-element-copy-out-if1 Inv-loop μ-loop
-element-copy-out-if1 c = let s = c .before .before in let z = s .pre in let S = s .args .s .now in let R = s .args .r .now in let l = c .before .loop in let h = z .0 in omega arith
+element-copy-out-if1 c =
+    let s = c .before .before in
+    let z = s .pre in
+    let S = s .args .s .now in
+    let R = s .args .r .now in
+    let l = c .before .loop in
+    let h = z .0 in
+    omega arith
 
--- src/reach.rt:59:13
 returns : tie.Need-returns Inv-loop μ-loop
-returns c = let s = c .before .before .before .before in let z = s .pre in let S = s .args .s .now in let R = s .args .r .now in let l = c .before .before .before .loop in let h = z .0 in at-first (unreached S R) (length S) (l .x) (omega arith) (l .inv .1) (unmarked S R _ (l .x) (z .1) (omega arith) (c .if1 .taken))
+returns c =
+    let s = c .before .before .before .before in
+    let z = s .pre in
+    let S = s .args .s .now in
+    let R = s .args .r .now in
+    let l = c .before .before .before .loop in
+    let h = z .0 in
+    at-first (unreached S R) (length S) (l .x) (omega arith) (l .inv .1) (unmarked S R _ (l .x) (z .1) (omega arith) (c .if1 .taken))
 
--- src/reach.rt:61:9
 add-x : tie.Need-add-x Inv-loop μ-loop
-add-x c = let s = c .before .before .before .before in let z = s .pre in let S = s .args .s .now in let R = s .args .r .now in let l = c .before .before .before .loop in let h = z .0 in omega arith
+add-x c =
+    let s = c .before .before .before .before in
+    let z = s .pre in
+    let S = s .args .s .now in
+    let R = s .args .r .now in
+    let l = c .before .before .before .loop in
+    let h = z .0 in
+    omega arith
 
--- src/reach.rt:57:5
 loop-less : tie.Need-loop-less Inv-loop μ-loop
-loop-less c = let s = c .before .before .before .before in let z = s .pre in let S = s .args .s .now in let R = s .args .r .now in let l = c .before .before .before .loop in let h = z .0 in omega arith
+loop-less c =
+    let s = c .before .before .before .before in
+    let z = s .pre in
+    let S = s .args .s .now in
+    let R = s .args .r .now in
+    let l = c .before .before .before .loop in
+    let h = z .0 in
+    omega arith
 
--- src/reach.rt:57:5
 loop-again : tie.Need-loop-again Inv-loop μ-loop
-loop-again c = let s = c .before .before .before .before in let z = s .pre in let S = s .args .s .now in let R = s .args .r .now in let l = c .before .before .before .loop in let h = z .0 in (omega arith, rw add-one (clear-more (unreached S R) (l .x) (l .inv .1) (marked S R _ (l .x) (z .1) (omega arith) (c .if1 .left))))
+loop-again c =
+    let s = c .before .before .before .before in
+    let z = s .pre in
+    let S = s .args .s .now in
+    let R = s .args .r .now in
+    let l = c .before .before .before .loop in
+    let h = z .0 in
+    (omega arith, rw add-one (clear-more (unreached S R) (l .x) (l .inv .1) (marked S R _ (l .x) (z .1) (omega arith) (c .if1 .left))))
 
--- src/reach.rt:52:1
 returns-2 : tie.Need-returns-2 Inv-loop μ-loop
-returns-2 c = let s = c .before .before in let z = s .pre in let S = s .args .s .now in let R = s .args .r .now in let l = c .before .loop in let h = z .0 in past-all (unreached S R) (length S) (l .x) (omega (arith, l .inv .0)) (l .inv .1)
+returns-2 c =
+    let s = c .before .before in
+    let z = s .pre in
+    let S = s .args .s .now in
+    let R = s .args .r .now in
+    let l = c .before .loop in
+    let h = z .0 in
+    past-all (unreached S R) (length S) (l .x) (omega (arith, l .inv .0)) (l .inv .1)
 
 pub first-unmarked-spec : {M : Type 1} → statement M
 first-unmarked-spec =

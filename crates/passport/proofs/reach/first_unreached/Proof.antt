@@ -6,15 +6,12 @@ use borrow.Author.Needs.{needs}
 use Rattle.passport.proofs.reach.first_unreached.Statement.{statement}
 use Rattle.passport.proofs.reach.first_unreached.Tie as tie
 
--- src/reach.rt:73:5
 list-reached-requires : tie.Need-list-reached-requires
 list-reached-requires c κs = (c .before .before .before .before .pre, record { seen-long = length-replicate {A = ℕ} 3072 0; queue-long = length-replicate {A = ℕ} 3072 0; clear = zero-at 3072 })
 
--- src/reach.rt:74:5
 first-unmarked-requires : tie.Need-first-unmarked-requires
 first-unmarked-requires c κs = search needs
 
--- src/reach.rt:67:1
 returns : tie.Need-returns
 returns c = search needs
 

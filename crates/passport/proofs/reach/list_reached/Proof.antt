@@ -14,37 +14,72 @@ Inv-loop s r seen₀ queue₀ n₀ i₀ seen queue n i = Run s r i n seen queue
 abbrev μ-loop : tie.MeasureT-loop
 μ-loop s r seen₀ queue₀ n₀ i₀ seen queue n i = length s - i
 
--- src/reach.rt:41:5
 element-write-seen : tie.Need-element-write-seen Inv-loop μ-loop
 element-write-seen c = search needs
 
--- src/reach.rt:42:5
 element-write-queue : tie.Need-element-write-queue Inv-loop μ-loop
 element-write-queue c = search needs
 
--- src/reach.rt:45:5
 loop-holds : tie.Need-loop-holds Inv-loop μ-loop
-loop-holds c = let s = c .before .before in let z = s .pre in run-start (s .args .s .now) (s .args .r .now) (z .0) (s .args .seen .now) (s .args .queue .now) (z .1)
+loop-holds c =
+    let s = c .before .before in
+    let z = s .pre in
+    run-start (s .args .s .now) (s .args .r .now) (z .0) (s .args .seen .now) (s .args .queue .now) (z .1)
 
--- src/reach.rt:46:9
 visit-requires : tie.Need-visit-requires Inv-loop μ-loop
-visit-requires c κs = let s = c .before .before .before .before .before .before in let z = s .pre in let S = s .args .s .now in let R = s .args .r .now in let l = c .before .before .before .loop in let f = l .inv .listed .few in let m = l .inv .listed .most in (z .0, l .inv .listed, omega arith)
+visit-requires c κs =
+    let s = c .before .before .before .before .before .before in
+    let z = s .pre in
+    let S = s .args .s .now in
+    let R = s .args .r .now in
+    let l = c .before .before .before .loop in
+    let f = l .inv .listed .few in
+    let m = l .inv .listed .most in
+    (z .0, l .inv .listed, omega arith)
 
--- src/reach.rt:47:9
 add-i : tie.Need-add-i Inv-loop μ-loop
-add-i c = let s = c .before .before .before .before .before .before .before in let z = s .pre in let S = s .args .s .now in let R = s .args .r .now in let l = c .before .before .before .before .loop in let f = l .inv .listed .few in let m = l .inv .listed .most in omega arith
+add-i c =
+    let s = c .before .before .before .before .before .before .before in
+    let z = s .pre in
+    let S = s .args .s .now in
+    let R = s .args .r .now in
+    let l = c .before .before .before .before .loop in
+    let f = l .inv .listed .few in
+    let m = l .inv .listed .most in
+    omega arith
 
--- src/reach.rt:45:5
 loop-less : tie.Need-loop-less Inv-loop μ-loop
-loop-less c = let s = c .before .before .before .before .before .before .before in let z = s .pre in let S = s .args .s .now in let R = s .args .r .now in let l = c .before .before .before .before .loop in let f = l .inv .listed .few in let m = l .inv .listed .most in omega arith
+loop-less c =
+    let s = c .before .before .before .before .before .before .before in
+    let z = s .pre in
+    let S = s .args .s .now in
+    let R = s .args .r .now in
+    let l = c .before .before .before .before .loop in
+    let f = l .inv .listed .few in
+    let m = l .inv .listed .most in
+    omega arith
 
--- src/reach.rt:45:5
 loop-again : tie.Need-loop-again Inv-loop μ-loop
-loop-again c = let s = c .before .before .before .before .before .before .before in let z = s .pre in let S = s .args .s .now in let R = s .args .r .now in let l = c .before .before .before .before .loop in let f = l .inv .listed .few in let m = l .inv .listed .most in rw add-one (run-more S R (z .0) (l .i) (l .n) _ (l .seen) (l .queue) _ _ (l .inv) (omega arith) (c .visit .ensures))
+loop-again c =
+    let s = c .before .before .before .before .before .before .before in
+    let z = s .pre in
+    let S = s .args .s .now in
+    let R = s .args .r .now in
+    let l = c .before .before .before .before .loop in
+    let f = l .inv .listed .few in
+    let m = l .inv .listed .most in
+    rw add-one (run-more S R (z .0) (l .i) (l .n) _ (l .seen) (l .queue) _ _ (l .inv) (omega arith) (c .visit .ensures))
 
--- src/reach.rt:37:1
 returns : tie.Need-returns Inv-loop μ-loop
-returns c = let s = c .before .before .before .before in let z = s .pre in let S = s .args .s .now in let R = s .args .r .now in let l = c .before .loop in let f = l .inv .listed .few in let m = l .inv .listed .most in run-end S R (z .0) (l .i) (l .n) (l .seen) (l .queue) (l .inv) (omega arith)
+returns c =
+    let s = c .before .before .before .before in
+    let z = s .pre in
+    let S = s .args .s .now in
+    let R = s .args .r .now in
+    let l = c .before .loop in
+    let f = l .inv .listed .few in
+    let m = l .inv .listed .most in
+    run-end S R (z .0) (l .i) (l .n) (l .seen) (l .queue) (l .inv) (omega arith)
 
 pub list-reached-spec : {M : Type 1} → statement M
 list-reached-spec =

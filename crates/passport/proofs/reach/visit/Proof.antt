@@ -6,37 +6,43 @@ use borrow.Author.Needs.{needs}
 use Rattle.passport.proofs.reach.visit.Statement.{statement}
 use Rattle.passport.proofs.reach.visit.Tie as tie
 
--- src/reach.rt:29:26
 mul-index : tie.Need-mul-index
 mul-index c = search needs
 
--- src/reach.rt:29:26
 element-copy-out-index : tie.Need-element-copy-out-index
 element-copy-out-index c = search needs
 
--- src/reach.rt:29:9
 index-requires : tie.Need-index-requires
 index-requires c κs = search needs
 
--- src/reach.rt:30:9
 image-requires : tie.Need-image-requires
 image-requires c κs = search needs
 
--- src/reach.rt:31:9
 image-requires-2 : tie.Need-image-requires-2
 image-requires-2 c κs = search needs
 
--- src/reach.rt:32:9
 enter-requires : tie.Need-enter-requires
-enter-requires c κs = let s = c .before .before .before .before .before .before .before .before in let z = s .pre in let xl = visit-low (s .args .n) _ (s .args .i) _ (s .args .seen .now) (s .args .queue .now) (z .1) (z .2) (c .before .before .before .before .index .ensures) in let al = entries-low _ (z .0 .S) _ _ xl (c .before .before .before .image .ensures) in (z .1, al)
+enter-requires c κs =
+    let s = c .before .before .before .before .before .before .before .before in
+    let z = s .pre in
+    let xl = visit-low (s .args .n) _ (s .args .i) _ (s .args .seen .now) (s .args .queue .now) (z .1) (z .2) (c .before .before .before .before .index .ensures) in
+    let al = entries-low _ (z .0 .S) _ _ xl (c .before .before .before .image .ensures) in
+    (z .1, al)
 
--- src/reach.rt:33:5
 enter-requires-2 : tie.Need-enter-requires-2
-enter-requires-2 c κs = let s = c .before .before .before .before .before .before .before .before .before .before .before in let z = s .pre in let xl = visit-low (s .args .n) _ (s .args .i) _ (s .args .seen .now) (s .args .queue .now) (z .1) (z .2) (c .before .before .before .before .before .before .before .index .ensures) in let bl = entries-low _ (z .0 .R) _ _ (rw (z .0 .even) xl) (c .before .before .before .before .before .image2 .ensures) in (c .before .before .enter .ensures .listed, rw (z .0 .even) at bl)
+enter-requires-2 c κs =
+    let s = c .before .before .before .before .before .before .before .before .before .before .before in
+    let z = s .pre in
+    let xl = visit-low (s .args .n) _ (s .args .i) _ (s .args .seen .now) (s .args .queue .now) (z .1) (z .2) (c .before .before .before .before .before .before .before .index .ensures) in
+    let bl = entries-low _ (z .0 .R) _ _ (rw (z .0 .even) xl) (c .before .before .before .before .before .image2 .ensures) in
+    (c .before .before .enter .ensures .listed, rw (z .0 .even) at bl)
 
--- src/reach.rt:25:1
 returns : tie.Need-returns
-returns c = let s = c .before .before .before .before .before .before .before .before .before .before .before .before in let z = s .pre in let xl = visit-low (s .args .n) _ (s .args .i) _ (s .args .seen .now) (s .args .queue .now) (z .1) (z .2) (c .before .before .before .before .before .before .before .before .index .ensures) in visit-both _ _ (s .args .n) _ (s .args .i) _ _ _ _ _ (s .args .seen .now) (s .args .queue .now) _ _ _ _ (z .2) (c .before .before .before .before .before .before .before .before .index .ensures) (c .before .before .before .before .before .before .before .image .ensures) (c .before .before .before .before .before .before .image2 .ensures) (c .before .before .before .enter .ensures) (c .enter2 .ensures)
+returns c =
+    let s = c .before .before .before .before .before .before .before .before .before .before .before .before in
+    let z = s .pre in
+    let xl = visit-low (s .args .n) _ (s .args .i) _ (s .args .seen .now) (s .args .queue .now) (z .1) (z .2) (c .before .before .before .before .before .before .before .before .index .ensures) in
+    visit-both _ _ (s .args .n) _ (s .args .i) _ _ _ _ _ (s .args .seen .now) (s .args .queue .now) _ _ _ _ (z .2) (c .before .before .before .before .before .before .before .before .index .ensures) (c .before .before .before .before .before .before .before .image .ensures) (c .before .before .before .before .before .before .image2 .ensures) (c .before .before .before .enter .ensures) (c .enter2 .ensures)
 
 pub visit-spec : {M : Type 1} → statement M
 visit-spec =

@@ -13,10 +13,18 @@ frame-requires-2 : tie.Need-frame-requires-2
 frame-requires-2 c κs = search needs
 
 carry-requires : tie.Need-carry-requires
-carry-requires c κs = let b = c .before in let a = b .before in let s = a .before in rw (a .frame .ensures, b .matrix-s .ensures, c .frame2 .ensures) (s .pre, small-S, s .pre)
+carry-requires c κs =
+    let b = c .before in
+    let a = b .before in
+    let s = a .before in
+    rw (a .frame .ensures, b .matrix-s .ensures, c .frame2 .ensures) (s .pre, small-S, s .pre)
 
 returns : tie.Need-returns
-returns c = let d = c .before in let b = d .before in let a = b .before in rw (c .carry .ensures, a .frame .ensures, b .matrix-s .ensures, d .frame2 .ensures)
+returns c =
+    let d = c .before in
+    let b = d .before in
+    let a = b .before in
+    rw (c .carry .ensures, a .frame .ensures, b .matrix-s .ensures, d .frame2 .ensures)
 
 pub even-spec : {M : Type 1} → statement M
 even-spec =

@@ -3,11 +3,9 @@ use borrow.Author.Needs.{needs}
 use Rattle.writing.proofs.write.least.Statement.{statement}
 use Rattle.writing.proofs.write.least.Tie as tie
 
--- src/write.rt:75:9
 returns : tie.Need-returns
 returns c = least-yes (c .before .args .x) (c .before .args .y) (c .if1 .taken)
 
--- src/write.rt:71:1
 returns-2 : tie.Need-returns-2
 returns-2 c = least-no (c .before .args .x) (c .before .args .y) (c .if1 .left)
 

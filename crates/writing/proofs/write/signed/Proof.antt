@@ -3,11 +3,9 @@ use borrow.Author.Needs.{needs}
 use Rattle.writing.proofs.write.signed.Statement.{statement}
 use Rattle.writing.proofs.write.signed.Tie as tie
 
--- src/write.rt:32:5
 cast-result : tie.Need-cast-result
 cast-result c = search needs
 
--- src/write.rt:28:1
 returns : tie.Need-returns
 returns c = signed-is _ (c .pre)
 

@@ -8,29 +8,25 @@ use borrow.Author.Needs.{needs}
 use Rattle.writing.proofs.write.write_four.Statement.{statement}
 use Rattle.writing.proofs.write.write_four.Tie as tie
 
--- src/write.rt:49:5
 put-requires : tie.Need-put-requires
 put-requires c κs = search needs
 
--- src/write.rt:50:5
 put-requires-2 : tie.Need-put-requires-2
 put-requires-2 c κs = search needs
 
--- src/write.rt:51:5
 put-requires-3 : tie.Need-put-requires-3
 put-requires-3 c κs = search needs
 
--- src/write.rt:52:5
 put-requires-4 : tie.Need-put-requires-4
 put-requires-4 c κs = search needs
 
--- src/write.rt:45:1
 same-length : tie.Need-same-length
 same-length c = search needs
 
--- src/write.rt:45:1
 returns : tie.Need-returns
-returns c = let s = c .before .before .before .before .before .before .before .before .before .before .before .before in c .before .put4 .ensures ∙ ap (λ (l : List ℤ). set l 3 (negsuc 2)) ((rw (toZ-ofZ (s .fits .x)) at (c .before .before .before .before .put3 .ensures)) ∙ ap (λ (l : List ℤ). set l 2 (s .args .x)) (c .before .before .before .before .before .before .before .put2 .ensures ∙ ap (λ (l : List ℤ). set l 1 (pos 1)) (c .before .before .before .before .before .before .before .before .before .before .put .ensures))) ∙ four-stores (s .args .out .now) (s .args .x) (s .pre)
+returns c =
+    let s = c .before .before .before .before .before .before .before .before .before .before .before .before in
+    c .before .put4 .ensures ∙ ap (λ (l : List ℤ). set l 3 (negsuc 2)) ((rw (toZ-ofZ (s .fits .x)) at (c .before .before .before .before .put3 .ensures)) ∙ ap (λ (l : List ℤ). set l 2 (s .args .x)) (c .before .before .before .before .before .before .before .put2 .ensures ∙ ap (λ (l : List ℤ). set l 1 (pos 1)) (c .before .before .before .before .before .before .before .before .before .before .put .ensures))) ∙ four-stores (s .args .out .now) (s .args .x) (s .pre)
 
 pub write-four-spec : {M : Type 1} → statement M
 write-four-spec =

@@ -14,49 +14,92 @@ Inv-loop s r w₀ d out₀ v c₀ i₀ w out c i = (i ≤ d) × Labelled (image 
 abbrev μ-loop : tie.MeasureT-loop
 μ-loop s r w₀ d out₀ v c₀ i₀ w out c i = d - i
 
--- src/write.rt:122:13
 sub-v : tie.Need-sub-v Inv-loop μ-loop
 sub-v c = let z = c .before .before .before .pre .0 .some in omega arith
 
--- src/write.rt:125:5
 loop-holds : tie.Need-loop-holds Inv-loop μ-loop
-loop-holds c = let s = c .before .before .before in let S = s .args .s .now in let R = s .args .r .now in let W = s .args .w .now in let O = s .args .out .now in let D = s .args .d in let z = s .pre in (omega arith, labelled-none (image S) (byQ (image S) (image R)) W O D (z .0 .labels))
+loop-holds c =
+    let s = c .before .before .before in
+    let S = s .args .s .now in
+    let R = s .args .r .now in
+    let W = s .args .w .now in
+    let O = s .args .out .now in
+    let D = s .args .d in
+    let z = s .pre in
+    (omega arith, labelled-none (image S) (byQ (image S) (image R)) W O D (z .0 .labels))
 
--- src/write.rt:126:39
 mul-write-pairing : tie.Need-mul-write-pairing Inv-loop μ-loop
 mul-write-pairing c = let z = c .before .before .before .before .before .before .pre .0 .most in omega arith
 
--- src/write.rt:126:39
 add-write-pairing : tie.Need-add-write-pairing Inv-loop μ-loop
 add-write-pairing c = let z = c .before .before .before .before .before .before .pre .0 .most in omega arith
 
--- src/write.rt:126:9
 write-pairing-requires : tie.Need-write-pairing-requires Inv-loop μ-loop
-write-pairing-requires c κs = let s = c .before .before .before .before .before .before .before in let S = s .args .s .now in let R = s .args .r .now in let W = s .args .w .now in let O = s .args .out .now in let D = s .args .d in let z = s .pre in let l = c .before .before .before .loop in pairs-side S R W O D (z .0) (z .1) (l .w) (l .out) (l .i) (l .c) (l .inv .1) (omega arith)
+write-pairing-requires c κs =
+    let s = c .before .before .before .before .before .before .before in
+    let S = s .args .s .now in
+    let R = s .args .r .now in
+    let W = s .args .w .now in
+    let O = s .args .out .now in
+    let D = s .args .d in
+    let z = s .pre in
+    let l = c .before .before .before .loop in
+    pairs-side S R W O D (z .0) (z .1) (l .w) (l .out) (l .i) (l .c) (l .inv .1) (omega arith)
 
--- src/write.rt:127:9
 add-i : tie.Need-add-i Inv-loop μ-loop
 add-i c = let z = c .before .before .before .before .before .before .before .before .before .before .before .pre .0 .most in omega arith
 
--- src/write.rt:125:5
 loop-less : tie.Need-loop-less Inv-loop μ-loop
 loop-less c = search needs
 
--- src/write.rt:125:5
 loop-again : tie.Need-loop-again Inv-loop μ-loop
-loop-again c = let s = c .before .before .before .before .before .before .before .before .before .before .before in let S = s .args .s .now in let R = s .args .r .now in let W = s .args .w .now in let O = s .args .out .now in let D = s .args .d in let z = s .pre in let l = c .before .before .before .before .before .before .before .loop in (omega arith, rw add-one (pairs-more S R W O D (z .0) (z .1) (l .w) (l .out) (l .i) (l .c) (l .inv .1) (omega arith) _ _ _ (c .before .before .before .write-pairing .ensures)))
+loop-again c =
+    let s = c .before .before .before .before .before .before .before .before .before .before .before in
+    let S = s .args .s .now in
+    let R = s .args .r .now in
+    let W = s .args .w .now in
+    let O = s .args .out .now in
+    let D = s .args .d in
+    let z = s .pre in
+    let l = c .before .before .before .before .before .before .before .loop in
+    (omega arith, rw add-one (pairs-more S R W O D (z .0) (z .1) (l .w) (l .out) (l .i) (l .c) (l .inv .1) (omega arith) _ _ _ (c .before .before .before .write-pairing .ensures)))
 
--- src/write.rt:118:1
 same-length : tie.Need-same-length Inv-loop μ-loop
-same-length c = let s = c .before .before .before .before .before in let S = s .args .s .now in let R = s .args .r .now in let W = s .args .w .now in let O = s .args .out .now in let D = s .args .d in let z = s .pre in let l = c .before .loop in l .inv .1 .long
+same-length c =
+    let s = c .before .before .before .before .before in
+    let S = s .args .s .now in
+    let R = s .args .r .now in
+    let W = s .args .w .now in
+    let O = s .args .out .now in
+    let D = s .args .d in
+    let z = s .pre in
+    let l = c .before .loop in
+    l .inv .1 .long
 
--- src/write.rt:118:1
 same-length-2 : tie.Need-same-length-2 Inv-loop μ-loop
-same-length-2 c = let s = c .before .before .before .before .before in let S = s .args .s .now in let R = s .args .r .now in let W = s .args .w .now in let O = s .args .out .now in let D = s .args .d in let z = s .pre in let l = c .before .loop in labelled-length (image S) (byQ (image S) (image R)) W O D (l .w) (l .out) (l .i) (l .c) (l .inv .1) (let so = z .0 .some in let h = z .1 in omega (arith, l .inv .0))
+same-length-2 c =
+    let s = c .before .before .before .before .before in
+    let S = s .args .s .now in
+    let R = s .args .r .now in
+    let W = s .args .w .now in
+    let O = s .args .out .now in
+    let D = s .args .d in
+    let z = s .pre in
+    let l = c .before .loop in
+    labelled-length (image S) (byQ (image S) (image R)) W O D (l .w) (l .out) (l .i) (l .c) (l .inv .1) (let so = z .0 .some in let h = z .1 in omega (arith, l .inv .0))
 
--- src/write.rt:118:1
 returns : tie.Need-returns Inv-loop μ-loop
-returns c = let s = c .before .before .before .before .before in let S = s .args .s .now in let R = s .args .r .now in let W = s .args .w .now in let O = s .args .out .now in let D = s .args .d in let z = s .pre in let l = c .before .loop in let e : l .i ≡ D = omega (arith, l .inv .0) in labelled-all (image S) (byQ (image S) (image R)) W O D (l .w) (l .out) (l .c) (let so = z .0 .some in omega arith) (rw e at (l .inv .1))
+returns c =
+    let s = c .before .before .before .before .before in
+    let S = s .args .s .now in
+    let R = s .args .r .now in
+    let W = s .args .w .now in
+    let O = s .args .out .now in
+    let D = s .args .d in
+    let z = s .pre in
+    let l = c .before .loop in
+    let e : l .i ≡ D = omega (arith, l .inv .0) in
+    labelled-all (image S) (byQ (image S) (image R)) W O D (l .w) (l .out) (l .c) (let so = z .0 .some in omega arith) (rw e at (l .inv .1))
 
 pub write-pairings-spec : {M : Type 1} → statement M
 write-pairings-spec =

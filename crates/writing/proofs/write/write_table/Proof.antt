@@ -6,29 +6,27 @@ use borrow.Author.Needs.{needs}
 use Rattle.writing.proofs.write.write_table.Statement.{statement}
 use Rattle.writing.proofs.write.write_table.Tie as tie
 
--- src/write.rt:136:23
 sub-write-vertices : tie.Need-sub-write-vertices
 sub-write-vertices c = search needs
 
--- src/write.rt:136:5
 write-vertices-requires : tie.Need-write-vertices-requires
 write-vertices-requires c κs = search needs
 
--- src/write.rt:137:5
 write-pairings-requires : tie.Need-write-pairings-requires
 write-pairings-requires c κs = search needs
 
--- src/write.rt:132:1
 same-length : tie.Need-same-length
 same-length c = search needs
 
--- src/write.rt:132:1
 same-length-2 : tie.Need-same-length-2
 same-length-2 c = search needs
 
--- src/write.rt:132:1
 returns : tie.Need-returns
-returns c = let s = c .before .before .before .before .before .before .before .before .before .before .before .before .before in let sg = image (s .args .s .now) in let ka = byQ sg (image (s .args .r .now)) in table-written sg ka (s .args .w .now) (s .args .out .now) _ _ (s .args .d) (let z = s .pre .0 .some in omega arith) (s .pre .1) (c .before .before .before .before .before .before .before .write-vertices .ensures) (c .before .before .before .write-pairings .ensures)
+returns c =
+    let s = c .before .before .before .before .before .before .before .before .before .before .before .before .before in
+    let sg = image (s .args .s .now) in
+    let ka = byQ sg (image (s .args .r .now)) in
+    table-written sg ka (s .args .w .now) (s .args .out .now) _ _ (s .args .d) (let z = s .pre .0 .some in omega arith) (s .pre .1) (c .before .before .before .before .before .before .before .write-vertices .ensures) (c .before .before .before .write-pairings .ensures)
 
 pub write-table-spec : {M : Type 1} → statement M
 write-table-spec =

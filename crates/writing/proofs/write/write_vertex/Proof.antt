@@ -6,61 +6,49 @@ use borrow.Author.Needs.{needs}
 use Rattle.writing.proofs.write.write_vertex.Statement.{statement}
 use Rattle.writing.proofs.write.write_vertex.Tie as tie
 
--- src/write.rt:49:21
 mul-at : tie.Need-mul-at
 mul-at c = search needs
 
--- src/write.rt:49:14
 add-at : tie.Need-add-at
 add-at c = search needs
 
--- src/write.rt:50:9
 number-at-requires : tie.Need-number-at-requires
 number-at-requires c κs = search needs
 
--- src/write.rt:51:26
 add-number-at : tie.Need-add-number-at
 add-number-at c = search needs
 
--- src/write.rt:51:9
 number-at-requires-2 : tie.Need-number-at-requires-2
 number-at-requires-2 c κs = search needs
 
--- src/write.rt:52:9
 numerator-requires : tie.Need-numerator-requires
 numerator-requires c κs = search needs
 
--- src/write.rt:53:9
 signed-requires : tie.Need-signed-requires
 signed-requires c κs = search needs
 
--- src/write.rt:54:14
 mul-put : tie.Need-mul-put
 mul-put c = search needs
 
--- src/write.rt:54:5
 put-requires : tie.Need-put-requires
 put-requires c κs = search needs
 
--- src/write.rt:55:14
 mul-put-2 : tie.Need-mul-put-2
 mul-put-2 c = search needs
 
--- src/write.rt:55:14
 add-put : tie.Need-add-put
 add-put c = search needs
 
--- src/write.rt:55:5
 put-requires-2 : tie.Need-put-requires-2
 put-requires-2 c κs = search needs
 
--- src/write.rt:45:1
 same-length : tie.Need-same-length
 same-length c = search needs
 
--- src/write.rt:45:1
 returns : tie.Need-returns
-returns c = let s = c .before .before .before .before .before .before .before .before .before .before .before in vertex-stored (s .args .w .now) (12288 + 5 * s .args .i) (s .args .i) _ _ _ _ (s .args .out .now) _ _ (c .before .before .before .before .before .before .before .before .before .number-at .ensures .0) (c .before .before .before .before .before .before .before .before .number-at2 .ensures .0) (c .before .before .before .before .before .before .before .numerator .ensures) (c .before .before .before .before .before .before .signed .ensures) (c .before .before .before .before .before .before .before .numerator .ok) (c .before .before .before .before .before .before .signed .ok) (c .before .before .before .before .put .ensures) (c .before .put2 .ensures)
+returns c =
+    let s = c .before .before .before .before .before .before .before .before .before .before .before in
+    vertex-stored (s .args .w .now) (12288 + 5 * s .args .i) (s .args .i) _ _ _ _ (s .args .out .now) _ _ (c .before .before .before .before .before .before .before .before .before .number-at .ensures .0) (c .before .before .before .before .before .before .before .before .number-at2 .ensures .0) (c .before .before .before .before .before .before .before .numerator .ensures) (c .before .before .before .before .before .before .signed .ensures) (c .before .before .before .before .before .before .before .numerator .ok) (c .before .before .before .before .before .before .signed .ok) (c .before .before .before .before .put .ensures) (c .before .put2 .ensures)
 
 pub write-vertex-spec : {M : Type 1} → statement M
 write-vertex-spec =

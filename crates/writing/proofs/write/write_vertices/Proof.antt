@@ -16,31 +16,36 @@ Inv-loop w v out₀ i₀ out i = (i ≤ v) × (out ≡ verticesTo w i ++ drop (2
 abbrev μ-loop : tie.MeasureT-loop
 μ-loop w v out₀ i₀ out i = v - i
 
--- src/write.rt:64:5
 loop-holds : tie.Need-loop-holds Inv-loop μ-loop
 loop-holds c = (search needs, refl)
 
--- src/write.rt:65:9
 write-vertex-requires : tie.Need-write-vertex-requires Inv-loop μ-loop
-write-vertex-requires c κs = let l = c .before .before .loop in let s = c .before .before .before .before in let z = s .pre in (omega (arith, z .0), z .1, omega (arith, z .2, vertices-length (s .args .w .now) _ (l .out) (l .i) (l .inv .1) (omega (arith, z .2))))
+write-vertex-requires c κs =
+    let l = c .before .before .loop in
+    let s = c .before .before .before .before in
+    let z = s .pre in
+    (omega (arith, z .0), z .1, omega (arith, z .2, vertices-length (s .args .w .now) _ (l .out) (l .i) (l .inv .1) (omega (arith, z .2))))
 
--- src/write.rt:66:9
 add-i : tie.Need-add-i Inv-loop μ-loop
 add-i c = search needs
 
--- src/write.rt:64:5
 loop-less : tie.Need-loop-less Inv-loop μ-loop
 loop-less c = search needs
 
--- src/write.rt:64:5
 loop-again : tie.Need-loop-again Inv-loop μ-loop
-loop-again c = let l = c .before .before .before .before .loop in let s = c .before .before .before .before .before .before in let z = s .pre in (search needs, rw add-one (vertices-more (s .args .w .now) _ (l .out) _ (l .i) (l .inv .1) (omega (arith, z .2)) (c .before .write-vertex .ensures)))
+loop-again c =
+    let l = c .before .before .before .before .loop in
+    let s = c .before .before .before .before .before .before in
+    let z = s .pre in
+    (search needs, rw add-one (vertices-more (s .args .w .now) _ (l .out) _ (l .i) (l .inv .1) (omega (arith, z .2)) (c .before .write-vertex .ensures)))
 
--- src/write.rt:59:1
 same-length : tie.Need-same-length Inv-loop μ-loop
-same-length c = let l = c .before .loop in let s = c .before .before .before in let z = s .pre in vertices-length (s .args .w .now) (s .args .out .now) (l .out) (l .i) (l .inv .1) (omega (arith, z .2))
+same-length c =
+    let l = c .before .loop in
+    let s = c .before .before .before in
+    let z = s .pre in
+    vertices-length (s .args .w .now) (s .args .out .now) (l .out) (l .i) (l .inv .1) (omega (arith, z .2))
 
--- src/write.rt:59:1
 returns : tie.Need-returns Inv-loop μ-loop
 returns c = let l = c .before .loop in let s = c .before .before .before in let e : l .i ≡ s .args .v = omega arith in rw e at (l .inv .1)
 
