@@ -71,7 +71,7 @@ fn wide(x: u16) -> u64
     x as u64
 }
 
-// The naturals xs, each behind a space.
+// The naturals xs, of 16 bits as in the tables of a work space, each behind a space.
 pub fn put_cells(xs: &[u16], out: &mut [u8], at: usize) -> usize
     requires { ⌜ at + (6 * length (now xs) + 21) ≤ length (now out) ⌝ }
     ensures { λ r. ⌜ Puts (spaced (map natural (now (xs .entry)))) at r (now (out .entry)) (now (out .exit)) × (r ≤ at + 6 * length (now (xs .entry))) ⌝ }
@@ -141,7 +141,7 @@ pub fn line_of_two(name: &[u8], a: u64, b: u64, out: &mut [u8], at: usize) -> us
     put(b"\n", out, third)
 }
 
-// A line of the naturals xs.
+// A line of the naturals xs, of 16 bits as in the tables of a work space.
 pub fn line_of_cells(name: &[u8], xs: &[u16], out: &mut [u8], at: usize) -> usize
     requires { ⌜ at + (length (now name) + 6 * length (now xs) + 21) ≤ length (now out) ⌝ }
     ensures { λ r. ⌜ Puts (line (now (name .entry)) (map natural (now (xs .entry)))) at r (now (out .entry)) (now (out .exit)) × (r ≤ at + (length (now (name .entry)) + 6 * length (now (xs .entry)) + 1)) ⌝ }
