@@ -3,20 +3,15 @@
 // An exported function returns 0, or the number of a refusal. Through `place` it writes the refusal's place or, where it returns 0, a
 // count. What it writes elsewhere, and what that means, is the promise of the call beneath it (specs/Exported.antt has the numbers).
 // include/farey.h says all of it in words.
-use answers::checked_number;
-use answers::checked_place;
-use answers::generated_count;
-use answers::generated_number;
-use answers::imported_count;
-use answers::imported_number;
-use answers::queried_count;
-use answers::sameness_count;
-use answers::sameness_number;
-use answers::tabled_count;
-use answers::tabled_number;
+use answers::of_check;
+use answers::of_generators;
+use answers::of_genus;
+use answers::of_import;
+use answers::of_level;
+use answers::of_query;
+use answers::of_sameness;
+use answers::of_tables;
 use coset::Figured;
-use figures::Genus;
-use figures::Level;
 use symbol::fault_number;
 use symbol::fault_place;
 ghost use mathlib.Core.Path.{_≡_};
@@ -45,9 +40,9 @@ pub extern "C" fn farey_check(v: usize, t: &[i64], place: &mut usize) -> u64
     ensures { λ n. ⌜ now (place .exit) ≡ checkedPlace (checkOf v (now (t .entry))) ⌝ }
     ensures { λ n. ⌜ (n ≡ 0) ↔ IsSymbol v (now (t .entry)) ⌝ }
 {
-    let answer = symbol::check(v, t);
-    *place = checked_place(answer);
-    checked_number(answer)
+    let said = of_check(symbol::check(v, t));
+    *place = said.place;
+    said.number
 }
 
 // The generators, five numbers each, from the front of out.
@@ -64,9 +59,9 @@ pub extern "C" fn farey_generators(
     ensures { λ n. ⌜ now (w .exit) ≡ workAfter (checkOf v (now (t .entry))) (now (w .entry)) ⌝ }
     ensures { λ n. ⌜ now (out .exit) ≡ tableLeft (generatedOf v (now (t .entry)) (length (now (w .entry))) (length (now (out .entry)))) (generatorTable v (now (t .entry))) (now (out .entry)) ⌝ }
 {
-    let answer = pairing::generator::generators(v, t, w, out);
-    *place = generated_count(answer);
-    generated_number(answer)
+    let said = of_generators(pairing::generator::generators(v, t, w, out));
+    *place = said.place;
+    said.number
 }
 
 // The tables of S, R and T, each from the front of its space.
@@ -88,9 +83,9 @@ pub extern "C" fn farey_tables(
     ensures { λ n. ⌜ now (u .exit) ≡ columnLeft (tabledOf v (now (t .entry)) (length (now (w .entry))) (length (now (s .entry))) (length (now (r .entry))) (length (now (u .entry)))) (tableT v (now (t .entry))) (now (u .entry)) ⌝ }
     ensures { λ n. ⌜ (n ≡ 0 → Meaning v (now (t .entry))) ⌝ }
 {
-    let answer = coset::tables(v, t, w, s, r, u);
-    *place = tabled_count(answer);
-    tabled_number(answer)
+    let said = of_tables(coset::tables(v, t, w, s, r, u));
+    *place = said.place;
+    said.number
 }
 
 // The widths of the cusps, from the front of out.
@@ -108,9 +103,9 @@ pub extern "C" fn farey_widths(
     ensures { λ n. ⌜ now (out .exit) ≡ columnLeft (widthedOf v (now (t .entry)) (length (now (w .entry))) (length (now (out .entry)))) (widthsOf v (now (t .entry))) (now (out .entry)) ⌝ }
     ensures { λ n. ⌜ (n ≡ 0 → Meaning v (now (t .entry))) ⌝ }
 {
-    let answer = coset::widths(v, t, w, out);
-    *place = tabled_count(answer);
-    tabled_number(answer)
+    let said = of_tables(coset::widths(v, t, w, out));
+    *place = said.place;
+    said.number
 }
 
 // The figures: index, e2, e3, cusps, then number and value of the genus, then of the level.
@@ -139,18 +134,20 @@ pub extern "C" fn farey_figures(
             11
         }
         Figured::Made(f) => {
-            let genus = f.genus;
-            let level = f.level;
+            let g = f.genus;
+            let l = f.level;
+            let genus = of_genus(g);
+            let level = of_level(l);
             *place = 0;
             *out = [
                 f.index as u64,
                 f.e2 as u64,
                 f.e3 as u64,
                 f.cusps as u64,
-                answers::genus_number(genus),
-                answers::genus_value(genus),
-                answers::level_number(level),
-                answers::level_value(level),
+                genus.number,
+                genus.value,
+                level.number,
+                level.value,
             ];
             0
         }
@@ -172,9 +169,9 @@ pub extern "C" fn farey_import(
     ensures { λ n. ⌜ now (out .exit) ≡ import.tableLeft (import.ruleFor (now (s .entry)) (now (r .entry))) (import.importOf (now (s .entry)) (now (r .entry)) (length (now (w .entry))) (length (now (out .entry)))) (now (out .entry)) ⌝ }
     ensures { λ n. ⌜ (n ≡ 0 → import.Symbolised (now (s .entry)) (now (r .entry)) (now (place .exit)) (take (3 * now (place .exit) + 1) (now (out .exit)))) ⌝ }
 {
-    let answer = passport::import(s, r, w, out);
-    *place = imported_count(answer);
-    imported_number(answer)
+    let said = of_import(passport::import(s, r, w, out));
+    *place = said.place;
+    said.number
 }
 
 // A word that takes A to B up to sign, in out from the start place on, or 10: there is none.
@@ -195,9 +192,9 @@ pub extern "C" fn farey_query(
     ensures { λ n. ⌜ now (out .exit) ≡ wordLeft (queryOf v (now (t .entry)) (now (a .entry)) (now (b .entry)) (length (now (w .entry))) (length (now (out .entry))) start) (foundWord v (now (t .entry)) (ofList (now (a .entry))) (ofList (now (b .entry)))) (now (out .entry)) ⌝ }
     ensures { λ n. ⌜ Claim v (now (t .entry)) (now (a .entry)) (now (b .entry)) (now (w .entry)) (now (out .entry)) start (queryOf v (now (t .entry)) (now (a .entry)) (now (b .entry)) (length (now (w .entry))) (length (now (out .entry))) start) (now (out .exit)) ⌝ }
 {
-    let answer = word::query(v, t, *a, *b, w, out, start);
-    *place = queried_count(answer);
-    word::answer_number(answer)
+    let said = of_query(word::query(v, t, *a, *b, w, out, start));
+    *place = said.place;
+    said.number
 }
 
 // Whether two tables hold the same symbol: 1 for yes, 0 for no.
@@ -214,7 +211,7 @@ pub extern "C" fn farey_same(
     ensures { λ n. ⌜ now (place .exit) ≡ samenessCount (samenessOf v (now (t .entry)) m (now (u .entry)) (length (now (w .entry)))) ⌝ }
     ensures { λ n. ⌜ now (w .exit) ≡ workAfterBoth (checkOf v (now (t .entry))) (checkOf m (now (u .entry))) (now (w .entry)) ⌝ }
 {
-    let answer = pairing::same::same(v, t, m, u, w);
-    *place = sameness_count(answer);
-    sameness_number(answer)
+    let said = of_sameness(pairing::same::same(v, t, m, u, w));
+    *place = said.place;
+    said.number
 }

@@ -33,17 +33,11 @@ enum-known-answer-2 c = search needs
 enum-known-answer-3 : tie.Need-enum-known-answer-3
 enum-known-answer-3 c = search needs
 
-genus-number-requires : tie.Need-genus-number-requires
-genus-number-requires c κs = search needs
+of-genus-requires : tie.Need-of-genus-requires
+of-genus-requires c κs = search needs
 
-genus-value-requires : tie.Need-genus-value-requires
-genus-value-requires c κs = search needs
-
-level-number-requires : tie.Need-level-number-requires
-level-number-requires c κs = search needs
-
-level-value-requires : tie.Need-level-value-requires
-level-value-requires c κs = search needs
+of-level-requires : tie.Need-of-level-requires
+of-level-requires c κs = search needs
 
 same-length : tie.Need-same-length
 same-length c = search needs
@@ -96,23 +90,21 @@ same-length-3 c = search needs
 
 returns-3 : tie.Need-returns-3
 returns-3 c =
-    let q = c .before .before .before .before .before .before .before .before .before .before .figures in
-    let s = c .before .before .before .before .before .before .before .before .before .before .before .before .before in
-    let a = c .before .before .before .before .before .before in
+    let q = c .before .before .before .before .before .before .before .before .figures in
+    let s = c .before .before .before .before .before .before .before .before .before .before .before in
+    let a = c .before .before .before .before in
     let k = sym (ap saidBy (a .answer3 .given .1)) ∙ q .ensures .0 in
     let out = s .args .out .now in
     let f = a .answer3 .given .0 .0 in
-    let g = c .before .before .before .before .genus-number in
-    let h = c .before .before .before .genus-value in
-    let l = c .before .before .level-number in
-    let m = c .before .level-value in (
+    let g = c .before .before .of-genus .ensures in
+    let l = c .before .of-level .ensures in (
       ap saysNumber k,
       (
         ap saysPlace k,
         (
           q .ensures .1 .0,
           (
-            eight f (g .ensures) (h .ensures) (l .ensures) (m .ensures)
+            eight f (g .0) (g .1) (l .0) (l .1)
                 ∙ ap (λ (x : Says). figuresLeft x out) k,
             λ z. q .ensures .1 .1 f (a .answer3 .given .1),
           ),
@@ -130,10 +122,8 @@ farey-figures-spec =
     fault-number-requires
     enum-known-answer-2
     enum-known-answer-3
-    genus-number-requires
-    genus-value-requires
-    level-number-requires
-    level-value-requires
+    of-genus-requires
+    of-level-requires
     same-length
     returns
     same-length-2

@@ -12,11 +12,8 @@ use Rattle.engine.proofs.farey_generators.Tie as tie
 generators-requires : tie.Need-generators-requires
 generators-requires c κs = search needs
 
-generated-count-requires : tie.Need-generated-count-requires
-generated-count-requires c κs = search needs
-
-generated-number-requires : tie.Need-generated-number-requires
-generated-number-requires c κs = search needs
+of-generators-requires : tie.Need-of-generators-requires
+of-generators-requires c κs = search needs
 
 same-length : tie.Need-same-length
 same-length c = search needs
@@ -26,12 +23,12 @@ same-length-2 c = search needs
 
 returns : tie.Need-returns
 returns c =
-    let q = c .before .before .before .before .before .generators in
-    let s = c .before .before .before .before .before .before .before .before .before in
+    let q = c .before .before .before .before .generators in
+    let s = c .before .before .before .before .before .before .before .before in
     let e = q .ensures .0 in (
-      c .generated-number .ensures ∙ ap generatedNumber e,
+      c .of-generators .ensures .0 ∙ ap generatedNumber e,
       (
-        c .before .generated-count .ensures ∙ ap generatedCount e,
+        c .of-generators .ensures .1 ∙ ap generatedCount e,
         (
           q .ensures .1 .0,
           q .ensures .1 .1 ∙ ap (λ (r : Generated). tableLeft r (generatorTable (s .args .v) (s .args .t .now)) (s .args .out .now)) e,
@@ -42,10 +39,4 @@ returns c =
 pub farey-generators-spec : {M : Type 1} → statement M
 farey-generators-spec =
     tie.close
-    (tie.spec
-    generators-requires
-    generated-count-requires
-    generated-number-requires
-    same-length
-    same-length-2
-    returns)
+    (tie.spec generators-requires of-generators-requires same-length same-length-2 returns)

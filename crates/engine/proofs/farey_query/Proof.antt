@@ -12,11 +12,8 @@ use Rattle.engine.proofs.farey_query.Tie as tie
 query-requires : tie.Need-query-requires
 query-requires c κs = search needs
 
-queried-count-requires : tie.Need-queried-count-requires
-queried-count-requires c κs = search needs
-
-answer-number-requires : tie.Need-answer-number-requires
-answer-number-requires c κs = search needs
+of-query-requires : tie.Need-of-query-requires
+of-query-requires c κs = search needs
 
 same-length : tie.Need-same-length
 same-length c = search needs
@@ -26,8 +23,8 @@ same-length-2 c = search needs
 
 returns : tie.Need-returns
 returns c =
-    let q = c .before .before .before .before .before .query in
-    let s = c .before .before .before .before .before .before .before .before .before .before .before in
+    let q = c .before .before .before .before .query in
+    let s = c .before .before .before .before .before .before .before .before .before .before in
     let v = s .args .v in
     let t = s .args .t .now in
     let A = s .args .a .now in
@@ -35,9 +32,9 @@ returns c =
     let O = s .args .out .now in
     let e = q .ensures .0 in
     let l = q .ensures .1 .1 in (
-      c .answer-number .ensures ∙ ap queryNumber e,
+      c .of-query .ensures .0 ∙ ap queryNumber e,
       (
-        c .before .queried-count .ensures ∙ ap queriedCount e,
+        c .of-query .ensures .1 ∙ ap queriedCount e,
         (
           q .ensures .1 .0,
           (
@@ -50,11 +47,4 @@ returns c =
 
 pub farey-query-spec : {M : Type 1} → statement M
 farey-query-spec =
-    tie.close
-    (tie.spec
-    query-requires
-    queried-count-requires
-    answer-number-requires
-    same-length
-    same-length-2
-    returns)
+    tie.close (tie.spec query-requires of-query-requires same-length same-length-2 returns)

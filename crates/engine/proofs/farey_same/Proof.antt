@@ -9,22 +9,17 @@ use Rattle.engine.proofs.farey_same.Tie as tie
 same-requires : tie.Need-same-requires
 same-requires c κs = search needs
 
-sameness-count-requires : tie.Need-sameness-count-requires
-sameness-count-requires c κs = search needs
-
-sameness-number-requires : tie.Need-sameness-number-requires
-sameness-number-requires c κs = search needs
+of-sameness-requires : tie.Need-of-sameness-requires
+of-sameness-requires c κs = search needs
 
 same-length : tie.Need-same-length
 same-length c = search needs
 
 returns : tie.Need-returns
 returns c =
-    let q = c .before .before .before .before .same in
+    let q = c .before .before .before .same in
     let e = q .ensures .0 in
-    (c .sameness-number .ensures ∙ ap samenessNumber e, (c .before .sameness-count .ensures ∙ ap samenessCount e, q .ensures .1))
+    (c .of-sameness .ensures .0 ∙ ap samenessNumber e, (c .of-sameness .ensures .1 ∙ ap samenessCount e, q .ensures .1))
 
 pub farey-same-spec : {M : Type 1} → statement M
-farey-same-spec =
-    tie.close
-    (tie.spec same-requires sameness-count-requires sameness-number-requires same-length returns)
+farey-same-spec = tie.close (tie.spec same-requires of-sameness-requires same-length returns)

@@ -12,11 +12,8 @@ use Rattle.engine.proofs.farey_tables.Tie as tie
 tables-requires : tie.Need-tables-requires
 tables-requires c κs = search needs
 
-tabled-count-requires : tie.Need-tabled-count-requires
-tabled-count-requires c κs = search needs
-
-tabled-number-requires : tie.Need-tabled-number-requires
-tabled-number-requires c κs = search needs
+of-tables-requires : tie.Need-of-tables-requires
+of-tables-requires c κs = search needs
 
 same-length : tie.Need-same-length
 same-length c = search needs
@@ -32,15 +29,15 @@ same-length-4 c = search needs
 
 returns : tie.Need-returns
 returns c =
-    let q = c .before .before .before .before .before .before .before .before .before .before .tables in
-    let s = c .before .before .before .before .before .before .before .before .before .before .before .before .before .before .before .before .before .before .before in
+    let q = c .before .before .before .before .before .before .before .before .before .tables in
+    let s = c .before .before .before .before .before .before .before .before .before .before .before .before .before .before .before .before .before .before in
     let v = s .args .v in
     let t = s .args .t .now in
     let e = q .ensures .0 in
     let l = q .ensures .1 .1 in (
-      c .tabled-number .ensures ∙ ap tabledNumber e,
+      c .of-tables .ensures .0 ∙ ap tabledNumber e,
       (
-        c .before .tabled-count .ensures ∙ ap tabledCount e,
+        c .of-tables .ensures .1 ∙ ap tabledCount e,
         (
           q .ensures .1 .0,
           (
@@ -49,7 +46,7 @@ returns c =
               l .1 .0 ∙ ap (λ (r : Tabled). columnLeft r (tableR v t) (s .args .r .now)) e,
               (
                 l .1 .1 .0 ∙ ap (λ (r : Tabled). columnLeft r (tableT v t) (s .args .u .now)) e,
-                λ z. tabled-means v t (q .result) (l .1 .1 .1) (sym (c .tabled-number .ensures) ∙ z),
+                λ z. tabled-means v t (q .result) (l .1 .1 .1) (sym (c .of-tables .ensures .0) ∙ z),
               ),
             ),
           ),
@@ -62,8 +59,7 @@ farey-tables-spec =
     tie.close
     (tie.spec
     tables-requires
-    tabled-count-requires
-    tabled-number-requires
+    of-tables-requires
     same-length
     same-length-2
     same-length-3

@@ -11,11 +11,8 @@ use Rattle.engine.proofs.farey_widths.Tie as tie
 widths-requires : tie.Need-widths-requires
 widths-requires c κs = search needs
 
-tabled-count-requires : tie.Need-tabled-count-requires
-tabled-count-requires c κs = search needs
-
-tabled-number-requires : tie.Need-tabled-number-requires
-tabled-number-requires c κs = search needs
+of-tables-requires : tie.Need-of-tables-requires
+of-tables-requires c κs = search needs
 
 same-length : tie.Need-same-length
 same-length c = search needs
@@ -25,20 +22,20 @@ same-length-2 c = search needs
 
 returns : tie.Need-returns
 returns c =
-    let q = c .before .before .before .before .before .before .widths in
-    let s = c .before .before .before .before .before .before .before .before .before .before .before in
+    let q = c .before .before .before .before .before .widths in
+    let s = c .before .before .before .before .before .before .before .before .before .before in
     let v = s .args .v in
     let t = s .args .t .now in
     let e = q .ensures .0 in
     let l = q .ensures .1 .1 in (
-      c .tabled-number .ensures ∙ ap tabledNumber e,
+      c .of-tables .ensures .0 ∙ ap tabledNumber e,
       (
-        c .before .tabled-count .ensures ∙ ap tabledCount e,
+        c .of-tables .ensures .1 ∙ ap tabledCount e,
         (
           q .ensures .1 .0,
           (
             l .0 ∙ ap (λ (r : Tabled). columnLeft r (widthsOf v t) (s .args .out .now)) e,
-            λ z. tabled-means v t (q .result) (l .1) (sym (c .tabled-number .ensures) ∙ z),
+            λ z. tabled-means v t (q .result) (l .1) (sym (c .of-tables .ensures .0) ∙ z),
           ),
         ),
       ),
@@ -46,11 +43,4 @@ returns c =
 
 pub farey-widths-spec : {M : Type 1} → statement M
 farey-widths-spec =
-    tie.close
-    (tie.spec
-    widths-requires
-    tabled-count-requires
-    tabled-number-requires
-    same-length
-    same-length-2
-    returns)
+    tie.close (tie.spec widths-requires of-tables-requires same-length same-length-2 returns)
