@@ -1,3 +1,4 @@
+-- `determinant` is a d - b c of the four entries, in that order. Assumes nothing.
 use mathlib.Core.Path.{_∙_}
 use borrow.Author.Needs.{needs}
 use Rattle.matrix.specs.Matrix.{nth, det}
