@@ -1,4 +1,4 @@
--- `find` walks first with no room at all, which stores nothing (`kept-out`): it isn't home, 10; it is home but the word doesn't fit, 11
+-- `find` walks first with no room, which stores nothing (`kept-out`). Three ends: the walk doesn't come home, 10; the word doesn't fit, 11
 -- with its length; it fits, and the second walk stores it (`placed-out`). Assumes nothing.
 use mathlib.Core.Path.{sym, _∙_, ap}
 use native.Mathlib.Omega.{arith}
