@@ -1,3 +1,5 @@
+-- What a reader of the crate `coset` must believe, in reading order: the tables, what they are tables of, the answers; and then what the
+-- functions inside the crate promise each other.
 pub mod Tables
 pub mod Theorem
 pub mod Answer

@@ -2,7 +2,7 @@
 --
 --   framed u            the frame of a placed side
 --   Closed B m          what `isClosed` tests
---   Outcome B i l       what a cut does: nothing is open (`Shut`), or the leftmost open side stands between sides before and after (`Broken`)
+--   outcome B i l       what a cut does: nothing is open (`Shut`), or the leftmost open side stands between others (`Broken`)
 --   Corner C m x        one of the three corners beyond a side that was split: its frame m, up to sign, and its point x
 --   Edge l m x          a side of that frame and point
 --

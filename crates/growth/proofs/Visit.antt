@@ -4,8 +4,8 @@
 --   settle B r            an open row with the mark that its point says, where it is closed among sides with the points B
 --   Ready B rows          what the visits need of the rows that are left
 --
--- In order: the tests of the rule as tests of points (`even-point`, `odd-point`, `mates-point`); what seeking finds (`sought`); settled
--- rows; one more row marked (`next-ready`, `settles-same`); the law (`visits-settle`).
+-- In order: the tests of the rule as tests of points (`even-yes`, `odd-yes`, `mates-yes`, and each with its no); what seeking finds
+-- (`sought`); settled rows; one more row marked (`next-ready`, `settles-same`); the law (`visits-settle`).
 --
 -- Why: the partner of an open side is still open and to its right when the side is visited, for pairs are marked together.
 -- Assumes nothing.

@@ -1,1 +1,2 @@
+-- Why each of document 01's starred instances holds.
 pub mod Instances

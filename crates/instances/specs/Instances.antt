@@ -49,7 +49,7 @@ pub data Question : Type 0 where
   check : (v : ℕ) (t : List ℤ) → Question
   -- the index among coset's `figures`
   index : (v : ℕ) (t : List ℤ) (work : ℕ) → Question
-  -- symbol's `generators`
+  -- pairing's `generators`
   generators : (v : ℕ) (t : List ℤ) (work : ℕ) (out : List ℤ) → Question
   -- coset's `tables`
   tables : (v : ℕ) (t : List ℤ) (work : ℕ) (s r u : List ℕ) → Question

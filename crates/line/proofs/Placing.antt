@@ -1,11 +1,11 @@
 -- Bytes put into a slice, one after another.
 --     by-writing        what `copy` and `write` leave where the bytes fit
---     the-end           the end that an answer tells is the end of the bytes
 --     no-short          and no such answer is a refusal
 --     puts-none         no bytes
 --     puts-then         bytes behind others
 --     puts-same         the length stays
 --     puts-within       where the length stays, the bytes end within it
+--     puts-as           the same bytes in other words
 --     number-put        a number behind a space, by an answer of `write`
 --     number-short      which is no refusal
 --     line-put          a whole line

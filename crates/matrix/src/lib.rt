@@ -1,7 +1,7 @@
-// Two by two integer matrices as arrays of four numbers, row by row, and the alternating word of one letter by letter.
+// Two by two integer matrices as arrays of four numbers, row by row.
 //
-// Each function's contract gives its result as a definition over the integers (specs/Matrix.antt, specs/Euclid.antt). The bounds that
-// they ask for (specs/Bounds.antt) hold for vertices to 10^9 and for query matrices to 10^6: proofs/Bounds.antt has the laws.
+// Each function's contract gives its result as a definition over the integers (specs/Matrix.antt). The bounds that they ask for
+// (specs/Bounds.antt) hold for vertices to 10^9 and for query matrices to 10^6: proofs/Bounds.antt has the laws.
 ghost use mathlib.Core.Path.{_≡_};
 ghost use Prim.Native.Nat.{_+_, _-_, _^_, _≤_};
 ghost use lib.IntN.{_+ℤ_, _-ℤ_, _*ℤ_};

@@ -2,7 +2,7 @@
 --
 -- In order: frames have determinant 1 (`frame-det`), the first and the last vertex are integers (`first-integer`, `last-integer`);
 -- partners (`Partner`, `partner-of`: another side with the same label, whose partner is the first again); generators have
--- determinant 1 (`generator-det`, `generators-det`); the generator of a number (`generator-at`).
+-- determinant 1 (`generator-det`); the generator of a number (`generator-at`).
 -- Assumes nothing.
 use mathlib.Core.Path.{_≡_, refl, sym, _∙_, ap}
 use mathlib.Core.Logic.{_⊎_, inl, inr}

@@ -3,7 +3,7 @@
 -- are the same, H. So the matrices that lead to one point of the tables are those that lead to one given point: points go over into points,
 -- one to one, 0 into 0, and S and R go over into S and R. The numbering rule is made of nothing else.
 -- In order: one coset, one point (`one-point`); the numbering goes over (`to-over`); the points go over (`over`, `over-S`, `over-R`);
--- as many points (`as-many`); the tables (`renumbered`).
+-- as many points (`as-many`); the tables (`renumbered-S`, `renumbered-R`).
 -- Assumes nothing.
 use mathlib.Core.Path.{_≡_, refl, sym, ap, _∙_}
 use mathlib.Core.Logic.{_↔_}

@@ -4,6 +4,8 @@
 --   Entered x n ..                 x came to its end, if it was new
 --   VisitedAt σ ρ i n ..           the images of its entry i under σ and ρ came to its end, if they were new
 --   Two s r                        both tables hold points, and are of one length
+--   Blank seen queue               nothing is listed yet
+--   AllReached s r seen            the marks are 1 exactly at the points that are reached from 0
 use mathlib.Core.Path.{_≡_}
 use mathlib.Core.List.{List}
 use Prim.Native.Nat.{ℕ, _≤_, _<_}

@@ -1,7 +1,7 @@
 -- The work space: one lent slice of 32,768 numbers of 16 bits, which holds eight tables at fixed places.
 --     place   code       here       holds
 --      4096   S_TABLE    S-TABLE    the images of the coset numbers under S
---      8192   SIGMA      SIGMA      the images of the positions under S; in `cusps`, which no longer needs them, the widths
+--      8192   SIGMA      SIGMA      the images of the positions under S; from `cusp_widths` on, which no longer needs them, the widths
 --     12288   RHO        RHO        the images of the positions under R
 --     16384   NUMBER     NUMBER     the number of each position, for those that have one
 --     20480   ORDER      ORDER      the position of each number

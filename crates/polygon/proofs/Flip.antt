@@ -1,6 +1,6 @@
 -- What the cut promises: the other side of each position, the turns within a triangle, and the frames that go with both.
 --
--- In order: turns (`turn-next`, `turn-last`, `turn-face`, `order-three`); positions that are real (`real-corner`, `real-face`, `real-cases`);
+-- In order: turns (`turn-next`, `turn-last`, `turn-face`, `order-three`); positions that are real (`real-corner`, `real-face`, `real-odd`);
 -- the promise, one record (`Cutting`), and that it holds (`cutting`).
 -- Assumes nothing.
 use mathlib.Core.Path.{_≡_, sym, _∙_, ap}

@@ -1,4 +1,4 @@
--- Facts about accepted symbols that the crate `symbol` doesn't have, and that need no polygon.
+-- Facts about accepted symbols that the crates `symbol` and `pairing` don't have, and that need no polygon.
 --
 -- In order: searching, counting and listing (`first-below`, `count-less`, `count-most`, `those-made`); what a side is paired as, with a free side's partner
 -- (`Kind`, `Mate`, `kind`); two sides with one label are partners (`label-mates`); the number of a side's generator (`Number`, `Leader`).

@@ -3,7 +3,7 @@
 --   HeldIn n w l             HELD is not 0 exactly at the points of the sides l
 --   Walking s r start w d k  the tables hold the sides done and to do, HELD their points, and LABEL nothing
 --
--- In order: what is read where nothing was written (`done-same`, `todo-same`); the first side to do (`top-is`); a side moved on
+-- In order: what is read where nothing was written (`done-same`, `todo-same`); the first side to do (`walk-top`); a side moved on
 -- (`walk-move`); a side split (`walk-split`); a side that can't be split (`walk-over`); the end (`walk-end`).
 -- Assumes nothing.
 use mathlib.Core.Path.{_≡_, refl, sym, _∙_, ap}

@@ -1,7 +1,8 @@
 -- The tables of steps by S.
 --
--- In order: which places are positions (`real-low`, `real-high`); codes of letters (`code-…`, `letter-most`); the polygon's tables beside these
--- (`tables-set`); one step noted (`prepared-none`, `prepared-more`, `prepared-skip`, `prepared-all`), and read (`next-in`); Q twice (`back-…`).
+-- In order: which places are positions (`real-low`, `real-high`); codes of letters (`coded-…`, `decoded-fits`, `letter-most`); the
+-- polygon's tables beside these (`tables-set`); one step noted (`prepared-none`, `prepared-more`, `prepared-skip`, `prepared-all`); where S
+-- leads is a position (`step-low`); Q twice (`back-…`).
 -- Assumes nothing.
 use mathlib.Core.Path.{_≡_, refl, sym, _∙_, ap}
 use mathlib.Core.Bool.{Bool, true, false, _||_}

@@ -1,7 +1,7 @@
 -- Counting labels two to a byte, and what the counts say of the pairings.
 --
 -- In order: the two digits of a byte; one more at a digit (`marked-low`, `marked-high`, `marked-full`); one more side
--- (`label-of`, `noted-none`, `noted-free`, `tallied-none`, `tallied-more`); the pairing check by its arms (`unpaired-by`, `unpaired-free`).
+-- (`label-of`, `noted-none`, `noted-free`, `tallied-more`); the pairing check by its arms (`unpaired-by`, `unpaired-free`).
 -- Assumes nothing.
 use mathlib.Core.Path.{_≡_, refl, sym, _∙_, ap}
 use mathlib.Core.Logic.{_⊎_, inl, inr}

@@ -1,4 +1,5 @@
--- What each arm of the code's checks 3, 4 and 5 shows.
+-- What each arm of the code's checks 3, 4 and 5 shows; what each of the checks 3 to 6 looks for, and at how many places, by its number
+-- (`fails-3` .. `places-6`); and that sides of entries in range are small (`side-small`).
 -- Assumes nothing.
 use mathlib.Core.Path.{_≡_, refl, sym, _∙_, ap}
 use mathlib.Core.Bool.{Bool, true, false, not, _&&_, _||_}

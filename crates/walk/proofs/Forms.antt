@@ -1,7 +1,8 @@
 -- What is left of a matrix, as four naturals: one letter of its word at a time.
 --
--- In order: when a form is proper (`proper`, `improper`); one power of Q (`turn-view`, `turn-rows`, `turn-apart`, `turn-less`); S and a power of Q
--- (`rest-more`), S alone and nothing (`rest-last`, `rest-stop`); how a matrix's word begins (`apart-of`, `word-head`, `word-tail`).
+-- In order: when a form is proper (`properly`, `improper`); one power of Q (`turn-view`, `rows-Q`, `rows-P`, `turn-apart`, `turn-less`);
+-- S and a power of Q (`tail-two`), S alone and nothing (`tail-one`, `tail-none`); how a matrix's word begins (`apart-of`, `word-head`,
+-- `word-tail`).
 --
 -- Why: the rows of a form that is one apart are comparable, so the smaller one can be taken from the other, which leaves less.
 -- Assumes nothing.

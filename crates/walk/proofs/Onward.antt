@@ -1,7 +1,8 @@
 -- The walk, step by step: what is left to write, behind what is written, stays the same.
 --
--- In order: ways put together (`onward-refl`, `onward-trans`), one letter (`onward-step`), bounds on letters (`few-letters`), and what each part
--- of the walk leaves (`crossed-sound`, `block-going`, `block-less`, `ended-none`, `ended-S`, `begun-head`, `begun-tail`, `walked`).
+-- In order: ways put together (`onward-refl`, `onward-trans`), one letter (`onward-step`); before the first letter (`whole-sound`); what
+-- each part of the walk leaves (`crossed-sound`, `block-going`, `block-less`, `ended-none`, `ended-S`, `begun-head`, `begun-tail`);
+-- the whole walk (`walked`).
 -- Assumes nothing.
 use mathlib.Core.Path.{_≡_, refl, sym, _∙_, ap, subst}
 use mathlib.Core.Bool.{true, false}

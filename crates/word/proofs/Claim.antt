@@ -1,4 +1,4 @@
--- THE CLAIM (specs/Claim.antt), from what the crate `coset` promises of an accepted symbol: its steps, frames and start.
+-- THE CLAIM (specs/Claim.antt), from what the crate `polygon` promises of an accepted symbol: its steps, frames and start.
 --
 -- In order: the walk comes home exactly where a word exists (`joined-home`, `home-product`); the word's letters, its length (`letters-of`,
 -- `bound-of`, `sixteen-of`); the word in its place (`part-placed`); the three answers (`absent`, `fitting`, `too-short`); the claim (`answered`).

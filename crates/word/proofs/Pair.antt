@@ -1,6 +1,6 @@
 -- The pair of matrices: its entries by number, and what passing 8 and 9 says of it.
 --
--- In order: entries (`entry-A`, `entry-B`), tests on one entry (`large-yes`, `large-no`); a pair with no large entry is small, and conversely
+-- In order: entries (`entry-A`, `entry-B`), the test on one entry (`large-by`); a pair with no large entry is small, and conversely
 -- (`clear-small`, `small-clear`); determinants (`unit-is`, `is-unit`).
 -- Assumes nothing.
 use mathlib.Core.Path.{_≡_, sym, _∙_, ap}

@@ -1,9 +1,11 @@
 -- The finished symbol, written from the sides done in the work space.
 --
 --   verticesTo w i       the entries of the first i vertices
---   markAt w i           what side i is paired as
 --   Paired               what writing one pairing does: -2, -3, the label's number, or the next free number where it has none
---   written w d out      out with the symbol's table at its front; pairingsIn w d: its pairings
+--   pairingsIn w d       the pairings of the d sides done
+--   paired w d out       out with these pairings behind the vertex entries
+--   written w d out      out with the symbol's table at its front
+--   Side                 what writing one pairing asks for
 use mathlib.Core.Path.{_≡_}
 use mathlib.Core.Bool.{Bool}
 use mathlib.Core.List.{List, [], _∷_, _++_}

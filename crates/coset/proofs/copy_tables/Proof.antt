@@ -1,3 +1,5 @@
+-- `copy_tables` tests the result spaces of S, R and T in this order and copies only when all three have room, so that a refusal leaves each
+-- as it was (`room-first` .. `room-all`). Assumes nothing.
 use mathlib.Core.Path.{refl}
 use lib.ListN.{length}
 use Rattle.coset.proofs.Answer.{room-first, room-second, room-third, room-all}

@@ -1,3 +1,4 @@
+-- `copy_widths` copies the widths of k cusps where the result space has room, and else answers k and leaves the space. Assumes nothing.
 use mathlib.Core.Path.{refl}
 use lib.ListN.{length}
 use Rattle.coset.proofs.Answer.{one-short, one-room}

@@ -1,3 +1,5 @@
+-- `figures` meets its contract. The three ways out are the cases of `figuredOf`: a fault of checks 1 to 7, a short work space, the figures.
+-- An accepted table is a symbol (`accepted`), so an answer has its meaning (`meaning`). Assumes nothing.
 use mathlib.Core.Path.{_≡_, sym, _∙_}
 use lib.ListN.{length}
 use Rattle.symbol.specs.Check.{checkOf}

@@ -1,3 +1,5 @@
+-- `make_tables` copies what `arrange` left, which are the tables of the definition, as many entries as the index says (`made`); clearing
+-- comes last, so zeros stay. Assumes nothing.
 use mathlib.Core.Path.{_∙_, ap}
 use mathlib.Core.List.{List}
 use Prim.Native.Nat.{ℕ}

@@ -1,3 +1,5 @@
+-- `make_widths` copies the lengths of the cycles of T: the arranged table of T is a permutation (`made`), as `cusp_widths` asks, and
+-- clearing comes last. Assumes nothing.
 use mathlib.Core.Path.{_∙_, ap}
 use mathlib.Core.List.{List}
 use Prim.Native.Nat.{ℕ}

@@ -1,3 +1,5 @@
+-- `tables` meets its contract. Its ways out are the cases of `tabledOf`, in order: a fault (`by-refused`), a short work space (`by-short`),
+-- what `make_tables` says (`by-long`). An accepted table is a symbol, so its tables are those of cosets (`meaning`). Assumes nothing.
 use mathlib.Core.Path.{_≡_, refl, sym, _∙_}
 use lib.ListN.{length}
 use Rattle.symbol.specs.Check.{checkOf}

@@ -1,3 +1,5 @@
+-- `widths` meets its contract: the order of refusals is that of `tables` (`by-refused`, `by-short`, `by-long`), with one result space; and
+-- the table was accepted where widths are given, so they are those of the cusps (`meaning`). Assumes nothing.
 use mathlib.Core.Path.{_≡_, refl, sym, _∙_}
 use lib.ListN.{length}
 use Rattle.symbol.specs.Check.{checkOf}

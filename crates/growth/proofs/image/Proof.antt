@@ -1,3 +1,4 @@
+-- `image` is the entry at x where x is a place of the table (`image-in`), and x itself where it is none. Assumes nothing.
 use mathlib.Core.Path.{sym, _∙_}
 use native.Mathlib.Omega.{arith}
 use lib.ListN.{List·getD-eq-default}

@@ -1,3 +1,4 @@
+-- `turned` takes the steps S, R, R and S from x, one after another, which is how Q is defined on points. Assumes nothing.
 use borrow.Author.Needs.{needs}
 use Rattle.growth.proofs.turned.Statement.{statement}
 use Rattle.growth.proofs.turned.Tie as tie

@@ -1,3 +1,5 @@
+-- `determinant` is a d - b c, with the entries read row by row; the contract leaves room for both products and their difference.
+-- Assumes nothing.
 use mathlib.Core.Path.{_∙_}
 use borrow.Author.Needs.{needs}
 use Rattle.matrix.specs.Matrix.{nth, det}

@@ -1,3 +1,5 @@
+-- `difference_of_products` is x y - z w over the integers: the contract gives room for the two products and for their difference
+-- (`left-fits`, `right-fits`, `difference-fits`), so no step leaves 64 bits. Assumes nothing.
 use mir.Facts.{toZ-ofZ}
 use Rattle.matrix.proofs.Bounds.{left-fits, right-fits, difference-fits}
 use Rattle.matrix.proofs.difference_of_products.Statement.{statement}

@@ -1,3 +1,5 @@
+-- `entry` is a row of m times a column of n. Why each index is below 4: a row starts at 0, 1 or 2 and has one more entry, a column starts
+-- at 0 or 1 and goes on two further. Assumes nothing.
 use mathlib.Core.Path.{_∙_}
 use Prim.Native.Nat.{_+_}
 use borrow.Author.Needs.{needs}

@@ -1,3 +1,5 @@
+-- `inverse` gives the adjugate (d -b; -c a). Why -b and -c fit: neither b nor c is the least number of 64 bits (`minus-fits`).
+-- Assumes nothing.
 use borrow.Author.Needs.{needs}
 use mir.Facts.{toZ-ofZ}
 use Rattle.matrix.specs.Matrix.{nth, adj}

@@ -1,3 +1,4 @@
+-- `matrix_q` gives the rows 0 -1 and 1 -1, which are those of Q by its definition. Assumes nothing.
 use mathlib.Core.Path.{refl}
 use Rattle.matrix.specs.Matrix.{matQ}
 use Rattle.matrix.proofs.matrix_q.Statement.{statement}

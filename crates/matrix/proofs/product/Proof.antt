@@ -1,3 +1,5 @@
+-- `product` is the matrix product: its four entries are each row of m times each column of n, for all of which the contract gives room.
+-- Assumes nothing.
 use borrow.Author.Needs.{needs}
 use Rattle.matrix.specs.Matrix.{_⊗_}
 use Rattle.matrix.proofs.Bounds.{kept}

@@ -1,3 +1,5 @@
+-- `sum_of_products` is x y + z w over the integers: both products and their sum fit (`left-fits`, `right-fits`, `sum-fits`).
+-- Assumes nothing.
 use mir.Facts.{toZ-ofZ}
 use Rattle.matrix.proofs.Bounds.{left-fits, right-fits, sum-fits}
 use Rattle.matrix.proofs.sum_of_products.Statement.{statement}

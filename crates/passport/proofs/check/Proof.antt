@@ -1,3 +1,5 @@
+-- `check` refuses with 12 in three ways: no point, more than 3066, tables of unequal length (`count-low`, `count-high`, `count-uneven`);
+-- past them, `check_entries` has the answer (`count-passed`). Assumes nothing.
 use mathlib.Core.Path.{_≡_, refl, sym, _∙_, ap}
 use Rattle.passport.proofs.Answering.{count-low, count-high, count-uneven, count-passed}
 use borrow.Author.Needs.{needs}

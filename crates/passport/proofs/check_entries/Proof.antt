@@ -1,3 +1,5 @@
+-- `check_entries` makes check 13, S before R, and hands on to 14 and 15. Why it may: where no entry is bad, each is a point of its table
+-- (`entries-of`). Assumes nothing.
 use mathlib.Core.Path.{_≡_, refl, sym, _∙_, ap}
 use Rattle.passport.specs.declared.Checked.the-variants.{Accepted, Count, Entry, Order, Unreached}
 use Rattle.passport.specs.Check.{_orElse_, badEntry, twiceMoved, thriceMoved, unreached, check13, check14, check15}

@@ -1,3 +1,5 @@
+-- `check_moves` makes check 14 for S, then for R, then 15: each search ends at a point, the place of the refusal (`refuse-at`), or past
+-- all, and the next check counts (`accept-at`). Assumes nothing.
 use mathlib.Core.Path.{_≡_, refl, sym, _∙_, ap}
 use Rattle.passport.specs.declared.Checked.the-variants.{Accepted, Count, Entry, Order, Unreached}
 use Rattle.passport.specs.Check.{_orElse_, badEntry, twiceMoved, thriceMoved, unreached, check13, check14, check15}

@@ -1,3 +1,5 @@
+-- `import` meets its contract: 12 to 15 leave both spaces as they were (`refused`), and so does a short work space (`short`); an accepted
+-- pair is what the rule asks for (`pair-of`), and `import_accepted` has its answer with what that means (`long`). Assumes nothing.
 use mathlib.Core.Path.{_≡_, refl, sym, _∙_, ap}
 use Rattle.passport.specs.declared.Checked.the-variants as checked
 use Rattle.passport.specs.declared.Imported.the-variants.{Made, Count, Entry, Order, Unreached, Short, Split}

@@ -1,3 +1,5 @@
+-- `import_accepted` gives each of the three answers of `grow` its name (`arm`): vertices, 11 with a length, 16 with a side. The space is
+-- cleared before that, so zeros stay on each way out. Assumes nothing.
 use Rattle.space.specs.Space.{zeros}
 use mathlib.Core.Path.{_≡_, refl, sym, _∙_, ap}
 use Rattle.passport.proofs.Answering.{arm}

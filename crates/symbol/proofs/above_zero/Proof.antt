@@ -1,3 +1,4 @@
+-- `above_zero` compares x with 0 as signed numbers, and that is positivity of the integer (`zero-below`). Assumes nothing.
 use mir.Facts.{toZ-ofZ}
 use Rattle.symbol.proofs.Signed.{zero-below}
 use Rattle.symbol.proofs.above_zero.Statement.{statement}

@@ -1,3 +1,5 @@
+-- `carry` is n x m⁻¹. Why it fits in 64 bits: entries of n and m to 10⁹ and of x to 1 give n x entries to 2 · 10⁹, and so the last product
+-- has room (`room`, `small-⊗`, `small-adj`). Assumes nothing.
 use lib.Dec.{lit<}
 use Rattle.matrix.specs.Matrix.{ofList, _⊗_, adj}
 use Rattle.matrix.proofs.Bounds.{room, small-⊗, small-adj}

@@ -1,3 +1,5 @@
+-- `check` meets its contract: its ways out are the seven checks in their order, each reached only where those before it passed, and what
+-- they accept is exactly the symbols (`verdict`). Assumes nothing.
 use mathlib.Core.Path.{_≡_, sym, _∙_, ap}
 use mathlib.Core.List.{List}
 use Prim.Native.Nat.{ℕ, _+_, _*_, _≤_}

@@ -1,3 +1,5 @@
+-- `check_pairings` makes checks 6 and 7: with all labels counted, the first side that isn't paired is the place of refusal 6; where there
+-- is none, 7 asks a symbol of one vertex for an odd side. Assumes nothing.
 use mathlib.Core.Path.{_≡_, refl, sym, _∙_, ap}
 use Prim.Native.Nat.{_+_}
 use borrow.Author.Needs.{needs}

@@ -1,3 +1,5 @@
+-- `check_vertices` makes checks 3 to 5 in their order. Why 4 may compute determinants: 3 has found every entry in range (`ready-4`). Check
+-- 5 is the other way about, since finding 0/1 is passing it. Assumes nothing.
 use mathlib.Core.Path.{_≡_, refl, sym, _∙_, ap}
 use Prim.Native.Nat.{_+_, _*_, _≤_}
 use native.Mathlib.Omega.{arith}

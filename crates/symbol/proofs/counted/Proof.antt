@@ -1,3 +1,4 @@
+-- `counted` reads the count at k: the low half of the byte k / 2 where k is even, and the high half where it is odd. Assumes nothing.
 use mathlib.Core.Path.{sym}
 use borrow.Author.Needs.{needs}
 use Rattle.symbol.proofs.Marking.{digit-low, digit-high}

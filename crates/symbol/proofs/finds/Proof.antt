@@ -1,3 +1,5 @@
+-- `finds` is the test of one check at one place, and which check is told by its number; what is not 3, 4 or 5 is 6 (`six`).
+-- Assumes nothing.
 use mathlib.Core.Path.{_≡_, sym, _∙_, ap}
 use mathlib.Core.Bool.{not}
 use native.Mathlib.Omega.{arith}

@@ -1,3 +1,5 @@
+-- `is_unpaired` tells whether side i fails check 6: even and odd sides pass, a free one fails where its label is not counted just twice
+-- (`unpaired-free`), and what is no pairing fails. Assumes nothing.
 use mathlib.Core.Path.{_≡_, sym, _∙_, ap}
 use mathlib.Core.Bool.{not}
 use Prim.Native.Nat.{ℕ}

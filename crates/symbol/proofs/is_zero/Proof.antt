@@ -1,3 +1,4 @@
+-- `is_zero` tells whether vertex i is 0/1: its numerator is tested for 0 and then its denominator for 1. Assumes nothing.
 use mathlib.Core.Path.{sym, _∙_, ap}
 use lib.Dec.{lit<}
 use mir.Syntax.{w64}

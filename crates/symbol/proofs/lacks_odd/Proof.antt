@@ -1,3 +1,5 @@
+-- `lacks_odd`: a symbol of one vertex has two sides, which are tested one after the other for -3 (`odd-first`, `odd-second`); with more
+-- vertices an odd side isn't asked for (`odd-more`). Assumes nothing.
 use mathlib.Core.Path.{sym, _∙_, ap}
 use mathlib.Core.Bool.{not}
 use lib.Dec.{lit<}

@@ -1,3 +1,4 @@
+-- `left_end` is -1/0 for side 0, and for a later side i the vertex i - 1. Assumes nothing.
 use mathlib.Core.Path.{sym, _∙_}
 use Prim.Native.Nat.{_-_}
 use Rattle.matrix.proofs.Bounds.{kept}

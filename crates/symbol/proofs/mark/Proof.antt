@@ -1,3 +1,5 @@
+-- `mark` counts one more at k, up to 3. Four cases: k even or odd, and its half of the byte full or not; adding 1 or 16 leaves the other
+-- half alone (`marked-low`, `marked-high`, `marked-full`). Assumes nothing.
 use mathlib.Core.Path.{sym}
 use native.Mathlib.Omega.{arith}
 use borrow.Author.Needs.{needs}

@@ -1,3 +1,5 @@
+-- `note` counts one more where x is a free label (`noted-free`) and nothing where it is not (`noted-none`). Labels count from 1 to v + 1,
+-- so one less is an index of the marks (`label-of`). Assumes nothing.
 use mathlib.Core.Path.{_≡_, sym, _∙_}
 use Prim.Native.Nat.{ℕ}
 use native.Mathlib.Omega.{arith}

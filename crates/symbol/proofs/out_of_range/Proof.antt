@@ -1,3 +1,5 @@
+-- `out_of_range` is the test of check 3 at entry i: too large in size (`range-large`), or else a denominator, at an odd place, that is not
+-- above 0 (`range-odd`); a numerator of the right size passes (`range-even`). Assumes nothing.
 use mathlib.Core.Path.{_≡_, sym, _∙_, ap}
 use mathlib.Core.Bool.{not}
 use lib.Dec.{leb}

@@ -1,3 +1,5 @@
+-- `read_pairing` is what x stands for: -2 even, -3 odd, 1 to v + 1 a free label, anything else none. Why it can't overflow: past the third
+-- test x is at least 1, so it is a natural, and one less is too (`least`). Assumes nothing.
 use mathlib.Core.Path.{_≡_, sym, ap, _∙_}
 use native.Mathlib.Omega.{arith}
 use borrow.Author.Needs.{needs}

@@ -1,3 +1,4 @@
+-- `right_end` is vertex i for a side i before the last (`right-inside`), and 1/0 for the last (`right-last`). Assumes nothing.
 use mathlib.Core.Path.{sym, _∙_}
 use Rattle.matrix.proofs.Bounds.{kept}
 use Rattle.symbol.specs.Table.{numer, denom}

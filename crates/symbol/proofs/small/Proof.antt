@@ -1,3 +1,5 @@
+-- `small` tells whether x is at most 10⁹ in size: below -10⁹ it is not (`below-small`), and from there up x itself is compared
+-- (`above-small`). Assumes nothing.
 use mathlib.Core.Path.{sym}
 use lib.IntN.{ℤ}
 use mir.Facts.{toZ-ofZ}

@@ -1,3 +1,5 @@
+-- `begin` writes the first power of Q exactly where the rows of m agree, for the word of m begins with one just then (`begun-head`); where
+-- they don't, all of the word is still to come (`begun-tail`). Assumes nothing.
 use native.Mathlib.Omega.{arith}
 use mathlib.Core.Path.{refl, sym, _∙_}
 use Prim.Native.Nat.{_^_}

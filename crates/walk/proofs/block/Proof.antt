@@ -1,3 +1,5 @@
+-- `block` writes S and a power of Q. Why the power may follow: more than S is left, and that stays so when the rows change places
+-- (`crossed-proper`). What is left after it is smaller (`block-less`). Assumes nothing.
 use native.Mathlib.Omega.{arith}
 use mathlib.Core.Path.{_∙_}
 use Rattle.polygon.proofs.Polygon.{polygon}

@@ -1,3 +1,4 @@
+-- `cross` is one S: the rows change places, and the letter and the position are what the tables of steps say (`stepped`). Assumes nothing.
 use mathlib.Core.Path.{refl, _∙_, ap}
 use mir.Facts.{toZ-ofZ}
 use mir.Syntax.{w16}

@@ -1,3 +1,4 @@
+-- `is_proper` makes two tests: q + r is 0 for the identity, and p + s is 0 for S. The sums fit, being at most the total. Assumes nothing.
 use Prim.Native.Nat.{_+_}
 use borrow.Author.Tests.{eq-eqb, ne-eqb}
 use borrow.Author.Needs.{needs}

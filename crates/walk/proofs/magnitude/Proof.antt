@@ -1,3 +1,5 @@
+-- `magnitude` is the size of x: x itself from 0 up, and -x below, which fits, since x isn't the least number of 64 bits (`back-fits`).
+-- Assumes nothing.
 use native.Mathlib.Omega.{arith}
 use mathlib.Core.Path.{ap}
 use lib.IntN.{natAbs}

@@ -1,3 +1,5 @@
+-- `power` writes Q where the upper row is the smaller by its sum, and else Q⁻¹. Why no difference is below 0: the rows of a proper form
+-- that is one apart compare entry by entry as their sums do (`rows-Q`, `rows-P`). Assumes nothing.
 use mathlib.Core.Path.{refl, _∙_, ap}
 use mir.Facts.{toZ-ofZ}
 use mir.Syntax.{w16}

@@ -1,3 +1,5 @@
+-- `put` has three cases: 0 is no letter (`put-none`); a letter below the limit is stored and counted (`put-in`); a later one is counted
+-- only (`put-out`). Assumes nothing.
 use mir.Facts.{toZ-ofZ}
 use Rattle.walk.proofs.Letters.{put-none, put-in, put-out}
 use borrow.Author.Needs.{needs}

@@ -1,3 +1,4 @@
+-- `rows_agree` looks for a column with both entries above 0 or both below, the first column before the second. Assumes nothing.
 use mathlib.Core.Path.{sym, _∙_}
 use Rattle.matrix.specs.Matrix.{nth, ofList}
 use Rattle.matrix.proofs.Bounds.{kept}

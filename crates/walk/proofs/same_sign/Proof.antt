@@ -1,3 +1,5 @@
+-- `same_sign` tells whether x y is above 0, without multiplying: for x above 0 that is y above 0, for x below 0 it is y below 0, and for x
+-- = 0 it is no (`sign-above`, `sign-below`, `sign-zero`). Assumes nothing.
 use mir.Facts.{toZ-ofZ}
 use Rattle.walk.proofs.Letters.{sign-above, sign-below, sign-zero}
 use Rattle.walk.proofs.same_sign.Statement.{statement}

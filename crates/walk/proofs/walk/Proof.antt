@@ -1,3 +1,5 @@
+-- `walk` follows the word of m. The loop's invariant, `Going`: what was written, and then what is left to write from the present position,
+-- is the whole walk. The sum of the entries that are left falls with each turn, so it ends. Assumes nothing.
 use native.Mathlib.Omega.{arith}
 use mathlib.Core.Path.{_≡_, refl, sym, _∙_}
 use lib.ListN.{length}

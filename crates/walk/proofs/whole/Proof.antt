@@ -1,3 +1,4 @@
+-- `whole` is the state before any letter: the sizes of the four entries, the home position, no letters. Assumes nothing.
 use native.Mathlib.Omega.{arith}
 use mathlib.Core.Path.{refl, _∙_, ap}
 use lib.IntN.{natAbs}

@@ -1,3 +1,5 @@
+-- `answer` makes the tables of steps, follows the matrix from a to b and clears the work space. Why: the walk along that matrix is the one
+-- that the definition of the answer makes (`along-found`, `end-found`). Assumes nothing.
 use mathlib.Core.Path.{_∙_, ap}
 use mathlib.Core.List.{List}
 use lib.IntN.{ℤ}

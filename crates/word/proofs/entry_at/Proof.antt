@@ -1,3 +1,5 @@
+-- `entry_at` reads the pair as eight entries in a row: below 4 they are those of A (`entry-A`), and from 4 on those of B (`entry-B`).
+-- Assumes nothing.
 use mathlib.Core.Path.{_∙_}
 use Prim.Native.Nat.{_-_}
 use Rattle.matrix.specs.Matrix.{nth}

@@ -1,3 +1,5 @@
+-- `find` walks first with no room, which stores nothing (`kept-out`). Three ends: the walk doesn't come home, 10; the word doesn't fit, 11
+-- with its length; it fits, and the second walk stores it (`placed-out`). Assumes nothing.
 use mathlib.Core.Path.{sym, _∙_, ap}
 use native.Mathlib.Omega.{arith}
 use lib.ListN.{length}

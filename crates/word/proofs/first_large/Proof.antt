@@ -1,3 +1,4 @@
+-- `first_large` searches the eight entries of the pair. The loop's invariant: those below i are at most 1,000,000 in size. Assumes nothing.
 use mathlib.Core.Path.{sym, _∙_}
 use Prim.Native.Nat.{_-_, _≤_}
 use native.Mathlib.Omega.{arith}

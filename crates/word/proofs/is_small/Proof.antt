@@ -1,3 +1,4 @@
+-- `is_small` tells whether x is at most 1,000,000 in size, by one signed test at each end (`below-small`, `above-small`). Assumes nothing.
 use mathlib.Core.Path.{sym}
 use mir.Facts.{toZ-ofZ}
 use Rattle.symbol.proofs.Signed.{below-small, above-small}

@@ -1,3 +1,4 @@
+-- `is_unit` compares the determinant with 1; entries to 1,000,000 leave room for it (`roomy`). Assumes nothing.
 use mathlib.Core.Path.{_∙_, ap}
 use lib.Dec.{lit<}
 use lib.IntN.{ℤ, pos}

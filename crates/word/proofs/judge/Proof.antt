@@ -1,3 +1,5 @@
+-- `judge` makes refusals 8 and 9 in their order. Why determinants may be computed: they are asked for only where no entry of the pair is
+-- large (`passed-small`). Assumes nothing.
 use mathlib.Core.Path.{_≡_, sym, _∙_}
 use mathlib.Core.Bool.{Bool, true, false, not}
 use Prim.Native.Nat.{_≤_}

@@ -1,3 +1,5 @@
+-- `matrix_between` is b a⁻¹, between S⁻¹ and S where the walk starts turned round. Why it fits: entries to 10⁶ give b a⁻¹ entries to
+-- 2·10¹², and a factor S at most doubles the bound. Assumes nothing.
 use mathlib.Core.Path.{_≡_, sym, _∙_, ap, subst}
 use mathlib.Core.List.{List}
 use Prim.Native.Nat.{_*_, _-_, _^_}

@@ -1,3 +1,5 @@
+-- `query` meets its contract. Its ways out are the cases of `queryOf` in order (`by-fault`, `by-large`, `by-determinant`, `by-short`,
+-- `by-long`), and the claim holds of each of them (`claim`). Assumes nothing.
 use mathlib.Core.Path.{_≡_, refl, sym, _∙_}
 use lib.ListN.{length}
 use Rattle.symbol.specs.Check.{checkOf}

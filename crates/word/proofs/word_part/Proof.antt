@@ -1,3 +1,5 @@
+-- `word_part` is the named part where it lies in the space, and the empty part where it starts past the end or reaches past it.
+-- Assumes nothing.
 use mathlib.Core.Path.{ap}
 use Prim.Native.Nat.{ℕ}
 use native.Mathlib.Nat.{add-sub-cancel-left}

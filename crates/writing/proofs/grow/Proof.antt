@@ -1,3 +1,5 @@
+-- `grow` looks where Q leads from point 0: if Q moves it, the group is neither of the small ones (`moved-by-Q`, `first-moved`) and its
+-- symbol is grown; if Q fixes it, `grow_fixed` looks further. Assumes nothing.
 use mathlib.Core.Path.{_≡_, refl, sym, _∙_, ap}
 use native.Mathlib.Omega.{arith}
 use Rattle.writing.proofs.Answers.{answers, rule-large, moved-by-Q, first-moved}

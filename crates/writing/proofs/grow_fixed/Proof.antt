@@ -1,3 +1,5 @@
+-- `grow_fixed`, where Q fixes point 0, has three cases: S fixes it too, pairings -2 -3 (`rule-first`); Q also fixes its S image, pairings
+-- -3 -3 (`rule-second`); any other group is grown (`rule-large`). Assumes nothing.
 use mathlib.Core.Path.{_≡_, refl, sym, _∙_, ap}
 use native.Mathlib.Omega.{arith}
 use Rattle.writing.proofs.Answers.{answers, rule-first, rule-second, rule-large, neither, first-no}

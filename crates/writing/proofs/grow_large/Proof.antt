@@ -1,3 +1,5 @@
+-- `grow_large` walks in a cleared space (`ground`). The walk stops at a side that can't be split, 16; or all d sides are done, and their
+-- table of 3 (d - 1) + 1 numbers is written if it fits (`large-over`, `large-short`, `large-made`). Assumes nothing.
 use mathlib.Core.Path.{_≡_, refl, sym, _∙_, ap}
 use native.Mathlib.Omega.{arith}
 use Rattle.writing.proofs.Answers.{ground, whole-of, large-over, large-short, large-made}

@@ -1,3 +1,5 @@
+-- `grow_small` writes the four numbers of a symbol of one vertex where they fit, and else answers that 4 are needed (`small-made`,
+-- `small-short`). Assumes nothing.
 use Rattle.writing.proofs.Answers.{small-short, small-made}
 use mir.Facts.{toZ-ofZ}
 use borrow.Author.Needs.{needs}

@@ -1,3 +1,5 @@
+-- `arrange` puts the tables of S, R and T into the work space: `fill_s` and `fill_r` leave the images of all places, and numbering them
+-- from the position that stands for H renames these maps into the coset tables (`filled-tables`). Assumes nothing.
 use mathlib.Core.Path.{_≡_, sym, _∙_}
 use Rattle.polygon.specs.Cut.{places}
 use Rattle.polygon.specs.Step.{stepS, originOf}

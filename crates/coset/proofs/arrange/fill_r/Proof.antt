@@ -1,3 +1,5 @@
+-- `fill_r` writes the R image of each place. The loop's invariant: the places below p have theirs, made as S, Q twice and S. Why no read
+-- leaves the table: S images are places, and Q leads from place to place (`c-low`). Assumes nothing.
 use mathlib.Core.Path.{_≡_, refl, sym, _∙_}
 use Prim.Native.Nat.{_+_, _-_, _≤_, _<_}
 use native.Mathlib.Omega.{arith}

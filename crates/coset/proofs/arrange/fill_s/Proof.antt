@@ -1,3 +1,5 @@
+-- `fill_s` writes the S image of each place. The loop's invariant: the places below p have theirs, and the polygon's tables still stand,
+-- since the images lie apart from them (`moved-more`). Assumes nothing.
 use mathlib.Core.Path.{_≡_, refl, sym, _∙_}
 use Prim.Native.Nat.{_+_, _-_, _≤_, _<_}
 use native.Mathlib.Omega.{arith}

@@ -1,3 +1,5 @@
+-- `image_s` is where S leads from a place. A corner and the outer face of an odd side are positions, where the polygon's step may be taken
+-- (`corner-real`, `odd-real`); any other outer face stays (`face-still`). Assumes nothing.
 use mathlib.Core.Path.{_≡_, refl, sym, _∙_, ap}
 use Prim.Native.Nat.{_+_, _-_, _*_, _≤_, _<_}
 use native.Mathlib.Omega.{arith}

@@ -1,3 +1,5 @@
+-- `origin` is the position of the coset H: where the walk starts, or its S image where the walk starts on the edge from infinity to 0.
+-- Assumes nothing.
 use mathlib.Core.Path.{_≡_, sym, _∙_}
 use mathlib.Core.Bool.{true, false}
 use Rattle.polygon.specs.Step.{startOf}

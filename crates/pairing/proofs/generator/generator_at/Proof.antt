@@ -1,3 +1,5 @@
+-- `generator_at` is the generator of side i, by its pairing: even M S M⁻¹, odd M Q M⁻¹, free N S M⁻¹, with N the frame of the partner that
+-- stands in the work space. Why the products fit: the entries of an accepted symbol are small (`symbol-small`). Assumes nothing.
 use mathlib.Core.Path.{_≡_, sym, _∙_, ap}
 use mathlib.Core.List.{List}
 use Prim.Native.Nat.{_*_, _≤_}

@@ -1,3 +1,5 @@
+-- `generators` meets its contract: a fault of checks 1 to 7, or a short work space, leaves everything as it was; past both, the table is a
+-- symbol (`accepted`), and the answer is that of `list_accepted`. Assumes nothing.
 use mathlib.Core.Path.{_≡_, refl, sym, _∙_, ap}
 use lib.Dec.{ltb}
 use lib.ListN.{length}

@@ -1,3 +1,5 @@
+-- `leads_at` tells whether side i is the leftmost of its generator: an even or odd side is, and a free one where its partner, which the
+-- work space holds, is further right. Assumes nothing.
 use mathlib.Core.Path.{_≡_, sym, _∙_, ap}
 use lib.Dec.{ltb}
 use Rattle.matrix.specs.Matrix.{nth}

@@ -1,3 +1,5 @@
+-- `list_accepted` clears the work space, so that no label has been met yet (`paired-none`), finds the partners, lists the generators and
+-- clears again. Assumes nothing.
 use mathlib.Core.Path.{_≡_, _∙_, ap}
 use lib.ListN.{length}
 use Rattle.space.specs.Space.{zeros}

@@ -1,3 +1,5 @@
+-- `list_if_room` lists the generators where they fit. Why: the sides counted are the leading ones (`prepared-count`), and each gives a row
+-- of five numbers. Assumes nothing.
 use mathlib.Core.Path.{_≡_, refl, sym, _∙_, ap}
 use mathlib.Core.List.{_++_}
 use Prim.Native.Nat.{ℕ, _+_, _*_}

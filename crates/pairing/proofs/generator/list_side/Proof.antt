@@ -1,3 +1,5 @@
+-- `list_side` adds the row of side i behind n others where the side leads (`rows-yes`), and else changes nothing (`rows-no`).
+-- Assumes nothing.
 use mathlib.Core.Path.{_≡_, refl, sym, _∙_, ap}
 use mathlib.Core.List.{List, _∷_}
 use native.Mathlib.Omega.{arith}

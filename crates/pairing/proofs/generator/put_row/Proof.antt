@@ -1,3 +1,4 @@
+-- `put_row` writes a kind and four entries, from place 5 n on: five stores side by side are one row (`five-stores`). Assumes nothing.
 use native.Mathlib.Omega.{arith}
 use lib.ListN.{length-set}
 use mir.Facts.{toZ-ofZ}

@@ -1,3 +1,4 @@
+-- `kind_at` is the kind of side i, one number for each pairing that is read: even 2, odd 3, free 1, and 0 for none. Assumes nothing.
 use mathlib.Core.Path.{_≡_, sym, _∙_, ap}
 use lib.IntN.{pos}
 use Rattle.matrix.specs.Matrix.{nth}

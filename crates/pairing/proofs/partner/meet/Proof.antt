@@ -1,3 +1,5 @@
+-- `meet` notes a side with the label l. Two cases: FIRST + l is 0, and the side is remembered there as one more than its number; or a side
+-- is remembered, and the two become each other's partner. Assumes nothing.
 use mathlib.Core.Path.{sym, _∙_}
 use Prim.Native.Nat.{_+_}
 use native.Mathlib.Omega.{arith}

@@ -1,3 +1,5 @@
+-- `pair_side` meets side i where it is free, and leaves the tables where it is not. Why there is room: a label is at most v + 1
+-- (`label-of`), and what is remembered of it is a side. Assumes nothing.
 use mathlib.Core.Path.{_≡_, sym, _∙_, ap}
 use native.Mathlib.Omega.{arith}
 use mir.Facts.{toZ-ofZ}

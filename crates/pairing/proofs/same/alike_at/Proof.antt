@@ -1,3 +1,5 @@
+-- `alike_at` compares the pairings of side i in two symbols: other kinds, no; both even or both odd, yes; both free, just where in the
+-- second symbol the side has the label of what is its partner in the first. Assumes nothing.
 use mathlib.Core.Path.{_≡_, sym, _∙_, ap}
 use Prim.Native.Nat.{ℕ, _≤_}
 use native.Mathlib.Omega.{arith}

@@ -1,3 +1,5 @@
+-- `compare` tells whether two accepted symbols are the same: by the number of vertices, then the vertices, then the pairings side by side
+-- (`same-count`, `same-vertices`, `same-pairings`). Every way out leaves zeros. Assumes nothing.
 use mathlib.Core.Path.{_≡_, sym, _∙_, ap}
 use mathlib.Core.List.{List}
 use Prim.Native.Nat.{_-_, _*_}

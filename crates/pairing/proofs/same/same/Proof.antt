@@ -1,3 +1,4 @@
+-- `same` gives the first table's fault where it has one; where it has none, `same_second` has the rest of the answer. Assumes nothing.
 use mathlib.Core.Path.{_≡_, sym, _∙_, ap}
 use lib.ListN.{length}
 use Rattle.symbol.specs.Check.{checkOf}

@@ -1,3 +1,5 @@
+-- `same_second` answers for an accepted first table: the second one's fault, then a short work space, then yes or no (`compared`), since
+-- both tables are symbols by then (`accepted`). Assumes nothing.
 use mathlib.Core.Path.{_≡_, sym, _∙_, ap}
 use mathlib.Core.Bool.{Bool, true, false}
 use lib.Dec.{ltb}

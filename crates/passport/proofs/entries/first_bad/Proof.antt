@@ -1,3 +1,4 @@
+-- `first_bad` is `scan` with marks of its own: 3072 zeros say that nothing was seen (`seen-none`). Assumes nothing.
 use lib.ListN.{length-replicate}
 use Prim.Native.Nat.{ℕ}
 use Rattle.passport.proofs.Marks.{seen-none, zero-at}

@@ -1,3 +1,5 @@
+-- `first_moved_thrice` searches from 0 up for a point that R three times moves. The loop's invariant: each point below x comes back.
+-- Assumes nothing.
 use mathlib.Core.Path.{_≡_, refl, sym, _∙_, ap}
 use native.Mathlib.Omega.{arith}
 use Rattle.symbol.proofs.Count.{Clear, clear-zero, clear-more}

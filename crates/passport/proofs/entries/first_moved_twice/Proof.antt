@@ -1,3 +1,5 @@
+-- `first_moved_twice` searches from 0 up for a point that S twice moves. The loop's invariant: S twice fixes the points below x.
+-- Assumes nothing.
 use mathlib.Core.Path.{_≡_, refl, sym, _∙_, ap}
 use native.Mathlib.Omega.{arith}
 use Rattle.symbol.proofs.Count.{Clear, clear-zero, clear-more}

@@ -1,3 +1,5 @@
+-- `is_bad` tells whether entry i is outside the table (`bad-high`) or equal to an earlier one: the marks are 1 exactly at the entries
+-- before it (`bad-seen`). Assumes nothing.
 use Rattle.passport.proofs.Marks.{bad-high, bad-seen}
 use borrow.Author.Needs.{needs}
 use Rattle.passport.proofs.entries.is_bad.Statement.{statement}

@@ -1,3 +1,4 @@
+-- `moved_thrice` takes three steps of R from x and tells whether they end elsewhere (`thrice-is`). Assumes nothing.
 use Rattle.passport.proofs.Marks.{thrice-is}
 use borrow.Author.Needs.{needs}
 use Rattle.passport.proofs.entries.moved_thrice.Statement.{statement}

@@ -1,3 +1,4 @@
+-- `moved_twice` takes two steps of S from x and tells whether they end elsewhere (`twice-is`). Assumes nothing.
 use Rattle.passport.proofs.Marks.{twice-is}
 use borrow.Author.Needs.{needs}
 use Rattle.passport.proofs.entries.moved_twice.Statement.{statement}

@@ -1,3 +1,5 @@
+-- `scan` finds the first bad entry. The loop's invariant: no entry below i is bad, and the marks are 1 exactly at those entries
+-- (`seen-more`); an entry that isn't bad is a point, so it has a mark. Assumes nothing.
 use mathlib.Core.Path.{_≡_, refl, sym, _∙_, ap}
 use native.Mathlib.Omega.{arith}
 use Rattle.symbol.proofs.Count.{Clear, clear-zero, clear-more}

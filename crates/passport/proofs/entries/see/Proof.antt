@@ -1,3 +1,4 @@
+-- `see` sets one mark, at the point that entry i is. Assumes nothing.
 use mathlib.Core.Path.{_≡_, refl, sym, _∙_, ap}
 use Prim.Native.Nat.{ℕ}
 use lib.ListN.{set}

@@ -1,3 +1,5 @@
+-- `enter` puts x at the end of the queue and marks it, unless its mark says that it is there (`enter-old`, `enter-new`). Why the queue has
+-- room: its points differ, and with x they are still points below `size` (`enter-room`). Assumes nothing.
 use mathlib.Core.Path.{_≡_, refl, sym, _∙_, ap}
 use native.Mathlib.Omega.{arith}
 use native.Mathlib.Numerals.{add-one}

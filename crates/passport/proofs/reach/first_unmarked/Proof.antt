@@ -1,3 +1,5 @@
+-- `first_unmarked` finds the first point that isn't reached, since the marks are exactly at those that are (`marked`, `unmarked`). The
+-- loop's invariant: each point below x is reached. Assumes nothing.
 use mathlib.Core.Path.{_≡_, refl, sym, _∙_, ap}
 use native.Mathlib.Omega.{arith}
 use native.Mathlib.Numerals.{add-one}

@@ -1,3 +1,5 @@
+-- `first_unreached` lists and marks the points reached from 0 in memory of zeros, where nothing is listed yet, and then looks for a point
+-- without a mark. Assumes nothing.
 use lib.ListN.{length-replicate}
 use Prim.Native.Nat.{ℕ}
 use Rattle.passport.proofs.Marks.{zero-at}

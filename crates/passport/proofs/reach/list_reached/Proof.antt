@@ -1,3 +1,5 @@
+-- `list_reached` marks what is reached from 0. The loop's invariant, `Run`: the queue holds what i visits of the numbering rule list, and
+-- the marks are at its points. It ends, since the queue's points differ and there are only so many. Assumes nothing.
 use mathlib.Core.Path.{_≡_, refl, sym, _∙_, ap}
 use native.Mathlib.Omega.{arith}
 use native.Mathlib.Numerals.{add-one}

@@ -1,3 +1,5 @@
+-- `visit` enters the S image and then the R image of the queue's entry i, which is one visit of the numbering rule (`visit-both`); both
+-- images are points, for entries are. Assumes nothing.
 use mathlib.Core.Path.{_≡_, refl, sym, _∙_, ap}
 use native.Mathlib.Omega.{arith}
 use Rattle.passport.proofs.Queue.{visit-low, visit-both}

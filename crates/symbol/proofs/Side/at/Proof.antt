@@ -1,3 +1,4 @@
+-- `Side::at` joins the two ends that `left_end` and `right_end` read into side i. Assumes nothing.
 use Rattle.matrix.proofs.Bounds.{kept}
 use borrow.Author.Needs.{needs}
 use Rattle.symbol.proofs.Side.at.Statement.{statement}

@@ -1,3 +1,4 @@
+-- `Side::even` is M S M⁻¹ with M the side's frame, within the bounds of `carry`: the frame is small, and so is S. Assumes nothing.
 use Rattle.symbol.proofs.Sides.{small-S}
 use borrow.Author.Needs.{needs}
 use Rattle.symbol.proofs.Side.even.Statement.{statement}

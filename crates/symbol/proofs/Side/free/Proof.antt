@@ -1,3 +1,4 @@
+-- `Side::free` is N S M⁻¹, the partner's frame N on the left and the side's own M on the right; both are small. Assumes nothing.
 use Rattle.symbol.proofs.Sides.{small-S}
 use borrow.Author.Needs.{needs}
 use Rattle.symbol.proofs.Side.free.Statement.{statement}

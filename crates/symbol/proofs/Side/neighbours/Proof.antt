@@ -1,3 +1,5 @@
+-- `Side::neighbours` is the neighbour rule: c b - a d is the determinant of the frame (c a; d b), which is compared with 1 (`gap-det`).
+-- Assumes nothing.
 use mathlib.Core.Path.{sym, _∙_, ap}
 use mathlib.Core.List.{List}
 use lib.IntN.{ℤ, pos}

@@ -1,3 +1,4 @@
+-- `Side::odd` is M Q M⁻¹ with M the side's frame; Q has entries of size at most 1 (`small-Q`), as `carry` asks. Assumes nothing.
 use Rattle.symbol.proofs.Sides.{small-Q}
 use borrow.Author.Needs.{needs}
 use Rattle.symbol.proofs.Side.odd.Statement.{statement}

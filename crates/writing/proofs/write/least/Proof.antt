@@ -1,3 +1,4 @@
+-- `least` is the smaller of two points: x where x < y, else y. Assumes nothing.
 use Rattle.writing.proofs.Written.{least-yes, least-no}
 use borrow.Author.Needs.{needs}
 use Rattle.writing.proofs.write.least.Statement.{statement}

@@ -1,3 +1,5 @@
+-- `numerator` undoes the 10⁹ that numerators are kept with: a number of 32 bits less 10⁹ is a signed one of 64 (`numerator-fits`).
+-- Assumes nothing.
 use Rattle.writing.proofs.Written.{numerator-fits, numerator-is}
 use borrow.Author.Needs.{needs}
 use Rattle.writing.proofs.write.numerator.Statement.{statement}

@@ -1,3 +1,4 @@
+-- `signed` keeps the value of x, which is far below 2⁶³. Assumes nothing.
 use Rattle.writing.proofs.Written.{signed-is}
 use borrow.Author.Needs.{needs}
 use Rattle.writing.proofs.write.signed.Statement.{statement}

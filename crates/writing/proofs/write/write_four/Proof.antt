@@ -1,3 +1,4 @@
+-- `write_four` makes four stores, at 0 to 3: the numbers 0, 1, x, -3, and then what stood there (`four-stores`). Assumes nothing.
 use mathlib.Core.Path.{_≡_, refl, sym, _∙_, ap}
 use Rattle.writing.proofs.Answers.{four-stores}
 use mir.Facts.{toZ-ofZ}

@@ -1,3 +1,5 @@
+-- `write_pairings` writes the pairings of the d sides. The loop's invariant, `Labelled`: those of the first i stand behind the vertices,
+-- and the labels among them have the numbers 1 to c, by their leftmost side. Assumes nothing.
 use mathlib.Core.Path.{_≡_, refl, sym, _∙_, ap}
 use native.Mathlib.Omega.{arith}
 use native.Mathlib.Numerals.{add-one}

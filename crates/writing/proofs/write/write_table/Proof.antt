@@ -1,3 +1,5 @@
+-- `write_table` writes the vertices and then the pairings behind them, which together are the symbol's table (`table-written`).
+-- Assumes nothing.
 use mathlib.Core.Path.{_≡_, refl, sym, _∙_, ap}
 use native.Mathlib.Omega.{arith}
 use Rattle.growth.specs.Fixed.{image, byQ}

@@ -1,3 +1,5 @@
+-- `write_vertex` reads the right end of side i among the sides done, and stores its numerator at 2 i and its denominator behind it
+-- (`vertex-stored`). Assumes nothing.
 use Rattle.writing.proofs.Written.{vertex-stored}
 use Prim.Native.Nat.{_+_, _*_}
 use mathlib.Core.Path.{_≡_, refl, sym, _∙_, ap}
