@@ -1,7 +1,7 @@
 -- Laws for the functions that fill the work space.
 --
--- In order: which places are positions, and that the others stay (`corner-real`, `odd-real`, `face-still`); the polygon's tables beside
--- the tables of images (`tables-set`); the S images (`moved-…`), the R images (`turned-…`); what `points` asks for (`filled`).
+-- In order: which places are positions, and that the others stay (`corner-real`, `odd-real`, `face-still`); the S images (`moved-…`), the
+-- R images (`turned-…`); what `points` asks for (`filled`).
 -- Assumes nothing.
 use mathlib.Core.Path.{_≡_, refl, sym, _∙_, ap}
 use mathlib.Core.Logic.{inl, inr}
@@ -13,7 +13,7 @@ use native.Mathlib.Decide.{decLt}
 use native.Mathlib.Numerals.{add-one}
 use lib.Dec.{ltb, eqb}
 use lib.ListN.{length, getD, set, length-set}
-use lib.Seq.{getD-set-same, getD-set-other, getD-drop, ext-getD}
+use lib.Seq.{getD-set-same, getD-set-other, getD-drop}
 use lib.IntN.{ℤ, pos}
 use borrow.Author.Tests.{lt-ltb, le-ltb, ltb-true}
 use borrow.Author.Count.{below-more}
@@ -31,8 +31,8 @@ use Rattle.polygon.specs.Step.{oddAt, real, Real, stepS, turnQ, turned, startOf
 use Rattle.polygon.specs.Theorem.{Polygon}
 use Rattle.polygon.specs.Partners.{Partnered, Numbered}
 use Rattle.polygon.specs.Tables.{Tables}
-use Rattle.polygon.specs.Space.{table}
-use Rattle.polygon.proofs.Space.{table-at, table-length, still}
+use Rattle.polygon.proofs.Space.{still}
+use Rattle.polygon.proofs.Partners.{tables-set}
 use Rattle.polygon.proofs.Polygon.{polygon}
 use Rattle.polygon.proofs.SymbolFacts.{Kind, even, odd, free, kind}
 use Rattle.points.specs.Space.{SIGMA, RHO}
@@ -89,27 +89,6 @@ module _ (v : ℕ) (t : List ℤ) where
   pub origin-start : turned v t ≡ false → startOf v t ≡ originOf v t
   unfolding originOf
   origin-start f = rw f
-
--- ---- the polygon's tables beside the tables of images
-
-pub tables-set : {t : List ℤ} {v : ℕ} {w : List ℕ} (k x : ℕ) → Tables t v w → 8192 ≤ k → k < 28672 → Tables t v (set w k x)
-tables-set {t} {v} {w} k x g low high =
-    let most = g .symbol .most in
-    let long = g .long in
-    let w' = set w k x in
-    let long' = length-set w k x in
-    record {
-      symbol = g .symbol;
-      long = still (length-set w k x) (g .long);
-      flips = ext-getD 0 (table 4096 (places v) w') (table 4096 (places v) w)
-          (table-length 4096 (places v) w' (omega arith) ∙ sym (table-length 4096 (places v) w (omega arith)))
-          (λ i h.
-          let b : i < places v = rw (table-length 4096 (places v) w' (omega arith)) at h in
-          table-at 4096 (places v) w' i 0 b ∙ getD-set-other w k (4096 + i) x 0 (λ e. omega arith) ∙ sym (table-at 4096 (places v) w i 0 b))
-          ∙ g .flips;
-      partnered = record { partners = λ i l h e. getD-set-other w k (30720 + i) x 0 (λ z. omega arith) ∙ g .partnered .partners i l h e };
-      numbered = record { numbers = λ i h. getD-set-other w k (31744 + i) x 0 (λ z. omega arith) ∙ g .numbered .numbers i h };
-    }
 
 -- ---- S images
 

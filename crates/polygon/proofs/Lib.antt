@@ -12,7 +12,7 @@ pub mod Near
 pub mod Start
 pub mod Polygon
 pub mod Tests
-pub mod Signed
+pub mod Letters
 pub mod Space
 pub mod Scanning
 pub mod Partners

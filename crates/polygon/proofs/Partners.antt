@@ -1,7 +1,7 @@
 -- Laws for the functions that fill the table of generator numbers.
 --
 -- In order: numbers: the start, a leading side, a side that follows, the end; what they leave alone; one side, as the code has it; the
--- tables together.
+-- tables together, and beside a number stored elsewhere (`tables-set`).
 -- Assumes nothing.
 use mathlib.Core.Path.{_≡_, refl, sym, _∙_, ap}
 use mathlib.Core.Logic.{_⊎_, inl, inr}
@@ -31,7 +31,7 @@ use Rattle.polygon.specs.Space.{PARTNER, GENERATOR, Above}
 use Rattle.polygon.specs.Scanning.{CutLeft}
 use Rattle.polygon.specs.Partners.{Partnered, NumberedTo, Numbered}
 use Rattle.polygon.specs.Tables.{Tables}
-use Rattle.polygon.proofs.Space.{still}
+use Rattle.polygon.proofs.Space.{table-above, still}
 use Rattle.symbol.proofs.Choice.{either, clash}
 use Rattle.polygon.proofs.SymbolFacts.{count-most, Kind, even, odd, free, kind, Mate, free-mate, free-label, label-mates, number-mate}
 
@@ -117,3 +117,14 @@ tables-built ok long p n c = record {
   partnered = record { partners = λ i l h e. c .frame .high (PARTNER + i) (omega arith) ∙ p .partners i l h e };
   numbered = record { numbers = λ i h. c .frame .high (GENERATOR + i) (omega arith) ∙ n .numbers i h };
 }
+
+pub tables-set : {t : List ℤ} {v : ℕ} {w : List ℕ} (k x : ℕ) → Tables t v w → 8192 ≤ k → k < 28672 → Tables t v (set w k x)
+tables-set {t} {v} {w} k x g low high =
+    let most = g .symbol .most in
+    record {
+      symbol = g .symbol;
+      long = still (length-set w k x) (g .long);
+      flips = table-above 4096 (places v) w k x (omega arith) ∙ g .flips;
+      partnered = record { partners = λ i l h e. getD-set-other w k (30720 + i) x 0 (λ z. omega arith) ∙ g .partnered .partners i l h e };
+      numbered = record { numbers = λ i h. getD-set-other w k (31744 + i) x 0 (λ z. omega arith) ∙ g .numbered .numbers i h };
+    }

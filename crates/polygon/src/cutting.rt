@@ -3,7 +3,7 @@ use super::FLIP;
 use super::HANDLE;
 use super::STACK;
 use super::reading::denominator;
-use super::reading::is_zero;
+use symbol::is_zero;
 ghost use mathlib.Core.Path.{_≡_};
 ghost use Prim.Native.Nat.{ℕ, _+_, _*_, _≤_, _<_};
 ghost use lib.Dec.{eqb};

@@ -7,25 +7,11 @@ use symbol::read_pairing;
 ghost use mathlib.Core.Path.{_≡_};
 ghost use Prim.Native.Nat.{_+_, _*_, _≤_, _<_};
 ghost use lib.ListN.{length, getD};
-ghost use Rattle.symbol.specs.Check.{isZero};
 ghost use Rattle.symbol.specs.Symbol.{IsSymbol};
 ghost use Rattle.matrix.specs.Matrix.{nth};
 ghost use Rattle.pairing.specs.Generator.{pairingAt};
 ghost use Rattle.polygon.specs.Cut.{den};
 ghost use Rattle.polygon.specs.Space.{FLIP, PARTNER, GENERATOR};
-
-// Whether vertex i, counted from 0 for the first of the table, is 0/1.
-pub(crate) fn is_zero(t: &[i64], i: usize) -> bool
-    requires { ⌜ (i ≤ 1023) × (2 * i + 1 < length (now t)) ⌝ }
-    ensures { λ r. ⌜ r ≡ isZero (now (t .entry)) i ⌝ }
-{
-    let a = t[2 * i];
-    let b = t[2 * i + 1];
-    if a == 0 {
-        return b == 1;
-    }
-    false
-}
 
 // The denominator of vertex y, counted from 0 for -1/0.
 pub(crate) fn denominator(t: &[i64], v: usize, y: usize) -> u64

@@ -1,10 +1,10 @@
 // The steps of the walk, the letters that they write, and where it starts.
 use super::reading::beyond;
-use super::reading::is_zero;
 use super::reading::number_of;
 use super::reading::pairing;
 use super::reading::partner_of;
 use symbol::Pairing;
+use symbol::is_zero;
 ghost use mathlib.Core.Path.{_≡_};
 ghost use Prim.Native.Nat.{_≤_};
 ghost use lib.IntN.{pos, negℤ};

@@ -17,7 +17,7 @@ use Rattle.symbol.proofs.Choice.{pick-true, pick-false}
 use Rattle.growth.specs.Fixed.{image, byQ, Pair}
 use Rattle.growth.specs.Side.{Vertex, vertex, minusInfinity, infinity, limit}
 use Rattle.growth.specs.Placed.{Placed, placed, pts, startPlaced}
-use Rattle.splitting.specs.Work.{LABEL, HELD, DONE, TODO, cell, endAt, pointAt, lastIn, doneIn, todoIn, cellSet, heldThree, startBy, startIn, Ground, Whole}
+use Rattle.splitting.specs.Work.{LABEL, HELD, DONE, TODO, cell, endAt, pointAt, lastIn, doneIn, todoIn, cellSet, heldSet, startBy, startIn, Ground, Whole}
 use Rattle.growth.proofs.Member.{In, in-left, in-right}
 use Rattle.growth.proofs.Kept.{Inv}
 use Rattle.growth.proofs.Theorem.{Started, started}
@@ -30,7 +30,7 @@ use Rattle.splitting.proofs.Walking.{Same, vertex-eq, end-same, point-s
 
 module _ (w : List ℕ) (long : 32768 ≤ length w) (clear : (j : ℕ) → getD w j 0 ≡ 0) (e2 e1 p2 p1 p0 : ℕ) (l2 : p2 < 4096) (l1 : p1 < 4096) (l0 : p0 < 4096) where
   abbrev H : List ℕ
-  H = heldThree w p2 p1 p0
+  H = heldSet w 1 p2 p1 p0
 
   abbrev A : List ℕ
   A = cellSet H TODO 1000000001 0 p0

@@ -13,7 +13,7 @@ use lib.ListN.{length, set, length-set}
 use borrow.Author.Tests.{le-leb, lt-leb, leb-true, eq-eqb, ne-eqb}
 use Rattle.matrix.specs.Euclid.{pick}
 use Rattle.symbol.proofs.Choice.{and-left, and-right, pick-true, pick-false}
-use Rattle.splitting.specs.Work.{heldSet, cellSet, topPoint, splitBy, heldThree, startBy, startIn}
+use Rattle.splitting.specs.Work.{heldSet, cellSet, topPoint, splitBy, startBy, startIn}
 use Rattle.splitting.proofs.Cells.{cell-length}
 
 and-false : (a b : Bool) → b ≡ false → (a && b) ≡ false
@@ -38,8 +38,8 @@ module _ (e c : ℕ) where
       let a = and-left (leb 1000000000 e && leb e 3000000000) (leb c 1000000000) t in
       (leb-true 1000000000 e (and-left (leb 1000000000 e) (leb e 3000000000) a), leb-true e 3000000000 (and-right (leb 1000000000 e) (leb e 3000000000) a), leb-true c 1000000000 (and-right (leb 1000000000 e && leb e 3000000000) (leb c 1000000000) t))
 
-pub held-length : (w : List ℕ) (m a b : ℕ) → length (heldSet w m a b) ≡ length w
-held-length w m a b = simp length-set
+pub held-length : (w : List ℕ) (x m a b : ℕ) → length (heldSet w x m a b) ≡ length w
+held-length w x m a b = simp length-set
 
 -- the sums that the code forms
 pub sums : (x x' y y' : ℕ) → x ≡ x' → y ≡ y' → x + y ≡ x' + y'
@@ -56,15 +56,15 @@ pub low-is : (x y n : ℕ) → x ≡ y → y < n → x < n
 low-is x y n e h = omega arith
 
 -- the split, as the code puts it together
-pub split-by : (σ κ : ℕ → ℕ) (w h x : List ℕ) (k e c m p q a b : ℕ) → m ≡ topPoint w k → p ≡ κ m → q ≡ κ p → a ≡ σ p → b ≡ σ q → h ≡ heldSet w m a b
+pub split-by : (σ κ : ℕ → ℕ) (w h x : List ℕ) (k e c m p q a b : ℕ) → m ≡ topPoint w k → p ≡ κ m → q ≡ κ p → a ≡ σ p → b ≡ σ q → h ≡ heldSet w 0 m a b
     → x ≡ cellSet (set h (20480 + 5 * (k - 1) + 4) b) (20480 + 5 * k) e c a → x ≡ splitBy σ κ w k e c
 split-by σ κ w h x k e c m p q a b em ep eq ea eb eh ex =
     let fa : a ≡ σ (κ (topPoint w k)) = ea ∙ ap σ (ep ∙ ap κ em) in
     let fb : b ≡ σ (κ (κ (topPoint w k))) = eb ∙ ap σ (eq ∙ ap κ (ep ∙ ap κ em)) in
     ex ∙ ap (λ (y : List ℕ). cellSet (set y (20480 + 5 * (k - 1) + 4) b) (20480 + 5 * k) e c a) eh
-    ∙ ap (λ (y : ℕ). cellSet (set (heldSet w y a b) (20480 + 5 * (k - 1) + 4) b) (20480 + 5 * k) e c a) em
-    ∙ ap (λ (y : ℕ). cellSet (set (heldSet w (topPoint w k) y b) (20480 + 5 * (k - 1) + 4) b) (20480 + 5 * k) e c y) fa
-    ∙ ap (λ (y : ℕ). cellSet (set (heldSet w (topPoint w k) (σ (κ (topPoint w k))) y) (20480 + 5 * (k - 1) + 4) y) (20480 + 5 * k) e c (σ (κ (topPoint w k)))) fb
+    ∙ ap (λ (y : ℕ). cellSet (set (heldSet w 0 y a b) (20480 + 5 * (k - 1) + 4) b) (20480 + 5 * k) e c a) em
+    ∙ ap (λ (y : ℕ). cellSet (set (heldSet w 0 (topPoint w k) y b) (20480 + 5 * (k - 1) + 4) b) (20480 + 5 * k) e c y) fa
+    ∙ ap (λ (y : ℕ). cellSet (set (heldSet w 0 (topPoint w k) (σ (κ (topPoint w k))) y) (20480 + 5 * (k - 1) + 4) y) (20480 + 5 * k) e c (σ (κ (topPoint w k)))) fb
 
 -- ---- the start, as the code puts it together
 
@@ -83,7 +83,7 @@ module _ (σ κ : ℕ → ℕ) (w w' : List ℕ) (o q : ℕ) (eo : o ≡ σ 0) (
       e ∙ ap (λ (a : ℕ). startBy w 1000000000 1000000001 a p1 p0) eo ∙ ap (λ (a : ℕ). startBy w 1000000000 1000000001 (σ 0) a p0) f1 ∙ ap (λ (a : ℕ). startBy w 1000000000 1000000001 (σ 0) (σ (κ 0)) a) f0
       ∙ sym (pick-false (eqb (κ 0) 0) (startBy w 999999999 1000000000 (σ (κ (σ 0))) (σ (κ (κ (σ 0)))) 0) (startBy w 1000000000 1000000001 (σ 0) (σ (κ 0)) (σ (κ (κ 0)))) (ne-eqb (κ 0) 0 (λ t. z (eq ∙ t))))
 
-pub three-cells : (w h x y z : List ℕ) (e2 e1 p2 p1 p0 : ℕ) → h ≡ heldThree w p2 p1 p0 → x ≡ cellSet h 20480 1000000001 0 p0 → y ≡ cellSet x (20480 + 5) e1 1 p1 → z ≡ cellSet y (20480 + 10) e2 1 p2 → z ≡ startBy w e2 e1 p2 p1 p0
+pub three-cells : (w h x y z : List ℕ) (e2 e1 p2 p1 p0 : ℕ) → h ≡ heldSet w 1 p2 p1 p0 → x ≡ cellSet h 20480 1000000001 0 p0 → y ≡ cellSet x (20480 + 5) e1 1 p1 → z ≡ cellSet y (20480 + 10) e2 1 p2 → z ≡ startBy w e2 e1 p2 p1 p0
 three-cells w h x y z e2 e1 p2 p1 p0 a b c d =
     d ∙ ap (λ (t : List ℕ). cellSet t (20480 + 10) e2 1 p2) (c ∙ ap (λ (t : List ℕ). cellSet t (20480 + 5) e1 1 p1) (b ∙ ap (λ (t : List ℕ). cellSet t 20480 1000000001 0 p0) a))
 
@@ -96,9 +96,9 @@ start-length σ κ w w' e = ap length e ∙ go (eqb (κ 0) 0)
   where
     by : (e2 e1 p2 p1 p0 : ℕ) → length (startBy w e2 e1 p2 p1 p0) ≡ length w
     by e2 e1 p2 p1 p0 =
-        cell-length (cellSet (cellSet (heldThree w p2 p1 p0) 20480 1000000001 0 p0) (20480 + 5) e1 1 p1) (20480 + 10) e2 1 p2
-        ∙ cell-length (cellSet (heldThree w p2 p1 p0) 20480 1000000001 0 p0) (20480 + 5) e1 1 p1
-        ∙ cell-length (heldThree w p2 p1 p0) 20480 1000000001 0 p0
+        cell-length (cellSet (cellSet (heldSet w 1 p2 p1 p0) 20480 1000000001 0 p0) (20480 + 5) e1 1 p1) (20480 + 10) e2 1 p2
+        ∙ cell-length (cellSet (heldSet w 1 p2 p1 p0) 20480 1000000001 0 p0) (20480 + 5) e1 1 p1
+        ∙ cell-length (heldSet w 1 p2 p1 p0) 20480 1000000001 0 p0
         ∙ simp length-set
 
     go : (b : Bool) → length (pick b (startBy w 999999999 1000000000 (σ (κ (σ 0))) (σ (κ (κ (σ 0)))) 0) (startBy w 1000000000 1000000001 (σ 0) (σ (κ 0)) (σ (κ (κ 0))))) ≡ length w

@@ -115,7 +115,7 @@ held-same n w w' l top s h low = record {
 -- after a split: m is gone, a and b are there
 module _ (σ κ : ℕ → ℕ) (n : ℕ) (T : Turning σ κ n) (top : n ≤ 4096) (C before : List Placed) (s : Placed) (after : List Placed) (inv : Inv σ κ n C (before ++ (s ∷ after)))
     (none : ¬ (Closed σ κ (pts (before ++ (s ∷ after))) (s .pt))) (w w' : List ℕ) (long : 12288 ≤ length w) (held : HeldIn n w (before ++ (s ∷ after)))
-    (is : (x : ℕ) → x < n → getD w' (HELD + x) 0 ≡ getD (heldSet w (s .pt) (σ (κ (s .pt))) (σ (κ (κ (s .pt))))) (HELD + x) 0) where
+    (is : (x : ℕ) → x < n → getD w' (HELD + x) 0 ≡ getD (heldSet w 0 (s .pt) (σ (κ (s .pt))) (σ (κ (κ (s .pt))))) (HELD + x) 0) where
   abbrev m : ℕ
   m = s .pt
 
@@ -140,25 +140,25 @@ module _ (σ κ : ℕ → ℕ) (n : ℕ) (T : Turning σ κ n) (top : n ≤ 4096
   b-low : b < n
   b-low = T .σ-low _ (T .κ-low _ (T .κ-low _ m-low))
 
-  at-b : (x : ℕ) → x ≡ b → getD (heldSet w m a b) (HELD + x) 0 ≡ 1
+  at-b : (x : ℕ) → x ≡ b → getD (heldSet w 0 m a b) (HELD + x) 0 ≡ 1
   at-b x e =
-      ap (λ (y : ℕ). getD (heldSet w m a b) (HELD + y) 0) e
+      ap (λ (y : ℕ). getD (heldSet w 0 m a b) (HELD + y) 0) e
       ∙ getD-set-same (set (set w (HELD + m) 0) (HELD + a) 1) (HELD + b) 1 0 (rw (length-set (set w (HELD + m) 0) (HELD + a) 1, length-set w (HELD + m) 0) (omega (arith, b-low)))
 
-  at-a : (x : ℕ) → ¬ (x ≡ b) → x ≡ a → getD (heldSet w m a b) (HELD + x) 0 ≡ 1
+  at-a : (x : ℕ) → ¬ (x ≡ b) → x ≡ a → getD (heldSet w 0 m a b) (HELD + x) 0 ≡ 1
   at-a x nb e =
       getD-set-other (set (set w (HELD + m) 0) (HELD + a) 1) (HELD + b) (HELD + x) 1 0 (λ q. nb (omega arith))
       ∙ ap (λ (y : ℕ). getD (set (set w (HELD + m) 0) (HELD + a) 1) (HELD + y) 0) e
       ∙ getD-set-same (set w (HELD + m) 0) (HELD + a) 1 0 (rw (length-set w (HELD + m) 0) (omega (arith, a-low)))
 
-  at-m : (x : ℕ) → ¬ (x ≡ b) → ¬ (x ≡ a) → x ≡ m → getD (heldSet w m a b) (HELD + x) 0 ≡ 0
+  at-m : (x : ℕ) → ¬ (x ≡ b) → ¬ (x ≡ a) → x ≡ m → getD (heldSet w 0 m a b) (HELD + x) 0 ≡ 0
   at-m x nb na e =
       getD-set-other (set (set w (HELD + m) 0) (HELD + a) 1) (HELD + b) (HELD + x) 1 0 (λ q. nb (omega arith))
       ∙ getD-set-other (set w (HELD + m) 0) (HELD + a) (HELD + x) 1 0 (λ q. na (omega arith))
       ∙ ap (λ (y : ℕ). getD (set w (HELD + m) 0) (HELD + y) 0) e
       ∙ getD-set-same w (HELD + m) 0 0 (omega (arith, m-low))
 
-  at-other : (x : ℕ) → ¬ (x ≡ b) → ¬ (x ≡ a) → ¬ (x ≡ m) → getD (heldSet w m a b) (HELD + x) 0 ≡ getD w (HELD + x) 0
+  at-other : (x : ℕ) → ¬ (x ≡ b) → ¬ (x ≡ a) → ¬ (x ≡ m) → getD (heldSet w 0 m a b) (HELD + x) 0 ≡ getD w (HELD + x) 0
   at-other x nb na nm =
       getD-set-other (set (set w (HELD + m) 0) (HELD + a) 1) (HELD + b) (HELD + x) 1 0 (λ q. nb (omega arith))
       ∙ getD-set-other (set w (HELD + m) 0) (HELD + a) (HELD + x) 1 0 (λ q. na (omega arith))
@@ -337,13 +337,13 @@ module _ (s r : List ℕ) (start : List Placed) where
     den = leftDen w d + numberAt w (cell TODO k + 2)
 
     abbrev w1 : List ℕ
-    w1 = heldSet w pm pa pb
+    w1 = heldSet w 0 pm pa pb
 
     abbrev w2 : List ℕ
-    w2 = set (heldSet w pm pa pb) (cell TODO k + 4) pb
+    w2 = set (heldSet w 0 pm pa pb) (cell TODO k + 4) pb
 
     abbrev w3 : List ℕ
-    w3 = cellSet (set (heldSet w pm pa pb) (cell TODO k + 4) pb) (cell TODO (suc k)) (num - 1000000000) den pa
+    w3 = cellSet (set (heldSet w 0 pm pa pb) (cell TODO k + 4) pb) (cell TODO (suc k)) (num - 1000000000) den pa
 
     sized : d + suc k ≤ 1024
     sized = walk-size w d (suc k) g
@@ -364,10 +364,10 @@ module _ (s r : List ℕ) (start : List Placed) where
         (omega arith, omega arith, omega arith)
 
     long1 : length w1 ≡ length w
-    long1 = held-length w pm pa pb
+    long1 = held-length w 0 pm pa pb
 
     long2 : length w2 ≡ length w
-    long2 = length-set (heldSet w pm pa pb) (cell TODO k + 4) pb ∙ long1
+    long2 = length-set (heldSet w 0 pm pa pb) (cell TODO k + 4) pb ∙ long1
 
     -- outside HELD nothing changed but the point and the new cell
     read1 : (j : ℕ) → (j < HELD) ⊎ (DONE ≤ j) → getD w1 j 0 ≡ getD w j 0
@@ -381,7 +381,7 @@ module _ (s r : List ℕ) (start : List Placed) where
         away x h q = elim o [ inl y ↦ omega arith | inr y ↦ omega arith ]
 
     read3 : (j : ℕ) → ¬ (j ≡ cell TODO k + 4) → j < cell TODO (suc k) → getD w3 j 0 ≡ getD w1 j 0
-    read3 j h l = cell-other w2 (cell TODO (suc k)) (num - 1000000000) den pa j (inl l) ∙ getD-set-other (heldSet w pm pa pb) (cell TODO k + 4) j pb 0 h
+    read3 j h l = cell-other w2 (cell TODO (suc k)) (num - 1000000000) den pa j (inl l) ∙ getD-set-other (heldSet w 0 pm pa pb) (cell TODO k + 4) j pb 0 h
 
     kept-same : (x y : ℕ) → (y ≤ HELD) ⊎ (DONE ≤ x) → y ≤ cell TODO k + 4 → Same x y w w3
     kept-same x y o h = record { each = λ j p q. read3 j (λ z. omega arith) (omega arith) ∙ read1 j (side j p q o) }
@@ -411,7 +411,7 @@ module _ (s r : List ℕ) (start : List Placed) where
         (number-same w w3 (cell TODO k + 2) (s' .each (cell TODO k + 2) (omega arith) (omega arith)) (s' .each (cell TODO k + 2 + 1) (omega arith) (omega arith)))
 
     old-point : pointAt w3 (cell TODO k) ≡ pb
-    old-point = cell-other w2 (cell TODO (suc k)) (num - 1000000000) den pa (cell TODO k + 4) (inl (omega arith)) ∙ getD-set-same (heldSet w pm pa pb) (cell TODO k + 4) pb 0 (rw long1 (omega (arith, sized, g .long)))
+    old-point = cell-other w2 (cell TODO (suc k)) (num - 1000000000) den pa (cell TODO k + 4) (inl (omega arith)) ∙ getD-set-same (heldSet w 0 pm pa pb) (cell TODO k + 4) pb 0 (rw long1 (omega (arith, sized, g .long)))
 
     done-kept : Same DONE (cell DONE d) w w3
     done-kept = kept-same DONE (cell DONE d) (inr (omega arith)) (omega (arith, sized))
@@ -480,7 +480,7 @@ module _ (s r : List ℕ) (start : List Placed) where
   turned-length w w' d k d' k' stop (over c f p q u) = ap length p
   turned-length w w' d k d' k' stop (parted c f p q u v) =
       let t = topPoint w k in
-      ap length p ∙ cell-length (set (heldSet w t (σ (κ t)) (σ (κ (κ t)))) (cell TODO (k - 1) + 4) (σ (κ (κ t)))) (cell TODO k) _ _ _ ∙ length-set (heldSet w t (σ (κ t)) (σ (κ (κ t)))) (cell TODO (k - 1) + 4) (σ (κ (κ t))) ∙ held-length w t (σ (κ t)) (σ (κ (κ t)))
+      ap length p ∙ cell-length (set (heldSet w 0 t (σ (κ t)) (σ (κ (κ t)))) (cell TODO (k - 1) + 4) (σ (κ (κ t)))) (cell TODO k) _ _ _ ∙ length-set (heldSet w 0 t (σ (κ t)) (σ (κ (κ t)))) (cell TODO (k - 1) + 4) (σ (κ (κ t))) ∙ held-length w 0 t (σ (κ t)) (σ (κ (κ t)))
 
   pub walk-end : (w : List ℕ) (d k : ℕ) → Walking s r start w d k → k ≡ 0 → grow σ κ n start ≡ finished (doneIn w d)
   walk-end w d k g e =

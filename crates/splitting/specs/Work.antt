@@ -98,8 +98,8 @@ abbrev pub movedIn : List ℕ → (d k : ℕ) → List ℕ
 movedIn w d k = cellSet w (cell DONE d) (numberAt w (cell TODO (k - 1))) (numberAt w (cell TODO (k - 1) + 2)) (topPoint w k)
 
 -- the point m is no side's any more, a and b are
-abbrev pub heldSet : List ℕ → (m a b : ℕ) → List ℕ
-heldSet w m a b = set (set (set w (HELD + m) 0) (HELD + a) 1) (HELD + b) 1
+abbrev pub heldSet : List ℕ → (x m a b : ℕ) → List ℕ
+heldSet w x m a b = set (set (set w (HELD + m) x) (HELD + a) 1) (HELD + b) 1
 
 module _ (σ κ : ℕ → ℕ) where
   abbrev pub closedIn : List ℕ → ℕ → Bool
@@ -110,7 +110,7 @@ module _ (σ κ : ℕ → ℕ) where
       let m = topPoint w k in
       let a = σ (κ m) in
       let b = σ (κ (κ m)) in
-      cellSet (set (heldSet w m a b) (cell TODO (k - 1) + 4) b) (cell TODO k) e c a
+      cellSet (set (heldSet w 0 m a b) (cell TODO (k - 1) + 4) b) (cell TODO k) e c a
 
   abbrev pub splitIn : List ℕ → (d k : ℕ) → List ℕ
   splitIn w d k = splitBy w k (sumNum w d k - 1000000000) (sumDen w d k)
@@ -132,11 +132,8 @@ pub record Top (s r w : List ℕ) (d k : ℕ) : Type 0 where
 -- ---- the whole walk
 
 -- three sides to do, with finite vertices e2/1 and e1/1 (numerators plus 10⁹) and the points p2, p1, p0 from the left
-abbrev pub heldThree : List ℕ → (p2 p1 p0 : ℕ) → List ℕ
-heldThree w p2 p1 p0 = set (set (set w (HELD + p2) 1) (HELD + p1) 1) (HELD + p0) 1
-
 abbrev pub startBy : List ℕ → (e2 e1 p2 p1 p0 : ℕ) → List ℕ
-startBy w e2 e1 p2 p1 p0 = cellSet (cellSet (cellSet (heldThree w p2 p1 p0) TODO 1000000001 0 p0) (TODO + 5) e1 1 p1) (TODO + 10) e2 1 p2
+startBy w e2 e1 p2 p1 p0 = cellSet (cellSet (cellSet (heldSet w 1 p2 p1 p0) TODO 1000000001 0 p0) (TODO + 5) e1 1 p1) (TODO + 10) e2 1 p2
 
 abbrev pub startIn : (σ κ : ℕ → ℕ) → List ℕ → List ℕ
 startIn σ κ w =

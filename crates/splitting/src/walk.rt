@@ -13,7 +13,7 @@ ghost use mathlib.Core.Bool.{_&&_};
 ghost use lib.Dec.{leb};
 ghost use lib.ListN.{length};
 ghost use Rattle.growth.specs.Fixed.{image, byQ, Pair};
-ghost use Rattle.splitting.specs.Work.{Top, leftNum, leftDen, closedIn, fitsIn, sumNum, sumDen, topPoint, movedIn, splitBy, heldSet, Turned, heldThree, startBy, startIn, Ground, Walked};
+ghost use Rattle.splitting.specs.Work.{Top, leftNum, leftDen, closedIn, fitsIn, sumNum, sumDen, topPoint, movedIn, splitBy, heldSet, Turned, startBy, startIn, Ground, Walked};
 
 // How one turn of the walk ends: whether it stops, and how many sides are done and to do.
 pub struct Progress {
@@ -88,12 +88,12 @@ fn move_top(w: &mut [u16], d: usize, k: usize)
     put_cell(w, DONE + 5 * d, e, c, m);
 }
 
-// The point m is no side's any more, a and b are.
-fn hold(w: &mut [u16], m: usize, a: usize, b: usize)
+// Notes x for the point m, 0 where it is no side's any more and 1 where it is one's, and that a and b are sides' points.
+fn hold(w: &mut [u16], x: u16, m: usize, a: usize, b: usize)
     requires { ⌜ (m < 4096) × (a < 4096) × (b < 4096) × (32768 ≤ length (now w)) ⌝ }
-    ensures { λ _. ⌜ now (w .exit) ≡ heldSet (now (w .entry)) m a b ⌝ }
+    ensures { λ _. ⌜ now (w .exit) ≡ heldSet (now (w .entry)) x m a b ⌝ }
 {
-    w[HELD + m] = 0;
+    w[HELD + m] = x;
     w[HELD + a] = 1;
     w[HELD + b] = 1;
 }
@@ -109,7 +109,7 @@ fn split_top(s: &[u32], r: &[u32], w: &mut [u16], k: usize, e: u64, c: u64)
     let q = turned(s, r, p);
     let a = image(s, p);
     let b = image(s, q);
-    hold(w, m, a, b);
+    hold(w, 0, m, a, b);
     w[top + 4] = b as u16;
     put_cell(w, TODO + 5 * k, e, c, a);
 }
@@ -142,22 +142,12 @@ fn turn(s: &[u32], r: &[u32], w: &mut [u16], d: usize, k: usize) -> Progress
     Progress { stop: true, d, k }
 }
 
-// The points of three sides are held.
-fn hold_three(w: &mut [u16], p2: usize, p1: usize, p0: usize)
-    requires { ⌜ (p2 < 4096) × (p1 < 4096) × (p0 < 4096) × (32768 ≤ length (now w)) ⌝ }
-    ensures { λ _. ⌜ now (w .exit) ≡ heldThree (now (w .entry)) p2 p1 p0 ⌝ }
-{
-    w[HELD + p2] = 1;
-    w[HELD + p1] = 1;
-    w[HELD + p0] = 1;
-}
-
 // Three sides to do, the finite vertices of which have the numerators e2 - 10^9 and e1 - 10^9.
 fn start_by(w: &mut [u16], e2: u64, e1: u64, p2: usize, p1: usize, p0: usize)
     requires { ⌜ (p2 < 4096) × (p1 < 4096) × (p0 < 4096) × (32768 ≤ length (now w)) × (e2 < 4294967296) × (e1 < 4294967296) ⌝ }
     ensures { λ _. ⌜ now (w .exit) ≡ startBy (now (w .entry)) e2 e1 p2 p1 p0 ⌝ }
 {
-    hold_three(w, p2, p1, p0);
+    hold(w, 1, p2, p1, p0);
     put_cell(w, TODO, 1000000001, 0, p0);
     put_cell(w, TODO + 5, e1, 1, p1);
     put_cell(w, TODO + 10, e2, 1, p2);

@@ -1,8 +1,7 @@
 -- The tables of steps by S.
 --
--- In order: which places are positions (`real-low`, `real-high`); codes of letters (`coded-…`, `decoded-fits`, `letter-most`); the
--- polygon's tables beside these (`tables-set`); one step noted (`prepared-none`, `prepared-more`, `prepared-skip`, `prepared-all`); where S
--- leads is a position (`step-low`); Q twice (`back-…`).
+-- In order: which places are positions (`real-low`, `real-high`); codes of letters (`coded-…`, `decoded-fits`, `letter-most`); one step
+-- noted (`prepared-none`, `prepared-more`, `prepared-skip`, `prepared-all`); where S leads is a position (`step-low`); Q twice (`back-…`).
 -- Assumes nothing.
 use mathlib.Core.Path.{_≡_, refl, sym, _∙_, ap}
 use mathlib.Core.Bool.{Bool, true, false, _||_}
@@ -30,7 +29,7 @@ use Rattle.polygon.specs.Step.{oddAt, real, Real, stepS, turnQ, written}
 use Rattle.polygon.specs.Tables.{Tables, lettersOf}
 use Rattle.polygon.proofs.Flip.{real-in, turn-face, turn-last, turn-next}
 use Rattle.polygon.proofs.Polygon.{polygon}
-use Rattle.polygon.proofs.Space.{table-above, still}
+use Rattle.polygon.proofs.Partners.{tables-set}
 use Rattle.polygon.proofs.SymbolFacts.{length-generators, count-most}
 use Rattle.steps.specs.Steps.{NEXT, LETTER, Prepared}
 
@@ -94,19 +93,6 @@ pub letter-most : (v : ℕ) (t : List ℤ) → IsSymbol v t → (p : ℕ) (z : �
 letter-most v t ok p z r e =
     let w : IsWord (length (generators v t)) (lettersOf z) = rw e (polygon v t ok .letters S p r) in
     omega (arith, word-most (length (generators v t)) z w, length-generators v t, count-most (leads v t) (v + 1), ok .most)
-
--- ---- the polygon's tables beside these
-
-pub tables-set : {t : List ℤ} {v : ℕ} {w : List ℕ} (k x : ℕ) → Tables t v w → 8192 ≤ k → k < 28672 → Tables t v (set w k x)
-tables-set {t} {v} {w} k x g low high =
-    let most = g .symbol .most in
-    record {
-      symbol = g .symbol;
-      long = still (length-set w k x) (g .long);
-      flips = table-above 4096 (places v) w k x (omega arith) ∙ g .flips;
-      partnered = record { partners = λ i l h e. getD-set-other w k (30720 + i) x 0 (λ z. omega arith) ∙ g .partnered .partners i l h e };
-      numbered = record { numbers = λ i h. getD-set-other w k (31744 + i) x 0 (λ z. omega arith) ∙ g .numbered .numbers i h };
-    }
 
 -- ---- one step noted
 

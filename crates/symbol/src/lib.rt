@@ -234,7 +234,7 @@ fn out_of_range(t: &[i64], i: usize) -> bool
 }
 
 // Whether vertex i is 0/1.
-fn is_zero(t: &[i64], i: usize) -> bool
+pub fn is_zero(t: &[i64], i: usize) -> bool
     requires { ⌜ (i ≤ 1023) × (2 * i + 1 < length (now t)) ⌝ }
     ensures { λ r. ⌜ r ≡ isZero (now (t .entry)) i ⌝ }
 {

@@ -5,7 +5,7 @@ use lib.IntN.{ℤ, pos}
 use Rattle.matrix.specs.Matrix.{ofList}
 use Rattle.matrix.proofs.Bounds.{roomy}
 use Rattle.symbol.specs.Check.{eqZ}
-use Rattle.polygon.proofs.Signed.{is-one}
+use Rattle.symbol.proofs.Sides.{is-one}
 use Rattle.word.proofs.is_unit.Statement.{statement}
 use Rattle.word.proofs.is_unit.Tie as tie
 

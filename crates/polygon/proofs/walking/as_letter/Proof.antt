@@ -1,5 +1,5 @@
 use borrow.Author.Needs.{needs}
-use Rattle.polygon.proofs.Signed.{small-positive, minus-fits, minus-is}
+use Rattle.polygon.proofs.Letters.{small-positive, minus-fits, minus-is}
 use Rattle.polygon.proofs.walking.as_letter.Statement.{statement}
 use Rattle.polygon.proofs.walking.as_letter.Tie as tie
 

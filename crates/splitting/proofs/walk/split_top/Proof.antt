@@ -72,11 +72,11 @@ add-put-cell c = search needs
 
 -- src/walk.rt:108:5
 put-cell-requires : tie.Need-put-cell-requires
-put-cell-requires c κs = let s = c .before .before .before .before .before .before .before .before .before .before .before .before .before .before in let z = s .pre in let mlow = low-is _ _ _ (c .before .before .before .before .before .before .before .before .before .point-at .ensures .0) (z .3) in let plow = low-Q _ _ (z .0) _ _ mlow (c .before .before .before .before .before .before .before .before .turned .ensures) in let alow = low-S _ _ (z .0) _ _ plow (c .before .before .before .before .before .before .image .ensures) .0 in let mo = z .0 .most in let ln = z .4 in (rw (length-set (c .before .before .before .hold .last .0) (20480 + 5 * (s .args .k - 1) + 4) _, c .before .before .before .hold .ensures, held-length _ _ _ _) (omega (arith, z .2)), omega (arith, z .2), z .5, z .6, omega arith)
+put-cell-requires c κs = let s = c .before .before .before .before .before .before .before .before .before .before .before .before .before .before in let z = s .pre in let mlow = low-is _ _ _ (c .before .before .before .before .before .before .before .before .before .point-at .ensures .0) (z .3) in let plow = low-Q _ _ (z .0) _ _ mlow (c .before .before .before .before .before .before .before .before .turned .ensures) in let alow = low-S _ _ (z .0) _ _ plow (c .before .before .before .before .before .before .image .ensures) .0 in let mo = z .0 .most in let ln = z .4 in (rw (length-set (c .before .before .before .hold .last .0) (20480 + 5 * (s .args .k - 1) + 4) _, c .before .before .before .hold .ensures, held-length _ _ _ _ _) (omega (arith, z .2)), omega (arith, z .2), z .5, z .6, omega arith)
 
 -- src/walk.rt:96:1
 same-length : tie.Need-same-length
-same-length c = let s = c .before .before .before .before .before .before .before .before .before .before .before .before .before .before .before .before .before in let h = c .before .before .before .before .before .before .hold .last .0 in ap length (c .before .before .put-cell .ensures) ∙ cell-length _ _ _ _ _ ∙ length-set h (20480 + 5 * (s .args .k - 1) + 4) _ ∙ ap length (c .before .before .before .before .before .before .hold .ensures) ∙ held-length (s .args .w .now) _ _ _
+same-length c = let s = c .before .before .before .before .before .before .before .before .before .before .before .before .before .before .before .before .before in let h = c .before .before .before .before .before .before .hold .last .0 in ap length (c .before .before .put-cell .ensures) ∙ cell-length _ _ _ _ _ ∙ length-set h (20480 + 5 * (s .args .k - 1) + 4) _ ∙ ap length (c .before .before .before .before .before .before .hold .ensures) ∙ held-length (s .args .w .now) _ _ _ _
 
 -- src/walk.rt:96:1
 returns : tie.Need-returns

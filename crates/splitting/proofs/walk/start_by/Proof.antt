@@ -4,8 +4,8 @@ use Rattle.splitting.proofs.walk.start_by.Statement.{statement}
 use Rattle.splitting.proofs.walk.start_by.Tie as tie
 
 -- src/walk.rt:152:5
-hold-three-requires : tie.Need-hold-three-requires
-hold-three-requires c κs = search needs
+hold-requires : tie.Need-hold-requires
+hold-requires c κs = search needs
 
 -- src/walk.rt:153:5
 put-cell-requires : tie.Need-put-cell-requires
@@ -33,13 +33,13 @@ same-length c = search needs
 
 -- src/walk.rt:148:1
 returns : tie.Need-returns
-returns c = three-cells (c .before .before .before .before .before .before .before .before .before .before .before .before .before .before .before .before .before .args .w .now) _ _ _ _ _ _ _ _ _ (c .before .before .before .before .before .before .before .before .before .before .before .before .before .before .hold-three .ensures) (c .before .before .before .before .before .before .before .before .before .before .put-cell .ensures) (c .before .before .before .before .before .before .put-cell2 .ensures) (c .before .before .put-cell3 .ensures)
+returns c = three-cells (c .before .before .before .before .before .before .before .before .before .before .before .before .before .before .before .before .before .args .w .now) _ _ _ _ _ _ _ _ _ (c .before .before .before .before .before .before .before .before .before .before .before .before .before .before .hold .ensures) (c .before .before .before .before .before .before .before .before .before .before .put-cell .ensures) (c .before .before .before .before .before .before .put-cell2 .ensures) (c .before .before .put-cell3 .ensures)
 
 pub start-by-spec : {M : Type 1} → statement M
 start-by-spec =
     tie.close
     (tie.spec
-    hold-three-requires
+    hold-requires
     put-cell-requires
     add-put-cell
     put-cell-requires-2
