@@ -3,7 +3,6 @@ use native.Mathlib.Omega.{arith}
 use lib.ListN.{length}
 use Rattle.space.proofs.Zeros.{length-zeros}
 use Rattle.symbol.specs.Table.{pairings}
-use Rattle.pairing.specs.Work as pairing
 use Rattle.symbol.proofs.Order.{behind}
 use Rattle.pairing.proofs.Partners.{paired-none}
 use Rattle.pairing.proofs.Rows.{symbol-paired}

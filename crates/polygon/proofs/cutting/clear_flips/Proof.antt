@@ -38,13 +38,17 @@ loop-less : tie.Need-loop-less Inv-loop μ-loop
 loop-less c = search needs
 
 loop-again : tie.Need-loop-again Inv-loop μ-loop
-loop-again c = let l = c .before in (cleared-more (l .before .args .w .now) (l .loop .w) (l .loop .k) (l .loop .inv .0) (omega arith) (l .before .pre .1), omega arith, simp length-set (l .loop .inv .2))
+loop-again c =
+    let l = c .before in
+    (cleared-more (l .before .args .w .now) (l .loop .w) (l .loop .k) (l .loop .inv .0) (omega arith) (l .before .pre .1), omega arith, simp length-set (l .loop .inv .2))
 
 same-length : tie.Need-same-length Inv-loop μ-loop
 same-length c = search needs
 
 returns : tie.Need-returns Inv-loop μ-loop
-returns c = let l = c .before in cleared-all (l .before .args .v) (l .before .args .w .now) (l .loop .w) (l .loop .k) (l .loop .inv .0) (omega arith)
+returns c =
+    let l = c .before in
+    cleared-all (l .before .args .v) (l .before .args .w .now) (l .loop .w) (l .loop .k) (l .loop .inv .0) (omega arith)
 
 pub clear-flips-spec : {M : Type 1} → statement M
 clear-flips-spec =

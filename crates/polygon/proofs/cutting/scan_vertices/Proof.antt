@@ -13,7 +13,9 @@ abbrev μ-loop : tie.MeasureT-loop
 μ-loop t v z w₀ n₀ m₀ under₀ i₀ w n m under i = v - i
 
 loop-holds : tie.Need-loop-holds Inv-loop μ-loop
-loop-holds c = let s = c .before in part-none (s .args .t .now) (s .args .v) (s .args .z) (s .args .w .now) 0 (s .pre .1) (s .pre .0 .most) (s .pre .2)
+loop-holds c =
+    let s = c .before in
+    part-none (s .args .t .now) (s .args .v) (s .args .z) (s .args .w .now) 0 (s .pre .1) (s .pre .0 .most) (s .pre .2)
 
 settle-requires : tie.Need-settle-requires Inv-loop μ-loop
 settle-requires c κs = let l = c .before .before in

@@ -35,7 +35,9 @@ add-y : tie.Need-add-y Inv-loop μ-loop
 add-y c = search needs
 
 loop-holds : tie.Need-loop-holds Inv-loop μ-loop
-loop-holds c = let s = c .before in mid-start (s .args .t .now) (s .args .v) (s .args .w .now) (s .args .i) (s .args .n0) (s .args .m0) (s .pre)
+loop-holds c =
+    let s = c .before in
+    mid-start (s .args .t .now) (s .args .v) (s .args .w .now) (s .args .i) (s .args .n0) (s .args .m0) (s .pre)
 
 ready-requires : tie.Need-ready-requires Inv-loop μ-loop
 ready-requires c κs = let l = c .before in

@@ -22,7 +22,9 @@ is-zero-requires : tie.Need-is-zero-requires Inv-loop μ-loop
 is-zero-requires c κs = search needs
 
 returns : tie.Need-returns Inv-loop μ-loop
-returns c = let l = c .before .before .before in sym (first-hit (isZero (l .before .args .t .now)) (l .loop .i) (l .before .args .v) (omega arith) (record { none = l .loop .inv .1 }) (sym (c .before .is-zero .ensures) ∙ c .if1 .taken))
+returns c =
+    let l = c .before .before .before in
+    sym (first-hit (isZero (l .before .args .t .now)) (l .loop .i) (l .before .args .v) (omega arith) (record { none = l .loop .inv .1 }) (sym (c .before .is-zero .ensures) ∙ c .if1 .taken))
 
 add-i : tie.Need-add-i Inv-loop μ-loop
 add-i c = search needs
@@ -31,7 +33,9 @@ loop-less : tie.Need-loop-less Inv-loop μ-loop
 loop-less c = search needs
 
 loop-again : tie.Need-loop-again Inv-loop μ-loop
-loop-again c = let l = c .before .before .before in (search needs, below-more _ _ (l .loop .inv .1) (sym (c .before .is-zero .ensures) ∙ c .if1 .left))
+loop-again c =
+    let l = c .before .before .before in
+    (search needs, below-more _ _ (l .loop .inv .1) (sym (c .before .is-zero .ensures) ∙ c .if1 .left))
 
 returns-2 : tie.Need-returns-2 Inv-loop μ-loop
 returns-2 c = let l = c .before in

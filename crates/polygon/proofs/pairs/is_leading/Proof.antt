@@ -24,10 +24,14 @@ enum-told-4 : tie.Need-enum-told-4
 enum-told-4 c = search needs
 
 returns : tie.Need-returns
-returns c = let s = c .before .before .before .before in leads-by (s .args .v) (s .args .t .now) (s .args .i) Even (sym (c .before .before .pairing .ensures) ∙ c .enum-told .given .1)
+returns c =
+    let s = c .before .before .before .before in
+    leads-by (s .args .v) (s .args .t .now) (s .args .i) Even (sym (c .before .before .pairing .ensures) ∙ c .enum-told .given .1)
 
 returns-2 : tie.Need-returns-2
-returns-2 c = let s = c .before .before .before .before in leads-by (s .args .v) (s .args .t .now) (s .args .i) Odd (sym (c .before .before .pairing .ensures) ∙ c .enum-told2 .given .1)
+returns-2 c =
+    let s = c .before .before .before .before in
+    leads-by (s .args .v) (s .args .t .now) (s .args .i) Odd (sym (c .before .before .pairing .ensures) ∙ c .enum-told2 .given .1)
 
 returns-3 : tie.Need-returns-3
 returns-3 c = let k = c .before in
@@ -35,7 +39,9 @@ returns-3 c = let k = c .before in
     leads-free (s .args .v) (s .args .t .now) (s .args .w .now) (s .args .i) _ (c .partner-of .result) (s .pre .1) (s .pre .2) (sym (k .before .before .pairing .ensures) ∙ k .enum-told3 .given .1) (c .partner-of .ensures)
 
 returns-4 : tie.Need-returns-4
-returns-4 c = let s = c .before .before .before .before in leads-by (s .args .v) (s .args .t .now) (s .args .i) Bad (sym (c .before .before .pairing .ensures) ∙ c .enum-told4 .given .1)
+returns-4 c =
+    let s = c .before .before .before .before in
+    leads-by (s .args .v) (s .args .t .now) (s .args .i) Bad (sym (c .before .before .pairing .ensures) ∙ c .enum-told4 .given .1)
 
 pub is-leading-spec : {M : Type 1} → statement M
 is-leading-spec =

@@ -17,10 +17,14 @@ is-leading-requires : tie.Need-is-leading-requires
 is-leading-requires c κs = search needs
 
 add-w : tie.Need-add-w
-add-w c = let s = c .before .before .before .before in omega (arith, number-count (s .args .t .now) (s .args .v) (s .args .w .now) (s .args .i) (s .args .n) (s .pre .1), s .pre .2, s .pre .0 .most)
+add-w c =
+    let s = c .before .before .before .before in
+    omega (arith, number-count (s .args .t .now) (s .args .v) (s .args .w .now) (s .args .i) (s .args .n) (s .pre .1), s .pre .2, s .pre .0 .most)
 
 cast-w : tie.Need-cast-w
-cast-w c = let s = c .before .before .before .before in omega (arith, number-count (s .args .t .now) (s .args .v) (s .args .w .now) (s .args .i) (s .args .n) (s .pre .1), s .pre .2, s .pre .0 .most)
+cast-w c =
+    let s = c .before .before .before .before in
+    omega (arith, number-count (s .args .t .now) (s .args .v) (s .args .w .now) (s .args .i) (s .args .n) (s .pre .1), s .pre .2, s .pre .0 .most)
 
 add-w-2 : tie.Need-add-w-2
 add-w-2 c = search needs
@@ -32,7 +36,9 @@ slice-write-w : tie.Need-slice-write-w
 slice-write-w c = search needs
 
 add-result : tie.Need-add-result
-add-result c = let s = c .before .before .before .before in omega (arith, number-count (s .args .t .now) (s .args .v) (s .args .w .now) (s .args .i) (s .args .n) (s .pre .1), s .pre .2, s .pre .0 .most)
+add-result c =
+    let s = c .before .before .before .before in
+    omega (arith, number-count (s .args .t .now) (s .args .v) (s .args .w .now) (s .args .i) (s .args .n) (s .pre .1), s .pre .2, s .pre .0 .most)
 
 same-length : tie.Need-same-length
 same-length c = search needs
@@ -51,7 +57,9 @@ mul-j : tie.Need-mul-j
 mul-j c = let s = c .before .before .before .before .before .before in omega (arith, behind c, s .pre .2, s .pre .0 .most)
 
 slice-read-j : tie.Need-slice-read-j
-slice-read-j c = let s = c .before .before .before .before .before .before .before in omega (arith, behind (c .before), s .pre .2, s .pre .0 .most, s .pre .1 .long)
+slice-read-j c =
+    let s = c .before .before .before .before .before .before .before in
+    omega (arith, behind (c .before), s .pre .2, s .pre .0 .most, s .pre .1 .long)
 
 add-w-3 : tie.Need-add-w-3
 add-w-3 c = search needs

@@ -14,7 +14,9 @@ abbrev μ-loop : tie.MeasureT-loop
 μ-loop t v w₀ n₀ i₀ w n i = v + 1 - i
 
 loop-holds : tie.Need-loop-holds Inv-loop μ-loop
-loop-holds c = let s = c .before in (above-refl _, numbered-none (s .args .t .now) (s .args .v) (s .pre .0) (s .args .w .now) (s .pre .2) (s .pre .1), omega arith)
+loop-holds c =
+    let s = c .before in
+    (above-refl _, numbered-none (s .args .t .now) (s .args .v) (s .pre .0) (s .args .w .now) (s .pre .2) (s .pre .1), omega arith)
 
 add-loop : tie.Need-add-loop Inv-loop μ-loop
 add-loop c = search needs
@@ -38,7 +40,10 @@ same-length : tie.Need-same-length Inv-loop μ-loop
 same-length c = search needs
 
 returns : tie.Need-returns Inv-loop μ-loop
-returns c = let l = c .before in let s = l .before .before in (l .loop .inv .0, l .loop .inv .1 .partnered, numbered-all (s .args .t .now) (s .args .v) (s .pre .0) (l .loop .w) (l .loop .i) (l .loop .n) (l .loop .inv .1) (omega arith))
+returns c =
+    let l = c .before in
+    let s = l .before .before in
+    (l .loop .inv .0, l .loop .inv .1 .partnered, numbered-all (s .args .t .now) (s .args .v) (s .pre .0) (l .loop .w) (l .loop .i) (l .loop .n) (l .loop .inv .1) (omega arith))
 
 pub number-sides-spec : {M : Type 1} → statement M
 number-sides-spec =

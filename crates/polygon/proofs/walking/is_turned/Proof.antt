@@ -14,7 +14,9 @@ is-zero-requires : tie.Need-is-zero-requires
 is-zero-requires c κs = (omega (arith, c .pre .most), omega (arith, c .pre .long, c .pre .some))
 
 returns : tie.Need-returns
-returns c = let s = c .before .before in sym (turned-no (s .args .v) (s .args .t .now) (sym (c .before .is-zero .ensures) ∙ not-true _ (c .if1 .taken)))
+returns c =
+    let s = c .before .before in
+    sym (turned-no (s .args .v) (s .args .t .now) (sym (c .before .is-zero .ensures) ∙ not-true _ (c .if1 .taken)))
 
 pairing-requires : tie.Need-pairing-requires
 pairing-requires c κs = search needs

@@ -17,7 +17,9 @@ mul-b : tie.Need-mul-b
 mul-b c = search needs
 
 returns : tie.Need-returns
-returns c = let s = c .before .before in turn-silent (s .args .t .now) (s .args .v) (s .args .w .now) (s .pre .0) (s .args .inverse) (s .args .p) (c .if1 .taken)
+returns c =
+    let s = c .before .before in
+    turn-silent (s .args .t .now) (s .args .v) (s .args .w .now) (s .pre .0) (s .args .inverse) (s .args .p) (c .if1 .taken)
 
 number-of-requires : tie.Need-number-of-requires
 number-of-requires c κs = let s = c .before .before in

@@ -10,7 +10,9 @@ use Rattle.polygon.proofs.walking.letter_s.Statement.{statement}
 use Rattle.polygon.proofs.walking.letter_s.Tie as tie
 
 beyond-requires : tie.Need-beyond-requires
-beyond-requires c κs = let s = c .before in (omega (arith, s .pre .0 .symbol .most, real-in (s .args .v) (s .args .t .now) (s .pre .0 .symbol) (s .args .p) (s .pre .1)), s .pre .0 .long)
+beyond-requires c κs =
+    let s = c .before in
+    (omega (arith, s .pre .0 .symbol .most, real-in (s .args .v) (s .args .t .now) (s .pre .0 .symbol) (s .args .p) (s .pre .1)), s .pre .0 .long)
 
 sub-b : tie.Need-sub-b
 sub-b c = search needs

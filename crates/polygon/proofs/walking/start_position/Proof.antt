@@ -13,10 +13,14 @@ is-turned-requires : tie.Need-is-turned-requires
 is-turned-requires c κs = search needs
 
 returns : tie.Need-returns
-returns c = let s = c .before .before .before in s .pre .1 ∙ sym (start-turned (s .args .v) (s .args .t .now) (sym (c .before .is-turned .ensures) ∙ c .if1 .taken))
+returns c =
+    let s = c .before .before .before in
+    s .pre .1 ∙ sym (start-turned (s .args .v) (s .args .t .now) (sym (c .before .is-turned .ensures) ∙ c .if1 .taken))
 
 beyond-requires : tie.Need-beyond-requires
-beyond-requires c κs = let s = c .before .before .before in (omega (arith, s .pre .1, s .pre .0 .symbol .most, under-low (s .args .v) (s .args .t .now) (s .pre .0 .symbol)), s .pre .0 .long)
+beyond-requires c κs =
+    let s = c .before .before .before in
+    (omega (arith, s .pre .1, s .pre .0 .symbol .most, under-low (s .args .v) (s .args .t .now) (s .pre .0 .symbol)), s .pre .0 .long)
 
 returns-2 : tie.Need-returns-2
 returns-2 c = let s = c .before .before .before .before in

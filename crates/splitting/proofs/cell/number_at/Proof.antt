@@ -3,45 +3,37 @@ use borrow.Author.Needs.{needs}
 use Rattle.splitting.proofs.cell.number_at.Statement.{statement}
 use Rattle.splitting.proofs.cell.number_at.Tie as tie
 
--- src/cell.rt:19:21
 mul-long : tie.Need-mul-long
 mul-long c = search needs
 
--- src/cell.rt:19:21
 shared-slice-read-long : tie.Need-shared-slice-read-long
 shared-slice-read-long c = search needs
 
--- src/cell.rt:19:9
 long-requires : tie.Need-long-requires
 long-requires c κs = search needs
 
--- src/cell.rt:20:22
 add-long : tie.Need-add-long
 add-long c = search needs
 
--- src/cell.rt:20:20
 mul-long-2 : tie.Need-mul-long-2
 mul-long-2 c = search needs
 
--- src/cell.rt:20:20
 shared-slice-read-long-2 : tie.Need-shared-slice-read-long-2
 shared-slice-read-long-2 c = search needs
 
--- src/cell.rt:20:9
 long-requires-2 : tie.Need-long-requires-2
 long-requires-2 c κs = search needs
 
--- src/cell.rt:21:5
 mul-result : tie.Need-mul-result
 mul-result c = search needs
 
--- src/cell.rt:21:5
 add-result : tie.Need-add-result
 add-result c = search needs
 
--- src/cell.rt:15:1
 returns : tie.Need-returns
-returns c = let s = c .before .before .before .before .before in number-is (s .args .w .now) (s .args .at) _ _ (c .before .before .long .ensures .0) (c .long2 .ensures .0) (c .before .before .long .ensures .1) (c .long2 .ensures .1)
+returns c =
+    let s = c .before .before .before .before .before in
+    number-is (s .args .w .now) (s .args .at) _ _ (c .before .before .long .ensures .0) (c .long2 .ensures .0) (c .before .before .long .ensures .1) (c .long2 .ensures .1)
 
 pub number-at-spec : {M : Type 1} → statement M
 number-at-spec =

@@ -7,41 +7,38 @@ use borrow.Author.Needs.{needs}
 use Rattle.splitting.proofs.cell.put_cell.Statement.{statement}
 use Rattle.splitting.proofs.cell.put_cell.Tie as tie
 
--- src/cell.rt:38:5
 put-number-requires : tie.Need-put-number-requires
 put-number-requires c κs = search needs
 
--- src/cell.rt:39:19
 add-put-number : tie.Need-add-put-number
 add-put-number c = search needs
 
--- src/cell.rt:39:5
 put-number-requires-2 : tie.Need-put-number-requires-2
 put-number-requires-2 c κs = search needs
 
--- src/cell.rt:40:17
 cast-w : tie.Need-cast-w
 cast-w c = search needs
 
--- src/cell.rt:40:7
 add-w : tie.Need-add-w
 add-w c = search needs
 
--- src/cell.rt:40:5
 mul-w : tie.Need-mul-w
 mul-w c = search needs
 
--- src/cell.rt:40:5
 slice-write-w : tie.Need-slice-write-w
 slice-write-w c = search needs
 
--- src/cell.rt:34:1
 same-length : tie.Need-same-length
-same-length c = let s = c .before .before .before .before .before .before .before .before .before in let y = c .before .before .before .before .before .before .put-number .last .0 in let x = c .before .before .put-number2 .last .0 in length-set x (s .args .at + 4) (s .args .m) ∙ put-length y x (s .args .at + 2) (s .args .d) (c .before .before .put-number2 .ensures) ∙ put-length (s .args .w .now) y (s .args .at) (s .args .e) (c .before .before .before .before .before .before .put-number .ensures)
+same-length c =
+    let s = c .before .before .before .before .before .before .before .before .before in
+    let y = c .before .before .before .before .before .before .put-number .last .0 in
+    let x = c .before .before .put-number2 .last .0 in
+    length-set x (s .args .at + 4) (s .args .m) ∙ put-length y x (s .args .at + 2) (s .args .d) (c .before .before .put-number2 .ensures) ∙ put-length (s .args .w .now) y (s .args .at) (s .args .e) (c .before .before .before .before .before .before .put-number .ensures)
 
--- src/cell.rt:34:1
 returns : tie.Need-returns
-returns c = let s = c .before .before .before .before .before .before .before .before .before in cell-set (s .args .w .now) _ _ (s .args .at) (s .args .e) (s .args .d) (s .args .m) (c .before .before .before .before .before .before .put-number .ensures) (c .before .before .put-number2 .ensures)
+returns c =
+    let s = c .before .before .before .before .before .before .before .before .before in
+    cell-set (s .args .w .now) _ _ (s .args .at) (s .args .e) (s .args .d) (s .args .m) (c .before .before .before .before .before .before .put-number .ensures) (c .before .before .put-number2 .ensures)
 
 pub put-cell-spec : {M : Type 1} → statement M
 put-cell-spec =

@@ -4,39 +4,30 @@ use borrow.Author.Needs.{needs}
 use Rattle.splitting.proofs.cell.put_number.Statement.{statement}
 use Rattle.splitting.proofs.cell.put_number.Tie as tie
 
--- src/cell.rt:29:13
 cast-w : tie.Need-cast-w
 cast-w c = search needs
 
--- src/cell.rt:29:5
 mul-w : tie.Need-mul-w
 mul-w c = search needs
 
--- src/cell.rt:29:5
 slice-write-w : tie.Need-slice-write-w
 slice-write-w c = search needs
 
--- src/cell.rt:30:17
 cast-w-2 : tie.Need-cast-w-2
 cast-w-2 c = search needs
 
--- src/cell.rt:30:7
 add-w : tie.Need-add-w
 add-w c = search needs
 
--- src/cell.rt:30:5
 mul-w-2 : tie.Need-mul-w-2
 mul-w-2 c = search needs
 
--- src/cell.rt:30:5
 slice-write-w-2 : tie.Need-slice-write-w-2
 slice-write-w-2 c = simp length-set (omega arith)
 
--- src/cell.rt:25:1
 same-length : tie.Need-same-length
 same-length c = search needs
 
--- src/cell.rt:25:1
 returns : tie.Need-returns
 returns c = search needs
 

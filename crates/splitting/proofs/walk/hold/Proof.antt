@@ -4,47 +4,36 @@ use borrow.Author.Needs.{needs}
 use Rattle.splitting.proofs.walk.hold.Statement.{statement}
 use Rattle.splitting.proofs.walk.hold.Tie as tie
 
--- src/walk.rt:90:7
 add-w : tie.Need-add-w
 add-w c = search needs
 
--- src/walk.rt:90:5
 mul-w : tie.Need-mul-w
 mul-w c = search needs
 
--- src/walk.rt:90:5
 slice-write-w : tie.Need-slice-write-w
 slice-write-w c = search needs
 
--- src/walk.rt:91:7
 add-w-2 : tie.Need-add-w-2
 add-w-2 c = search needs
 
--- src/walk.rt:91:5
 mul-w-2 : tie.Need-mul-w-2
 mul-w-2 c = search needs
 
--- src/walk.rt:91:5
 slice-write-w-2 : tie.Need-slice-write-w-2
 slice-write-w-2 c = simp length-set (omega arith)
 
--- src/walk.rt:92:7
 add-w-3 : tie.Need-add-w-3
 add-w-3 c = search needs
 
--- src/walk.rt:92:5
 mul-w-3 : tie.Need-mul-w-3
 mul-w-3 c = search needs
 
--- src/walk.rt:92:5
 slice-write-w-3 : tie.Need-slice-write-w-3
 slice-write-w-3 c = simp length-set (omega arith)
 
--- src/walk.rt:86:1
 same-length : tie.Need-same-length
 same-length c = search needs
 
--- src/walk.rt:86:1
 returns : tie.Need-returns
 returns c = search needs
 

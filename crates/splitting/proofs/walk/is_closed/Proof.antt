@@ -6,33 +6,47 @@ use borrow.Author.Needs.{needs}
 use Rattle.splitting.proofs.walk.is_closed.Statement.{statement}
 use Rattle.splitting.proofs.walk.is_closed.Tie as tie
 
--- src/walk.rt:27:9
 turned-requires : tie.Need-turned-requires
 turned-requires c κs = search needs
 
--- src/walk.rt:29:9
 returns : tie.Need-returns
-returns c = let s = c .before .before .before .before .before in let sg = image (s .args .s .now) in closed-odd sg (byQ sg (image (s .args .r .now))) (s .args .w .now) (s .args .m) _ (c .before .turned .ensures) (c .if1 .taken)
+returns c =
+    let s = c .before .before .before .before .before in
+    let sg = image (s .args .s .now) in
+    closed-odd sg (byQ sg (image (s .args .r .now))) (s .args .w .now) (s .args .m) _ (c .before .turned .ensures) (c .if1 .taken)
 
--- src/walk.rt:31:9
 image-requires : tie.Need-image-requires
 image-requires c κs = search needs
 
--- src/walk.rt:32:7
 add-result : tie.Need-add-result
-add-result c = let s = c .before .before .before .before .before .before in let k = low-S _ _ (s .pre .0) _ _ (s .pre .1) (c .image .ensures) .0 in let l = s .pre .0 .most in let b = s .pre .2 in omega arith
+add-result c =
+    let s = c .before .before .before .before .before .before in
+    let k = low-S _ _ (s .pre .0) _ _ (s .pre .1) (c .image .ensures) .0 in
+    let l = s .pre .0 .most in
+    let b = s .pre .2 in
+    omega arith
 
--- src/walk.rt:32:5
 mul-result : tie.Need-mul-result
-mul-result c = let s = c .before .before .before .before .before .before in let k = low-S _ _ (s .pre .0) _ _ (s .pre .1) (c .image .ensures) .0 in let l = s .pre .0 .most in let b = s .pre .2 in omega arith
+mul-result c =
+    let s = c .before .before .before .before .before .before in
+    let k = low-S _ _ (s .pre .0) _ _ (s .pre .1) (c .image .ensures) .0 in
+    let l = s .pre .0 .most in
+    let b = s .pre .2 in
+    omega arith
 
--- src/walk.rt:32:5
 shared-slice-read-result : tie.Need-shared-slice-read-result
-shared-slice-read-result c = let s = c .before .before .before .before .before .before .before in let k = low-S _ _ (s .pre .0) _ _ (s .pre .1) (c .before .image .ensures) .0 in let l = s .pre .0 .most in let b = s .pre .2 in omega arith
+shared-slice-read-result c =
+    let s = c .before .before .before .before .before .before .before in
+    let k = low-S _ _ (s .pre .0) _ _ (s .pre .1) (c .before .image .ensures) .0 in
+    let l = s .pre .0 .most in
+    let b = s .pre .2 in
+    omega arith
 
--- src/walk.rt:23:1
 returns-2 : tie.Need-returns-2
-returns-2 c = let s = c .before .before .before .before .before .before .before in let sg = image (s .args .s .now) in closed-held sg (byQ sg (image (s .args .r .now))) (s .args .w .now) (s .args .m) _ (c .before .before .before .turned .ensures) (c .before .before .if1 .left) _ (c .before .image .ensures)
+returns-2 c =
+    let s = c .before .before .before .before .before .before .before in
+    let sg = image (s .args .s .now) in
+    closed-held sg (byQ sg (image (s .args .r .now))) (s .args .w .now) (s .args .m) _ (c .before .before .before .turned .ensures) (c .before .before .if1 .left) _ (c .before .image .ensures)
 
 pub is-closed-spec : {M : Type 1} → statement M
 is-closed-spec =

@@ -6,29 +6,25 @@ use borrow.Author.Needs.{needs}
 use Rattle.splitting.proofs.walk.left_num.Statement.{statement}
 use Rattle.splitting.proofs.walk.left_num.Tie as tie
 
--- src/walk.rt:41:9
 returns : tie.Need-returns
 returns c = let s = c .before .before in (left-none (s .args .w .now) (s .args .d) (c .if1 .taken) .0, lit< tt)
 
--- src/walk.rt:43:30
 sub-number-at : tie.Need-sub-number-at
 sub-number-at c = search needs
 
--- src/walk.rt:43:25
 mul-number-at : tie.Need-mul-number-at
 mul-number-at c = search needs
 
--- src/walk.rt:43:18
 add-number-at : tie.Need-add-number-at
 add-number-at c = search needs
 
--- src/walk.rt:43:5
 number-at-requires : tie.Need-number-at-requires
 number-at-requires c κs = search needs
 
--- src/walk.rt:36:1
 returns-2 : tie.Need-returns-2
-returns-2 c = let s = c .before .before .before in (c .number-at .ensures .0 ∙ left-some (s .args .w .now) (s .args .d) (c .before .if1 .left) .0, c .number-at .ensures .1)
+returns-2 c =
+    let s = c .before .before .before in
+    (c .number-at .ensures .0 ∙ left-some (s .args .w .now) (s .args .d) (c .before .if1 .left) .0, c .number-at .ensures .1)
 
 pub left-num-spec : {M : Type 1} → statement M
 left-num-spec =

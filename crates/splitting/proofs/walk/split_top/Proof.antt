@@ -10,77 +10,91 @@ use borrow.Author.Needs.{needs}
 use Rattle.splitting.proofs.walk.split_top.Statement.{statement}
 use Rattle.splitting.proofs.walk.split_top.Tie as tie
 
--- src/walk.rt:100:27
 sub-top : tie.Need-sub-top
 sub-top c = search needs
 
--- src/walk.rt:100:22
 mul-top : tie.Need-mul-top
 mul-top c = search needs
 
--- src/walk.rt:100:15
 add-top : tie.Need-add-top
 add-top c = search needs
 
--- src/walk.rt:101:9
 point-at-requires : tie.Need-point-at-requires
 point-at-requires c κs = search needs
 
--- src/walk.rt:102:9
 turned-requires : tie.Need-turned-requires
 turned-requires c κs = search needs
 
--- src/walk.rt:103:9
 turned-requires-2 : tie.Need-turned-requires-2
 turned-requires-2 c κs = search needs
 
--- src/walk.rt:104:9
 image-requires : tie.Need-image-requires
 image-requires c κs = search needs
 
--- src/walk.rt:105:9
 image-requires-2 : tie.Need-image-requires-2
 image-requires-2 c κs = search needs
 
--- src/walk.rt:106:5
 hold-requires : tie.Need-hold-requires
-hold-requires c κs = let s = c .before .before .before .before .before .before .before .before .before .before in let z = s .pre in let mlow = low-is _ _ _ (c .before .before .before .before .before .point-at .ensures .0) (z .3) in let plow = low-Q _ _ (z .0) _ _ mlow (c .before .before .before .before .turned .ensures) in let qlow = low-Q _ _ (z .0) _ _ plow (c .before .before .before .turned2 .ensures) in let alow = low-S _ _ (z .0) _ _ plow (c .before .before .image .ensures) .0 in let blow = low-S _ _ (z .0) _ _ qlow (c .before .image2 .ensures) .0 in let mo = z .0 .most in (omega arith, omega arith, omega arith, z .4)
+hold-requires c κs =
+    let s = c .before .before .before .before .before .before .before .before .before .before in
+    let z = s .pre in
+    let mlow = low-is _ _ _ (c .before .before .before .before .before .point-at .ensures .0) (z .3) in
+    let plow = low-Q _ _ (z .0) _ _ mlow (c .before .before .before .before .turned .ensures) in
+    let qlow = low-Q _ _ (z .0) _ _ plow (c .before .before .before .turned2 .ensures) in
+    let alow = low-S _ _ (z .0) _ _ plow (c .before .before .image .ensures) .0 in
+    let blow = low-S _ _ (z .0) _ _ qlow (c .before .image2 .ensures) .0 in
+    let mo = z .0 .most in
+    (omega arith, omega arith, omega arith, z .4)
 
--- src/walk.rt:107:18
 cast-w : tie.Need-cast-w
-cast-w c = let s = c .before .before .before .before .before .before .before .before .before .before .before .before .before in let z = s .pre in let mlow = low-is _ _ _ (c .before .before .before .before .before .before .before .before .point-at .ensures .0) (z .3) in let plow = low-Q _ _ (z .0) _ _ mlow (c .before .before .before .before .before .before .before .turned .ensures) in let qlow = low-Q _ _ (z .0) _ _ plow (c .before .before .before .before .before .before .turned2 .ensures) in let blow = low-S _ _ (z .0) _ _ qlow (c .before .before .before .before .image2 .ensures) .0 in let mo = z .0 .most in omega arith
+cast-w c =
+    let s = c .before .before .before .before .before .before .before .before .before .before .before .before .before in
+    let z = s .pre in
+    let mlow = low-is _ _ _ (c .before .before .before .before .before .before .before .before .point-at .ensures .0) (z .3) in
+    let plow = low-Q _ _ (z .0) _ _ mlow (c .before .before .before .before .before .before .before .turned .ensures) in
+    let qlow = low-Q _ _ (z .0) _ _ plow (c .before .before .before .before .before .before .turned2 .ensures) in
+    let blow = low-S _ _ (z .0) _ _ qlow (c .before .before .before .before .image2 .ensures) .0 in
+    let mo = z .0 .most in
+    omega arith
 
--- src/walk.rt:107:7
 add-w : tie.Need-add-w
 add-w c = search needs
 
--- src/walk.rt:107:5
 mul-w : tie.Need-mul-w
 mul-w c = search needs
 
--- src/walk.rt:107:5
 slice-write-w : tie.Need-slice-write-w
 slice-write-w c = search needs
 
--- src/walk.rt:108:24
 mul-put-cell : tie.Need-mul-put-cell
 mul-put-cell c = search needs
 
--- src/walk.rt:108:17
 add-put-cell : tie.Need-add-put-cell
 add-put-cell c = search needs
 
--- src/walk.rt:108:5
 put-cell-requires : tie.Need-put-cell-requires
-put-cell-requires c κs = let s = c .before .before .before .before .before .before .before .before .before .before .before .before .before .before in let z = s .pre in let mlow = low-is _ _ _ (c .before .before .before .before .before .before .before .before .before .point-at .ensures .0) (z .3) in let plow = low-Q _ _ (z .0) _ _ mlow (c .before .before .before .before .before .before .before .before .turned .ensures) in let alow = low-S _ _ (z .0) _ _ plow (c .before .before .before .before .before .before .image .ensures) .0 in let mo = z .0 .most in let ln = z .4 in (rw (length-set (c .before .before .before .hold .last .0) (20480 + 5 * (s .args .k - 1) + 4) _, c .before .before .before .hold .ensures, held-length _ _ _ _ _) (omega (arith, z .2)), omega (arith, z .2), z .5, z .6, omega arith)
+put-cell-requires c κs =
+    let s = c .before .before .before .before .before .before .before .before .before .before .before .before .before .before in
+    let z = s .pre in
+    let mlow = low-is _ _ _ (c .before .before .before .before .before .before .before .before .before .point-at .ensures .0) (z .3) in
+    let plow = low-Q _ _ (z .0) _ _ mlow (c .before .before .before .before .before .before .before .before .turned .ensures) in
+    let alow = low-S _ _ (z .0) _ _ plow (c .before .before .before .before .before .before .image .ensures) .0 in
+    let mo = z .0 .most in
+    let ln = z .4 in
+    (rw (length-set (c .before .before .before .hold .last .0) (20480 + 5 * (s .args .k - 1) + 4) _, c .before .before .before .hold .ensures, held-length _ _ _ _ _) (omega (arith, z .2)), omega (arith, z .2), z .5, z .6, omega arith)
 
--- src/walk.rt:96:1
 same-length : tie.Need-same-length
-same-length c = let s = c .before .before .before .before .before .before .before .before .before .before .before .before .before .before .before .before .before in let h = c .before .before .before .before .before .before .hold .last .0 in ap length (c .before .before .put-cell .ensures) ∙ cell-length _ _ _ _ _ ∙ length-set h (20480 + 5 * (s .args .k - 1) + 4) _ ∙ ap length (c .before .before .before .before .before .before .hold .ensures) ∙ held-length (s .args .w .now) _ _ _ _
+same-length c =
+    let s = c .before .before .before .before .before .before .before .before .before .before .before .before .before .before .before .before .before in
+    let h = c .before .before .before .before .before .before .hold .last .0 in
+    ap length (c .before .before .put-cell .ensures) ∙ cell-length _ _ _ _ _ ∙ length-set h (20480 + 5 * (s .args .k - 1) + 4) _ ∙ ap length (c .before .before .before .before .before .before .hold .ensures) ∙ held-length (s .args .w .now) _ _ _ _
 
--- src/walk.rt:96:1
 returns : tie.Need-returns
-returns c = let s = c .before .before .before .before .before .before .before .before .before .before .before .before .before .before .before .before .before in let sg = image (s .args .s .now) in let ka = byQ sg (image (s .args .r .now)) in split-by sg ka (s .args .w .now) _ _ (s .args .k) (s .args .e) (s .args .c) _ _ _ _ _ (c .before .before .before .before .before .before .before .before .before .before .before .before .point-at .ensures .0) (c .before .before .before .before .before .before .before .before .before .before .before .turned .ensures) (c .before .before .before .before .before .before .before .before .before .before .turned2 .ensures) (c .before .before .before .before .before .before .before .before .before .image .ensures) (c .before .before .before .before .before .before .before .before .image2 .ensures) (c .before .before .before .before .before .before .hold .ensures) (c .before .before .put-cell .ensures)
+returns c =
+    let s = c .before .before .before .before .before .before .before .before .before .before .before .before .before .before .before .before .before in
+    let sg = image (s .args .s .now) in
+    let ka = byQ sg (image (s .args .r .now)) in
+    split-by sg ka (s .args .w .now) _ _ (s .args .k) (s .args .e) (s .args .c) _ _ _ _ _ (c .before .before .before .before .before .before .before .before .before .before .before .before .point-at .ensures .0) (c .before .before .before .before .before .before .before .before .before .before .before .turned .ensures) (c .before .before .before .before .before .before .before .before .before .before .turned2 .ensures) (c .before .before .before .before .before .before .before .before .before .image .ensures) (c .before .before .before .before .before .before .before .before .image2 .ensures) (c .before .before .before .before .before .before .hold .ensures) (c .before .before .put-cell .ensures)
 
 pub split-top-spec : {M : Type 1} → statement M
 split-top-spec =

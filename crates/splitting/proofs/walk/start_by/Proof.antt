@@ -3,35 +3,27 @@ use borrow.Author.Needs.{needs}
 use Rattle.splitting.proofs.walk.start_by.Statement.{statement}
 use Rattle.splitting.proofs.walk.start_by.Tie as tie
 
--- src/walk.rt:152:5
 hold-requires : tie.Need-hold-requires
 hold-requires c κs = search needs
 
--- src/walk.rt:153:5
 put-cell-requires : tie.Need-put-cell-requires
 put-cell-requires c κs = search needs
 
--- src/walk.rt:154:17
 add-put-cell : tie.Need-add-put-cell
 add-put-cell c = search needs
 
--- src/walk.rt:154:5
 put-cell-requires-2 : tie.Need-put-cell-requires-2
 put-cell-requires-2 c κs = search needs
 
--- src/walk.rt:155:17
 add-put-cell-2 : tie.Need-add-put-cell-2
 add-put-cell-2 c = search needs
 
--- src/walk.rt:155:5
 put-cell-requires-3 : tie.Need-put-cell-requires-3
 put-cell-requires-3 c κs = search needs
 
--- src/walk.rt:148:1
 same-length : tie.Need-same-length
 same-length c = search needs
 
--- src/walk.rt:148:1
 returns : tie.Need-returns
 returns c = three-cells (c .before .before .before .before .before .before .before .before .before .before .before .before .before .before .before .before .before .args .w .now) _ _ _ _ _ _ _ _ _ (c .before .before .before .before .before .before .before .before .before .before .before .before .before .before .hold .ensures) (c .before .before .before .before .before .before .before .before .before .before .put-cell .ensures) (c .before .before .before .before .before .before .put-cell2 .ensures) (c .before .before .put-cell3 .ensures)
 

@@ -8,105 +8,110 @@ use borrow.Author.Needs.{needs}
 use Rattle.splitting.proofs.walk.turn.Statement.{statement}
 use Rattle.splitting.proofs.walk.turn.Tie as tie
 
--- src/walk.rt:116:27
 sub-top : tie.Need-sub-top
 sub-top c = search needs
 
--- src/walk.rt:116:22
 mul-top : tie.Need-mul-top
 mul-top c = search needs
 
--- src/walk.rt:116:15
 add-top : tie.Need-add-top
 add-top c = search needs
 
--- src/walk.rt:117:9
 point-at-requires : tie.Need-point-at-requires
 point-at-requires c κs = search needs
 
--- src/walk.rt:118:8
 is-closed-requires : tie.Need-is-closed-requires
 is-closed-requires c κs = search needs
 
--- src/walk.rt:119:9
 move-top-requires : tie.Need-move-top-requires
 move-top-requires c κs = search needs
 
--- src/walk.rt:120:43
 add-t20 : tie.Need-add-t20
 add-t20 c = search needs
 
--- src/walk.rt:120:53
 sub-t21 : tie.Need-sub-t21
 sub-t21 c = search needs
 
--- src/walk.rt:120:9
 same-length : tie.Need-same-length
 same-length c = search needs
 
--- src/walk.rt:120:9
 returns : tie.Need-returns
-returns c = let s = c .before .before .before .before .before .before .before .before .before .before .before .before in let sg = image (s .args .s .now) in let ka = byQ sg (image (s .args .r .now)) in let e = ap (closedIn sg ka (s .args .w .now)) (sym (c .before .before .before .before .before .before .before .point-at .ensures .0)) ∙ sym (c .before .before .before .before .before .is-closed .ensures) ∙ c .before .before .before .before .if1 .taken in moved e (c .before .before .move-top .ensures) refl refl refl
+returns c =
+    let s = c .before .before .before .before .before .before .before .before .before .before .before .before in
+    let sg = image (s .args .s .now) in
+    let ka = byQ sg (image (s .args .r .now)) in
+    let e = ap (closedIn sg ka (s .args .w .now)) (sym (c .before .before .before .before .before .before .before .point-at .ensures .0)) ∙ sym (c .before .before .before .before .before .is-closed .ensures) ∙ c .before .before .before .before .if1 .taken in
+    moved e (c .before .before .move-top .ensures) refl refl refl
 
--- src/walk.rt:122:13
 left-num-requires : tie.Need-left-num-requires
 left-num-requires c κs = search needs
 
--- src/walk.rt:122:30
 number-at-requires : tie.Need-number-at-requires
 number-at-requires c κs = search needs
 
--- src/walk.rt:122:13
 add-e : tie.Need-add-e
 add-e c = search needs
 
--- src/walk.rt:123:13
 left-den-requires : tie.Need-left-den-requires
 left-den-requires c κs = search needs
 
--- src/walk.rt:123:43
 add-number-at : tie.Need-add-number-at
 add-number-at c = search needs
 
--- src/walk.rt:123:30
 number-at-requires-2 : tie.Need-number-at-requires-2
 number-at-requires-2 c κs = search needs
 
--- src/walk.rt:123:13
 add-c : tie.Need-add-c
 add-c c = search needs
 
--- src/walk.rt:124:8
 within-requires : tie.Need-within-requires
 within-requires c κs = search needs
 
--- src/walk.rt:125:31
 sub-split-top : tie.Need-sub-split-top
-sub-split-top c = let t = within-tells (c .before .before .before .before .before .before .before .before .before .left-num .result + c .before .before .before .before .before .before .before .number-at .result) (c .before .before .before .before .before .left-den .result + c .before .before .before .number-at2 .result) (sym (c .before .before .within .ensures) ∙ c .before .if2 .taken) in let a = t .0 in let b = t .1 in let d = t .2 in a
+sub-split-top c =
+    let t = within-tells (c .before .before .before .before .before .before .before .before .before .left-num .result + c .before .before .before .before .before .before .before .number-at .result) (c .before .before .before .before .before .left-den .result + c .before .before .before .number-at2 .result) (sym (c .before .before .within .ensures) ∙ c .before .if2 .taken) in
+    let a = t .0 in
+    let b = t .1 in
+    let d = t .2 in
+    a
 
--- src/walk.rt:125:9
 split-top-requires : tie.Need-split-top-requires
-split-top-requires c κs = let t = within-tells (c .before .before .before .before .before .before .before .before .before .left-num .result + c .before .before .before .before .before .before .before .number-at .result) (c .before .before .before .before .before .left-den .result + c .before .before .before .number-at2 .result) (sym (c .before .before .within .ensures) ∙ c .before .if2 .taken) in let a = t .0 in let b = t .1 in let d = t .2 in let z = c .before .before .before .before .before .before .before .before .before .before .before .before .before .before .before .before .before .before .before .pre in (z .pair, z .some, z .todo, z .point, z .long, omega arith, omega arith)
+split-top-requires c κs =
+    let t = within-tells (c .before .before .before .before .before .before .before .before .before .left-num .result + c .before .before .before .before .before .before .before .number-at .result) (c .before .before .before .before .before .left-den .result + c .before .before .before .number-at2 .result) (sym (c .before .before .within .ensures) ∙ c .before .if2 .taken) in
+    let a = t .0 in
+    let b = t .1 in
+    let d = t .2 in
+    let z = c .before .before .before .before .before .before .before .before .before .before .before .before .before .before .before .before .before .before .before .pre in
+    (z .pair, z .some, z .todo, z .point, z .long, omega arith, omega arith)
 
--- src/walk.rt:126:46
 add-t37 : tie.Need-add-t37
 add-t37 c = search needs
 
--- src/walk.rt:126:9
 same-length-2 : tie.Need-same-length-2
 same-length-2 c = search needs
 
--- src/walk.rt:126:9
 returns-2 : tie.Need-returns-2
-returns-2 c = let s = c .before .before .before .before .before .before .before .before .before .before .before .before .before .before .before .before .before .before .before .before .before .before in let sg = image (s .args .s .now) in let ka = byQ sg (image (s .args .r .now)) in let e = ap (closedIn sg ka (s .args .w .now)) (sym (c .before .before .before .before .before .before .before .before .before .before .before .before .before .before .before .before .before .point-at .ensures .0)) ∙ sym (c .before .before .before .before .before .before .before .before .before .before .before .before .before .before .before .is-closed .ensures) ∙ c .before .before .before .before .before .before .before .before .before .before .before .before .before .before .if1 .left in let p = sums _ _ _ _ (c .before .before .before .before .before .before .before .before .before .before .before .before .left-num .ensures .0) (c .before .before .before .before .before .before .before .before .before .before .number-at .ensures .0) in let q = sums _ _ _ _ (c .before .before .before .before .before .before .before .before .left-den .ensures .0) (c .before .before .before .before .before .before .number-at2 .ensures .0) in parted e (sym (fits-eq sg ka (s .args .w .now) (s .args .k) _ _ _ _ p q) ∙ sym (c .before .before .before .before .before .within .ensures) ∙ c .before .before .before .before .if2 .taken) (c .before .before .split-top .ensures ∙ split-eq sg ka (s .args .w .now) (s .args .k) _ _ _ _ p q) refl refl refl
+returns-2 c =
+    let s = c .before .before .before .before .before .before .before .before .before .before .before .before .before .before .before .before .before .before .before .before .before .before in
+    let sg = image (s .args .s .now) in
+    let ka = byQ sg (image (s .args .r .now)) in
+    let e = ap (closedIn sg ka (s .args .w .now)) (sym (c .before .before .before .before .before .before .before .before .before .before .before .before .before .before .before .before .before .point-at .ensures .0)) ∙ sym (c .before .before .before .before .before .before .before .before .before .before .before .before .before .before .before .is-closed .ensures) ∙ c .before .before .before .before .before .before .before .before .before .before .before .before .before .before .if1 .left in
+    let p = sums _ _ _ _ (c .before .before .before .before .before .before .before .before .before .before .before .before .left-num .ensures .0) (c .before .before .before .before .before .before .before .before .before .before .number-at .ensures .0) in
+    let q = sums _ _ _ _ (c .before .before .before .before .before .before .before .before .left-den .ensures .0) (c .before .before .before .before .before .before .number-at2 .ensures .0) in
+    parted e (sym (fits-eq sg ka (s .args .w .now) (s .args .k) _ _ _ _ p q) ∙ sym (c .before .before .before .before .before .within .ensures) ∙ c .before .before .before .before .if2 .taken) (c .before .before .split-top .ensures ∙ split-eq sg ka (s .args .w .now) (s .args .k) _ _ _ _ p q) refl refl refl
 
--- src/walk.rt:112:1
 same-length-3 : tie.Need-same-length-3
 same-length-3 c = search needs
 
--- src/walk.rt:112:1
 returns-3 : tie.Need-returns-3
-returns-3 c = let s = c .before .before .before .before .before .before .before .before .before .before .before .before .before .before .before .before .before .before in let sg = image (s .args .s .now) in let ka = byQ sg (image (s .args .r .now)) in let e = ap (closedIn sg ka (s .args .w .now)) (sym (c .before .before .before .before .before .before .before .before .before .before .before .before .before .point-at .ensures .0)) ∙ sym (c .before .before .before .before .before .before .before .before .before .before .before .is-closed .ensures) ∙ c .before .before .before .before .before .before .before .before .before .before .if1 .left in let p = sums _ _ _ _ (c .before .before .before .before .before .before .before .before .left-num .ensures .0) (c .before .before .before .before .before .before .number-at .ensures .0) in let q = sums _ _ _ _ (c .before .before .before .before .left-den .ensures .0) (c .before .before .number-at2 .ensures .0) in over e (sym (fits-eq sg ka (s .args .w .now) (s .args .k) _ _ _ _ p q) ∙ sym (c .before .within .ensures) ∙ c .if2 .left) refl refl refl
+returns-3 c =
+    let s = c .before .before .before .before .before .before .before .before .before .before .before .before .before .before .before .before .before .before in
+    let sg = image (s .args .s .now) in
+    let ka = byQ sg (image (s .args .r .now)) in
+    let e = ap (closedIn sg ka (s .args .w .now)) (sym (c .before .before .before .before .before .before .before .before .before .before .before .before .before .point-at .ensures .0)) ∙ sym (c .before .before .before .before .before .before .before .before .before .before .before .is-closed .ensures) ∙ c .before .before .before .before .before .before .before .before .before .before .if1 .left in
+    let p = sums _ _ _ _ (c .before .before .before .before .before .before .before .before .left-num .ensures .0) (c .before .before .before .before .before .before .number-at .ensures .0) in
+    let q = sums _ _ _ _ (c .before .before .before .before .left-den .ensures .0) (c .before .before .number-at2 .ensures .0) in
+    over e (sym (fits-eq sg ka (s .args .w .now) (s .args .k) _ _ _ _ p q) ∙ sym (c .before .within .ensures) ∙ c .if2 .left) refl refl refl
 
 pub turn-spec : {M : Type 1} → statement M
 turn-spec =

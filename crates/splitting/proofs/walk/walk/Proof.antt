@@ -18,41 +18,80 @@ Inv-loop s r w₀ d₀ k₀ w d k = Walking s r (startPlaced (image s) (byQ (ima
 abbrev μ-loop : tie.MeasureT-loop
 μ-loop s r w₀ d₀ k₀ w d k = 2 * (1024 - (d + k)) + k
 
--- src/walk.rt:184:5
 start-requires : tie.Need-start-requires Inv-loop μ-loop
 start-requires c κs = let z = c .before .before .before .before .pre in (z .pair, z .long)
 
--- src/walk.rt:187:5
 loop-holds : tie.Need-loop-holds Inv-loop μ-loop
-loop-holds c = let s = c .before .before .before .before .before .before .before in let S = s .args .s .now in let R = s .args .r .now in let st = startPlaced (image S) (byQ (image S) (image R)) in (walk-start S R (s .args .w .now) (s .pre) _ (c .before .before .start .ensures), refl)
+loop-holds c =
+    let s = c .before .before .before .before .before .before .before in
+    let S = s .args .s .now in
+    let R = s .args .r .now in
+    let st = startPlaced (image S) (byQ (image S) (image R)) in
+    (walk-start S R (s .args .w .now) (s .pre) _ (c .before .before .start .ensures), refl)
 
--- src/walk.rt:188:13
 turn-requires : tie.Need-turn-requires Inv-loop μ-loop
-turn-requires c κs = let s = c .before .before .before .before .before .before .before .before .before .before in let S = s .args .s .now in let R = s .args .r .now in let st = startPlaced (image S) (byQ (image S) (image R)) in let l = c .before .before .loop in walk-top S R st (l .w) (l .d) (l .k) (l .inv .0) (omega arith)
+turn-requires c κs =
+    let s = c .before .before .before .before .before .before .before .before .before .before in
+    let S = s .args .s .now in
+    let R = s .args .r .now in
+    let st = startPlaced (image S) (byQ (image S) (image R)) in
+    let l = c .before .before .loop in
+    walk-top S R st (l .w) (l .d) (l .k) (l .inv .0) (omega arith)
 
--- src/walk.rt:190:13
 same-length : tie.Need-same-length Inv-loop μ-loop
-same-length c = let s = c .before .before .before .before .before .before .before .before .before .before .before .before .before .before in let S = s .args .s .now in let R = s .args .r .now in let st = startPlaced (image S) (byQ (image S) (image R)) in let l = c .before .before .before .before .before .before .loop in turned-length S R st (l .w) _ (l .d) (l .k) _ _ _ (c .before .before .before .turn .ensures) ∙ l .inv .1 ∙ start-length (image S) (byQ (image S) (image R)) (s .args .w .now) _ (c .before .before .before .before .before .before .before .before .before .start .ensures)
+same-length c =
+    let s = c .before .before .before .before .before .before .before .before .before .before .before .before .before .before in
+    let S = s .args .s .now in
+    let R = s .args .r .now in
+    let st = startPlaced (image S) (byQ (image S) (image R)) in
+    let l = c .before .before .before .before .before .before .loop in
+    turned-length S R st (l .w) _ (l .d) (l .k) _ _ _ (c .before .before .before .turn .ensures) ∙ l .inv .1 ∙ start-length (image S) (byQ (image S) (image R)) (s .args .w .now) _ (c .before .before .before .before .before .before .before .before .before .start .ensures)
 
--- src/walk.rt:190:13
 returns : tie.Need-returns Inv-loop μ-loop
-returns c = let s = c .before .before .before .before .before .before .before .before .before .before .before .before .before .before in let S = s .args .s .now in let R = s .args .r .now in let st = startPlaced (image S) (byQ (image S) (image R)) in let l = c .before .before .before .before .before .before .loop in halted refl (walk-stop S R st (l .w) _ (l .d) (l .k) _ _ _ (l .inv .0) (omega arith) (c .before .before .before .turn .ensures) (c .if1 .taken))
+returns c =
+    let s = c .before .before .before .before .before .before .before .before .before .before .before .before .before .before in
+    let S = s .args .s .now in
+    let R = s .args .r .now in
+    let st = startPlaced (image S) (byQ (image S) (image R)) in
+    let l = c .before .before .before .before .before .before .loop in
+    halted refl (walk-stop S R st (l .w) _ (l .d) (l .k) _ _ _ (l .inv .0) (omega arith) (c .before .before .before .turn .ensures) (c .if1 .taken))
 
--- src/walk.rt:187:5
 loop-less : tie.Need-loop-less Inv-loop μ-loop
-loop-less c = let s = c .before .before .before .before .before .before .before .before .before .before .before .before .before .before in let S = s .args .s .now in let R = s .args .r .now in let st = startPlaced (image S) (byQ (image S) (image R)) in let l = c .before .before .before .before .before .before .loop in let g = walk-turn S R st (l .w) _ (l .d) (l .k) _ _ _ (l .inv .0) (omega arith) (c .before .before .before .turn .ensures) (c .if1 .left) in walk-less S R st (l .w) _ (l .d) (l .k) _ _ _ (walk-size S R st (l .w) (l .d) (l .k) (l .inv .0)) (walk-size S R st _ _ _ g) (omega arith) (c .before .before .before .turn .ensures) (c .if1 .left)
+loop-less c =
+    let s = c .before .before .before .before .before .before .before .before .before .before .before .before .before .before in
+    let S = s .args .s .now in
+    let R = s .args .r .now in
+    let st = startPlaced (image S) (byQ (image S) (image R)) in
+    let l = c .before .before .before .before .before .before .loop in
+    let g = walk-turn S R st (l .w) _ (l .d) (l .k) _ _ _ (l .inv .0) (omega arith) (c .before .before .before .turn .ensures) (c .if1 .left) in
+    walk-less S R st (l .w) _ (l .d) (l .k) _ _ _ (walk-size S R st (l .w) (l .d) (l .k) (l .inv .0)) (walk-size S R st _ _ _ g) (omega arith) (c .before .before .before .turn .ensures) (c .if1 .left)
 
--- src/walk.rt:187:5
 loop-again : tie.Need-loop-again Inv-loop μ-loop
-loop-again c = let s = c .before .before .before .before .before .before .before .before .before .before .before .before .before .before in let S = s .args .s .now in let R = s .args .r .now in let st = startPlaced (image S) (byQ (image S) (image R)) in let l = c .before .before .before .before .before .before .loop in (walk-turn S R st (l .w) _ (l .d) (l .k) _ _ _ (l .inv .0) (omega arith) (c .before .before .before .turn .ensures) (c .if1 .left), turned-length S R st (l .w) _ (l .d) (l .k) _ _ _ (c .before .before .before .turn .ensures) ∙ l .inv .1)
+loop-again c =
+    let s = c .before .before .before .before .before .before .before .before .before .before .before .before .before .before in
+    let S = s .args .s .now in
+    let R = s .args .r .now in
+    let st = startPlaced (image S) (byQ (image S) (image R)) in
+    let l = c .before .before .before .before .before .before .loop in
+    (walk-turn S R st (l .w) _ (l .d) (l .k) _ _ _ (l .inv .0) (omega arith) (c .before .before .before .turn .ensures) (c .if1 .left), turned-length S R st (l .w) _ (l .d) (l .k) _ _ _ (c .before .before .before .turn .ensures) ∙ l .inv .1)
 
--- src/walk.rt:180:1
 same-length-2 : tie.Need-same-length-2 Inv-loop μ-loop
-same-length-2 c = let s = c .before .before .before .before .before .before .before .before .before in let S = s .args .s .now in let R = s .args .r .now in let st = startPlaced (image S) (byQ (image S) (image R)) in let l = c .before .loop in l .inv .1 ∙ start-length (image S) (byQ (image S) (image R)) (s .args .w .now) _ (c .before .before .before .before .start .ensures)
+same-length-2 c =
+    let s = c .before .before .before .before .before .before .before .before .before in
+    let S = s .args .s .now in
+    let R = s .args .r .now in
+    let st = startPlaced (image S) (byQ (image S) (image R)) in
+    let l = c .before .loop in
+    l .inv .1 ∙ start-length (image S) (byQ (image S) (image R)) (s .args .w .now) _ (c .before .before .before .before .start .ensures)
 
--- src/walk.rt:180:1
 returns-2 : tie.Need-returns-2 Inv-loop μ-loop
-returns-2 c = let s = c .before .before .before .before .before .before .before .before .before in let S = s .args .s .now in let R = s .args .r .now in let st = startPlaced (image S) (byQ (image S) (image R)) in let l = c .before .loop in whole refl (walk-whole S R (l .w) (l .d) (l .k) (l .inv .0) (omega arith))
+returns-2 c =
+    let s = c .before .before .before .before .before .before .before .before .before in
+    let S = s .args .s .now in
+    let R = s .args .r .now in
+    let st = startPlaced (image S) (byQ (image S) (image R)) in
+    let l = c .before .loop in
+    whole refl (walk-whole S R (l .w) (l .d) (l .k) (l .inv .0) (omega arith))
 
 pub walk-spec : {M : Type 1} → statement M
 walk-spec =

@@ -3,15 +3,12 @@ use borrow.Author.Needs.{needs}
 use Rattle.splitting.proofs.walk.within.Statement.{statement}
 use Rattle.splitting.proofs.walk.within.Tie as tie
 
--- src/walk.rt:65:9
 returns : tie.Need-returns
 returns c = within-low (c .before .args .e) (c .before .args .c) (c .if1 .taken)
 
--- src/walk.rt:68:9
 returns-2 : tie.Need-returns-2
 returns-2 c = within-high (c .before .before .args .e) (c .before .before .args .c) (c .if2 .taken)
 
--- src/walk.rt:61:1
 returns-3 : tie.Need-returns-3
 returns-3 c = within-both (c .before .before .args .e) (c .before .before .args .c) (c .before .if1 .left) (c .if2 .left)
 
