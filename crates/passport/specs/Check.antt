@@ -53,6 +53,9 @@ twiceMoved s x = not (eqb (image s (image s x)) x)
 abbrev pub thriceMoved : List ℕ → ℕ → Bool
 thriceMoved r x = not (eqb (image r (image r (image r x))) x)
 
+abbrev pub movedBy : (thrice : Bool) → List ℕ → ℕ → Bool
+movedBy thrice t x = pick thrice (thriceMoved t x) (twiceMoved t x)
+
 abbrev pub check14 : (List ℕ → ℕ → Bool) → List ℕ → Checked
 check14 moved t = refuseAt (first (moved t) (length t)) (length t) Order
 

@@ -8,7 +8,7 @@ ghost use lib.Dec.{eqb};
 ghost use lib.ListN.{length, getD, set};
 ghost use Rattle.symbol.specs.Count.{first};
 ghost use Rattle.growth.specs.Fixed.{image};
-ghost use Rattle.passport.specs.Check.{badEntry, twiceMoved, thriceMoved};
+ghost use Rattle.passport.specs.Check.{badEntry, twiceMoved, thriceMoved, movedBy};
 ghost use Rattle.passport.specs.Seen.{SeenTo, Entries};
 
 // Whether the entry at i is no point, or was seen before.
@@ -67,21 +67,6 @@ fn moved_twice(s: &[u32], x: usize) -> bool
     b != x
 }
 
-// The first point that S twice moves, or the length.
-pub(crate) fn first_moved_twice(s: &[u32]) -> usize
-    requires { ⌜ Entries (now s) ⌝ }
-    ensures { λ r. ⌜ r ≡ first (twiceMoved (now (s .entry))) (length (now (s .entry))) ⌝ }
-{
-    let mut x: usize = 0;
-    while x < s.len() {
-        if moved_twice(s, x) {
-            return x;
-        }
-        x += 1;
-    }
-    x
-}
-
 // Whether R three times moves the point x.
 fn moved_thrice(r: &[u32], x: usize) -> bool
     requires { ⌜ Entries (now r) × (x < length (now r)) ⌝ }
@@ -93,14 +78,25 @@ fn moved_thrice(r: &[u32], x: usize) -> bool
     c != x
 }
 
-// The first point that R three times moves, or the length.
-pub(crate) fn first_moved_thrice(r: &[u32]) -> usize
-    requires { ⌜ Entries (now r) ⌝ }
-    ensures { λ b. ⌜ b ≡ first (thriceMoved (now (r .entry))) (length (now (r .entry))) ⌝ }
+// Whether the point x is moved, three times or twice.
+fn is_moved(t: &[u32], x: usize, thrice: bool) -> bool
+    requires { ⌜ Entries (now t) × (x < length (now t)) ⌝ }
+    ensures { λ r. ⌜ r ≡ movedBy thrice (now (t .entry)) x ⌝ }
+{
+    if thrice {
+        return moved_thrice(t, x);
+    }
+    moved_twice(t, x)
+}
+
+// The first point that is, or the length.
+pub(crate) fn first_moved(t: &[u32], thrice: bool) -> usize
+    requires { ⌜ Entries (now t) ⌝ }
+    ensures { λ r. ⌜ r ≡ first (movedBy thrice (now (t .entry))) (length (now (t .entry))) ⌝ }
 {
     let mut x: usize = 0;
-    while x < r.len() {
-        if moved_thrice(r, x) {
+    while x < t.len() {
+        if is_moved(t, x, thrice) {
             return x;
         }
         x += 1;

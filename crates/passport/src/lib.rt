@@ -1,8 +1,7 @@
 // A pair of permutations in two lent tables, the passport of a subgroup: the checks 12 to 15, and the symbol of the subgroup of the
 // matrices that fix point 0. specs/Check.antt and specs/Import.antt say what the calls answer and leave.
 use entries::first_bad;
-use entries::first_moved_thrice;
-use entries::first_moved_twice;
+use entries::first_moved;
 use reach::first_unreached;
 use writing::Grown;
 ghost use mathlib.Core.Path.{_≡_};
@@ -51,11 +50,11 @@ fn check_moves(s: &[u32], r: &[u32]) -> Checked
     requires { ⌜ Two (now s) (now r) ⌝ }
     ensures { λ c. ⌜ c ≡ (check14 twiceMoved (now (s .entry)) orElse check14 thriceMoved (now (r .entry)) orElse check15 (now (s .entry)) (now (r .entry))) ⌝ }
 {
-    let a = first_moved_twice(s);
+    let a = first_moved(s, false);
     if a < s.len() {
         return Checked::Order(a);
     }
-    let b = first_moved_thrice(r);
+    let b = first_moved(r, true);
     if b < r.len() {
         return Checked::Order(b);
     }

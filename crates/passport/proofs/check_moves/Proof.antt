@@ -9,8 +9,8 @@ use borrow.Author.Needs.{needs}
 use Rattle.passport.proofs.check_moves.Statement.{statement}
 use Rattle.passport.proofs.check_moves.Tie as tie
 
-first-moved-twice-requires : tie.Need-first-moved-twice-requires
-first-moved-twice-requires c κs = search needs
+first-moved-requires : tie.Need-first-moved-requires
+first-moved-requires c κs = search needs
 
 returns : tie.Need-returns
 returns c =
@@ -18,10 +18,10 @@ returns c =
     let S = s .args .s .now in
     let R = s .args .r .now in
     let z = s .pre in
-    refuse-at (twiceMoved S) (length S) Order (check14 thriceMoved R orElse check15 S R) _ (λ j. refl) (c .before .first-moved-twice .ensures) (c .if1 .taken)
+    refuse-at (twiceMoved S) (length S) Order (check14 thriceMoved R orElse check15 S R) _ (λ j. refl) (c .before .first-moved .ensures) (c .if1 .taken)
 
-first-moved-thrice-requires : tie.Need-first-moved-thrice-requires
-first-moved-thrice-requires c κs = search needs
+first-moved-requires-2 : tie.Need-first-moved-requires-2
+first-moved-requires-2 c κs = search needs
 
 returns-2 : tie.Need-returns-2
 returns-2 c =
@@ -29,7 +29,7 @@ returns-2 c =
     let S = s .args .s .now in
     let R = s .args .r .now in
     let z = s .pre in
-    refuse-at (thriceMoved R) (length R) Order (check15 S R) _ (λ j. refl) (c .before .first-moved-thrice .ensures) (c .if2 .taken) ∙ sym (accept-at (twiceMoved S) (length S) Order (check14 thriceMoved R orElse check15 S R) _ (c .before .before .before .first-moved-twice .ensures) (c .before .before .if1 .left))
+    refuse-at (thriceMoved R) (length R) Order (check15 S R) _ (λ j. refl) (c .before .first-moved2 .ensures) (c .if2 .taken) ∙ sym (accept-at (twiceMoved S) (length S) Order (check14 thriceMoved R orElse check15 S R) _ (c .before .before .before .first-moved .ensures) (c .before .before .if1 .left))
 
 first-unreached-requires : tie.Need-first-unreached-requires
 first-unreached-requires c κs = search needs
@@ -40,7 +40,7 @@ returns-3 c =
     let S = s .args .s .now in
     let R = s .args .r .now in
     let z = s .pre in
-    refuse-last (unreached S R) (length S) Unreached _ (c .before .first-unreached .ensures) (c .if3 .taken) ∙ sym (accept-at (thriceMoved R) (length R) Order (check15 S R) _ (c .before .before .before .first-moved-thrice .ensures) (c .before .before .if2 .left)) ∙ sym (accept-at (twiceMoved S) (length S) Order (check14 thriceMoved R orElse check15 S R) _ (c .before .before .before .before .before .first-moved-twice .ensures) (c .before .before .before .before .if1 .left))
+    refuse-last (unreached S R) (length S) Unreached _ (c .before .first-unreached .ensures) (c .if3 .taken) ∙ sym (accept-at (thriceMoved R) (length R) Order (check15 S R) _ (c .before .before .before .first-moved2 .ensures) (c .before .before .if2 .left)) ∙ sym (accept-at (twiceMoved S) (length S) Order (check14 thriceMoved R orElse check15 S R) _ (c .before .before .before .before .before .first-moved .ensures) (c .before .before .before .before .if1 .left))
 
 returns-4 : tie.Need-returns-4
 returns-4 c =
@@ -48,15 +48,15 @@ returns-4 c =
     let S = s .args .s .now in
     let R = s .args .r .now in
     let z = s .pre in
-    accept-last (unreached S R) (length S) Unreached _ (c .before .first-unreached .ensures) (c .if3 .left) ∙ sym (accept-at (thriceMoved R) (length R) Order (check15 S R) _ (c .before .before .before .first-moved-thrice .ensures) (c .before .before .if2 .left)) ∙ sym (accept-at (twiceMoved S) (length S) Order (check14 thriceMoved R orElse check15 S R) _ (c .before .before .before .before .before .first-moved-twice .ensures) (c .before .before .before .before .if1 .left))
+    accept-last (unreached S R) (length S) Unreached _ (c .before .first-unreached .ensures) (c .if3 .left) ∙ sym (accept-at (thriceMoved R) (length R) Order (check15 S R) _ (c .before .before .before .first-moved2 .ensures) (c .before .before .if2 .left)) ∙ sym (accept-at (twiceMoved S) (length S) Order (check14 thriceMoved R orElse check15 S R) _ (c .before .before .before .before .before .first-moved .ensures) (c .before .before .before .before .if1 .left))
 
 pub check-moves-spec : {M : Type 1} → statement M
 check-moves-spec =
     tie.close
     (tie.spec
-    first-moved-twice-requires
+    first-moved-requires
     returns
-    first-moved-thrice-requires
+    first-moved-requires-2
     returns-2
     first-unreached-requires
     returns-3

@@ -1,4 +1,4 @@
--- `first_moved_twice` searches from 0 up for a point that S twice moves. The loop's invariant: S twice fixes the points below x.
+-- `first_moved` searches from 0 up for a point that S twice, or R three times, moves. The loop's invariant: the points below x stay.
 -- Assumes nothing.
 use mathlib.Core.Path.{_≡_, refl, sym, _∙_, ap}
 use native.Mathlib.Omega.{arith}
@@ -7,28 +7,28 @@ use native.Mathlib.Numerals.{add-one}
 use Prim.Native.Nat.{_+_, _-_, _≤_}
 use lib.ListN.{length}
 use Rattle.passport.proofs.Marks.{at-first, past-all}
-use Rattle.passport.specs.Check.{twiceMoved}
+use Rattle.passport.specs.Check.{movedBy}
 use borrow.Author.Needs.{needs}
-use Rattle.passport.proofs.entries.first_moved_twice.Statement.{statement}
-use Rattle.passport.proofs.entries.first_moved_twice.Tie as tie
+use Rattle.passport.proofs.entries.first_moved.Statement.{statement}
+use Rattle.passport.proofs.entries.first_moved.Tie as tie
 
 abbrev Inv-loop : tie.InvT-loop
-Inv-loop s x₀ x = (x ≤ length s) × Clear (twiceMoved s) x
+Inv-loop t thrice x₀ x = (x ≤ length t) × Clear (movedBy thrice t) x
 
 abbrev μ-loop : tie.MeasureT-loop
-μ-loop s x₀ x = length s - x
+μ-loop t thrice x₀ x = length t - x
 
 loop-holds : tie.Need-loop-holds Inv-loop μ-loop
-loop-holds c = let s = c .before in (omega arith, clear-zero (twiceMoved (s .args .s .now)))
+loop-holds c = let s = c .before in (omega arith, clear-zero (movedBy (s .args .thrice) (s .args .t .now)))
 
-moved-twice-requires : tie.Need-moved-twice-requires Inv-loop μ-loop
-moved-twice-requires c κs = let s = c .before .before .before in let l = c .before .loop in (s .pre, omega arith)
+is-moved-requires : tie.Need-is-moved-requires Inv-loop μ-loop
+is-moved-requires c κs = let s = c .before .before .before in let l = c .before .loop in (s .pre, omega arith)
 
 returns : tie.Need-returns Inv-loop μ-loop
 returns c =
     let s = c .before .before .before .before .before in
     let l = c .before .before .before .loop in
-    at-first (twiceMoved (s .args .s .now)) (length (s .args .s .now)) (l .x) (omega arith) (l .inv .1) (sym (c .before .moved-twice .ensures) ∙ c .if1 .taken)
+    at-first (movedBy (s .args .thrice) (s .args .t .now)) (length (s .args .t .now)) (l .x) (omega arith) (l .inv .1) (sym (c .before .is-moved .ensures) ∙ c .if1 .taken)
 
 add-x : tie.Need-add-x Inv-loop μ-loop
 add-x c =
@@ -44,22 +44,22 @@ loop-again : tie.Need-loop-again Inv-loop μ-loop
 loop-again c =
     let s = c .before .before .before .before .before in
     let l = c .before .before .before .loop in
-    (omega arith, rw add-one (clear-more (twiceMoved (s .args .s .now)) (l .x) (l .inv .1) (sym (c .before .moved-twice .ensures) ∙ c .if1 .left)))
+    (omega arith, rw add-one (clear-more (movedBy (s .args .thrice) (s .args .t .now)) (l .x) (l .inv .1) (sym (c .before .is-moved .ensures) ∙ c .if1 .left)))
 
 returns-2 : tie.Need-returns-2 Inv-loop μ-loop
 returns-2 c =
     let s = c .before .before .before in
     let l = c .before .loop in
-    past-all (twiceMoved (s .args .s .now)) (length (s .args .s .now)) (l .x) (omega (arith, l .inv .0)) (l .inv .1)
+    past-all (movedBy (s .args .thrice) (s .args .t .now)) (length (s .args .t .now)) (l .x) (omega (arith, l .inv .0)) (l .inv .1)
 
-pub first-moved-twice-spec : {M : Type 1} → statement M
-first-moved-twice-spec =
+pub first-moved-spec : {M : Type 1} → statement M
+first-moved-spec =
     tie.close
     (tie.spec
     Inv-loop
     μ-loop
     loop-holds
-    moved-twice-requires
+    is-moved-requires
     returns
     add-x
     loop-less
