@@ -127,6 +127,27 @@ fn permutations_and_back() {
     );
 }
 
+/// The vertices 0, 1, 2, .. and all sides even.
+fn integers(v: i64) -> Result<Symbol, Refusal> {
+    let vertices: Vec<(i64, i64)> = (0..v).map(|k| (k, 1)).collect();
+    Symbol::new(&vertices, &vec![-2; vertices.len() + 1])
+}
+
+#[test]
+fn most_vertices() {
+    let largest = integers(1_023).expect("1,023 vertices pass");
+    // 3(v - 1), and no odd side.
+    assert_eq!(largest.figures().index, 3_066);
+    let refusal = integers(1_024).expect_err("1,024 are too many");
+    assert_eq!(
+        refusal,
+        Refusal {
+            number: 1,
+            place: 0
+        }
+    );
+}
+
 #[test]
 fn sameness() {
     let labels = Symbol::new(&[(0, 1), (1, 1)], &[3, -2, 3]).expect("a symbol");
