@@ -1,3 +1,5 @@
+-- `build` fills the tables of an accepted symbol: partners, then numbers, then the cut. Each part keeps what those before it wrote
+-- (`tables-built`), and the start is read off the cut. Assumes nothing.
 use mathlib.Core.Path.{_≡_, _∙_, ap}
 use native.Mathlib.Omega.{arith}
 use lib.ListN.{length}

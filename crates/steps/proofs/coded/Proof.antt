@@ -1,3 +1,5 @@
+-- `coded` adds 1024 to a letter of at most that size: the sum lies from 0 to 2048 (`coded-low`), and taking 1024 away gives the letter back
+-- (`coded-back`). Assumes nothing.
 use native.Mathlib.Omega.{arith}
 use mathlib.Core.Path.{_∙_, ap}
 use lib.IntN.{ℤ, pos, natAbs, _-ℤ_}

@@ -1,3 +1,4 @@
+-- `decoded` takes 1024 from a code of at most 2048; the difference fits 16 signed bits (`decoded-fits`). Assumes nothing.
 use native.Mathlib.Omega.{arith}
 use mir.Syntax.{w16}
 use mir.Facts.{toZ-ofZ, toZ-pos}

@@ -1,3 +1,5 @@
+-- `is_real`: a corner is a position (`real-low`), and an outer face is one exactly where its side's pairing is -3 (`real-high`).
+-- Assumes nothing.
 use mathlib.Core.Path.{_∙_, ap}
 use lib.IntN.{ℤ, negsuc}
 use Prim.Native.Nat.{_+_, _-_, _*_}

@@ -1,3 +1,5 @@
+-- `letter` reads the code at p and decodes it. A real position is below `places v`, so its code is one of those noted, and `Prepared` says
+-- which letter it stands for. Assumes nothing.
 use native.Mathlib.Omega.{arith}
 use mathlib.Core.Path.{_∙_, ap}
 use Rattle.polygon.specs.Tables.{lettersOf}

@@ -1,3 +1,5 @@
+-- `note_place` notes the step where p is a position; where it isn't one there is nothing to note below p + 1 that wasn't below p
+-- (`prepared-skip`). Assumes nothing.
 use mathlib.Core.Path.{refl, sym, _∙_}
 use Rattle.steps.proofs.Noted.{prepared-skip}
 use borrow.Author.Needs.{needs}

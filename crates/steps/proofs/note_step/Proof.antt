@@ -1,3 +1,5 @@
+-- `note_step` stores where S leads from p and what it writes; what is noted below p stays, so now it is noted below p + 1
+-- (`prepared-more`). Both numbers fit 16 bits (`step-low`, `letter-most`). Assumes nothing.
 use native.Mathlib.Omega.{arith}
 use mathlib.Core.Path.{_∙_}
 use Prim.Native.Nat.{_+_}

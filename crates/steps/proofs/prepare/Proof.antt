@@ -1,3 +1,5 @@
+-- `prepare` goes over all places. The loop's invariant: the steps from the positions below p are noted (`Prepared`); at first there are
+-- none (`prepared-none`), at the end they are all (`prepared-all`). Assumes nothing.
 use native.Mathlib.Omega.{arith}
 use mathlib.Core.Path.{_≡_, refl, _∙_}
 use Prim.Native.Nat.{_-_, _≤_}

@@ -1,3 +1,5 @@
+-- `turn_back` is Q twice: an outer face stays (`back-face`), corner 0 goes to corner 2 (`back-first`), and any other goes one back
+-- (`back-other`). Assumes nothing.
 use native.Mathlib.Omega.{arith}
 use Rattle.steps.proofs.Noted.{back-face, back-first, back-other}
 use borrow.Author.Needs.{needs}

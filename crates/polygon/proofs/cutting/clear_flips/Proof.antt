@@ -1,3 +1,5 @@
+-- `clear_flips` writes 0 to 4v + 1 places, enough for all corners and outer faces. The loop's invariant, `ClearedTo`: those below k
+-- are 0, and outside the tables of the cut nothing has changed. Assumes nothing.
 use mathlib.Core.Path.{_≡_}
 use Prim.Native.Nat.{_-_, _≤_}
 use native.Mathlib.Omega.{arith}

@@ -1,3 +1,5 @@
+-- `cut` clears its table, scans all vertices, and joins the last side's outer face with what is left on top: the whole cut (`cut-left`).
+-- The vertex 0/1 is there (`zeroth-below`), so the scan has noted the position under its chord. Assumes nothing.
 use mathlib.Core.Path.{_∙_}
 use native.Mathlib.Omega.{arith}
 use borrow.Author.Needs.{needs}

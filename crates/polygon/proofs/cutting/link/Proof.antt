@@ -1,3 +1,4 @@
+-- `link` joins p and q both ways. Both are below 4096, so they fit 16 bits and lie in the table. Assumes nothing.
 use native.Mathlib.Omega.{arith}
 use lib.ListN.{length-set}
 use borrow.Author.Needs.{needs}

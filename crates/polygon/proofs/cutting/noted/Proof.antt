@@ -1,3 +1,4 @@
+-- `noted` is the top handle where i is z, and the earlier note where it isn't: one case for each outcome of i = z. Assumes nothing.
 use borrow.Author.Tests.{eq-eqb, ne-eqb}
 use borrow.Author.Needs.{needs}
 use Rattle.polygon.proofs.cutting.noted.Statement.{statement}

@@ -1,3 +1,5 @@
+-- `ready` tells whether the top of the stack is the mediant of its neighbours: its denominator is the sum of theirs (`ready-at`). On an
+-- empty stack there is none (`ready-none`). Assumes nothing.
 use mathlib.Core.Path.{sym}
 use Prim.Native.Nat.{_-_}
 use native.Mathlib.Omega.{arith}

@@ -1,3 +1,5 @@
+-- `scan_vertices` pushes vertex by vertex. The loop's invariant, `Part`: the work space holds the scan after i vertices, and once vertex
+-- z + 1 is among them, the handle that it was pushed with is noted. Assumes nothing.
 use Prim.Native.Nat.{_-_}
 use native.Mathlib.Omega.{arith}
 use borrow.Author.Needs.{needs}

@@ -1,3 +1,5 @@
+-- `settle` cuts off the triangles that vertex i + 1 closes, and then pushes it. The loop's invariant, `Mid`: pushing from the present state
+-- gives what pushing from the first one does. Each triangle takes a vertex off the stack, so it ends. Assumes nothing.
 use mathlib.Core.Bool.{true}
 use mathlib.Core.Path.{_≡_, sym, _∙_, ap}
 use Prim.Native.Nat.{_-_, _+_, _≤_}

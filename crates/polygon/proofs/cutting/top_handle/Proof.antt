@@ -1,3 +1,5 @@
+-- `top_handle` reads the last of n handles, the position under the chord to the top vertex (`handle-at`), and is 0 on an empty stack
+-- (`handle-none`). Assumes nothing.
 use mathlib.Core.Path.{sym, _∙_}
 use borrow.Author.Needs.{needs}
 use Rattle.polygon.proofs.Scanning.{handle-at, handle-none}

@@ -1,3 +1,5 @@
+-- `top_vertex` reads the last of n vertices on the stack (`below-at`), and is 0, for -1/0, where the stack is empty (`below-none`).
+-- Assumes nothing.
 use mathlib.Core.Path.{sym, _∙_}
 use borrow.Author.Needs.{needs}
 use Rattle.polygon.proofs.Scanning.{below-at, below-none}

@@ -1,3 +1,5 @@
+-- `zero_vertex` is the first vertex 0/1. The loop's invariant: no vertex below i is 0/1; so the one that is found is the first
+-- (`first-hit`), and at the end there is none (`first-clear`). Assumes nothing.
 use mathlib.Core.Bool.{false}
 use mathlib.Core.Path.{_≡_, sym, _∙_}
 use Prim.Native.Nat.{ℕ, _-_, _≤_, _<_}

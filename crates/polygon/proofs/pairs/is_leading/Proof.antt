@@ -1,3 +1,5 @@
+-- `is_leading`: an even or odd side has a generator of its own (`leads-by`), and a free side leads where its partner lies to its right
+-- (`leads-free`). Assumes nothing.
 use mathlib.Core.Path.{sym, _∙_}
 use borrow.Author.Needs.{needs}
 use Rattle.symbol.specs.declared.Pairing.the-variants.{Even, Odd, Bad}

@@ -1,3 +1,5 @@
+-- `number_side` numbers side i: a leading side gets the next number (`numbered-leads`); any other has its partner to its left, so that the
+-- number of that is known and is copied (`numbered-follows`). Assumes nothing.
 use mathlib.Core.Path.{sym, _∙_}
 use Prim.Native.Nat.{_<_}
 use native.Mathlib.Omega.{arith}

@@ -1,3 +1,5 @@
+-- `number_sides` numbers every side. The loop's invariant, `NumberedTo`: the sides below i have their generators' numbers, and n counts the
+-- leading ones among them. Assumes nothing.
 use Prim.Native.Nat.{_-_, _+_, _≤_}
 use native.Mathlib.Omega.{arith}
 use borrow.Author.Needs.{needs}

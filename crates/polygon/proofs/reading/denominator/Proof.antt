@@ -1,3 +1,5 @@
+-- `denominator` is 0 for vertex 0, which is -1/0, and else an entry of the table. In an accepted symbol that lies from 1 to 10⁹, so that it
+-- is the same number without a sign (`den-at`). Assumes nothing.
 use Prim.Native.Nat.{_*_, _-_, _+_}
 use native.Mathlib.Omega.{arith}
 use lib.ListN.{getD}

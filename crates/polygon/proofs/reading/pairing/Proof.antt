@@ -1,3 +1,5 @@
+-- `pairing` reads what side i is paired as: entry 2v + i of the table is entry i of the part behind the vertices (`getD-take`).
+-- Assumes nothing.
 use mathlib.Core.Path.{_∙_, ap}
 use Prim.Native.Nat.{_-_, _*_}
 use native.Mathlib.Omega.{arith}

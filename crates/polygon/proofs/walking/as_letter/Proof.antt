@@ -1,3 +1,4 @@
+-- `as_letter` is j or -j: j is at most 1024, so that both fit 16 signed bits (`small-positive`, `minus-fits`). Assumes nothing.
 use borrow.Author.Needs.{needs}
 use Rattle.polygon.proofs.Letters.{small-positive, minus-fits, minus-is}
 use Rattle.polygon.proofs.walking.as_letter.Statement.{statement}

@@ -1,3 +1,5 @@
+-- `is_turned`: if the last vertex isn't 0/1, no (`turned-no`); if it is, the kind of the last side decides, and only an odd one says no
+-- (`turned-by`). Assumes nothing.
 use mathlib.Core.Path.{sym, _∙_}
 use native.Mathlib.Omega.{arith}
 use borrow.Author.Tests.{not-true, not-false}

@@ -1,3 +1,5 @@
+-- `letter_q`: within a triangle Q writes nothing (`turn-silent`); at an odd side's outer face it writes the side's generator, and Q⁻¹ its
+-- inverse (`turn-writes`). Assumes nothing.
 use mathlib.Core.Path.{_∙_, ap}
 use Prim.Native.Nat.{_-_, _*_}
 use native.Mathlib.Omega.{arith}

@@ -1,3 +1,5 @@
+-- `letter_s`: S writes nothing at an inner edge or at an odd side; at an even side it writes j, at the left side of a free pair -j, and at
+-- the right one j. One law for each (`silent-is`, `writes-…`). Assumes nothing.
 use mathlib.Core.Path.{sym, _∙_, ap}
 use native.Mathlib.Omega.{arith}
 use mir.Facts.{toZ-ofZ}

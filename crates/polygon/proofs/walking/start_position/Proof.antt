@@ -1,3 +1,5 @@
+-- `start_position` is the position under the chord from -1/0 to 0/1 where the walk starts turned round (`start-turned`), and else the one
+-- beyond that chord (`start-upright`). Assumes nothing.
 use mathlib.Core.Path.{sym, _∙_, ap}
 use Prim.Native.Nat.{ℕ, _+_}
 use native.Mathlib.Omega.{arith}

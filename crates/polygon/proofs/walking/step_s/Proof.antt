@@ -1,3 +1,5 @@
+-- `step_s`: S goes over an inner edge, stays at an even side, goes out to the face of an odd one, and from a free side to the position
+-- inside its partner. One law for each (`inner-is`, `even-is`, `odd-is`, `free-is`). Assumes nothing.
 use mathlib.Core.Path.{sym, _∙_}
 use native.Mathlib.Omega.{arith}
 use borrow.Author.Needs.{needs}

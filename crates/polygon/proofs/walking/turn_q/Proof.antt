@@ -1,3 +1,5 @@
+-- `turn_q`: an outer face stays (`turn-face`), corner 2 of a triangle goes back to corner 0 (`turn-last`), and any other goes one on
+-- (`turn-next`). Assumes nothing.
 use mathlib.Core.Path.{sym}
 use native.Mathlib.Omega.{arith}
 use borrow.Author.Needs.{needs}

@@ -1,3 +1,4 @@
+-- `number_at` is 65536 times the first number plus the second; both are below 65536, so the sum is below 2³². Assumes nothing.
 use Rattle.splitting.proofs.Cells.{number-is}
 use borrow.Author.Needs.{needs}
 use Rattle.splitting.proofs.cell.number_at.Statement.{statement}

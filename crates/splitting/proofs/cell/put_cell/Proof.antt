@@ -1,3 +1,4 @@
+-- `put_cell` writes two numbers and the point, five places in all; each write keeps the length, so that the next has room. Assumes nothing.
 use Prim.Native.Nat.{_+_}
 use mathlib.Core.Path.{_∙_}
 use native.Mathlib.Omega.{arith}

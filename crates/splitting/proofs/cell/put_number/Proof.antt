@@ -1,3 +1,4 @@
+-- `put_number` splits x below 2³² into x / 65536 and x % 65536, which both fit 16 bits. Assumes nothing.
 use native.Mathlib.Omega.{arith}
 use lib.ListN.{length-set}
 use borrow.Author.Needs.{needs}

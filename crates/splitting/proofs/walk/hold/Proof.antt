@@ -1,3 +1,4 @@
+-- `hold` writes three marks, one after the other; points are below 4096, so they stay inside their table. Assumes nothing.
 use native.Mathlib.Omega.{arith}
 use lib.ListN.{length-set}
 use borrow.Author.Needs.{needs}

@@ -1,3 +1,5 @@
+-- `is_closed`: a side is closed where Q fixes its point, or where the S image of that is a side's point as well, which covers even sides
+-- and free pairs at once. Assumes nothing.
 use Rattle.growth.specs.Fixed.{image, byQ}
 use native.Mathlib.Omega.{arith}
 use Rattle.growth.proofs.Images.{low-S}

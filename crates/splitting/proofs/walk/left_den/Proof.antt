@@ -1,3 +1,5 @@
+-- `left_den` is the denominator where the first side to do begins: 0, that of -1/0, before any side is done, and else the last done one's.
+-- Assumes nothing.
 use mathlib.Core.Path.{_∙_}
 use lib.Dec.{lit<}
 use borrow.Author.Tests.{eqb-true, eqb-false}

@@ -1,3 +1,5 @@
+-- `left_num` reads the right end of the last side done, which is the left end of the first side to do. With none done that is -1/0, and the
+-- code of -1 is 10⁹ - 1. Assumes nothing.
 use mathlib.Core.Path.{_∙_}
 use lib.Dec.{lit<}
 use borrow.Author.Tests.{eqb-true, eqb-false}

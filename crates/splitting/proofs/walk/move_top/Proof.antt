@@ -1,3 +1,5 @@
+-- `move_top` copies the five numbers of the first side to do behind the sides done; the contracts of the reads and the write, put together,
+-- say just that. Assumes nothing.
 use mathlib.Core.Path.{_≡_, refl, sym, _∙_, ap}
 use borrow.Author.Needs.{needs}
 use Rattle.splitting.proofs.walk.move_top.Statement.{statement}

@@ -1,3 +1,5 @@
+-- `split_top` splits the first side to do: its point m gives way to the S images of m turned by Q, once and twice, which are points of the
+-- tables again (`low-Q`, `low-S`), and what is left is the split by definition (`split-by`). Assumes nothing.
 use Rattle.splitting.proofs.Turn.{held-length, low-is, split-by}
 use Rattle.growth.specs.Fixed.{image, byQ}
 use mathlib.Core.Path.{_≡_, refl, sym, _∙_, ap}

@@ -1,3 +1,5 @@
+-- `start` has two cases: Q fixes point 0, and the vertices are -1/1 and 0/1 (`start-low`); or they are 0/1 and 1/1 (`start-high`). The
+-- points of the sides are images of points, so they are in range. Assumes nothing.
 use mathlib.Core.Path.{_≡_, refl, sym, _∙_, ap}
 use native.Mathlib.Omega.{arith}
 use Rattle.growth.proofs.Images.{low-S, low-Q}

@@ -1,3 +1,4 @@
+-- `start_by` marks three points and writes three sides, the leftmost last, so that it is on top (`three-cells`). Assumes nothing.
 use Rattle.splitting.proofs.Turn.{three-cells}
 use borrow.Author.Needs.{needs}
 use Rattle.splitting.proofs.walk.start_by.Statement.{statement}

@@ -1,3 +1,5 @@
+-- `turn` has three cases: a closed side moves on (`moved`), an open one whose mediant keeps to the limit is split (`parted`), and any other
+-- stops the walk (`over`). Sums of codes don't overflow, each being below 2³². Assumes nothing.
 use Rattle.splitting.proofs.Turn.{within-tells, sums, split-eq, fits-eq}
 use Prim.Native.Nat.{_+_}
 use mathlib.Core.Path.{_≡_, refl, sym, _∙_, ap}

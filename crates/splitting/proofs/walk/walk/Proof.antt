@@ -1,3 +1,5 @@
+-- `walk` follows the rule. The loop's invariant, `Walking`: the sides done and to do are those of the rule by points. It ends, since
+-- 2(1024 - (d + k)) + k falls: a side moved lowers k, and a split raises d + k by one. Assumes nothing.
 use Rattle.splitting.proofs.Turn.{start-length}
 use Rattle.splitting.proofs.Begin.{walk-start, walk-whole}
 use mathlib.Core.Path.{_≡_, refl, sym, _∙_, ap}

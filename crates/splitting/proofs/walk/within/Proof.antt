@@ -1,3 +1,5 @@
+-- `within` is three comparisons: too low (`within-low`), too high (`within-high`), and else the denominator decides (`within-both`).
+-- Assumes nothing.
 use Rattle.splitting.proofs.Turn.{within-low, within-high, within-both}
 use borrow.Author.Needs.{needs}
 use Rattle.splitting.proofs.walk.within.Statement.{statement}
