@@ -74,7 +74,7 @@ fn list_symbol(v: usize, t: &[i64], w: &mut [u16], table: &mut [i64], out: &mut 
     }
 }
 
-// The same where the slices are long enough.
+// What a text gets, where the slices are long enough.
 fn list_text(
     text: &[u8],
     longer: bool,
