@@ -6,8 +6,6 @@
 --     puts-same         the length stays
 --     puts-within       where the length stays, the bytes end within it
 --     puts-as           the same bytes in other words
---     number-put        a number behind a space, by an answer of `write`
---     number-short      which is no refusal
 --     line-put          a whole line
 -- Assumes nothing.
 use mathlib.Core.Path.{_≡_, sym, ap, _∙_}
@@ -102,19 +100,6 @@ puts-within {a} {at} {e} {out} {out'} f h l =
 
 pub puts-as : {a b : List ℕ} {at e : ℕ} {out out' : List ℕ} → a ≡ b → Puts a at e out out' → Puts b at e out out'
 puts-as {a} {b} {at} {e} {out} {out'} h f = rw (← h) f
-
-module _ (bs out out1 out2 : List ℕ) (at from : ℕ) (w : Written) (f : Puts (32 ∷ []) at from out out1) (h : at + 21 ≤ length out) (k : length bs ≤ 20)
-    (e : w ≡ writtenOf (length bs) (length out1) from) (l : out2 ≡ standing w bs from out1) where
-  fitting : from + length bs ≤ length out1
-  fitting = omega (arith, f .end-is, puts-same f (omega arith))
-
-  pub number-put : (end : ℕ) → w ≡ written.To end → Puts (32 ∷ bs) at end out out2 × (end ≤ at + 21)
-  number-put end g =
-      let p = by-writing bs out1 out2 from w e l fitting end g in
-      (puts-then f p (omega arith), omega (arith, f .end-is, p .end-is))
-
-  pub number-short : {A : Type 0} (n : ℕ) → w ≡ written.Short n → A
-  number-short n g = no-short bs out1 out2 from w e l fitting n g
 
 pub line-put : (name : List ℕ) (zs : List ℤ) {at m n e : ℕ} {out out1 out2 out3 : List ℕ} → Puts name at m out out1 → Puts (spaced zs) m n out1 out2 → Puts (10 ∷ []) n e out2 out3
     → at + length name + length (spaced zs) ≤ length out → Puts (line name zs) at e out out3

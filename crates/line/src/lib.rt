@@ -47,7 +47,7 @@ pub fn put_decimal(n: i64, out: &mut [u8], at: usize) -> usize
 }
 
 // A space and the number n.
-pub fn put_integer(n: i64, out: &mut [u8], at: usize) -> usize
+fn put_integer(n: i64, out: &mut [u8], at: usize) -> usize
     requires { ⌜ at + 21 ≤ length (now out) ⌝ }
     ensures { λ r. ⌜ Puts (32 ∷ decimalOf n) at r (now (out .entry)) (now (out .exit)) × (r ≤ at + 21) ⌝ }
 {
@@ -56,7 +56,7 @@ pub fn put_integer(n: i64, out: &mut [u8], at: usize) -> usize
 }
 
 // A space and the natural number n.
-pub fn put_natural(n: u64, out: &mut [u8], at: usize) -> usize
+fn put_natural(n: u64, out: &mut [u8], at: usize) -> usize
     requires { ⌜ at + 21 ≤ length (now out) ⌝ }
     ensures { λ r. ⌜ Puts (32 ∷ decimalOf (natural n)) at r (now (out .entry)) (now (out .exit)) × (r ≤ at + 21) ⌝ }
 {
@@ -72,7 +72,7 @@ fn wide(x: u16) -> u64
 }
 
 // The naturals xs, of 16 bits as in the tables of a work space, each behind a space.
-pub fn put_cells(xs: &[u16], out: &mut [u8], at: usize) -> usize
+fn put_cells(xs: &[u16], out: &mut [u8], at: usize) -> usize
     requires { ⌜ at + (6 * length (now xs) + 21) ≤ length (now out) ⌝ }
     ensures { λ r. ⌜ Puts (spaced (map natural (now (xs .entry)))) at r (now (out .entry)) (now (out .exit)) × (r ≤ at + 6 * length (now (xs .entry))) ⌝ }
 {
@@ -93,7 +93,7 @@ fn wide_letter(x: i16) -> i64
 }
 
 // The letters xs, each behind a space.
-pub fn put_letters(xs: &[i16], out: &mut [u8], at: usize) -> usize
+fn put_letters(xs: &[i16], out: &mut [u8], at: usize) -> usize
     requires { ⌜ at + (7 * length (now xs) + 21) ≤ length (now out) ⌝ }
     ensures { λ r. ⌜ Puts (spaced (now (xs .entry))) at r (now (out .entry)) (now (out .exit)) × (r ≤ at + 7 * length (now (xs .entry))) ⌝ }
 {
