@@ -3,7 +3,7 @@
 --     spaced zs                  the numbers zs in decimal form, a space in front of each
 --     line name zs               the name, the numbers and a line feed
 --     refusedWord                `refused` as bytes
---     refusal n p                the one line for what is refused: the number and the place
+--     refusalLine f              the one line for what is refused: the number and the place
 --     Puts bs at end out out'    out' is out with the bytes bs from the offset `at` on, in place of those that stood there; they end
 --                                before the offset `end`
 -- Assumes nothing.
@@ -12,6 +12,7 @@ use mathlib.Core.List.{List, [], _∷_, _++_, map}
 use Prim.Native.Nat.{ℕ, _+_}
 use lib.IntN.{ℤ, pos}
 use lib.ListN.{length}
+use Rattle.refusal.specs.declared.Refusal.{Refusal}
 use Rattle.text.specs.Decimal.{decimalOf}
 use Rattle.text.specs.Writing.{placed}
 
@@ -28,8 +29,8 @@ line name zs = name ++ (spaced zs ++ (10 ∷ []))
 abbrev pub refusedWord : List ℕ
 refusedWord = 114 ∷ 101 ∷ 102 ∷ 117 ∷ 115 ∷ 101 ∷ 100 ∷ []
 
-unfoldable pub refusal : ℕ → ℕ → List ℕ
-refusal n p = line refusedWord (natural n ∷ natural p ∷ [])
+unfoldable pub refusalLine : Refusal → List ℕ
+refusalLine f = line refusedWord (natural (f .number) ∷ natural (f .place) ∷ [])
 
 pub record Puts (bs : List ℕ) (at end : ℕ) (out out' : List ℕ) : Type 0 where
   pub end-is : end ≡ at + length bs

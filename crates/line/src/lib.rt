@@ -1,6 +1,7 @@
 // Lines of text, put into a lent slice of bytes one after another: each call says where its bytes end, and the next ones start there.
 // The calls ask for room, for the programs that make them know how long a line can get: 21 bytes hold a space and any number, 6 bytes a
 // space and a natural number of 16 bits, and 7 bytes a space and a signed one of 16 bits.
+use refusal::Refusal;
 use text::Written;
 ghost use mathlib.Core.Path.{_≡_};
 ghost use mathlib.Core.List.{[], _∷_, _++_, map};
@@ -8,7 +9,7 @@ ghost use Prim.Native.Nat.{_+_, _*_, _≤_};
 ghost use lib.ListN.{length, take};
 ghost use lib.IntN.{pos};
 ghost use Rattle.text.specs.Decimal.{digits, decimalOf};
-ghost use Rattle.line.specs.Line.{natural, spaced, line, refusal, Puts};
+ghost use Rattle.line.specs.Line.{natural, spaced, line, refusalLine, Puts};
 
 // The bytes.
 pub fn put(bytes: &[u8], out: &mut [u8], at: usize) -> usize
@@ -171,10 +172,10 @@ pub fn line_of_letters(name: &[u8], xs: &[i16], out: &mut [u8], at: usize) -> us
     put(b"\n", out, second)
 }
 
-// The line for what is refused: the number of the refusal and its place, from the front of `out`.
-pub fn refusal_line(number: u64, place: usize, out: &mut [u8]) -> usize
+// The line for a refusal: its number and its place, from the front of `out`.
+pub fn refusal_line(refused: Refusal, out: &mut [u8]) -> usize
     requires { ⌜ 50 ≤ length (now out) ⌝ }
-    ensures { λ r. ⌜ Puts (refusal number place) 0 r (now (out .entry)) (now (out .exit)) ⌝ }
+    ensures { λ r. ⌜ Puts (refusalLine refused) 0 r (now (out .entry)) (now (out .exit)) ⌝ }
 {
-    line_of_two(b"refused", number, place as u64, out, 0)
+    line_of_two(b"refused", refused.number, refused.place as u64, out, 0)
 }

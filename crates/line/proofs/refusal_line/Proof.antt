@@ -1,5 +1,5 @@
 -- `line::refusal_line` meets its contract: it is one line. Assumes nothing.
-use Rattle.line.specs.Line.{refusal}
+use Rattle.line.specs.Line.{refusalLine}
 use borrow.Author.Needs.{needs}
 use Rattle.line.proofs.refusal_line.Statement.{statement}
 use Rattle.line.proofs.refusal_line.Tie as tie
@@ -14,7 +14,7 @@ same-length : tie.Need-same-length
 same-length c = search needs
 
 returns : tie.Need-returns
-unfolding refusal
+unfolding refusalLine
 returns c = (c .before .before) .line-of-two .ensures .0
 
 pub refusal-line-spec : {M : Type 1} → statement M

@@ -1,0 +1,144 @@
+-- THE REFUSALS of document 01 ("Who can cause a refusal"): each has a number and a place. This list is the only one: the promises of all
+-- calls, the lines of the programs and the numbers that the exported functions return are made from it.
+--
+--   Refusal            a number and a place
+--   none               no refusal: the number 0, and the place 0
+--   refusal n p        the refusal with the number n at the place p
+--   vertexCount .. badText     the refusals 1 to 19 by name, each at the place that document 01 gives it
+--   Checked            the answer of checks: accepted, or refused
+--   c orElse d         the first refusal of the two
+--   refuse b f         refused with f where b holds
+--   refuseAt i n f     refused at the first place that fails, where one below n does
+--   checkedRefusal     the refusal that an answer of checks is
+--   Filled             the answer of a call that fills a result space: how many things it made, or its refusal
+--   filledBy c a       the refusal of the checks, or else the answer a
+--   room out n k       n things made, where the k numbers that they take fit into a space of length `out`; or 11 with that length
+--   filledRefusal, filledCount     the refusal that such an answer is; how many things it made, none for a refusal
+use mathlib.Core.Bool.{Bool}
+use Prim.Native.Nat.{ℕ}
+use lib.Dec.{ltb}
+use Rattle.refusal.specs.declared.Refusal.{Refusal}
+use Rattle.refusal.specs.declared.Checked.{Checked}
+use Rattle.refusal.specs.declared.Checked.the-variants as checked
+use Rattle.refusal.specs.declared.Filled.{Filled}
+use Rattle.refusal.specs.declared.Filled.the-variants as filled
+
+abbrev pub refusal : (number place : ℕ) → Refusal
+refusal n p = record { number = n; place = p }
+
+abbrev pub none : Refusal
+none = refusal 0 0
+
+-- ---- whoever writes the symbol
+
+-- v out of range
+abbrev pub vertexCount : Refusal
+vertexCount = refusal 1 0
+
+-- the table's length isn't 3v + 1: the length
+abbrev pub tableLength : ℕ → Refusal
+tableLength n = refusal 2 n
+
+-- a vertex entry out of range: its index
+abbrev pub vertexEntry : ℕ → Refusal
+vertexEntry i = refusal 3 i
+
+-- the neighbour rule broken: the side
+abbrev pub notNeighbours : ℕ → Refusal
+notNeighbours i = refusal 4 i
+
+-- no vertex 0/1
+abbrev pub noZero : Refusal
+noZero = refusal 5 0
+
+-- a pairing not allowed, or a label not twice: the first such side
+abbrev pub badPairing : ℕ → Refusal
+badPairing i = refusal 6 i
+
+-- one vertex and no odd side
+abbrev pub noOddSide : Refusal
+noOddSide = refusal 7 0
+
+-- ---- whoever sends matrices
+
+-- an entry beyond 1,000,000 in size: 0 to 3 in A, 4 to 7 in B
+abbrev pub matrixEntry : ℕ → Refusal
+matrixEntry i = refusal 8 i
+
+-- a determinant that isn't 1: 0 for A, 1 for B
+abbrev pub determinant : ℕ → Refusal
+determinant i = refusal 9 i
+
+-- none: no word exists
+abbrev pub noWord : Refusal
+noWord = refusal 10 0
+
+-- ---- whoever lends space
+
+-- a space too short: the length needed
+abbrev pub tooShort : ℕ → Refusal
+tooShort n = refusal 11 n
+
+-- ---- whoever sends permutations
+
+-- the index out of range, or tables unequal in length
+abbrev pub pointCount : Refusal
+pointCount = refusal 12 0
+
+-- an entry outside the table, or equal to an earlier one: its index
+abbrev pub tableEntry : ℕ → Refusal
+tableEntry i = refusal 13 i
+
+-- S twice or R three times moves a point: the first such point
+abbrev pub wrongOrder : ℕ → Refusal
+wrongOrder x = refusal 14 x
+
+-- a point that isn't reached from 0: the smallest
+abbrev pub unreached : ℕ → Refusal
+unreached x = refusal 15 x
+
+-- ---- the group itself
+
+-- the rule needs a vertex entry over 1,000,000,000 in size: the side to be split
+abbrev pub entryTooLarge : ℕ → Refusal
+entryTooLarge i = refusal 16 i
+
+-- the level is at or over 2⁶⁴
+abbrev pub levelTooLarge : Refusal
+levelTooLarge = refusal 17 0
+
+-- the genus formula gives no whole number from 0
+abbrev pub noGenus : Refusal
+noGenus = refusal 18 0
+
+-- ---- whoever types
+
+-- text that isn't the numbers that are wanted: the offset
+abbrev pub badText : ℕ → Refusal
+badText p = refusal 19 p
+
+-- ---- the answers of checks
+
+infixr 5 _orElse_
+abbrev pub _orElse_ : Checked → Checked → Checked
+checked.Refused f orElse c = checked.Refused f
+checked.Accepted orElse c = c
+
+abbrev pub checkedRefusal : Checked → Refusal
+checkedRefusal checked.Accepted = none
+checkedRefusal (checked.Refused f) = f
+
+-- ---- the answers of calls that fill a result space
+
+abbrev pub filledRefusal : Filled → Refusal
+filledRefusal (filled.Made n) = none
+filledRefusal (filled.Refused f) = f
+
+abbrev pub filledCount : Filled → ℕ
+filledCount (filled.Made n) = n
+filledCount (filled.Refused f) = 0
+
+-- the checks come first
+abbrev pub filledBy : Checked → Filled → Filled
+filledBy (checked.Refused f) a = filled.Refused f
+filledBy checked.Accepted a = a
