@@ -1,0 +1,2 @@
+-- The laws of answers. Each upper crate may cite them.
+pub mod Apart
