@@ -1,6 +1,6 @@
 -- Bytes put into a slice, one after another.
 --     by-writing        what `copy` and `write` leave where the bytes fit
---     no-short          and no such answer is a refusal
+--     no-refusal        and no such answer is a refusal
 --     puts-none         no bytes
 --     puts-then         bytes behind others
 --     puts-same         the length stays
@@ -15,6 +15,7 @@ use native.Mathlib.Omega.{arith}
 use lib.IntN.{ℤ}
 use lib.ListN.{length, take, drop, length-append, length-drop}
 use lib.Seq.{take-at, drop-drop, drop-append-add, length-take-le, paste-zero}
+use Rattle.refusal.specs.declared.Refusal.{Refusal}
 use Rattle.text.specs.Writing.{writtenOf, placed, standing}
 use Rattle.text.specs.declared.Written.{Written}
 use Rattle.text.specs.declared.Written.the-variants as written
@@ -32,8 +33,8 @@ module _ (bs out out' : List ℕ) (at : ℕ) (w : Written) (e : w ≡ writtenOf 
       let g : written.To end ≡ written.To (at + length bs) = sym f ∙ to in
       record { end-is = cc; left = l ∙ ap (λ (x : Written). standing x bs at out) to }
 
-  pub no-short : {A : Type 0} (k : ℕ) → w ≡ written.Short k → A
-  no-short k f = let g : written.Short k ≡ written.To (at + length bs) = sym f ∙ to in let z : _≡_ {A = ℕ} 0 1 = cc in absurd (omega arith)
+  pub no-refusal : {A : Type 0} (f : Refusal) → w ≡ written.Refused f → A
+  no-refusal f e = let g : written.Refused f ≡ written.To (at + length bs) = sym e ∙ to in let z : _≡_ {A = ℕ} 0 1 = cc in absurd (omega arith)
 
 pub puts-none : (at : ℕ) (out : List ℕ) → Puts [] at at out out
 unfolding placed

@@ -19,7 +19,7 @@ pub fn put(bytes: &[u8], out: &mut [u8], at: usize) -> usize
     let written = text::copy(bytes, out, at);
     match written {
         Written::To(end) => end,
-        Written::Short(_) => at,
+        Written::Refused(_) => at,
     }
 }
 
@@ -31,7 +31,7 @@ pub fn put_digits(n: u64, out: &mut [u8], at: usize) -> usize
     let written = text::write_natural(n, out, at);
     match written {
         Written::To(end) => end,
-        Written::Short(_) => at,
+        Written::Refused(_) => at,
     }
 }
 
@@ -43,7 +43,7 @@ pub fn put_decimal(n: i64, out: &mut [u8], at: usize) -> usize
     let written = text::write(n, out, at);
     match written {
         Written::To(end) => end,
-        Written::Short(_) => at,
+        Written::Refused(_) => at,
     }
 }
 

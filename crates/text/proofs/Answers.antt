@@ -14,6 +14,7 @@ use native.Mathlib.Omega.{arith}
 use lib.IntN.{ℤ}
 use lib.ListN.{length}
 use borrow.Author.Tests.{lt-ltb, le-ltb}
+use Rattle.refusal.specs.Refusal.{badText}
 use Rattle.text.specs.Piece.{Piece, pieces, firstBad, numbers, placeAt}
 use Rattle.text.specs.Reading.{wanted, wantedOr1, handed, countPlace, firstPlace, orElse, place19, answer, readingOf}
 use Rattle.text.specs.Laws.{Nineteen, Eleven}
@@ -34,7 +35,7 @@ that-count none k e = clash (cc)
 that-count (some n) k e = cc
 
 module _ (f : Format) (t : List ℕ) (room : ℕ) where
-  pub first-none : left t 0 ≡ [] → reading.Refused (length t) ≡ countedOf f t room
+  pub first-none : left t 0 ≡ [] → reading.Refused (badText (length t)) ≡ countedOf f t room
   unfolding numbers firstPlace answer
   first-none e = rw (walked-start t .rest ∙ e)
 
@@ -57,11 +58,11 @@ module _ (f : Format) (t : List ℕ) (room : ℕ) where
       these : countedOf f t room ≡ answer (countPlace (some k) (length t) (pieces t)) k room
       these = by-first (some k) (that-count (wanted f v) k e)
 
-      pub first-few : length (pieces t) < k → reading.Refused (length t) ≡ countedOf f t room
+      pub first-few : length (pieces t) < k → reading.Refused (badText (length t)) ≡ countedOf f t room
       unfolding countPlace answer
       first-few h = sym (these ∙ rw (lt-ltb (length (pieces t)) k h))
 
-      pub first-many : k < length (pieces t) → reading.Refused (placeAt (pieces t) k) ≡ countedOf f t room
+      pub first-many : k < length (pieces t) → reading.Refused (badText (placeAt (pieces t) k)) ≡ countedOf f t room
       unfolding countPlace answer
       first-many h = sym (these ∙ rw (le-ltb (length (pieces t)) k (omega arith), lt-ltb k (length (pieces t)) h))
 
@@ -82,7 +83,7 @@ bad-at none n at e = clash (cc)
 bad-at (some k) n at e = cc
 
 module _ (f : Format) (t : List ℕ) (room : ℕ) where
-  pub read-long : 65536 < length t → reading.Refused 65536 ≡ readingOf f t room
+  pub read-long : 65536 < length t → reading.Refused (badText 65536) ≡ readingOf f t room
   unfolding readingOf place19 answer
   read-long h = rw (lt-ltb 65536 (length t) h)
 
@@ -92,7 +93,7 @@ module _ (f : Format) (t : List ℕ) (room : ℕ) where
     unfolding readingOf place19
     by-pieces o e = rw (le-ltb 65536 (length t) h, e)
 
-    pub read-bad : (at : ℕ) → survey.Bad at ≡ surveyOf (pieces t) → reading.Refused at ≡ readingOf f t room
+    pub read-bad : (at : ℕ) → survey.Bad at ≡ surveyOf (pieces t) → reading.Refused (badText at) ≡ readingOf f t room
     unfolding answer
     read-bad at e = sym (by-pieces (some at) (bad-at (firstBad (pieces t)) (length (pieces t)) at e))
 

@@ -4,13 +4,14 @@ use mathlib.Core.Path.{_≡_, refl}
 use mathlib.Core.List.{[], _∷_}
 use mathlib.Core.Option.{some}
 use lib.IntN.{pos, negsuc}
+use Rattle.refusal.specs.Refusal.{tooShort, badText}
 use Rattle.text.specs.Blank.{isBlank, run}
 use Rattle.text.specs.Number.{isDigit, onward, natural, within, numberOf}
 use Rattle.text.specs.Piece.{piecesFrom, pieces, firstBad, numbers, placeAt}
 use Rattle.text.specs.Reading.{wanted, handed, countPlace, firstPlace, place19, answer, readingOf}
 use Rattle.text.specs.Decimal.{digitsOnto, digits, decimalOf}
 use Rattle.text.specs.declared.Format.{Format}
-use Rattle.text.specs.declared.Reading.the-variants.{Numbers, Refused, Short}
+use Rattle.text.specs.declared.Reading.the-variants.{Numbers, Refused}
 
 abbrev listing : Format
 listing = record { most = 1023; each = 3; more = 2 }
@@ -25,52 +26,52 @@ unfolding isBlank run isDigit onward natural within numberOf piecesFrom pieces n
 whole-numbers = refl
 
 -- the same in too short a slice
-narrow : readingOf listing (50 ∷ 10 ∷ 48 ∷ 32 ∷ 49 ∷ 32 ∷ 49 ∷ 32 ∷ 49 ∷ 10 ∷ 49 ∷ 32 ∷ 45 ∷ 50 ∷ 32 ∷ 49 ∷ []) 7 ≡ Short 8
+narrow : readingOf listing (50 ∷ 10 ∷ 48 ∷ 32 ∷ 49 ∷ 32 ∷ 49 ∷ 32 ∷ 49 ∷ 10 ∷ 49 ∷ 32 ∷ 45 ∷ 50 ∷ 32 ∷ 49 ∷ []) 7 ≡ Refused (tooShort 8)
 unfolding isBlank run isDigit onward natural within numberOf piecesFrom pieces firstBad numbers placeAt wanted handed countPlace firstPlace place19 answer readingOf
 narrow = refl
 
 -- no byte: too few
-empty : readingOf listing ([]) 8 ≡ Refused 0
+empty : readingOf listing ([]) 8 ≡ Refused (badText 0)
 unfolding isBlank run isDigit onward natural within numberOf piecesFrom pieces firstBad numbers placeAt wanted handed countPlace firstPlace place19 answer readingOf
 empty = refl
 
 -- blanks only: too few
-blank : readingOf listing (32 ∷ 13 ∷ 10 ∷ []) 8 ≡ Refused 3
+blank : readingOf listing (32 ∷ 13 ∷ 10 ∷ []) 8 ≡ Refused (badText 3)
 unfolding isBlank run isDigit onward natural within numberOf piecesFrom pieces firstBad numbers placeAt wanted handed countPlace firstPlace place19 answer readingOf
 blank = refl
 
 -- one number less
-few : readingOf listing (50 ∷ 10 ∷ 48 ∷ 32 ∷ 49 ∷ 32 ∷ 49 ∷ 32 ∷ 49 ∷ 10 ∷ 49 ∷ 32 ∷ 45 ∷ 50 ∷ 10 ∷ []) 8 ≡ Refused 15
+few : readingOf listing (50 ∷ 10 ∷ 48 ∷ 32 ∷ 49 ∷ 32 ∷ 49 ∷ 32 ∷ 49 ∷ 10 ∷ 49 ∷ 32 ∷ 45 ∷ 50 ∷ 10 ∷ []) 8 ≡ Refused (badText 15)
 unfolding isBlank run isDigit onward natural within numberOf piecesFrom pieces firstBad numbers placeAt wanted handed countPlace firstPlace place19 answer readingOf
 few = refl
 
 -- one number more: where it begins
-many : readingOf listing (50 ∷ 10 ∷ 48 ∷ 32 ∷ 49 ∷ 32 ∷ 49 ∷ 32 ∷ 49 ∷ 10 ∷ 49 ∷ 32 ∷ 45 ∷ 50 ∷ 32 ∷ 49 ∷ 32 ∷ 55 ∷ []) 8 ≡ Refused 17
+many : readingOf listing (50 ∷ 10 ∷ 48 ∷ 32 ∷ 49 ∷ 32 ∷ 49 ∷ 32 ∷ 49 ∷ 10 ∷ 49 ∷ 32 ∷ 45 ∷ 50 ∷ 32 ∷ 49 ∷ 32 ∷ 55 ∷ []) 8 ≡ Refused (badText 17)
 unfolding isBlank run isDigit onward natural within numberOf piecesFrom pieces firstBad numbers placeAt wanted handed countPlace firstPlace place19 answer readingOf
 many = refl
 
 -- a plus is no sign
-plus : readingOf listing (50 ∷ 32 ∷ 43 ∷ 49 ∷ []) 8 ≡ Refused 2
+plus : readingOf listing (50 ∷ 32 ∷ 43 ∷ 49 ∷ []) 8 ≡ Refused (badText 2)
 unfolding isBlank run isDigit onward natural within numberOf piecesFrom pieces firstBad numbers placeAt wanted handed countPlace firstPlace place19 answer readingOf
 plus = refl
 
 -- nor is a minus a number
-minus : readingOf listing (50 ∷ 32 ∷ 45 ∷ []) 8 ≡ Refused 2
+minus : readingOf listing (50 ∷ 32 ∷ 45 ∷ []) 8 ≡ Refused (badText 2)
 unfolding isBlank run isDigit onward natural within numberOf piecesFrom pieces firstBad numbers placeAt wanted handed countPlace firstPlace place19 answer readingOf
 minus = refl
 
 -- two numbers with no blank between them
-two : readingOf listing (49 ∷ 45 ∷ 50 ∷ []) 8 ≡ Refused 0
+two : readingOf listing (49 ∷ 45 ∷ 50 ∷ []) 8 ≡ Refused (badText 0)
 unfolding isBlank run isDigit onward natural within numberOf piecesFrom pieces firstBad numbers placeAt wanted handed countPlace firstPlace place19 answer readingOf
 two = refl
 
 -- and 0x1 is none
-hex : readingOf listing (55 ∷ 32 ∷ 48 ∷ 120 ∷ 49 ∷ []) 8 ≡ Refused 2
+hex : readingOf listing (55 ∷ 32 ∷ 48 ∷ 120 ∷ 49 ∷ []) 8 ≡ Refused (badText 2)
 unfolding isBlank run isDigit onward natural within numberOf piecesFrom pieces firstBad numbers placeAt wanted handed countPlace firstPlace place19 answer readingOf
 hex = refl
 
 -- 2^63 is past 64 signed bits
-large : readingOf listing (57 ∷ 50 ∷ 50 ∷ 51 ∷ 51 ∷ 55 ∷ 50 ∷ 48 ∷ 51 ∷ 54 ∷ 56 ∷ 53 ∷ 52 ∷ 55 ∷ 55 ∷ 53 ∷ 56 ∷ 48 ∷ 56 ∷ []) 8 ≡ Refused 0
+large : readingOf listing (57 ∷ 50 ∷ 50 ∷ 51 ∷ 51 ∷ 55 ∷ 50 ∷ 48 ∷ 51 ∷ 54 ∷ 56 ∷ 53 ∷ 52 ∷ 55 ∷ 55 ∷ 53 ∷ 56 ∷ 48 ∷ 56 ∷ []) 8 ≡ Refused (badText 0)
 unfolding isBlank run isDigit onward natural within numberOf piecesFrom pieces firstBad numbers placeAt wanted handed countPlace firstPlace place19 answer readingOf
 large = refl
 

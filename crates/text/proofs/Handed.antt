@@ -16,6 +16,7 @@ use lib.IntN.{ℤ, pos, negsuc}
 use lib.ListN.{length, getD, take, drop, length-drop}
 use lib.Seq.{take-at, drop-append-le, length-take-le}
 use borrow.Author.Tests.{lt-ltb, le-ltb}
+use Rattle.refusal.specs.Refusal.{tooShort}
 use Rattle.text.specs.Choice.{pick}
 use Rattle.text.specs.Piece.{Piece, pieces, firstBad, numbers, placeAt}
 use Rattle.text.specs.Reading.{textMost, wanted, handed, countPlace, firstPlace, orElse, place19, answer, readingOf, leftBy}
@@ -54,7 +55,7 @@ given (some p) h room k e = clash cc
 given none h room k e = go (decLt room h)
   where
     go : Dec (room < h) → Given none h room k
-    go (yes l) = let f : reading.Numbers k ≡ reading.Short h = rw (answer, lt-ltb room h l) at e in clash cc
+    go (yes l) = let f : reading.Numbers k ≡ reading.Refused (tooShort h) = rw (answer, lt-ltb room h l) at e in clash cc
     go (no l) =
         let f : reading.Numbers k ≡ reading.Numbers h = rw (answer, le-ltb room h (omega arith)) at e in
         record { placeless = refl; count = cc; fitting = omega arith }

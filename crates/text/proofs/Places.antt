@@ -13,6 +13,7 @@ use native.Mathlib.Omega.{arith}
 use lib.ListN.{length, getD, drop, set, length-set}
 use lib.Seq.{paste, paste-suc, take-length, drop-cons, drop-set-lt, getD-set-same}
 use borrow.Author.Tests.{le-leb, lt-leb}
+use Rattle.refusal.specs.Refusal.{tooShort}
 use Rattle.text.specs.Writing.{writtenOf, placed, roomMost}
 use Rattle.text.specs.declared.Written.the-variants as written
 
@@ -25,7 +26,7 @@ unfolding placed
 put-end d at s = rw take-length
 
 module _ (k room at : ℕ) where
-  pub written-short : room < at + k → written.Short (min (at + k) roomMost) ≡ writtenOf k room at
+  pub written-short : room < at + k → written.Refused (tooShort (min (at + k) roomMost)) ≡ writtenOf k room at
   unfolding writtenOf
   written-short h = rw (lt-leb (at + k) room h)
 

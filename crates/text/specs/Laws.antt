@@ -17,6 +17,7 @@ use Rattle.text.specs.Number.{numberOf}
 use Rattle.text.specs.Piece.{pieces, numbers}
 use Rattle.text.specs.Reading.{handed, place19, readingOf}
 use Rattle.text.specs.Refusal.{readingRefusal}
+use Rattle.refusal.specs.Refusal.{tooShort, badText}
 use Rattle.text.specs.declared.Format.{Format}
 use Rattle.text.specs.Decimal.{decimalOf}
 
@@ -35,8 +36,8 @@ OnePiece = (z : ℤ) → Inside64 z → pieces (decimalOf z) ≡ record { at = 0
 
 abbrev pub Nineteen : Type 0
 Nineteen = (f : Format) (t : List ℕ) (room p : ℕ) → place19 f t ≡ some p
-    → readingRefusal (readingOf f t room) ≡ some (record { number = 19; place = p })
+    → readingRefusal (readingOf f t room) ≡ badText p
 
 abbrev pub Eleven : Type 0
 Eleven = (f : Format) (t : List ℕ) (room : ℕ) → place19 f t ≡ none → room < handed f (numbers (pieces t))
-    → readingRefusal (readingOf f t room) ≡ some (record { number = 11; place = handed f (numbers (pieces t)) })
+    → readingRefusal (readingOf f t room) ≡ tooShort (handed f (numbers (pieces t)))

@@ -9,7 +9,7 @@
 --     firstPlace f ns n ps  the same by the text's numbers ns: with no number at all they are too few
 --     orElse p q            the place p, or q where there is none
 --     place19 f t           the place of refusal 19; none where the text t is not refused
---     answer p k room       refused at the place p; or else k numbers, where they fit into `room` entries
+--     answer p k room       19 at the place p; or else k numbers, where they fit into `room` entries, or 11 with k
 --     readingOf f t room    the answer to the text t
 --     leftBy r ns out       what the slice holds in the end, where it held `out` and the text's numbers are ns
 --     vertexCount z         the first number as a number of vertices; a negative one is out of range as 0 is
@@ -21,11 +21,12 @@ use mathlib.Core.Option.{Option, none, some}
 use lib.Dec.{ltb, leb}
 use lib.IntN.{ℤ, pos, negsuc}
 use lib.ListN.{length, take, drop}
+use Rattle.refusal.specs.Refusal.{tooShort, badText}
 use Rattle.text.specs.Choice.{pick}
 use Rattle.text.specs.Piece.{Piece, pieces, firstBad, numbers, placeAt}
 use Rattle.text.specs.declared.Format.{Format}
 use Rattle.text.specs.declared.Reading.{Reading}
-use Rattle.text.specs.declared.Reading.the-variants.{Numbers, Refused, Short}
+use Rattle.text.specs.declared.Reading.the-variants.{Numbers, Refused}
 
 abbrev pub textMost : ℕ
 textMost = 65536
@@ -64,16 +65,15 @@ place19 f t =
     (firstPlace f (numbers (pieces t)) (length t) (pieces t)))
 
 unfoldable pub answer : Option ℕ → ℕ → ℕ → Reading
-answer (some p) k room = Refused p
-answer none k room = pick (ltb room k) (Short k) (Numbers k)
+answer (some p) k room = Refused (badText p)
+answer none k room = pick (ltb room k) (Refused (tooShort k)) (Numbers k)
 
 unfoldable pub readingOf : Format → List ℕ → ℕ → Reading
 readingOf f t room = answer (place19 f t) (handed f (numbers (pieces t))) room
 
 unfoldable pub leftBy : Reading → List ℤ → List ℤ → List ℤ
 leftBy (Numbers k) ns out = take k ns ++ drop k out
-leftBy (Refused p) ns out = out
-leftBy (Short k) ns out = out
+leftBy (Refused f) ns out = out
 
 abbrev pub vertexCount : ℤ → ℕ
 vertexCount (pos n) = n

@@ -1,24 +1,18 @@
--- The number and the place that stand for each refusing case of the answers.
---     Refusal             a refusal's number and place
---     readingRefusal r    that of `read`'s answer r: 19 with its place, 11 with the length that the slice needs; none for numbers
---     writtenRefusal w    that of `write`'s and `copy`'s answer w: 11 with the length that the slice needs; none where the bytes stand
+-- The refusal that each answer is, from the one list of numbers and places in the crate `refusal`.
+--     readingRefusal r    that of `read`'s answer r: none for numbers
+--     writtenRefusal w    that of `write`'s and `copy`'s answer w: none where the bytes stand
 -- Assumes nothing.
-use Prim.Native.Nat.{ℕ}
-use mathlib.Core.Option.{Option, none, some}
+use Rattle.refusal.specs.Refusal.{none}
+use Rattle.refusal.specs.declared.Refusal.{Refusal}
 use Rattle.text.specs.declared.Reading.{Reading}
 use Rattle.text.specs.declared.Reading.the-variants as reading
 use Rattle.text.specs.declared.Written.{Written}
 use Rattle.text.specs.declared.Written.the-variants as written
 
-pub record Refusal : Type 0 where
-  pub number : ℕ
-  pub place : ℕ
-
-abbrev pub readingRefusal : Reading → Option Refusal
+abbrev pub readingRefusal : Reading → Refusal
 readingRefusal (reading.Numbers k) = none
-readingRefusal (reading.Refused p) = some (record { number = 19; place = p })
-readingRefusal (reading.Short k) = some (record { number = 11; place = k })
+readingRefusal (reading.Refused f) = f
 
-abbrev pub writtenRefusal : Written → Option Refusal
+abbrev pub writtenRefusal : Written → Refusal
 writtenRefusal (written.To e) = none
-writtenRefusal (written.Short k) = some (record { number = 11; place = k })
+writtenRefusal (written.Refused f) = f

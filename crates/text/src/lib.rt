@@ -1,5 +1,8 @@
 // Text in and text out: decimal numbers split by blanks are read into a lent slice, and numbers and words are written
 // into one.
+use refusal::BAD_TEXT;
+use refusal::Refusal;
+use refusal::TOO_SHORT;
 ghost use mathlib.Core.Path.{_≡_};
 ghost use Prim.Native.Nat.{ℕ, _+_, _<_, _≤_, min};
 ghost use mathlib.Core.Option.{none};
@@ -35,18 +38,16 @@ pub struct Format {
 pub enum Reading {
     // So many numbers stand at the front of the lent slice.
     Numbers(usize),
-    // Refusal 19, with its place.
-    Refused(usize),
-    // Refusal 11: the slice needs so many entries.
-    Short(usize),
+    // 19, or 11 with the entries that the slice needs.
+    Refused(Refusal),
 }
 
 // What writing gives.
 pub enum Written {
     // The bytes stand, and end before this offset.
     To(usize),
-    // Refusal 11: the slice needs this length.
-    Short(usize),
+    // 11 with the length that the slice needs.
+    Refused(Refusal),
 }
 
 // A natural number, or bytes that are none.
@@ -300,7 +301,10 @@ fn give(text: &[u8], k: usize, out: &mut [i64]) -> Reading
     ensures { λ r. ⌜ (r ≡ answer none k (length (now (out .entry)))) × (now (out .exit) ≡ leftBy r (numbers (pieces (now (text .entry)))) (now (out .entry))) ⌝ }
 {
     if out.len() < k {
-        return Reading::Short(k);
+        return Reading::Refused(Refusal {
+            number: TOO_SHORT,
+            place: k,
+        });
     }
     fill(text, k, out);
     Reading::Numbers(k)
@@ -312,17 +316,29 @@ fn count_and_give(text: &[u8], format: Format, count: usize, out: &mut [i64]) ->
     ensures { λ r. ⌜ (r ≡ countedOf format (now (text .entry)) (length (now (out .entry)))) × (now (out .exit) ≡ leftBy r (numbers (pieces (now (text .entry)))) (now (out .entry))) ⌝ }
 {
     match next(text, 0) {
-        Step::End => return Reading::Refused(text.len()),
-        Step::Bad(at) => return Reading::Refused(at),
+        Step::End => return Reading::Refused(Refusal {
+            number: BAD_TEXT,
+            place: text.len(),
+        }),
+        Step::Bad(at) => return Reading::Refused(Refusal {
+            number: BAD_TEXT,
+            place: at,
+        }),
         Step::Number(v, _, _) => {
             match wanted_for(format, v) {
                 Wanted::Any => return give(text, 1, out),
                 Wanted::Exactly(k) => {
                     if count < k {
-                        return Reading::Refused(text.len());
+                        return Reading::Refused(Refusal {
+                            number: BAD_TEXT,
+                            place: text.len(),
+                        });
                     }
                     if k < count {
-                        return Reading::Refused(place(text, k));
+                        return Reading::Refused(Refusal {
+                            number: BAD_TEXT,
+                            place: place(text, k),
+                        });
                     }
                     return give(text, k, out);
                 }
@@ -338,10 +354,16 @@ pub fn read(text: &[u8], format: Format, out: &mut [i64]) -> Reading
     ensures { λ r. ⌜ (r ≡ readingOf format (now (text .entry)) (length (now (out .entry)))) × (now (out .exit) ≡ leftBy r (numbers (pieces (now (text .entry)))) (now (out .entry))) ⌝ }
 {
     if TEXT_MOST < text.len() {
-        return Reading::Refused(TEXT_MOST);
+        return Reading::Refused(Refusal {
+            number: BAD_TEXT,
+            place: TEXT_MOST,
+        });
     }
     match survey_of(text) {
-        Survey::Bad(at) => Reading::Refused(at),
+        Survey::Bad(at) => Reading::Refused(Refusal {
+            number: BAD_TEXT,
+            place: at,
+        }),
         Survey::Count(count) => count_and_give(text, format, count, out),
     }
 }
@@ -385,13 +407,20 @@ pub fn copy(bytes: &[u8], out: &mut [u8], at: usize) -> Written
     let k = bytes.len();
     let room = out.len();
     if room < at {
-        return Written::Short(needed(at, k));
+        return Written::Refused(Refusal {
+            number: TOO_SHORT,
+            place: needed(at, k),
+        });
     }
     if room - at < k {
-        return Written::Short(needed(at, k));
+        return Written::Refused(Refusal {
+            number: TOO_SHORT,
+            place: needed(at, k),
+        });
     }
     put(bytes, out, at);
-    Written::To(at + k)
+    let end = at + k;
+    Written::To(end)
 }
 
 // The magnitude of n. -1 - n is within 64 bits for each negative n, where -n is not.

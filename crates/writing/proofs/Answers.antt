@@ -12,6 +12,9 @@ use lib.Dec.{ltb, eqb}
 use lib.ListN.{length, getD, set, drop}
 use lib.IntN.{ℤ, pos, negsuc}
 use borrow.Author.Tests.{lt-ltb, le-ltb, eq-eqb, ne-eqb}
+use Rattle.refusal.specs.Refusal.{tooShort, entryTooLarge}
+use Rattle.refusal.specs.declared.Filled.{Filled}
+use Rattle.refusal.specs.declared.Filled.the-variants.{Made, Refused}
 use Rattle.matrix.specs.Euclid.{pick}
 use Rattle.space.specs.Space.{zeros}
 use Rattle.space.proofs.Zeros.{length-zeros, getD-zeros}
@@ -22,8 +25,6 @@ use Rattle.growth.specs.Placed.{Grew, finished, refused, grow, rowsOf, startPla
 use Rattle.splitting.specs.Work.{Ground, Whole, Walked, halted, whole, doneIn}
 use Rattle.writing.specs.Writing.{written}
 use Rattle.writing.specs.Answer.{grownOf, tableIn, leftBy}
-use Rattle.writing.specs.declared.Grown.{Grown}
-use Rattle.writing.specs.declared.Grown.the-variants.{Made, Short, Over}
 use Rattle.growth.proofs.Lead.{Turning, turning}
 use Rattle.growth.proofs.Theorem.{rule-is}
 use Rattle.splitting.proofs.Walking.{length-done}
@@ -45,14 +46,14 @@ module _ (s r : List ℕ) where
   whole-of w stop d (halted e g) f = clash e f
   whole-of w stop d (whole e g) f = g
 
-  pub large-over : (w : List ℕ) (stop : Bool) (d : ℕ) (o : List ℤ) → Walked s r w stop d → stop ≡ true → (Over d ≡ grownOf large (length o)) × (o ≡ leftBy large (Over d) o)
+  pub large-over : (w : List ℕ) (stop : Bool) (d : ℕ) (o : List ℤ) → Walked s r w stop d → stop ≡ true → (Refused (entryTooLarge d) ≡ grownOf large (length o)) × (o ≡ leftBy large (Refused (entryTooLarge d)) o)
   large-over w stop d o (halted e g) f = (sym (ap (λ (x : Grew). grownOf (symbolBy σ κ x) (length o)) g), refl)
   large-over w stop d o (whole e g) f = clash f e
 
   made-is : (w : List ℕ) (d : ℕ) → Whole s r w d → large ≡ made (d - 1) (tableOf (rowsOf σ κ (doneIn w d)))
   made-is w d g = ap (symbolBy σ κ) (g .is) ∙ ap (λ (k : ℕ). made (k - 1) (tableOf (rowsOf σ κ (doneIn w d)))) (length-done w d)
 
-  pub large-short : (w : List ℕ) (d : ℕ) (o : List ℤ) → Whole s r w d → length o < 3 * (d - 1) + 1 → (Short (3 * (d - 1) + 1) ≡ grownOf large (length o)) × (o ≡ leftBy large (Short (3 * (d - 1) + 1)) o)
+  pub large-short : (w : List ℕ) (d : ℕ) (o : List ℤ) → Whole s r w d → length o < 3 * (d - 1) + 1 → (Refused (tooShort (3 * (d - 1) + 1)) ≡ grownOf large (length o)) × (o ≡ leftBy large (Refused (tooShort (3 * (d - 1) + 1))) o)
   large-short w d o g h = (sym (ap (λ (x : Ruled). grownOf x (length o)) (made-is w d g) ∙ pick-true (ltb (length o) (3 * (d - 1) + 1)) _ _ (lt-ltb (length o) (3 * (d - 1) + 1) h)), refl)
 
   pub large-made : (w : List ℕ) (d : ℕ) (o y : List ℤ) → Whole s r w d → 3 * (d - 1) + 1 ≤ length o → y ≡ written σ κ w d o → (Made (d - 1) ≡ grownOf large (length o)) × (y ≡ leftBy large (Made (d - 1)) o)
@@ -103,16 +104,16 @@ module _ (s r : List ℕ) where
         and-false false b t = refl
 
 -- an answer for what the rule gives
-pub answers : (g g' : Ruled) (a : Grown) (o y : List ℤ) → g ≡ g' → (a ≡ grownOf g' (length o)) → (y ≡ leftBy g' a o) → (a ≡ grownOf g (length o)) × (y ≡ leftBy g a o)
+pub answers : (g g' : Ruled) (a : Filled) (o y : List ℤ) → g ≡ g' → (a ≡ grownOf g' (length o)) → (y ≡ leftBy g' a o) → (a ≡ grownOf g (length o)) × (y ≡ leftBy g a o)
 answers g g' a o y e p q = (p ∙ ap (λ (x : Ruled). grownOf x (length o)) (sym e), q ∙ ap (λ (x : Ruled). leftBy x a o) (sym e))
 
 -- ---- a small symbol
 
-pub small-short : (x : ℤ) (o : List ℤ) → length o < 4 → (Short 4 ≡ grownOf (oneVertex x (negsuc 2)) (length o)) × (o ≡ leftBy (oneVertex x (negsuc 2)) (Short 4) o)
-small-short x o h = (sym (pick-true (ltb (length o) 4) (Short 4) (Made 1) (lt-ltb (length o) 4 h)), refl)
+pub small-short : (x : ℤ) (o : List ℤ) → length o < 4 → (Refused (tooShort 4) ≡ grownOf (oneVertex x (negsuc 2)) (length o)) × (o ≡ leftBy (oneVertex x (negsuc 2)) (Refused (tooShort 4)) o)
+small-short x o h = (sym (pick-true (ltb (length o) 4) (Refused (tooShort 4)) (Made 1) (lt-ltb (length o) 4 h)), refl)
 
 pub small-made : (x : ℤ) (o y : List ℤ) → 4 ≤ length o → y ≡ (pos 0 ∷ pos 1 ∷ x ∷ negsuc 2 ∷ []) ++ drop 4 o → (Made 1 ≡ grownOf (oneVertex x (negsuc 2)) (length o)) × (y ≡ leftBy (oneVertex x (negsuc 2)) (Made 1) o)
-small-made x o y h e = (sym (pick-false (ltb (length o) 4) (Short 4) (Made 1) (le-ltb (length o) 4 h)), e)
+small-made x o y h e = (sym (pick-false (ltb (length o) 4) (Refused (tooShort 4)) (Made 1) (le-ltb (length o) 4 h)), e)
 
 pub four-stores : (o : List ℤ) (x : ℤ) → 4 ≤ length o → set (set (set (set o 0 (pos 0)) 1 (pos 1)) 2 x) 3 (negsuc 2) ≡ (pos 0 ∷ pos 1 ∷ x ∷ negsuc 2 ∷ []) ++ drop 4 o
 four-stores [] x h = absurd (omega arith)

@@ -2,6 +2,10 @@
 // (specs/Writing.antt). specs/Answer.antt says what `grow` answers and leaves.
 use growth::image;
 use growth::turned;
+use refusal::ENTRY_TOO_LARGE;
+use refusal::Filled;
+use refusal::Refusal;
+use refusal::TOO_SHORT;
 use splitting::walk::walk;
 use write::write_four;
 use write::write_table;
@@ -18,30 +22,23 @@ ghost use Rattle.writing.specs.Answer.{grownOf, leftBy};
 
 mod write;
 
-// The answer of `grow`.
-pub enum Grown {
-    // So many vertices; the symbol's table stands at the front of the result space.
-    Made(usize),
-    // Refusal 11: the length that the result space needs.
-    Short(usize),
-    // Refusal 16: the side that can't be split.
-    Over(usize),
-}
-
 // The symbol of one vertex, with the pairings x and -3.
-fn grow_small(out: &mut [i64], x: i64) -> Grown
+fn grow_small(out: &mut [i64], x: i64) -> Filled
     ensures { λ a. ⌜ a ≡ grownOf (oneVertex x (negsuc 2)) (length (now (out .entry))) ⌝ }
     ensures { λ a. ⌜ now (out .exit) ≡ leftBy (oneVertex x (negsuc 2)) a (now (out .entry)) ⌝ }
 {
     if out.len() < 4 {
-        return Grown::Short(4);
+        return Filled::Refused(Refusal {
+            number: TOO_SHORT,
+            place: 4,
+        });
     }
     write_four(out, x);
-    Grown::Made(1)
+    Filled::Made(1)
 }
 
 // The symbol of a group that is none of the small ones.
-fn grow_large(s: &[u32], r: &[u32], w: &mut [u16], out: &mut [i64]) -> Grown
+fn grow_large(s: &[u32], r: &[u32], w: &mut [u16], out: &mut [i64]) -> Filled
     requires { ⌜ Pair (now s) (now r) × (32768 ≤ length (now w)) × ((eqb (byQ (image (now s)) (image (now r)) 0) 0 && eqb (byQ (image (now s)) (image (now r)) (image (now s) 0)) (image (now s) 0)) ≡ false) ⌝ }
     ensures { λ a. ⌜ a ≡ grownOf (symbolBy (image (now (s .entry))) (byQ (image (now (s .entry))) (image (now (r .entry)))) (grow (image (now (s .entry))) (byQ (image (now (s .entry))) (image (now (r .entry)))) (length (now (s .entry))) (startPlaced (image (now (s .entry))) (byQ (image (now (s .entry))) (image (now (r .entry))))))) (length (now (out .entry))) ⌝ }
     ensures { λ a. ⌜ now (out .exit) ≡ leftBy (symbolBy (image (now (s .entry))) (byQ (image (now (s .entry))) (image (now (r .entry)))) (grow (image (now (s .entry))) (byQ (image (now (s .entry))) (image (now (r .entry)))) (length (now (s .entry))) (startPlaced (image (now (s .entry))) (byQ (image (now (s .entry))) (image (now (r .entry))))))) a (now (out .entry)) ⌝ }
@@ -50,18 +47,25 @@ fn grow_large(s: &[u32], r: &[u32], w: &mut [u16], out: &mut [i64]) -> Grown
     let t = walk(s, r, w);
     let d = t.d;
     if t.stop {
-        return Grown::Over(d);
+        return Filled::Refused(Refusal {
+            number: ENTRY_TOO_LARGE,
+            place: d,
+        });
     }
     let n = 3 * (d - 1) + 1;
     if out.len() < n {
-        return Grown::Short(n);
+        return Filled::Refused(Refusal {
+            number: TOO_SHORT,
+            place: n,
+        });
     }
     write_table(s, r, w, d, out);
-    Grown::Made(d - 1)
+    let v = d - 1;
+    Filled::Made(v)
 }
 
 // The symbol of the matrices that fix point 0, where Q does.
-fn grow_fixed(s: &[u32], r: &[u32], w: &mut [u16], out: &mut [i64]) -> Grown
+fn grow_fixed(s: &[u32], r: &[u32], w: &mut [u16], out: &mut [i64]) -> Filled
     requires { ⌜ Pair (now s) (now r) × (32768 ≤ length (now w)) × (byQ (image (now s)) (image (now r)) 0 ≡ 0) ⌝ }
     ensures { λ a. ⌜ a ≡ grownOf (ruleOf (image (now (s .entry))) (byQ (image (now (s .entry))) (image (now (r .entry)))) (length (now (s .entry)))) (length (now (out .entry))) ⌝ }
     ensures { λ a. ⌜ now (out .exit) ≡ leftBy (ruleOf (image (now (s .entry))) (byQ (image (now (s .entry))) (image (now (r .entry)))) (length (now (s .entry)))) a (now (out .entry)) ⌝ }
@@ -77,8 +81,9 @@ fn grow_fixed(s: &[u32], r: &[u32], w: &mut [u16], out: &mut [i64]) -> Grown
     grow_large(s, r, w, out)
 }
 
-// The symbol of the matrices that fix point 0, for an accepted pair: 16, then the result space.
-pub fn grow(s: &[u32], r: &[u32], w: &mut [u16], out: &mut [i64]) -> Grown
+// The symbol of the matrices that fix point 0, for an accepted pair: the number of its vertices, its table at the front of the result space;
+// or 16 with the side that can't be split, then 11 with the length that the result space needs.
+pub fn grow(s: &[u32], r: &[u32], w: &mut [u16], out: &mut [i64]) -> Filled
     requires { ⌜ Pair (now s) (now r) × (32768 ≤ length (now w)) ⌝ }
     ensures { λ a. ⌜ a ≡ grownOf (ruleOf (image (now (s .entry))) (byQ (image (now (s .entry))) (image (now (r .entry)))) (length (now (s .entry)))) (length (now (out .entry))) ⌝ }
     ensures { λ a. ⌜ now (out .exit) ≡ leftBy (ruleOf (image (now (s .entry))) (byQ (image (now (s .entry))) (image (now (r .entry)))) (length (now (s .entry)))) a (now (out .entry)) ⌝ }

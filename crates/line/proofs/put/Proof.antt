@@ -1,5 +1,5 @@
 -- `line::put` meets its contract: the bytes fit, so that `copy` tells their end. Assumes nothing.
-use Rattle.line.proofs.Placing.{by-writing, no-short}
+use Rattle.line.proofs.Placing.{by-writing, no-refusal}
 use borrow.Author.Needs.{needs}
 use Rattle.line.proofs.put.Statement.{statement}
 use Rattle.line.proofs.put.Tie as tie
@@ -30,7 +30,7 @@ returns-2 : tie.Need-returns-2
 returns-2 c =
     let m = c .before .before .before .before in
     let s = m .before .before .before .before in
-    no-short (s .args .bytes .now) (s .args .out .now) _ (s .args .at) (m .copy .result) (m .copy .ensures .0) (m .copy .ensures .1) (s .pre) (c .enum-told .given .0 .0) (c .enum-told .given .1)
+    no-refusal (s .args .bytes .now) (s .args .out .now) _ (s .args .at) (m .copy .result) (m .copy .ensures .0) (m .copy .ensures .1) (s .pre) (c .enum-told .given .0 .0) (c .enum-told .given .1)
 
 pub put-spec : {M : Type 1} → statement M
 put-spec =

@@ -3,7 +3,7 @@ use native.Mathlib.Omega.{arith}
 use mir.Facts.{toZ-ofZ}
 use Rattle.text.specs.Decimal.{decimalOf}
 use Rattle.line.proofs.Spacing.{integer-most}
-use Rattle.line.proofs.Placing.{by-writing, no-short}
+use Rattle.line.proofs.Placing.{by-writing, no-refusal}
 use borrow.Author.Needs.{needs}
 use Rattle.line.proofs.put_decimal.Statement.{statement}
 use Rattle.line.proofs.put_decimal.Tie as tie
@@ -37,7 +37,7 @@ returns-2 c =
     let m = c .before .before .before .before in
     let s = m .before .before .before in
     let few = integer-most (s .args .n) (s .fits .n) in
-    no-short (decimalOf (s .args .n)) (s .args .out .now) _ (s .args .at) (m .write .result) (rw (toZ-ofZ (s .fits .n)) at (m .write .ensures .0)) (rw (toZ-ofZ (s .fits .n)) at (m .write .ensures .1)) (omega (arith, s .pre, few)) (c .enum-told .given .0 .0) (c .enum-told .given .1)
+    no-refusal (decimalOf (s .args .n)) (s .args .out .now) _ (s .args .at) (m .write .result) (rw (toZ-ofZ (s .fits .n)) at (m .write .ensures .0)) (rw (toZ-ofZ (s .fits .n)) at (m .write .ensures .1)) (omega (arith, s .pre, few)) (c .enum-told .given .0 .0) (c .enum-told .given .1)
 
 pub put-decimal-spec : {M : Type 1} → statement M
 put-decimal-spec =

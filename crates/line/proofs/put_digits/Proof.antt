@@ -2,7 +2,7 @@
 use native.Mathlib.Omega.{arith}
 use Rattle.text.specs.Decimal.{digits}
 use Rattle.line.proofs.Spacing.{digits-most}
-use Rattle.line.proofs.Placing.{by-writing, no-short}
+use Rattle.line.proofs.Placing.{by-writing, no-refusal}
 use borrow.Author.Needs.{needs}
 use Rattle.line.proofs.put_digits.Statement.{statement}
 use Rattle.line.proofs.put_digits.Tie as tie
@@ -36,7 +36,7 @@ returns-2 c =
     let m = c .before .before .before .before in
     let s = m .before .before .before in
     let few = digits-most 20 (s .args .n) (omega arith) (omega (arith, s .fits .n .fits)) in
-    no-short (digits (s .args .n)) (s .args .out .now) _ (s .args .at) (m .write-natural .result) (m .write-natural .ensures .0) (m .write-natural .ensures .1) (omega (arith, s .pre, few)) (c .enum-told .given .0 .0) (c .enum-told .given .1)
+    no-refusal (digits (s .args .n)) (s .args .out .now) _ (s .args .at) (m .write-natural .result) (m .write-natural .ensures .0) (m .write-natural .ensures .1) (omega (arith, s .pre, few)) (c .enum-told .given .0 .0) (c .enum-told .given .1)
 
 pub put-digits-spec : {M : Type 1} → statement M
 put-digits-spec =

@@ -1,7 +1,9 @@
 -- `text::copy` meets its contract: the two tests say whether the bytes fit. Assumes nothing.
 use mathlib.Core.Path.{refl, ap, _∙_}
 use native.Mathlib.Omega.{arith}
+use Prim.Native.Nat.{ℕ}
 use lib.ListN.{length}
+use Rattle.refusal.specs.Refusal.{tooShort}
 use Rattle.text.specs.Writing.{standing}
 use Rattle.text.specs.declared.Written.the-variants as written
 use Rattle.text.proofs.Places.{written-short, written-to}
@@ -15,7 +17,7 @@ needed-requires c κs = search needs
 returns : tie.Need-returns
 unfolding standing
 returns c = let a = c .before .before .before .before .args in
-    (ap written.Short (c .needed .ensures) ∙ written-short (length (a .bytes .now)) (length (a .out .now)) (a .at) (omega arith), refl)
+    (ap (λ (n : ℕ). written.Refused (tooShort n)) (c .needed .ensures) ∙ written-short (length (a .bytes .now)) (length (a .out .now)) (a .at) (omega arith), refl)
 
 needed-requires-2 : tie.Need-needed-requires-2
 needed-requires-2 c κs = search needs
@@ -23,13 +25,13 @@ needed-requires-2 c κs = search needs
 returns-2 : tie.Need-returns-2
 unfolding standing
 returns-2 c = let a = c .before .before .before .before .before .args in
-    (ap written.Short (c .needed2 .ensures) ∙ written-short (length (a .bytes .now)) (length (a .out .now)) (a .at) (omega arith), refl)
+    (ap (λ (n : ℕ). written.Refused (tooShort n)) (c .needed2 .ensures) ∙ written-short (length (a .bytes .now)) (length (a .out .now)) (a .at) (omega arith), refl)
 
 put-requires : tie.Need-put-requires
 put-requires c κs = search needs
 
-add-t8 : tie.Need-add-t8
-add-t8 c = search needs
+add-end : tie.Need-add-end
+add-end c = search needs
 
 same-length : tie.Need-same-length
 same-length c = search needs
@@ -48,6 +50,6 @@ copy-spec =
     needed-requires-2
     returns-2
     put-requires
-    add-t8
+    add-end
     same-length
     returns-3)

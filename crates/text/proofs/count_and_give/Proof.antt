@@ -2,10 +2,12 @@
 -- `countPlace`. Assumes nothing.
 use mathlib.Core.Path.{refl, sym, ap, _∙_, _≡_}
 use native.Mathlib.Omega.{arith}
+use Prim.Native.Nat.{ℕ}
 use lib.IntN.{ℤ}
 use lib.ListN.{length}
 use mir.Syntax.{w64}
 use mir.Facts.{toZ-ofZ}
+use Rattle.refusal.specs.Refusal.{badText}
 use Rattle.text.specs.Reading.{wanted, leftBy}
 use Rattle.text.specs.Inside.{wantedOf, Stepped}
 use Rattle.text.specs.declared.Reading.the-variants as reading
@@ -77,7 +79,7 @@ place-requires c κs = search needs
 returns-5 : tie.Need-returns-5
 unfolding leftBy
 returns-5 c = let a = c .before .before .before .before .before .before .before .before .before .before .before .before .args in
-    (ap reading.Refused (c .place .ensures) ∙ first-many (a .format) (a .text .now) (length (a .out .now)) (step (c .before .before .before .before .before .before)) (c .before .before .before .before .k .given .0 .0) (sym (c .before .before .before .before .k .given .1) ∙ told (c .before .before .before .before .before .before)) (omega arith), refl)
+    (ap (λ (p : ℕ). reading.Refused (badText p)) (c .place .ensures) ∙ first-many (a .format) (a .text .now) (length (a .out .now)) (step (c .before .before .before .before .before .before)) (c .before .before .before .before .k .given .0 .0) (sym (c .before .before .before .before .k .given .1) ∙ told (c .before .before .before .before .before .before)) (omega arith), refl)
 
 give-requires-2 : tie.Need-give-requires-2
 give-requires-2 c κs = search needs

@@ -77,8 +77,8 @@ write-table-requires c κs =
     let mo = g .most in
     (g, c .before .before .if2 .left)
 
-sub-t15 : tie.Need-sub-t15
-sub-t15 c =
+sub-v : tie.Need-sub-v
+sub-v c =
     let s = c .before .before .before .before .before .before .before .before .before .before .before .before .before .before .before .before .before .before .before in
     let S = s .args .s .now in
     let R = s .args .r .now in
@@ -117,7 +117,7 @@ grow-large-spec =
     same-length-2
     returns-2
     write-table-requires
-    sub-t15
+    sub-v
     same-length-3
     same-length-4
     returns-3)
