@@ -36,6 +36,7 @@ use Rattle.coset.specs.Answer as answer
 use Rattle.refusal.specs.declared.Filled.{Filled}
 use Rattle.refusal.specs.declared.Filled.the-variants as filled
 use Rattle.coset.specs.declared.Figured.the-variants as figured
+use Rattle.coset.proofs.TableFigures.{table-figures}
 use Rattle.coset.proofs.Theorem.{size-is, cosets-are, maps, injective-S, injective-R}
 
 module _ (n a b c : ℕ) where
@@ -106,7 +107,8 @@ pub meaning : {v : ℕ} {t : List ℤ} → IsSymbol v t → Meaning v t
 meaning {v} {t} ok =
     let g = polygon v t ok in
     let c = cosets-are v t g in
-    record { symbol = ok; polygon = g; cosets = c; cusps = cusps-are (c .permutations .T) }
+    let k = cusps-are (c .permutations .T) in
+    record { symbol = ok; polygon = g; cosets = c; cusps = k; figures = table-figures (indexOf v t) (tableS v t) (tableR v t) (tableT v t) (c .permutations .T) k }
 
 pub means-refused : {v : ℕ} {t : List ℤ} (f : Refusal) → TablesMean v t (filled.Refused f)
 means-refused f n e = let z : _≡_ {A = ℕ} 0 1 = cc in absurd (omega arith)

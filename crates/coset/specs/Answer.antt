@@ -10,8 +10,8 @@
 --   figuresOf v t           the figures of the symbol's tables: index, e2, e3, cusps, genus (18 for itself), level (17 for itself)
 --   figuredOf v t work      the refusals 1 to 7, then the work space, or the figures
 --   Surveyed v t w w' f     what `survey` answers and leaves: the figures f, and in the work space the tables of S, R and T and the widths
---   Meaning v t             the symbol is one, the steps of its polygon keep their promise, its tables are those of the right cosets of H,
---                           and its cusps are the cycles of T
+--   Meaning v t             the symbol is one; its polygon is cut into Farey triangles, and the steps over these keep their promise; its tables are
+--                           those of the right cosets of H; its cusps are the cycles of T, and its widths, genus and level what document 01 says
 --   TablesMean, FiguresMean an answer that is no refusal means this
 use mathlib.Core.Path.{_≡_}
 use mathlib.Core.List.{List, _++_}
@@ -38,6 +38,7 @@ use Rattle.figures.specs.GenusOf.{genusOf}
 use Rattle.figures.specs.LevelOf.{levelOf}
 use Rattle.coset.specs.Tables.{indexOf, tableS, tableR, tableT}
 use Rattle.coset.specs.Theorem.{Cosets}
+use Rattle.coset.specs.TableFigures.{TableFigures}
 use Rattle.coset.specs.declared.FigureRecord.{FigureRecord}
 use Rattle.coset.specs.declared.Figured.{Figured}
 use Rattle.coset.specs.declared.Figured.the-variants as figured
@@ -115,6 +116,7 @@ pub record Meaning (v : ℕ) (t : List ℤ) : Type 0 where
   pub polygon : Polygon v t
   pub cosets : Cosets v t (tableS v t) (tableR v t) (tableT v t)
   pub cusps : Cusps (tableT v t)
+  pub figures : TableFigures (indexOf v t) (tableS v t) (tableR v t) (tableT v t)
 
 abbrev pub TablesMean : ℕ → List ℤ → Filled → Type 0
 TablesMean v t r = (n : ℕ) → r ≡ filled.Made n → Meaning v t

@@ -90,11 +90,11 @@ module _ {v : ℕ} {t : List ℤ} (ok : IsSymbol v t) (A B : Mat) (d : det A ≡
 
   letters-of : IsWord (length (generators v t)) word
   unfolding foundWord
-  letters-of = g .walk-letters (euclid.wordOf (followed v t X)) (startOf v t) (g .start)
+  letters-of = g .walks .walk-letters (euclid.wordOf (followed v t X)) (startOf v t) (g .start)
 
   bound-of : length word ≤ length (euclid.wordOf X) + 2
   unfolding foundWord
-  bound-of = omega (arith, g .walk-short (euclid.wordOf (followed v t X)) (startOf v t), followed-length X X-unit v t)
+  bound-of = omega (arith, g .walks .walk-short (euclid.wordOf (followed v t X)) (startOf v t), followed-length X X-unit v t)
 
   sixteen-of : (i : ℕ) → i < length word → natAbs (getD word i (pos 0)) ≤ 1024
   sixteen-of i h = omega (arith, letter-most (length (generators v t)) word letters-of i h, length-generators v t, count-most (generator.leads v t) (v + 1), ok .most)
