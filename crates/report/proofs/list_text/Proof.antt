@@ -145,8 +145,8 @@ returns-2 c =
     let same : listed (v .vertex-count .result) t ≡ listed first (drop 1 (take k (ns d))) = ap (λ (m : ℕ). listed m t) n ∙ ap (listed first) (others d) in (
       puts-as (same ∙ listing-by (s .args .longer) (s .args .text .now) x (numbered d)) (l .0),
       leaves-by x (numbered d) (numbers-left d)
-      (l .1 .0 ∙ ap (λ (m : ℕ). workAfter (checkOf m t) w) n ∙ ap (λ (m : List ℤ). workAfter (checkOf first m) w) (others d))
-      (l .1 .1 ∙ ap (λ (m : ℕ). tableIn m t (length w) table) n ∙ ap (λ (m : List ℤ). tableIn first m (length w) table) (others d)),
+          (l .1 .0 ∙ ap (λ (m : ℕ). workAfter (checkOf m t) w) n ∙ ap (λ (m : List ℤ). workAfter (checkOf first m) w) (others d))
+          (l .1 .1 ∙ ap (λ (m : ℕ). tableIn m t (length w) table) n ∙ ap (λ (m : List ℤ). tableIn first m (length w) table) (others d)),
     )
 
 pub list-text-spec : {M : Type 1} → statement M
