@@ -86,9 +86,11 @@ entry-low l c x h = rw (image-in l x 0 h) (ltb-true (getD l x 0) (length l) (not
 
 -- entries that are points, no two the same
 entries-clear : (l : List ℕ) → ((x : ℕ) → x < length l → image l x < length l) → ((x y : ℕ) → x < length l → y < length l → image l x ≡ image l y → x ≡ y) → Clear (badEntry l) (length l)
-entries-clear l low one = record { none = λ i h. (
-  ap (λ (b : Bool). not b || earlier l i) (lt-ltb (getD l i 0) (length l) (rw (image-in l i 0 h) at (low i h)))
-  ∙ new i h) }
+entries-clear l low one = record {
+  none = λ i h. (
+      ap (λ (b : Bool). not b || earlier l i) (lt-ltb (getD l i 0) (length l) (rw (image-in l i 0 h) at (low i h)))
+      ∙ new i h);
+}
   where
     other : (i j : ℕ) → i < length l → j < i → ¬ (getD l j 0 ≡ getD l i 0)
     other i j h k e = let z = one j i (omega arith) h (image-in l j 0 (omega arith) ∙ e ∙ sym (image-in l i 0 h)) in omega arith

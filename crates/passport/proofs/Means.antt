@@ -73,13 +73,17 @@ symbolised s r v t p q =
     }
 
 -- WHAT A MADE SYMBOL MEANS
+pub made-means : (s r : List ℕ) (work room v : ℕ) → importOf s r work room ≡ Made v → Symbolised s r v (tableIn (ruleFor s r))
+made-means s r work room v e =
+    let k = success s r work room v e in
+    let p = accepted s r .0 (k .pair) in
+    rw (ap tableIn (k .rule)) (symbolised s r v (k .table) p (rule-precisely (image s) (image r) (length s) (permuting-of s r p) (p .most) v (k .table) (k .rule)))
+
+-- its table stands at the front of the result space
 pub import-means : (s r : List ℕ) (work room : ℕ) (a : Filled) (out : List ℤ) → a ≡ importOf s r work room → ImportMeans s r a (tableLeft (ruleFor s r) a out)
 import-means s r work room a out e v m =
-    let k = success s r work room v (sym e ∙ m) in
-    let p = accepted s r .0 (k .pair) in
-    let q = rule-precisely (image s) (image r) (length s) (permuting-of s r p) (p .most) v (k .table) (k .rule) in
-    let t : take (3 * v + 1) (tableLeft (ruleFor s r) a out) ≡ k .table =
+    let g = made-means s r work room v (sym e ∙ m) in
+    let t : take (3 * v + 1) (tableLeft (ruleFor s r) a out) ≡ tableIn (ruleFor s r) =
     ap (λ (x : Filled). take (3 * v + 1) (tableLeft (ruleFor s r) x out)) m
-    ∙ ap (λ (g : Ruled). take (3 * v + 1) (tableIn g ++ drop (3 * v + 1) out)) (k .rule)
-    ∙ take-at (k .table) (drop (3 * v + 1) out) (3 * v + 1) (q .symbol .long) in
-    rw t (symbolised s r v (k .table) p q)
+    ∙ take-at (tableIn (ruleFor s r)) (drop (3 * v + 1) out) (3 * v + 1) (g .precisely .symbol .long) in
+    rw t g
