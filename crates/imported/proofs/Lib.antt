@@ -2,3 +2,4 @@
 pub mod Lines
 pub mod Entries
 pub mod Answering
+pub mod ReadBack

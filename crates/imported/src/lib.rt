@@ -3,8 +3,11 @@ use line::put;
 use line::put_decimal;
 use line::put_integers;
 use line::refusal_line;
-use passport::Imported;
 use passport::import;
+use refusal::BAD_TEXT;
+use refusal::Filled;
+use refusal::POINT_COUNT;
+use refusal::Refusal;
 use text::Format;
 use text::Reading;
 ghost use mathlib.Core.Path.{_≡_};
@@ -12,8 +15,11 @@ ghost use mathlib.Core.List.{[], _∷_, map};
 ghost use Prim.Native.Nat.{_+_, _*_, _≤_};
 ghost use lib.ListN.{length, take};
 ghost use Rattle.line.specs.Line.{natural, Puts};
-ghost use Rattle.imported.specs.Answer.{numberLine, symbolLines, pointOf, answered, numbersAnswered, importedOf};
-ghost use Rattle.imported.specs.Spaces.{Spaces};
+ghost use Rattle.passport.specs.Check.{checkOf};
+ghost use Rattle.passport.specs.Import.{ruleFor, tableLeft, workLeft};
+ghost use Rattle.imported.specs.Answer.{numberLine, symbolLines, pointOf, tablesIn, asked, madeOf, answered, linesFor, importedOf};
+ghost use Rattle.imported.specs.Spaces.{Spaces, filled, numbersLeft, Leaves};
+ghost use Rattle.imported.specs.ReadBack.{PrintMeans};
 
 // A line of numbers.
 fn number_line(xs: &[i64], out: &mut [u8], at: usize) -> usize
@@ -64,7 +70,7 @@ fn point_of(x: i64) -> u32
 // The numbers as the entries of a table, from its front.
 fn fill_points(numbers: &[i64], out: &mut [u32])
     requires { ⌜ length (now numbers) ≤ length (now out) ⌝ }
-    ensures { λ _. ⌜ take (length (now (numbers .entry))) (now (out .exit)) ≡ map pointOf (now (numbers .entry)) ⌝ }
+    ensures { λ _. ⌜ now (out .exit) ≡ filled (map pointOf (now (numbers .entry))) (now (out .entry)) ⌝ }
 {
     let mut i = 0;
     while i < numbers.len() {
@@ -77,19 +83,16 @@ fn fill_points(numbers: &[i64], out: &mut [u32])
 fn import_lines(s: &[u32], r: &[u32], w: &mut [u16], table: &mut [i64], out: &mut [u8]) -> usize
     requires { ⌜ (length (now w) ≡ 32768) × (length (now table) ≡ 3070) × (65536 ≤ length (now out)) ⌝ }
     ensures { λ e. ⌜ Puts (answered (now (s .entry)) (now (r .entry))) 0 e (now (out .entry)) (now (out .exit)) ⌝ }
+    ensures { λ _. ⌜ now (w .exit) ≡ workLeft (checkOf (now (s .entry)) (now (r .entry))) (now (w .entry)) ⌝ }
+    ensures { λ _. ⌜ now (table .exit) ≡ tableLeft (ruleFor (now (s .entry)) (now (r .entry))) (madeOf (now (s .entry)) (now (r .entry))) (now (table .entry)) ⌝ }
 {
     let made = import(s, r, w, table);
     match made {
-        Imported::Made(v) => {
+        Filled::Made(v) => {
             let end = 3 * v + 1;
             symbol_lines(v, &table[..end], out)
         }
-        Imported::Count => refusal_line(12, 0, out),
-        Imported::Entry(i) => refusal_line(13, i, out),
-        Imported::Order(x) => refusal_line(14, x, out),
-        Imported::Unreached(x) => refusal_line(15, x, out),
-        Imported::Short(n) => refusal_line(11, n, out),
-        Imported::Split(i) => refusal_line(16, i, out),
+        Filled::Refused(refusal) => refusal_line(refusal, out),
     }
 }
 
@@ -103,11 +106,18 @@ fn import_numbers(
     out: &mut [u8],
 ) -> usize
     requires { ⌜ (1 ≤ length (now numbers)) × (length (now numbers) ≤ 6133) × Spaces (now s) (now r) (now w) (now table) (now out) ⌝ }
-    ensures { λ e. ⌜ Puts (numbersAnswered (now (numbers .entry))) 0 e (now (out .entry)) (now (out .exit)) ⌝ }
+    ensures { λ e. ⌜ Puts (linesFor (tablesIn (now (numbers .entry)))) 0 e (now (out .entry)) (now (out .exit)) ⌝ }
+    ensures { λ _. ⌜ Leaves (tablesIn (now (numbers .entry))) (now (s .entry)) (now (r .entry)) (now (w .entry)) (now (table .entry)) (now (s .exit)) (now (r .exit)) (now (w .exit)) (now (table .exit)) ⌝ }
 {
     let k = numbers.len();
     if k < 3 {
-        return refusal_line(12, 0, out);
+        return refusal_line(
+            Refusal {
+                number: POINT_COUNT,
+                place: 0,
+            },
+            out,
+        );
     }
     let n = (k - 1) / 2;
     let middle = n + 1;
@@ -130,9 +140,17 @@ fn import_text(
 ) -> usize
     requires { ⌜ (length (now numbers) ≡ 6133) × Spaces (now s) (now r) (now w) (now table) (now out) ⌝ }
     ensures { λ e. ⌜ Puts (importedOf longer (now (text .entry))) 0 e (now (out .entry)) (now (out .exit)) ⌝ }
+    ensures { λ _. ⌜ now (numbers .exit) ≡ numbersLeft longer (now (text .entry)) (now (numbers .entry)) ⌝ }
+    ensures { λ _. ⌜ Leaves (asked longer (now (text .entry))) (now (s .entry)) (now (r .entry)) (now (w .entry)) (now (table .entry)) (now (s .exit)) (now (r .exit)) (now (w .exit)) (now (table .exit)) ⌝ }
 {
     if longer {
-        return refusal_line(19, 65536, out);
+        return refusal_line(
+            Refusal {
+                number: BAD_TEXT,
+                place: 65536,
+            },
+            out,
+        );
     }
     let read = text::read(
         text,
@@ -144,14 +162,13 @@ fn import_text(
         numbers,
     );
     match read {
-        Reading::Refused(place) => refusal_line(19, place, out),
-        Reading::Short(k) => refusal_line(11, k, out),
+        Reading::Refused(refusal) => refusal_line(refusal, out),
         Reading::Numbers(k) => import_numbers(&numbers[..k], s, r, w, table, out),
     }
 }
 
-// What the program writes for the text, or for one that is longer than its buffer, from the front of `out`; where it ends. The arrays are
-// the program's own, and what stands in them is free.
+// What the program writes for the text, or for one that is longer than its buffer, from the front of `out`; where it ends. A symbol that was
+// made is read back from these bytes.
 pub fn answer(
     text: &[u8],
     longer: bool,
@@ -163,6 +180,9 @@ pub fn answer(
     out: &mut [u8; 65536],
 ) -> usize
     ensures { λ e. ⌜ Puts (importedOf longer (now (text .entry))) 0 e (now (out .entry)) (now (out .exit)) × (e ≤ length (now (out .exit))) ⌝ }
+    ensures { λ _. ⌜ now (numbers .exit) ≡ numbersLeft longer (now (text .entry)) (now (numbers .entry)) ⌝ }
+    ensures { λ _. ⌜ Leaves (asked longer (now (text .entry))) (now (s .entry)) (now (r .entry)) (now (w .entry)) (now (table .entry)) (now (s .exit)) (now (r .exit)) (now (w .exit)) (now (table .exit)) ⌝ }
+    ensures { λ e. ⌜ PrintMeans (asked longer (now (text .entry))) (take e (now (out .exit))) ⌝ }
 {
     import_text(text, longer, numbers, s, r, w, table, out)
 }

@@ -5,6 +5,7 @@
 --     puts-then         bytes behind others
 --     puts-same         the length stays
 --     puts-within       where the length stays, the bytes end within it
+--     puts-front        bytes put at the front are what stands there
 --     puts-as           the same bytes in other words
 --     line-put          a whole line
 -- Assumes nothing.
@@ -98,6 +99,10 @@ puts-within {a} {at} {e} {out} {out'} f h l =
     ∙ length-append (take at out ++ a) (drop (at + length a) out)
     ∙ ap (λ (n : ℕ). n + length (drop (at + length a) out)) (front-length a [] at out h) in
     omega (arith, p, l, f .end-is, length-drop (at + length a) out)
+
+pub puts-front : {a : List ℕ} {e : ℕ} {out out' : List ℕ} → Puts a 0 e out out' → take e out' ≡ a
+unfolding placed
+puts-front {a} {e} {out} {out'} f = ap (take e) (f .left) ∙ take-at a (drop (0 + length a) out) e (omega (arith, f .end-is))
 
 pub puts-as : {a b : List ℕ} {at e : ℕ} {out out' : List ℕ} → a ≡ b → Puts a at e out out' → Puts b at e out out'
 puts-as {a} {b} {at} {e} {out} {out'} h f = rw (← h) f

@@ -1,5 +1,6 @@
 -- Numbers behind spaces.
 --     digits-most                    a number below 10^k has at most k digits
+--     decimal-most                   with a sign, at most k + 1 bytes
 --     integer-most                   a number of 64 signed bits takes 20 bytes at most
 --     wider                          a number of 16 signed bits is one of 64
 --     letter-most                    and takes 6 at most
@@ -41,6 +42,11 @@ onto-most (suc fuel) k n t o h = go (decLt n 10) (onto-most fuel (k - 1) (n / 10
 pub digits-most : (k n : ℕ) → 1 ≤ k → n < 10 ^ k → length (digits n) ≤ k
 unfolding digits
 digits-most k n o h = omega (arith, onto-most n k n [] o h)
+
+pub decimal-most : (k : ℕ) (z : ℤ) → 1 ≤ k → natAbs z < 10 ^ k → length (decimalOf z) ≤ k + 1
+unfolding decimalOf
+decimal-most k (pos n) o h = omega (arith, digits-most k n o h)
+decimal-most k (negsuc n) o h = omega (arith, digits-most k (suc n) o h)
 
 by-size : (n : ℤ) → natAbs n ≤ 9223372036854775808 → length (decimalOf n) ≤ 20
 unfolding decimalOf digits

@@ -11,15 +11,19 @@ use lib.Dec.{ltb, eqb}
 use lib.ListN.{length, getD, set, replicate, length-set}
 use lib.Seq.{getD-set-same, getD-set-other}
 use borrow.Author.Tests.{lt-ltb, le-ltb, eq-eqb, ne-eqb, eqb-true, ltb-true}
+use Rattle.refusal.specs.Refusal.{_orElse_}
+use Rattle.refusal.specs.declared.Refusal.{Refusal}
+use Rattle.refusal.specs.declared.Checked.{Checked}
+use Rattle.refusal.specs.declared.Checked.the-variants.{Accepted, Refused}
+use Rattle.refusal.proofs.Answers.{first-refuses, then-next}
 use Rattle.matrix.specs.Euclid.{pick}
 use Rattle.symbol.specs.Count.{first}
 use Rattle.symbol.proofs.Choice.{pick-true, pick-false, either, clash}
 use Rattle.symbol.proofs.Count.{Clear, Found, clear-zero, clear-more, search-first, first-clear, first-hit, found, clear-first, first-le}
 use Rattle.growth.specs.Fixed.{image}
 use Rattle.growth.proofs.Images.{image-in}
-use Rattle.passport.specs.Check.{_orElse_, refuseAt, badEntry, earlier, twiceMoved, thriceMoved}
-use Rattle.passport.specs.declared.Checked.{Checked}
-use Rattle.passport.specs.declared.Checked.the-variants.{Accepted}
+use Rattle.symbol.specs.Check.{refuseAt}
+use Rattle.passport.specs.Check.{badEntry, earlier, twiceMoved, thriceMoved}
 use Rattle.passport.proofs.Accepted.{entry-low}
 use Rattle.passport.specs.Seen.{earlierIn, SeenTo, Entries}
 
@@ -121,21 +125,21 @@ zero-at zero x = refl
 zero-at (suc n) zero = refl
 zero-at (suc n) (suc x) = zero-at n x
 
--- ---- one check and the checks after it
+-- ---- one check and the checks after it: the search ends past all, or at the place of the refusal
 
-pub accept-at : (test : ℕ → Bool) (n : ℕ) (fault : ℕ → Checked) (rest : Checked) (i : ℕ) → i ≡ first test n → n ≤ i → (refuseAt (first test n) n fault orElse rest) ≡ rest
-accept-at test n fault rest i e h = ap (λ (c : Checked). c orElse rest) (pick-false (ltb (first test n) n) (fault (first test n)) Accepted (le-ltb (first test n) n (omega arith)))
+module _ (test : ℕ → Bool) (n : ℕ) (f : ℕ → Refusal) (i : ℕ) (e : i ≡ first test n) where
+  pub accept-last : n ≤ i → Accepted ≡ refuseAt (first test n) n f
+  accept-last h = sym (pick-false (ltb (first test n) n) (Refused (f (first test n))) Accepted (le-ltb (first test n) n (omega arith)))
 
-pub refuse-at : (test : ℕ → Bool) (n : ℕ) (fault : ℕ → Checked) (rest : Checked) (i : ℕ) → ((j : ℕ) → (fault j orElse rest) ≡ fault j) → i ≡ first test n → i < n → fault i ≡ (refuseAt (first test n) n fault orElse rest)
-refuse-at test n fault rest i stop e h =
-    sym (ap (λ (c : Checked). c orElse rest) (pick-true (ltb (first test n) n) (fault (first test n)) Accepted (lt-ltb (first test n) n (omega arith))) ∙ ap (λ (k : ℕ). fault k orElse rest) (sym e) ∙ stop i)
+  pub refuse-last : i < n → Refused (f i) ≡ refuseAt (first test n) n f
+  refuse-last h = ap (λ (k : ℕ). Refused (f k)) e ∙ sym (pick-true (ltb (first test n) n) (Refused (f (first test n))) Accepted (lt-ltb (first test n) n (omega arith)))
 
--- the last check
-pub accept-last : (test : ℕ → Bool) (n : ℕ) (fault : ℕ → Checked) (i : ℕ) → i ≡ first test n → n ≤ i → Accepted ≡ refuseAt (first test n) n fault
-accept-last test n fault i e h = sym (pick-false (ltb (first test n) n) (fault (first test n)) Accepted (le-ltb (first test n) n (omega arith)))
+  module _ (rest : Checked) where
+    pub accept-at : n ≤ i → rest ≡ (refuseAt (first test n) n f orElse rest)
+    accept-at h = then-next (refuseAt (first test n) n f) rest (sym (accept-last h))
 
-pub refuse-last : (test : ℕ → Bool) (n : ℕ) (fault : ℕ → Checked) (i : ℕ) → i ≡ first test n → i < n → fault i ≡ refuseAt (first test n) n fault
-refuse-last test n fault i e h = ap fault e ∙ sym (pick-true (ltb (first test n) n) (fault (first test n)) Accepted (lt-ltb (first test n) n (omega arith)))
+    pub refuse-at : i < n → Refused (f i) ≡ (refuseAt (first test n) n f orElse rest)
+    refuse-at h = first-refuses (refuseAt (first test n) n f) rest (f i) (sym (refuse-last h))
 
 -- entries that passed are points
 pub entries-of : (t : List ℕ) (i : ℕ) → length t ≤ 3066 → i ≡ first (badEntry t) (length t) → length t ≤ i → Entries t

@@ -9,6 +9,12 @@ use lib.Dec.{ltb}
 use lib.ListN.{length, take, drop}
 use lib.Seq.{take-at}
 use lib.IntN.{ℤ}
+use Rattle.refusal.specs.Refusal.{tooShort, filledBy}
+use Rattle.refusal.specs.declared.Checked.{Checked}
+use Rattle.refusal.specs.declared.Checked.the-variants as checked
+use Rattle.refusal.specs.declared.Filled.{Filled}
+use Rattle.refusal.specs.declared.Filled.the-variants.{Made, Refused}
+use Rattle.refusal.proofs.Apart.{refused-made}
 use Rattle.matrix.specs.Euclid.{pick}
 use Rattle.space.specs.Space.{workLength}
 use Rattle.growth.specs.Fixed.{image, byQ}
@@ -17,15 +23,11 @@ use Rattle.coset.specs.Tables.{tableS, tableR, tableT}
 use Rattle.coset.proofs.Answer.{meaning}
 use Rattle.growth.specs.Theorem.{Precisely}
 use Rattle.growth.specs.Symbol.{Ruled, made, over}
-use Rattle.writing.specs.Answer.{tableIn}
+use Rattle.writing.specs.Answer.{grownOf, tableIn}
 use Rattle.growth.proofs.Theorem.{rule-precisely}
 use Rattle.passport.specs.Check.{checkOf, Passport}
-use Rattle.passport.specs.Import.{roomFor, importedBy, ruleFor, importOf, tableLeft, Symbolised, ImportMeans}
-use Rattle.passport.specs.declared.Checked.{Checked}
-use Rattle.passport.specs.declared.Checked.the-variants as checked
-use Rattle.passport.specs.declared.Imported.{Imported}
-use Rattle.passport.specs.declared.Imported.the-variants.{Made, Count, Entry, Order, Unreached, Short, Split}
-use Rattle.passport.proofs.Accepted.{accepted}
+use Rattle.passport.specs.Import.{ruleFor, importOf, tableLeft, Symbolised, ImportMeans}
+use Rattle.passport.proofs.Accepted.{accepted, permuting-of}
 use Rattle.passport.proofs.Renumbered.{index-is, renumbered-S, renumbered-R}
 
 -- a symbol of v vertices was made only by an accepted pair, with room for its table
@@ -37,29 +39,26 @@ pub record Success (s r : List ℕ) (v : ℕ) : Type 0 where
 success : (s r : List ℕ) (work room v : ℕ) → importOf s r work room ≡ Made v → Success s r v
 success s r work room v e = by-check (checkOf s r) refl e
   where
-    by-rule : checkOf s r ≡ checked.Accepted → (g : Ruled) → ruleFor s r ≡ g → roomFor g room ≡ Made v → Success s r v
+    by-rule : checkOf s r ≡ checked.Accepted → (g : Ruled) → ruleFor s r ≡ g → grownOf g room ≡ Made v → Success s r v
     by-rule c (made v' t) g q = by-room (ltb room (3 * v' + 1)) q
       where
-        by-room : (b : Bool) → pick b (Short (3 * v' + 1)) (Made v') ≡ Made v → Success s r v
-        by-room true q = let z : _≡_ {A = ℕ} 0 1 = cc in absurd (omega arith)
+        by-room : (b : Bool) → pick b (Refused (tooShort (3 * v' + 1))) (Made v') ≡ Made v → Success s r v
+        by-room true q = refused-made q
         by-room false q = let z : v' ≡ v = cc in record { table = t; pair = c; rule = g ∙ ap (λ (x : ℕ). made x t) z }
-    by-rule c (over i) g q = let z : _≡_ {A = ℕ} 0 1 = cc in absurd (omega arith)
+    by-rule c (over i) g q = refused-made q
 
-    by-work : checkOf s r ≡ checked.Accepted → (b : Bool) → pick b (Short workLength) (roomFor (ruleFor s r) room) ≡ Made v → Success s r v
-    by-work c true q = let z : _≡_ {A = ℕ} 0 1 = cc in absurd (omega arith)
+    by-work : checkOf s r ≡ checked.Accepted → (b : Bool) → pick b (Refused (tooShort workLength)) (grownOf (ruleFor s r) room) ≡ Made v → Success s r v
+    by-work c true q = refused-made q
     by-work c false q = by-rule c (ruleFor s r) refl q
 
-    by-check : (c : Checked) → checkOf s r ≡ c → importedBy c (pick (ltb work workLength) (Short workLength) (roomFor (ruleFor s r) room)) ≡ Made v → Success s r v
+    by-check : (c : Checked) → checkOf s r ≡ c → filledBy c (pick (ltb work workLength) (Refused (tooShort workLength)) (grownOf (ruleFor s r) room)) ≡ Made v → Success s r v
     by-check checked.Accepted c q = by-work c (ltb work workLength) q
-    by-check checked.Count c q = let z : _≡_ {A = ℕ} 0 1 = cc in absurd (omega arith)
-    by-check (checked.Entry i) c q = let z : _≡_ {A = ℕ} 0 1 = cc in absurd (omega arith)
-    by-check (checked.Order x) c q = let z : _≡_ {A = ℕ} 0 1 = cc in absurd (omega arith)
-    by-check (checked.Unreached x) c q = let z : _≡_ {A = ℕ} 0 1 = cc in absurd (omega arith)
+    by-check (checked.Refused f) c q = refused-made q
 
 -- a symbol that generates precisely the matrices that fix point 0: its tables are the given ones, renumbered
 symbolised : (s r : List ℕ) (v : ℕ) (t : List ℤ) → Passport s r → Precisely (image s) (byQ (image s) (image r)) (length s) v t → Symbolised s r v t
 symbolised s r v t p q =
-    let a = p .permuting in
+    let a = permuting-of s r p in
     let maps : Maps (image s) (image r) 0 (length s) = record { start-low = a .some; σ-low = a .σ-low; ρ-low = a .ρ-low } in
     let c = meaning (q .symbol) .cosets in
     let S = tableS v t in
@@ -74,13 +73,17 @@ symbolised s r v t p q =
     }
 
 -- WHAT A MADE SYMBOL MEANS
-pub import-means : (s r : List ℕ) (work room : ℕ) (a : Imported) (out : List ℤ) → a ≡ importOf s r work room → ImportMeans s r a (tableLeft (ruleFor s r) a out)
+pub made-means : (s r : List ℕ) (work room v : ℕ) → importOf s r work room ≡ Made v → Symbolised s r v (tableIn (ruleFor s r))
+made-means s r work room v e =
+    let k = success s r work room v e in
+    let p = accepted s r .0 (k .pair) in
+    rw (ap tableIn (k .rule)) (symbolised s r v (k .table) p (rule-precisely (image s) (image r) (length s) (permuting-of s r p) (p .most) v (k .table) (k .rule)))
+
+-- its table stands at the front of the result space
+pub import-means : (s r : List ℕ) (work room : ℕ) (a : Filled) (out : List ℤ) → a ≡ importOf s r work room → ImportMeans s r a (tableLeft (ruleFor s r) a out)
 import-means s r work room a out e v m =
-    let k = success s r work room v (sym e ∙ m) in
-    let p = accepted s r (k .pair) in
-    let q = rule-precisely (image s) (image r) (length s) (p .permuting) (p .most) v (k .table) (k .rule) in
-    let t : take (3 * v + 1) (tableLeft (ruleFor s r) a out) ≡ k .table =
-    ap (λ (x : Imported). take (3 * v + 1) (tableLeft (ruleFor s r) x out)) m
-    ∙ ap (λ (g : Ruled). take (3 * v + 1) (tableIn g ++ drop (3 * v + 1) out)) (k .rule)
-    ∙ take-at (k .table) (drop (3 * v + 1) out) (3 * v + 1) (q .symbol .long) in
-    rw t (symbolised s r v (k .table) p q)
+    let g = made-means s r work room v (sym e ∙ m) in
+    let t : take (3 * v + 1) (tableLeft (ruleFor s r) a out) ≡ tableIn (ruleFor s r) =
+    ap (λ (x : Filled). take (3 * v + 1) (tableLeft (ruleFor s r) x out)) m
+    ∙ take-at (tableIn (ruleFor s r)) (drop (3 * v + 1) out) (3 * v + 1) (g .precisely .symbol .long) in
+    rw t g

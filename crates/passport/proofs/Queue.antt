@@ -20,7 +20,7 @@ use Rattle.points.specs.Order.{add, visit, orderTo, orderOf, Maps}
 use Rattle.points.proofs.Find as places
 use Rattle.points.proofs.Order.{add-old, add-new, Grows, visit-grows, to-more, order-stop}
 use Rattle.growth.specs.Fixed.{image}
-use Rattle.passport.specs.Check.{unreached}
+use Rattle.passport.specs.Check.{notReached}
 use Rattle.passport.specs.Seen.{Entries}
 use Rattle.passport.specs.Reach.{Listed, Entered, VisitedAt, Two, Blank, AllReached}
 
@@ -178,14 +178,14 @@ module _ (s r : List ℕ) (two : Two s r) where
 
 -- ---- the first point without a mark
 
-pub unmarked : (s r seen : List ℕ) (x : ℕ) → AllReached s r seen → x < 3072 → getD seen x 0 ≡ 0 → unreached s r x ≡ true
+pub unmarked : (s r seen : List ℕ) (x : ℕ) → AllReached s r seen → x < 3072 → getD seen x 0 ≡ 0 → notReached s r x ≡ true
 unmarked s r seen x a h e = go (isIn (orderOf (image s) (image r) 0 (length s)) x) (sym e ∙ a .marks x h)
   where
     go : (b : Bool) → 0 ≡ one-if b → not b ≡ true
     go true q = let z : _≡_ {A = ℕ} 0 1 = q in absurd (omega arith)
     go false q = refl
 
-pub marked : (s r seen : List ℕ) (x : ℕ) → AllReached s r seen → x < 3072 → (getD seen x 0 ≡ 0 → ⊥) → unreached s r x ≡ false
+pub marked : (s r seen : List ℕ) (x : ℕ) → AllReached s r seen → x < 3072 → (getD seen x 0 ≡ 0 → ⊥) → notReached s r x ≡ false
 marked s r seen x a h n = go (isIn (orderOf (image s) (image r) 0 (length s)) x) (λ q. n (a .marks x h ∙ q))
   where
     go : (b : Bool) → (one-if b ≡ 0 → ⊥) → not b ≡ false

@@ -3,47 +3,27 @@
 use entries::first_bad;
 use entries::first_moved;
 use reach::first_unreached;
-use writing::Grown;
+use refusal::Checked;
+use refusal::Filled;
+use refusal::POINT_COUNT;
+use refusal::Refusal;
+use refusal::TABLE_ENTRY;
+use refusal::TOO_SHORT;
+use refusal::UNREACHED;
+use refusal::WRONG_ORDER;
 ghost use mathlib.Core.Path.{_≡_};
 ghost use Prim.Native.Nat.{_≤_, _<_};
 ghost use lib.ListN.{length};
 ghost use Rattle.space.specs.Space.{zeros};
+ghost use Rattle.refusal.specs.Refusal.{_orElse_};
 ghost use Rattle.growth.specs.Fixed.{Pair};
-ghost use Rattle.passport.specs.Check.{_orElse_, check13, check14, check15, twiceMoved, thriceMoved, checkOf};
+ghost use Rattle.writing.specs.Answer.{grownOf};
+ghost use Rattle.passport.specs.Check.{check13, check14, check15, twiceMoved, thriceMoved, checkOf, Verdict};
 ghost use Rattle.passport.specs.Reach.{Two};
-ghost use Rattle.passport.specs.Import.{roomFor, ruleFor, importOf, tableLeft, workLeft, ImportMeans};
+ghost use Rattle.passport.specs.Import.{ruleFor, importOf, tableLeft, workLeft, ImportMeans};
 
 mod entries;
 mod reach;
-
-// Whether two tables are permutations that generate a transitive group, S of order two and R of order three; document 01's refusals 12
-// to 15 (specs/Check.antt has the number and the place of each).
-pub enum Checked {
-    Accepted,
-    // 12: the index is out of range, or the tables are unequal in length.
-    Count,
-    // 13: the entry at this index is outside the table, or equal to an earlier one.
-    Entry(usize),
-    // 14: S twice or R three times moves this point.
-    Order(usize),
-    // 15: this point isn't reached from 0.
-    Unreached(usize),
-}
-
-// The answer of `import`.
-pub enum Imported {
-    // So many vertices; the symbol's table stands at the front of the result space.
-    Made(usize),
-    // 12 to 15.
-    Count,
-    Entry(usize),
-    Order(usize),
-    Unreached(usize),
-    // 11: the length that a space needs.
-    Short(usize),
-    // 16: the side that the rule can't split.
-    Split(usize),
-}
 
 // The checks 14 and 15, on tables of points.
 fn check_moves(s: &[u32], r: &[u32]) -> Checked
@@ -52,15 +32,24 @@ fn check_moves(s: &[u32], r: &[u32]) -> Checked
 {
     let a = first_moved(s, false);
     if a < s.len() {
-        return Checked::Order(a);
+        return Checked::Refused(Refusal {
+            number: WRONG_ORDER,
+            place: a,
+        });
     }
     let b = first_moved(r, true);
     if b < r.len() {
-        return Checked::Order(b);
+        return Checked::Refused(Refusal {
+            number: WRONG_ORDER,
+            place: b,
+        });
     }
     let x = first_unreached(s, r);
     if x < s.len() {
-        return Checked::Unreached(x);
+        return Checked::Refused(Refusal {
+            number: UNREACHED,
+            place: x,
+        });
     }
     Checked::Accepted
 }
@@ -72,49 +61,62 @@ fn check_entries(s: &[u32], r: &[u32]) -> Checked
 {
     let a = first_bad(s);
     if a < s.len() {
-        return Checked::Entry(a);
+        return Checked::Refused(Refusal {
+            number: TABLE_ENTRY,
+            place: a,
+        });
     }
     let b = first_bad(r);
     if b < r.len() {
-        return Checked::Entry(b);
+        return Checked::Refused(Refusal {
+            number: TABLE_ENTRY,
+            place: b,
+        });
     }
     check_moves(s, r)
 }
 
-// The checks 12 to 15, in memory of their own.
+// Whether two tables are permutations that generate a transitive group, S of order two and R of order three: the checks 12 to 15, in memory
+// of their own.
 pub fn check(s: &[u32], r: &[u32]) -> Checked
-    ensures { λ c. ⌜ c ≡ checkOf (now (s .entry)) (now (r .entry)) ⌝ }
+    ensures { λ c. ⌜ Verdict (now (s .entry)) (now (r .entry)) c ⌝ }
 {
     if s.len() < 1 {
-        return Checked::Count;
+        return Checked::Refused(Refusal {
+            number: POINT_COUNT,
+            place: 0,
+        });
     }
     if 3066 < s.len() {
-        return Checked::Count;
+        return Checked::Refused(Refusal {
+            number: POINT_COUNT,
+            place: 0,
+        });
     }
     if r.len() != s.len() {
-        return Checked::Count;
+        return Checked::Refused(Refusal {
+            number: POINT_COUNT,
+            place: 0,
+        });
     }
     check_entries(s, r)
 }
 
 // The symbol of an accepted pair; the work space is cleared after.
-fn import_accepted(s: &[u32], r: &[u32], w: &mut [u16], out: &mut [i64]) -> Imported
+fn import_accepted(s: &[u32], r: &[u32], w: &mut [u16], out: &mut [i64]) -> Filled
     requires { ⌜ Pair (now s) (now r) × (32768 ≤ length (now w)) ⌝ }
-    ensures { λ a. ⌜ a ≡ roomFor (ruleFor (now (s .entry)) (now (r .entry))) (length (now (out .entry))) ⌝ }
+    ensures { λ a. ⌜ a ≡ grownOf (ruleFor (now (s .entry)) (now (r .entry))) (length (now (out .entry))) ⌝ }
     ensures { λ a. ⌜ now (w .exit) ≡ zeros (length (now (w .entry))) ⌝ }
     ensures { λ a. ⌜ now (out .exit) ≡ tableLeft (ruleFor (now (s .entry)) (now (r .entry))) a (now (out .entry)) ⌝ }
 {
     let grown = writing::grow(s, r, w, out);
     space::clear(w);
-    match grown {
-        Grown::Made(v) => Imported::Made(v),
-        Grown::Short(n) => Imported::Short(n),
-        Grown::Over(i) => Imported::Split(i),
-    }
+    grown
 }
 
-// The symbol of the matrices that fix point 0, from the tables of S and R: 12 to 15, then the work space, then 16, then the result space.
-pub fn import(s: &[u32], r: &[u32], w: &mut [u16], out: &mut [i64]) -> Imported
+// The symbol of the matrices that fix point 0, from the tables of S and R: the number of its vertices, its table at the front of the result
+// space; or 12 to 15, then the work space, then 16, then the result space.
+pub fn import(s: &[u32], r: &[u32], w: &mut [u16], out: &mut [i64]) -> Filled
     ensures { λ a. ⌜ a ≡ importOf (now (s .entry)) (now (r .entry)) (length (now (w .entry))) (length (now (out .entry))) ⌝ }
     ensures { λ a. ⌜ now (w .exit) ≡ workLeft (checkOf (now (s .entry)) (now (r .entry))) (now (w .entry)) ⌝ }
     ensures { λ a. ⌜ now (out .exit) ≡ tableLeft (ruleFor (now (s .entry)) (now (r .entry))) a (now (out .entry)) ⌝ }
@@ -122,13 +124,13 @@ pub fn import(s: &[u32], r: &[u32], w: &mut [u16], out: &mut [i64]) -> Imported
 {
     let checked = check(s, r);
     match checked {
-        Checked::Count => Imported::Count,
-        Checked::Entry(i) => Imported::Entry(i),
-        Checked::Order(x) => Imported::Order(x),
-        Checked::Unreached(x) => Imported::Unreached(x),
+        Checked::Refused(refusal) => Filled::Refused(refusal),
         Checked::Accepted => {
             if w.len() < space::WORK {
-                return Imported::Short(space::WORK);
+                return Filled::Refused(Refusal {
+                    number: TOO_SHORT,
+                    place: space::WORK,
+                });
             }
             import_accepted(s, r, w, out)
         }

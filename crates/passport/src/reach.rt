@@ -5,7 +5,7 @@ ghost use Prim.Native.Nat.{_≤_, _<_};
 ghost use lib.ListN.{length};
 ghost use Rattle.symbol.specs.Count.{first};
 ghost use Rattle.growth.specs.Fixed.{image};
-ghost use Rattle.passport.specs.Check.{unreached};
+ghost use Rattle.passport.specs.Check.{notReached};
 ghost use Rattle.passport.specs.Reach.{Listed, Entered, VisitedAt, Two, Blank, AllReached};
 
 // The point x comes to the end of the queue of n points, if it is new; how many there are then.
@@ -58,7 +58,7 @@ fn list_reached(s: &[u32], r: &[u32], seen: &mut [u8; 3072], queue: &mut [u16; 3
 // The first point without a mark, or the number of points.
 fn first_unmarked(s: &[u32], r: &[u32], seen: &[u8; 3072]) -> usize
     requires { ⌜ (length (now s) ≤ 3066) × AllReached (now s) (now r) (now seen) ⌝ }
-    ensures { λ x. ⌜ x ≡ first (unreached (now (s .entry)) (now (r .entry))) (length (now (s .entry))) ⌝ }
+    ensures { λ x. ⌜ x ≡ first (notReached (now (s .entry)) (now (r .entry))) (length (now (s .entry))) ⌝ }
 {
     let mut x: usize = 0;
     while x < s.len() {
@@ -73,7 +73,7 @@ fn first_unmarked(s: &[u32], r: &[u32], seen: &[u8; 3072]) -> usize
 // The smallest point that isn't reached from 0, or the number of points.
 pub(crate) fn first_unreached(s: &[u32], r: &[u32]) -> usize
     requires { ⌜ Two (now s) (now r) ⌝ }
-    ensures { λ x. ⌜ x ≡ first (unreached (now (s .entry)) (now (r .entry))) (length (now (s .entry))) ⌝ }
+    ensures { λ x. ⌜ x ≡ first (notReached (now (s .entry)) (now (r .entry))) (length (now (s .entry))) ⌝ }
 {
     let mut seen = [0u8; 3072];
     let mut queue = [0u16; 3072];

@@ -19,6 +19,8 @@ use Rattle.symbol.specs.Count.{first, count}
 use Rattle.symbol.specs.Table.{numer, denom, pairings, pairing, sideAt, frame, gap, pairingOf}
 use Rattle.symbol.specs.Check.{refuse, refuseAt, eqZ, check1, check2, check3, check4, check5, check6, check7, checkOf, outOfRange, apart, isZero, sides, unpairedIn, unpairedBy, isOdd}
 use Rattle.symbol.specs.Symbol.{ZeroAt, FreeLabel, IsSymbol, Verdict}
+use Rattle.refusal.proofs.Apart.{refused-accepted}
+use Rattle.refusal.proofs.Answers.{both-pass}
 use Rattle.symbol.specs.declared.Side.{Side}
 use Rattle.symbol.specs.declared.Pairing.{Pairing}
 use Rattle.symbol.specs.declared.Pairing.the-variants.{Even, Odd, Free, Bad}
@@ -31,16 +33,6 @@ use Rattle.symbol.proofs.Count.{Clear, Found, first-clear, clear-first,
 use Rattle.symbol.proofs.Pairings.{PairingView, even, odd, free, bad, pairing-view, pairing-free}
 
 -- ---- passing
-
-pub refused-accepted : {A : Type 0} {f : Refusal} → Refused f ≡ Accepted → A
-refused-accepted e = let z : _≡_ {A = ℕ} 0 1 = cc in absurd (omega arith)
-
-pub both-pass : (c d : Checked) → (c orElse d) ≡ Accepted → (c ≡ Accepted) × (d ≡ Accepted)
-both-pass Accepted d e = (refl, e)
-both-pass (Refused f) d e = refused-accepted e
-
-pub pass-both : (c d : Checked) → c ≡ Accepted → d ≡ Accepted → (c orElse d) ≡ Accepted
-pass-both c d p q = ap (λ (x : Checked). x orElse d) p ∙ q
 
 pub passes : (b : Bool) (f : Refusal) → refuse b f ≡ Accepted → b ≡ false
 passes true f e = refused-accepted e

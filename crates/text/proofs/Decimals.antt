@@ -5,6 +5,7 @@
 --     write-then-read         reading the decimal form of a number gives the number back
 --     no-blank                the decimal form has no blank byte
 --     one-piece               so that it is a text of one piece, which says the number
+--     number-first            and with a blank byte behind it, it is the first piece of a text
 --     form-minus, form-plain  the decimal form by the test that the code makes on the sign
 -- Assumes nothing.
 use mathlib.Core.Path.{_≡_, refl, sym, ap, _∙_}
@@ -25,8 +26,8 @@ use Rattle.text.specs.Blank.{isBlank, unbroken}
 use Rattle.text.specs.Number.{isDigit, onward, natural, within, mapped, numberOf}
 use Rattle.text.specs.Piece.{pieces}
 use Rattle.text.specs.Decimal.{digitsOnto, digits, decimalOf}
-use Rattle.text.specs.Laws.{WriteThenRead, NoBlank, OnePiece}
-use Rattle.text.proofs.Pieces.{one-run}
+use Rattle.text.specs.Laws.{WriteThenRead, NoBlank, OnePiece, NumberFirst}
+use Rattle.text.proofs.Pieces.{one-run, run-first}
 use Rattle.text.proofs.Numbers.{digit-yes, onward-yes, natural-onward, number-plain}
 use Rattle.text.proofs.Clash.{clash}
 
@@ -151,6 +152,9 @@ some-byte (negsuc n) = omega arith
 
 pub one-piece : OnePiece
 one-piece z h = rw (← write-then-read z h) (one-text (decimalOf z) (some-byte z) (no-blank z))
+
+pub number-first : NumberFirst
+number-first z b t at h e = rw (← write-then-read z h) (run-first (decimalOf z) b t at (some-byte z) (no-blank z) e)
 
 -- the two cases of the decimal form, by the test that the code makes
 minus-form : (n : ℤ) → ltZ n (pos 0) ≡ true → 45 ∷ digits (natAbs n) ≡ decimalOf n

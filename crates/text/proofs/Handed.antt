@@ -30,7 +30,7 @@ use Rattle.text.proofs.Clash.{clash}
 no-place : {A : Type 0} {p : ℕ} → some p ≡ none → A
 no-place e = let z : _≡_ {A = ℕ} 0 1 = cc in absurd (omega arith)
 
-numbers-count : (ps : List Piece) → firstBad ps ≡ none → length (numbers ps) ≡ length ps
+pub numbers-count : (ps : List Piece) → firstBad ps ≡ none → length (numbers ps) ≡ length ps
 unfolding firstBad numbers
 numbers-count [] e = refl
 numbers-count (p ∷ ps) e = go (p .says) refl (numbers-count ps)

@@ -10,5 +10,6 @@ pub mod Answers
 pub mod Decimals
 pub mod Places
 pub mod Handed
+pub mod Says
 pub mod Counts
 pub mod Examples

@@ -5,11 +5,12 @@
 --     left-end       no byte but blanks is left: no piece
 --     step-inside    a piece ends within the text
 --     one-run        a text with no blank byte is one piece
+--     run-first      a run of bytes that aren't blank and a blank byte in front: a piece, and then the others
 --     piece-bad, piece-is    the first piece is no number, or a number, and the next ones are those after its run
 -- Assumes nothing.
 use mathlib.Core.Path.{_≡_, refl, sym, ap, _∙_}
 use mathlib.Core.Bool.{Bool, true, false}
-use mathlib.Core.List.{List, [], _∷_}
+use mathlib.Core.List.{List, [], _∷_, _++_}
 use mathlib.Core.Option.{Option, none, some}
 use lib.IntN.{ℤ}
 use Prim.Native.Nat.{ℕ, suc, _+_, _-_, _≤_, _<_}
@@ -98,6 +99,27 @@ unfolding pieces
 one-run b t h =
     let u = unbroken-parts b t h in
     pieces-begin b t 0 (u .0) ∙ rw (unbroken-run (b ∷ t) h, unbroken-within t 1 (u .1))
+
+-- a blank byte ends the run before it
+run-ends : (w : List ℕ) (b : ℕ) (t : List ℕ) → unbroken w ≡ true → isBlank b ≡ true → run (w ++ (b ∷ t)) ≡ w
+unfolding run
+run-ends [] b t h e = rw (run, e)
+run-ends (c ∷ w) b t h e = let u = unbroken-parts c w h in rw (run, u .0) (ap (λ (r : List ℕ). c ∷ r) (run-ends w b t (u .1) e))
+
+within-ends : (w : List ℕ) (b : ℕ) (t : List ℕ) (at : ℕ) → unbroken w ≡ true → isBlank b ≡ true
+    → piecesFrom at true (w ++ (b ∷ t)) ≡ piecesFrom (suc (at + length w)) false t
+within-ends [] b t at h e = pieces-blank b t at true e ∙ ap (λ (k : ℕ). piecesFrom (suc k) false t) (omega arith)
+within-ends (c ∷ w) b t at h e =
+    let u = unbroken-parts c w h in
+    pieces-within c (w ++ (b ∷ t)) at (u .0) ∙ within-ends w b t (suc at) (u .1) e ∙ ap (λ (k : ℕ). piecesFrom (suc k) false t) (omega arith)
+
+pub run-first : (w : List ℕ) (b : ℕ) (t : List ℕ) (at : ℕ) → 0 < length w → unbroken w ≡ true → isBlank b ≡ true
+    → piecesFrom at false (w ++ (b ∷ t)) ≡ record { at = at; says = numberOf w } ∷ piecesFrom (suc (at + length w)) false t
+run-first [] b t at l h e = absurd (omega arith)
+run-first (c ∷ w) b t at l h e =
+    let u = unbroken-parts c w h in
+    pieces-begin c (w ++ (b ∷ t)) at (u .0)
+    ∙ rw (run-ends (c ∷ w) b t h e, within-ends w b t (suc at) (u .1) e) (ap (λ (k : ℕ). record { at = at; says = numberOf (c ∷ w) } ∷ piecesFrom (suc k) false t) (omega arith))
 
 module _ (t : List ℕ) (from at : ℕ) (le : from ≤ length t) (is : at ≡ from + stretch true (drop from t)) where
   skipped : left t from ≡ left t at

@@ -1,20 +1,23 @@
--- The laws of reading and writing. `proofs/Decimals.antt` proves the first three, `proofs/Answers.antt` the others.
+-- The laws of reading and writing. `proofs/Decimals.antt` proves the first four, `proofs/Answers.antt` the others.
 --     Inside64 z       z is a number of 64 signed bits
 --     WriteThenRead    reading the decimal form of a number gives the number back
 --     NoBlank          the decimal form of a number has no blank byte
 --     OnePiece         so that as a text it is one piece, which begins at 0 and says the number
+--     NumberFirst      a text that begins with the decimal form of a number and a blank byte: a piece that says the number, and then the
+--                      pieces of what is behind
 --     Nineteen         a text with a place of refusal 19 is refused with 19 and that place, whatever the space
 --     Eleven           any other text that finds too little space is refused with 11 and the entries that it needs
 -- Assumes nothing.
-use Prim.Native.Nat.{ℕ, _^_, _<_}
+use Prim.Native.Nat.{ℕ, suc, _+_, _^_, _<_}
 use mathlib.Core.Path.{_≡_}
-use mathlib.Core.Bool.{true}
+use mathlib.Core.Bool.{true, false}
 use mathlib.Core.Option.{none, some}
-use mathlib.Core.List.{List, [], _∷_}
+use mathlib.Core.List.{List, [], _∷_, _++_}
 use lib.IntN.{ℤ, pos, negsuc}
-use Rattle.text.specs.Blank.{unbroken}
+use lib.ListN.{length}
+use Rattle.text.specs.Blank.{isBlank, unbroken}
 use Rattle.text.specs.Number.{numberOf}
-use Rattle.text.specs.Piece.{pieces, numbers}
+use Rattle.text.specs.Piece.{piecesFrom, pieces, numbers}
 use Rattle.text.specs.Reading.{handed, place19, readingOf}
 use Rattle.text.specs.Refusal.{readingRefusal}
 use Rattle.refusal.specs.Refusal.{tooShort, badText}
@@ -33,6 +36,10 @@ NoBlank = (z : ℤ) → unbroken (decimalOf z) ≡ true
 
 abbrev pub OnePiece : Type 0
 OnePiece = (z : ℤ) → Inside64 z → pieces (decimalOf z) ≡ record { at = 0; says = some z } ∷ []
+
+abbrev pub NumberFirst : Type 0
+NumberFirst = (z : ℤ) (b : ℕ) (t : List ℕ) (at : ℕ) → Inside64 z → isBlank b ≡ true
+    → piecesFrom at false (decimalOf z ++ (b ∷ t)) ≡ record { at = at; says = some z } ∷ piecesFrom (suc (at + length (decimalOf z))) false t
 
 abbrev pub Nineteen : Type 0
 Nineteen = (f : Format) (t : List ℕ) (room p : ℕ) → place19 f t ≡ some p

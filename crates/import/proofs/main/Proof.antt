@@ -33,7 +33,7 @@ array-share-prefix-out c = search needs
 slice-aggregate-write-all : tie.Need-slice-aggregate-write-all
 slice-aggregate-write-all c =
     let l = c .before .answer in
-    sym (length-take-le (l .result) (l .last .1 .1 .1 .1 .1 .1 .1 .0) (omega (arith, l .ensures .1)))
+    sym (length-take-le (l .result) (l .last .1 .1 .1 .1 .1 .1 .1 .0) (omega (arith, l .ensures .0 .1)))
 
 write-all-requires : tie.Need-write-all-requires
 write-all-requires c κs = search needs

@@ -1,6 +1,10 @@
--- `answer` meets its contract: the arrays are long enough. Assumes nothing.
+-- `answer` meets its contract: the arrays are long enough, and the bytes that it writes are the lines of what is asked (`print-means`).
+-- Assumes nothing.
+use mathlib.Core.Path.{_≡_, _∙_}
 use native.Mathlib.Omega.{arith}
-use Rattle.line.proofs.Placing.{puts-within}
+use Rattle.line.proofs.Placing.{puts-within, puts-front}
+use Rattle.imported.specs.Answer.{asked, importedOf}
+use Rattle.imported.proofs.ReadBack.{print-means}
 use borrow.Author.Needs.{needs}
 use Rattle.imported.proofs.answer.Statement.{statement}
 use Rattle.imported.proofs.answer.Tie as tie
@@ -18,7 +22,11 @@ import-text-requires c κs = (
 )
 
 returns : tie.Need-returns
-returns c = let p = c .import-text .ensures in (p, omega (arith, puts-within p (omega arith) (omega arith)))
+unfolding importedOf
+returns c =
+    let l = c .import-text in
+    let p = l .ensures .0 in
+    ((p, omega (arith, puts-within p (omega arith) (omega arith))), (l .ensures .1 .0, (l .ensures .1 .1, print-means (asked _ _) _ (puts-front p))))
 
 pub answer-spec : {M : Type 1} → statement M
 answer-spec = tie.close (tie.spec import-text-requires returns)

@@ -1,27 +1,28 @@
 -- `fill_points` meets its contract: after i turns the first i entries stand. Assumes nothing.
 use mathlib.Core.Path.{_≡_, refl, sym, ap, _∙_}
 use native.Mathlib.Omega.{arith}
-use mathlib.Core.List.{map}
+use mathlib.Core.List.{List, map}
 use Prim.Native.Nat.{ℕ, _-_, _≤_}
-use lib.IntN.{pos}
+use lib.IntN.{ℤ, pos}
 use lib.ListN.{length, getD, take, length-set}
 use lib.Seq.{take-all}
 use mir.Syntax.{w64}
 use mir.Facts.{toZ-ofZ}
 use Rattle.imported.specs.Answer.{pointOf}
-use Rattle.imported.proofs.Entries.{points-more}
+use Rattle.imported.specs.Spaces.{filled}
+use Rattle.imported.proofs.Entries.{points-more, filled-none}
 use borrow.Author.Needs.{needs}
 use Rattle.imported.proofs.fill_points.Statement.{statement}
 use Rattle.imported.proofs.fill_points.Tie as tie
 
 abbrev Inv-loop : tie.InvT-loop
-Inv-loop numbers out₀ i₀ out i = (take i out ≡ map pointOf (take i numbers)) × (i ≤ length numbers) × (length out ≡ length out₀)
+Inv-loop numbers out₀ i₀ out i = (out ≡ filled (map pointOf (take i numbers)) out₀) × (i ≤ length numbers) × (length out ≡ length out₀)
 
 abbrev μ-loop : tie.MeasureT-loop
 μ-loop numbers out₀ i₀ out i = length numbers - i
 
 loop-holds : tie.Need-loop-holds Inv-loop μ-loop
-loop-holds c = (refl, omega arith, refl)
+loop-holds c = (filled-none _, omega arith, refl)
 
 mul-point-of : tie.Need-mul-point-of Inv-loop μ-loop
 mul-point-of c = search needs
@@ -51,7 +52,7 @@ loop-again c =
     let s = c .before .before .before .before .before in
     let ns = s .args .numbers .now in
     let e = rw (toZ-ofZ {w = w64} {z = getD ns (q .i) (pos 0)} (record { sfits = (c .before) .point-of-arg .given })) at (c .point-of .ensures) in (
-      rw e (points-more ns (q .out) (q .i) (t .loop-test .taken) (omega (arith, s .pre, q .inv .2, t .loop-test .taken)) (q .inv .0)),
+      rw e (points-more ns (s .args .out .now) (q .out) (q .i) (t .loop-test .taken) (omega (arith, s .pre, t .loop-test .taken)) (q .inv .0)),
       omega (arith, t .loop-test .taken),
       length-set (q .out) (q .i) _ ∙ q .inv .2,
     )
@@ -65,7 +66,7 @@ returns c =
     let s = c .before .before .before in
     let ns = s .args .numbers .now in
     let all : q .i ≡ length ns = omega (arith, q .inv .1, c .loop-test .left) in
-    ap (λ (j : ℕ). take j (q .out)) (sym all) ∙ q .inv .0 ∙ ap (map pointOf) (take-all (q .i) ns (omega (arith, all)))
+    q .inv .0 ∙ ap (λ (l : List ℤ). filled (map pointOf l) (s .args .out .now)) (take-all (q .i) ns (omega (arith, all)))
 
 pub fill-points-spec : {M : Type 1} → statement M
 fill-points-spec =

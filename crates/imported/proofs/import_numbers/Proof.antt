@@ -1,12 +1,15 @@
--- `import_numbers` meets its contract: the two tables are filled in, and then the lines are put. Assumes nothing.
-use mathlib.Core.Path.{_≡_, refl, sym, ap, _∙_}
+-- `import_numbers` meets its contract: the two tables are filled in, and then the lines are put; an index alone leaves all as it was. Assumes nothing.
+use mathlib.Core.Path.{_≡_, sym, ap, _∙_}
 use native.Mathlib.Omega.{arith}
-use Prim.Native.Nat.{_+_, _-_, _/_}
-use lib.ListN.{length}
+use mathlib.Core.List.{List}
+use Prim.Native.Nat.{ℕ, _+_, _-_, _/_}
+use lib.ListN.{length, take}
 use lib.Seq.{length-take-le}
 use Rattle.line.proofs.Placing.{puts-as}
-use Rattle.imported.proofs.Answering.{few-numbers, tables-of}
-use Rattle.imported.proofs.Entries.{part-length, part-filled}
+use Rattle.refusal.specs.Refusal.{pointCount}
+use Rattle.imported.specs.Answer.{tableOf, answered, linesFor}
+use Rattle.imported.proofs.Answering.{few-numbers, enough-numbers, untouched, leaves-as, leaves}
+use Rattle.imported.proofs.Entries.{part-length, part-filled, filled-take}
 use borrow.Author.Needs.{needs}
 use Rattle.imported.proofs.import_numbers.Statement.{statement}
 use Rattle.imported.proofs.import_numbers.Tie as tie
@@ -20,7 +23,8 @@ same-length c = search needs
 returns : tie.Need-returns
 returns c =
     let s = c .before .before .before .before .before .before .before .before .before in
-    puts-as (few-numbers (s .args .numbers .now) ((c .before .before .before .before) .if1 .taken)) ((c .before .before) .refusal-line .ensures)
+    let e = few-numbers (s .args .numbers .now) ((c .before .before .before .before) .if1 .taken) in
+    (puts-as (ap linesFor e) ((c .before .before) .refusal-line .ensures), leaves-as e (untouched pointCount (s .args .s .now) (s .args .r .now) (s .args .w .now) (s .args .table .now)))
 
 sub-n : tie.Need-sub-n
 sub-n c = search needs
@@ -100,12 +104,21 @@ same-length-6 c = search needs
 
 returns-2 : tie.Need-returns-2
 returns-2 c =
-    let s = c .before .before .before .before .before .before .before .before .before .before .before .before .before .before .before .before .before .before .before .before .before .before .before .before .before .before in
+    let l = c .before .before .before .before .before in
+    let b = l .before .before .before .before .before .before .before .before in
+    let a = b .before .before .before .before .before in
+    let d = a .before .before .before in
+    let s = d .before .before .before .before .before in
     let ns = s .args .numbers .now in
-    let h = (c .before .before .before .before .before .before .before .before .before .before .before .before .before .before .before .before .before .before .before .before .before) .if1 .left in
-    let first = part-filled 1 (((length (s .args .numbers .now) - 1) / 2) + 1 - 1) ((length (s .args .numbers .now) - 1) / 2) ns ((c .before .before .before .before .before .before .before .before .before .before .before .before .before .before .before .before .before .before) .fill-points .last .1 .0) (omega arith) (omega (arith, h)) ((c .before .before .before .before .before .before .before .before .before .before .before .before .before .before .before .before .before .before) .fill-points .ensures) in
-    let second = part-filled (((length (s .args .numbers .now) - 1) / 2) + 1) (((length (s .args .numbers .now) - 1) / 2) + 1 + ((length (s .args .numbers .now) - 1) / 2) - (((length (s .args .numbers .now) - 1) / 2) + 1)) ((length (s .args .numbers .now) - 1) / 2) ns ((c .before .before .before .before .before .before .before .before .before .before .before .before .before) .fill-points2 .last .1 .0) (omega arith) (omega (arith, h)) ((c .before .before .before .before .before .before .before .before .before .before .before .before .before) .fill-points2 .ensures) in
-    puts-as (tables-of ns _ _ h first second) ((c .before .before .before .before .before) .import-lines .ensures)
+    let n = (length ns - 1) / 2 in
+    let first = part-filled 1 (n + 1 - 1) n ns (s .args .s .now) (a .fill-points .last .1 .0) (omega arith) (a .fill-points .ensures) in
+    let second = part-filled (n + 1) (n + 1 + n - (n + 1)) n ns (s .args .r .now) (b .fill-points2 .last .1 .0) (omega arith) (b .fill-points2 .ensures) in
+    let S = filled-take 1 n ns (s .args .s .now) (a .fill-points .last .1 .0) first (omega (arith, d .if1 .left)) in
+    let R = filled-take (n + 1) n ns (s .args .r .now) (b .fill-points2 .last .1 .0) second (omega (arith, d .if1 .left)) in
+    let e = enough-numbers ns (d .if1 .left) in (
+      puts-as (ap (λ (x : List ℕ). answered x (take n (b .fill-points2 .last .1 .0))) S ∙ ap (answered (tableOf 1 n ns)) R ∙ ap linesFor e) (l .import-lines .ensures .0),
+      leaves-as e (leaves _ _ _ _ (s .args .s .now) (s .args .r .now) (s .args .w .now) _ _ _ (s .args .table .now) _ S R first second (l .import-lines .ensures .1 .0) (l .import-lines .ensures .1 .1)),
+    )
 
 pub import-numbers-spec : {M : Type 1} → statement M
 import-numbers-spec =

@@ -1,10 +1,10 @@
 -- `check_entries` makes check 13, S before R, and hands on to 14 and 15. Why it may: where no entry is bad, each is a point of its table
 -- (`entries-of`). Assumes nothing.
-use mathlib.Core.Path.{_≡_, refl, sym, _∙_, ap}
-use Rattle.passport.specs.declared.Checked.the-variants.{Accepted, Count, Entry, Order, Unreached}
-use Rattle.passport.specs.Check.{_orElse_, badEntry, twiceMoved, thriceMoved, unreached, check13, check14, check15}
-use Rattle.passport.proofs.Marks.{refuse-at, accept-at, entries-of}
+use mathlib.Core.Path.{_≡_, _∙_}
 use lib.ListN.{length}
+use Rattle.refusal.specs.Refusal.{_orElse_, tableEntry}
+use Rattle.passport.specs.Check.{badEntry, twiceMoved, thriceMoved, check13, check14, check15}
+use Rattle.passport.proofs.Marks.{refuse-at, accept-at, entries-of}
 use borrow.Author.Needs.{needs}
 use Rattle.passport.proofs.check_entries.Statement.{statement}
 use Rattle.passport.proofs.check_entries.Tie as tie
@@ -17,35 +17,42 @@ returns c =
     let s = c .before .before .before .before in
     let S = s .args .s .now in
     let R = s .args .r .now in
-    let z = s .pre in
-    refuse-at (badEntry S) (length S) Entry (check13 R orElse check14 twiceMoved S orElse check14 thriceMoved R orElse check15 S R) _ (λ j. refl) (c .before .first-bad .ensures) (c .if1 .taken)
+    refuse-at (badEntry S) (length S) tableEntry _ (c .before .first-bad .ensures)
+    (check13 R orElse check14 twiceMoved S orElse check14 thriceMoved R orElse check15 S R) (c .if1 .taken)
 
 first-bad-requires-2 : tie.Need-first-bad-requires-2
 first-bad-requires-2 c κs = search needs
 
 returns-2 : tie.Need-returns-2
 returns-2 c =
-    let s = c .before .before .before .before .before .before in
+    let b = c .before .before in
+    let s = b .before .before .before .before in
     let S = s .args .s .now in
     let R = s .args .r .now in
-    let z = s .pre in
-    refuse-at (badEntry R) (length R) Entry (check14 twiceMoved S orElse check14 thriceMoved R orElse check15 S R) _ (λ j. refl) (c .before .first-bad2 .ensures) (c .if2 .taken) ∙ sym (accept-at (badEntry S) (length S) Entry (check13 R orElse check14 twiceMoved S orElse check14 thriceMoved R orElse check15 S R) _ (c .before .before .before .first-bad .ensures) (c .before .before .if1 .left))
+    refuse-at (badEntry R) (length R) tableEntry _ (c .before .first-bad2 .ensures) (check14 twiceMoved S orElse check14 thriceMoved R orElse check15 S R) (c .if2 .taken)
+    ∙ accept-at (badEntry S) (length S) tableEntry _ (b .before .first-bad .ensures)
+    (check13 R orElse check14 twiceMoved S orElse check14 thriceMoved R orElse check15 S R) (b .if1 .left)
 
 check-moves-requires : tie.Need-check-moves-requires
 check-moves-requires c κs =
-    let s = c .before .before .before .before .before .before in
+    let b = c .before .before in
+    let s = b .before .before .before .before in
     let S = s .args .s .now in
     let R = s .args .r .now in
     let z = s .pre in
-    record { S = entries-of S _ (z .1) (c .before .before .before .first-bad .ensures) (c .before .before .if1 .left); R = entries-of R _ (rw (z .2) (z .1)) (c .before .first-bad2 .ensures) (c .if2 .left); even = z .2; some = z .0 }
+    record { S = entries-of S _ (z .1) (b .before .first-bad .ensures) (b .if1 .left); R = entries-of R _ (rw (z .2) (z .1)) (c .before .first-bad2 .ensures) (c .if2 .left); even = z .2; some = z .0 }
 
 returns-3 : tie.Need-returns-3
 returns-3 c =
-    let s = c .before .before .before .before .before .before .before in
+    let a = c .before in
+    let b = a .before .before in
+    let s = b .before .before .before .before in
     let S = s .args .s .now in
     let R = s .args .r .now in
-    let z = s .pre in
-    c .check-moves .ensures ∙ sym (accept-at (badEntry R) (length R) Entry (check14 twiceMoved S orElse check14 thriceMoved R orElse check15 S R) _ (c .before .before .first-bad2 .ensures) (c .before .if2 .left)) ∙ sym (accept-at (badEntry S) (length S) Entry (check13 R orElse check14 twiceMoved S orElse check14 thriceMoved R orElse check15 S R) _ (c .before .before .before .before .first-bad .ensures) (c .before .before .before .if1 .left))
+    c .check-moves .ensures
+    ∙ accept-at (badEntry R) (length R) tableEntry _ (a .before .first-bad2 .ensures) (check14 twiceMoved S orElse check14 thriceMoved R orElse check15 S R) (a .if2 .left)
+    ∙ accept-at (badEntry S) (length S) tableEntry _ (b .before .first-bad .ensures)
+    (check13 R orElse check14 twiceMoved S orElse check14 thriceMoved R orElse check15 S R) (b .if1 .left)
 
 pub check-entries-spec : {M : Type 1} → statement M
 check-entries-spec =

@@ -7,20 +7,20 @@ use Prim.Native.Nat.{_+_, _-_, _≤_}
 use Rattle.passport.proofs.Queue.{unmarked, marked}
 use Rattle.passport.proofs.Marks.{at-first, past-all}
 use Rattle.symbol.proofs.Count.{Clear, clear-zero, clear-more}
-use Rattle.passport.specs.Check.{unreached}
+use Rattle.passport.specs.Check.{notReached}
 use lib.ListN.{length}
 use borrow.Author.Needs.{needs}
 use Rattle.passport.proofs.reach.first_unmarked.Statement.{statement}
 use Rattle.passport.proofs.reach.first_unmarked.Tie as tie
 
 abbrev Inv-loop : tie.InvT-loop
-Inv-loop s r seen x₀ x = (x ≤ length s) × Clear (unreached s r) x
+Inv-loop s r seen x₀ x = (x ≤ length s) × Clear (notReached s r) x
 
 abbrev μ-loop : tie.MeasureT-loop
 μ-loop s r seen x₀ x = length s - x
 
 loop-holds : tie.Need-loop-holds Inv-loop μ-loop
-loop-holds c = let s = c in (omega arith, clear-zero (unreached (s .args .s .now) (s .args .r .now)))
+loop-holds c = let s = c in (omega arith, clear-zero (notReached (s .args .s .now) (s .args .r .now)))
 
 element-copy-out-if1 : tie.Need-element-copy-out-if1 Inv-loop μ-loop
 element-copy-out-if1 c =
@@ -40,7 +40,7 @@ returns c =
     let R = s .args .r .now in
     let l = c .before .before .before .loop in
     let h = z .0 in
-    at-first (unreached S R) (length S) (l .x) (omega arith) (l .inv .1) (unmarked S R _ (l .x) (z .1) (omega arith) (c .if1 .taken))
+    at-first (notReached S R) (length S) (l .x) (omega arith) (l .inv .1) (unmarked S R _ (l .x) (z .1) (omega arith) (c .if1 .taken))
 
 add-x : tie.Need-add-x Inv-loop μ-loop
 add-x c =
@@ -70,7 +70,7 @@ loop-again c =
     let R = s .args .r .now in
     let l = c .before .before .before .loop in
     let h = z .0 in
-    (omega arith, rw add-one (clear-more (unreached S R) (l .x) (l .inv .1) (marked S R _ (l .x) (z .1) (omega arith) (c .if1 .left))))
+    (omega arith, rw add-one (clear-more (notReached S R) (l .x) (l .inv .1) (marked S R _ (l .x) (z .1) (omega arith) (c .if1 .left))))
 
 returns-2 : tie.Need-returns-2 Inv-loop μ-loop
 returns-2 c =
@@ -80,7 +80,7 @@ returns-2 c =
     let R = s .args .r .now in
     let l = c .before .loop in
     let h = z .0 in
-    past-all (unreached S R) (length S) (l .x) (omega (arith, l .inv .0)) (l .inv .1)
+    past-all (notReached S R) (length S) (l .x) (omega (arith, l .inv .0)) (l .inv .1)
 
 pub first-unmarked-spec : {M : Type 1} → statement M
 first-unmarked-spec =
