@@ -1,8 +1,8 @@
 // Standard input read to its end and standard output written whole, for the programs.
 //
 // The end of the input is a read that answers 0, and nothing else is taken for it: after the last bytes there is one more read. A read or
-// a write that fails is told in one line on standard error and isn't tried again, for the library of C doesn't say why it failed, and a
-// program that waits without knowing for what may wait for ever.
+// a write that fails is told in one line on standard error and isn't tried again: `libc` can't tell why it failed, so that there is nothing
+// to wait for.
 ghost use Prim.Native.Nat.{_≤_};
 ghost use mathlib.Core.Path.{_≡_};
 ghost use lib.ListN.{length};
