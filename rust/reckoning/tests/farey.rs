@@ -244,7 +244,8 @@ fn refusals_are_explained() {
         let name = match kind {
             Some("txt") => "listing",
             Some("query") => "query",
-            _ => "import",
+            Some("pair") => "import",
+            _ => panic!("{}: no program reads this", path.display()),
         };
         let came = run_on(&farey, name, &fs::read(&path).expect("it can be read"));
         let stdout = text(&came.stdout);
