@@ -1,52 +1,113 @@
--- WHAT A NUMBER 0 TELLS: the call was not refused, so what its answer means holds. In order: the numbers of faults are above 0
--- (`fault-above`), the checks (`accepted-zero`, `zero-accepted`), tables and widths (`tabled-means`), imports (`imported-means`).
+-- WHAT A NUMBER 0 TELLS: the call was not refused, so what its answer means holds. In order: no answer is refused with the number 0
+-- (`generated-above`, `tabled-above`, `widthed-above`, `import-above`, `figured-above`); what a call that made something means (`zero-means`).
 -- Assumes nothing.
 use mathlib.Core.Path.{_≡_, refl, sym, subst}
+use mathlib.Core.Bool.{Bool, true, false, not, _&&_}
 use mathlib.Core.List.{List}
-use Prim.Native.Nat.{ℕ, _+_, _*_}
+use Prim.Native.Nat.{ℕ, _+_, _*_, _<_}
 use native.Mathlib.Omega.{arith}
-use lib.ListN.{take}
+use lib.Dec.{ltb, leb, eqb}
+use lib.ListN.{length}
 use lib.IntN.{ℤ}
-use Rattle.symbol.specs.Check.{numberOf}
-use Rattle.symbol.specs.declared.Fault.{Fault}
-use Rattle.symbol.specs.declared.Fault.the-variants.{VertexCount, TableLength, VertexEntry, Neighbours, NoZero, BadPairing, NoOddSide}
-use Rattle.symbol.specs.declared.Checked.{Checked}
-use Rattle.symbol.specs.declared.Checked.the-variants.{Accepted, Refused}
-use Rattle.coset.specs.Answer.{tabledNumber, Meaning, TablesMean}
-use Rattle.coset.specs.declared.Tabled.{Tabled}
-use Rattle.coset.specs.declared.Tabled.the-variants as tabled
-use Rattle.passport.specs.Import.{importedNumber, Symbolised, ImportMeans}
-use Rattle.passport.specs.declared.Imported.{Imported}
-use Rattle.passport.specs.declared.Imported.the-variants as imported
-use Rattle.engine.specs.Exported.{checkedNumber, importedCount}
+use Rattle.matrix.specs.Euclid.{pick}
+use Rattle.space.specs.Space.{workLength}
+use Rattle.refusal.specs.Refusal.{_orElse_, tooShort, pointCount, tableEntry, wrongOrder, unreached, filledRefusal, filledBy}
+use Rattle.refusal.specs.declared.Checked.{Checked}
+use Rattle.refusal.specs.declared.Checked.the-variants.{Accepted, Refused}
+use Rattle.refusal.specs.declared.Filled.{Filled}
+use Rattle.refusal.specs.declared.Filled.the-variants as filled
+use Rattle.refusal.proofs.Numbered.{Above, AboveIn, above-first, above-by}
+use Rattle.symbol.specs.Count.{first}
+use Rattle.symbol.specs.Check.{checkOf}
+use Rattle.symbol.proofs.Accepted.{above-refuse, check-above}
+use Rattle.pairing.specs.Generator.{leaders, roomOf, byWork, generatedOf}
+use Rattle.coset.specs.Tables.{indexOf}
+use Rattle.coset.specs.Answer.{Says, made, refused, roomFor, tabledOf, roomOne, widthsOf, widthedOf, figuresOf, figuredBy, figuredOf}
+use Rattle.growth.specs.Symbol as rule
+use Rattle.writing.specs.Answer.{grownOf}
+use Rattle.passport.specs.Check as passport
+use Rattle.passport.specs.Import.{ruleFor, importOf}
+use Rattle.engine.specs.Exported.{filledPlace}
 
-pub fault-above : (f : Fault) → numberOf f ≡ 0 → ⊥
-fault-above VertexCount e = omega (arith, e)
-fault-above (TableLength n) e = omega (arith, e)
-fault-above (VertexEntry i) e = omega (arith, e)
-fault-above (Neighbours i) e = omega (arith, e)
-fault-above NoZero e = omega (arith, e)
-fault-above (BadPairing i) e = omega (arith, e)
-fault-above NoOddSide e = omega (arith, e)
+-- ---- numbers above 0
 
-pub zero-accepted : (r : Checked) → checkedNumber r ≡ 0 → r ≡ Accepted
-zero-accepted Accepted e = refl
-zero-accepted (Refused f) e = absurd (fault-above f e)
+above-pick : (b : Bool) (x y : Filled) → AboveIn x → AboveIn y → AboveIn (pick b x y)
+above-pick true x y h k = h
+above-pick false x y h k = k
 
-pub accepted-zero : (r : Checked) → r ≡ Accepted → checkedNumber r ≡ 0
-accepted-zero Accepted e = refl
-accepted-zero (Refused f) e = let z : _≡_ {A = ℕ} 0 1 = cc in absurd (omega arith)
+above-work : (work : ℕ) (a : Filled) → AboveIn a → AboveIn (byWork work a)
+above-work work a h = above-pick (ltb work workLength) (filled.Refused (tooShort workLength)) a (omega arith) h
 
-pub tabled-means : (v : ℕ) (t : List ℤ) (r : Tabled) → TablesMean v t r → tabledNumber r ≡ 0 → Meaning v t
-tabled-means v t (tabled.Made n) m e = m n refl
-tabled-means v t (tabled.Refused f) m e = absurd (fault-above f e)
-tabled-means v t (tabled.Short n) m e = absurd (omega (arith, e))
+module _ (v : ℕ) (t : List ℤ) (work : ℕ) where
+  above-asked : (a : Filled) → AboveIn a → AboveIn (filledBy (checkOf v t) (byWork work a))
+  above-asked a h = above-by (checkOf v t) (byWork work a) (check-above v t) (above-work work a h)
 
-pub imported-means : (s r : List ℕ) (a : Imported) (out : List ℤ) → ImportMeans s r a out → importedNumber a ≡ 0 → Symbolised s r (importedCount a) (take (3 * importedCount a + 1) out)
-imported-means s r (imported.Made v) out m e = m v refl
-imported-means s r imported.Count out m e = absurd (omega (arith, e))
-imported-means s r (imported.Entry i) out m e = absurd (omega (arith, e))
-imported-means s r (imported.Order x) out m e = absurd (omega (arith, e))
-imported-means s r (imported.Unreached x) out m e = absurd (omega (arith, e))
-imported-means s r (imported.Short n) out m e = absurd (omega (arith, e))
-imported-means s r (imported.Split i) out m e = absurd (omega (arith, e))
+  pub generated-above : (out : ℕ) → AboveIn (generatedOf v t work out)
+  generated-above out =
+      let n = length (leaders v t) in
+      above-asked (roomOf n out) (above-pick (ltb out (5 * n)) (filled.Refused (tooShort (5 * n))) (filled.Made n) (omega arith) tt)
+
+  pub tabled-above : (a b c : ℕ) → AboveIn (tabledOf v t work a b c)
+  tabled-above a b c =
+      let n = indexOf v t in
+      let short = filled.Refused (tooShort n) in
+      let third = pick (ltb c n) short (filled.Made n) in
+      let second = pick (ltb b n) short third in
+      above-asked (roomFor n a b c)
+      (above-pick (ltb a n) short second (omega arith) (above-pick (ltb b n) short third (omega arith) (above-pick (ltb c n) short (filled.Made n) (omega arith) tt)))
+
+  pub widthed-above : (a : ℕ) → AboveIn (widthedOf v t work a)
+  widthed-above a =
+      let n = length (widthsOf v t) in
+      above-asked (roomOne n a) (above-pick (ltb a n) (filled.Refused (tooShort n)) (filled.Made n) (omega arith) tt)
+
+  -- figures
+  abbrev pub AboveSaid : Says → Type 0
+  AboveSaid (made n e2 e3 k genus level) = Unit {0}
+  AboveSaid (refused f) = 0 < f .number
+
+  pub figured-above : AboveSaid (figuredOf v t work)
+  figured-above = go (checkOf v t) (check-above v t)
+    where
+      by-length : (b : Bool) → AboveSaid (pick b (refused (tooShort workLength)) (figuresOf v t))
+      by-length true = omega arith
+      by-length false = tt
+
+      go : (c : Checked) → Above c → AboveSaid (figuredBy c work (figuresOf v t))
+      go (Refused f) h = h
+      go Accepted h = by-length (ltb work workLength)
+
+module _ (s r : List ℕ) where
+  pairs-above : Above (passport.checkOf s r)
+  pairs-above =
+      let n = length s in
+      let i = first (passport.badEntry s) n in
+      let j = first (passport.badEntry r) (length r) in
+      let x = first (passport.twiceMoved s) n in
+      let y = first (passport.thriceMoved r) (length r) in
+      let z = first (passport.notReached s r) n in
+      let c15 = passport.check15 s r in
+      let c14 = passport.check14 passport.thriceMoved r orElse c15 in
+      let c14' = passport.check14 passport.twiceMoved s orElse c14 in
+      let c13 = passport.check13 r orElse c14' in
+      let c13' = passport.check13 s orElse c13 in
+      above-first (passport.check12 s r) c13' (above-refuse (not (leb 1 n && leb n 3066 && eqb (length r) n)) pointCount (omega arith))
+      (above-first (passport.check13 s) c13 (above-refuse (ltb i n) (tableEntry i) (omega arith))
+      (above-first (passport.check13 r) c14' (above-refuse (ltb j (length r)) (tableEntry j) (omega arith))
+      (above-first (passport.check14 passport.twiceMoved s) c14 (above-refuse (ltb x n) (wrongOrder x) (omega arith))
+      (above-first (passport.check14 passport.thriceMoved r) c15 (above-refuse (ltb y (length r)) (wrongOrder y) (omega arith))
+      (above-refuse (ltb z n) (unreached z) (omega arith))))))
+
+  grown-above : (g : rule.Ruled) (room : ℕ) → AboveIn (grownOf g room)
+  grown-above (rule.made v t) room = above-pick (ltb room (3 * v + 1)) (filled.Refused (tooShort (3 * v + 1))) (filled.Made v) (omega arith) tt
+  grown-above (rule.over i) room = omega arith
+
+  pub import-above : (work room : ℕ) → AboveIn (importOf s r work room)
+  import-above work room =
+      above-by (passport.checkOf s r) (byWork work (grownOf (ruleFor s r) room)) pairs-above (above-work work (grownOf (ruleFor s r) room) (grown-above (ruleFor s r) room))
+
+-- ---- what a call that made something means
+
+pub zero-means : (P : ℕ → Type 0) (r : Filled) → AboveIn r → ((n : ℕ) → r ≡ filled.Made n → P n) → filledRefusal r .number ≡ 0 → P (filledPlace r)
+zero-means P (filled.Made n) h m e = m n refl
+zero-means P (filled.Refused f) h m e = absurd (omega (arith, h, e))

@@ -3,46 +3,43 @@
 // An exported function returns 0, or the number of a refusal. Through `place` it writes the refusal's place or, where it returns 0, a
 // count. What it writes elsewhere, and what that means, is the promise of the call beneath it (specs/Exported.antt has the numbers).
 // include/farey.h says all of it in words.
-use answers::of_check;
-use answers::of_generators;
+use answers::of_filled;
 use answers::of_genus;
-use answers::of_import;
 use answers::of_level;
 use answers::of_query;
 use answers::of_sameness;
-use answers::of_tables;
 use coset::Figured;
-use symbol::fault_number;
-use symbol::fault_place;
+use refusal::checked_refusal;
 ghost use mathlib.Core.Path.{_≡_};
 ghost use mathlib.Core.Logic.{_↔_};
 ghost use Prim.Native.Nat.{_+_, _*_};
 ghost use lib.ListN.{length, take};
 ghost use Rattle.matrix.specs.Matrix.{ofList};
+ghost use Rattle.refusal.specs.Refusal.{checkedRefusal, filledRefusal};
 ghost use Rattle.symbol.specs.Check.{checkOf};
-ghost use Rattle.pairing.specs.Generator.{generatorTable, generatedOf, generatedNumber, tableLeft, workAfter};
-ghost use Rattle.pairing.specs.Same.{samenessOf, samenessNumber, workAfterBoth};
+ghost use Rattle.pairing.specs.Generator.{generatorTable, generatedOf, tableLeft, workAfter, Generates};
+ghost use Rattle.pairing.specs.Same.{samenessOf, samenessRefusal, workAfterBoth, SameMeans};
 ghost use Rattle.symbol.specs.Symbol.{IsSymbol};
 ghost use Rattle.coset.specs.Tables.{tableS, tableR, tableT};
-ghost use Rattle.coset.specs.Answer.{tabledOf, tabledNumber, columnLeft, widthsOf, widthedOf, figuredOf, Meaning};
+ghost use Rattle.coset.specs.Answer.{tabledOf, columnLeft, widthsOf, widthedOf, figuredOf, saysRefusal, Meaning};
 ghost use Rattle.passport.specs.Check as passport;
 ghost use Rattle.passport.specs.Import as import;
-ghost use Rattle.word.specs.Answer.{queryOf, queryNumber, foundWord, wordLeft, workLeft};
+ghost use Rattle.word.specs.Answer.{queryOf, queryRefusal, foundWord, wordLeft, workLeft};
 ghost use Rattle.word.specs.Claim.{Claim};
-ghost use Rattle.engine.specs.Exported.{checkedNumber, checkedPlace, generatedCount, tabledCount, importedCount, queriedCount, samenessCount, saysNumber, saysPlace, figureNumber, figureValue, figuresLeft};
+ghost use Rattle.engine.specs.Exported.{filledPlace, queryPlace, samenessPlace, figureNumber, figureValue, figuresLeft};
 
 mod answers;
 
 // The checks of a symbol: refusals 1 to 7.
 #[no_mangle]
 pub extern "C" fn farey_check(v: usize, t: &[i64], place: &mut usize) -> u64
-    ensures { λ n. ⌜ n ≡ checkedNumber (checkOf v (now (t .entry))) ⌝ }
-    ensures { λ n. ⌜ now (place .exit) ≡ checkedPlace (checkOf v (now (t .entry))) ⌝ }
+    ensures { λ n. ⌜ n ≡ checkedRefusal (checkOf v (now (t .entry))) .number ⌝ }
+    ensures { λ n. ⌜ now (place .exit) ≡ checkedRefusal (checkOf v (now (t .entry))) .place ⌝ }
     ensures { λ n. ⌜ (n ≡ 0) ↔ IsSymbol v (now (t .entry)) ⌝ }
 {
-    let said = of_check(symbol::check(v, t));
-    *place = said.place;
-    said.number
+    let refusal = checked_refusal(symbol::check(v, t));
+    *place = refusal.place;
+    refusal.number
 }
 
 // The generators, five numbers each, from the front of out.
@@ -54,12 +51,13 @@ pub extern "C" fn farey_generators(
     out: &mut [i64],
     place: &mut usize,
 ) -> u64
-    ensures { λ n. ⌜ n ≡ generatedNumber (generatedOf v (now (t .entry)) (length (now (w .entry))) (length (now (out .entry)))) ⌝ }
-    ensures { λ n. ⌜ now (place .exit) ≡ generatedCount (generatedOf v (now (t .entry)) (length (now (w .entry))) (length (now (out .entry)))) ⌝ }
+    ensures { λ n. ⌜ n ≡ filledRefusal (generatedOf v (now (t .entry)) (length (now (w .entry))) (length (now (out .entry)))) .number ⌝ }
+    ensures { λ n. ⌜ now (place .exit) ≡ filledPlace (generatedOf v (now (t .entry)) (length (now (w .entry))) (length (now (out .entry)))) ⌝ }
     ensures { λ n. ⌜ now (w .exit) ≡ workAfter (checkOf v (now (t .entry))) (now (w .entry)) ⌝ }
     ensures { λ n. ⌜ now (out .exit) ≡ tableLeft (generatedOf v (now (t .entry)) (length (now (w .entry))) (length (now (out .entry)))) (generatorTable v (now (t .entry))) (now (out .entry)) ⌝ }
+    ensures { λ n. ⌜ (n ≡ 0 → Generates v (now (t .entry))) ⌝ }
 {
-    let said = of_generators(pairing::generator::generators(v, t, w, out));
+    let said = of_filled(pairing::generator::generators(v, t, w, out));
     *place = said.place;
     said.number
 }
@@ -75,15 +73,15 @@ pub extern "C" fn farey_tables(
     u: &mut [u32],
     place: &mut usize,
 ) -> u64
-    ensures { λ n. ⌜ n ≡ tabledNumber (tabledOf v (now (t .entry)) (length (now (w .entry))) (length (now (s .entry))) (length (now (r .entry))) (length (now (u .entry)))) ⌝ }
-    ensures { λ n. ⌜ now (place .exit) ≡ tabledCount (tabledOf v (now (t .entry)) (length (now (w .entry))) (length (now (s .entry))) (length (now (r .entry))) (length (now (u .entry)))) ⌝ }
+    ensures { λ n. ⌜ n ≡ filledRefusal (tabledOf v (now (t .entry)) (length (now (w .entry))) (length (now (s .entry))) (length (now (r .entry))) (length (now (u .entry)))) .number ⌝ }
+    ensures { λ n. ⌜ now (place .exit) ≡ filledPlace (tabledOf v (now (t .entry)) (length (now (w .entry))) (length (now (s .entry))) (length (now (r .entry))) (length (now (u .entry)))) ⌝ }
     ensures { λ n. ⌜ now (w .exit) ≡ workAfter (checkOf v (now (t .entry))) (now (w .entry)) ⌝ }
     ensures { λ n. ⌜ now (s .exit) ≡ columnLeft (tabledOf v (now (t .entry)) (length (now (w .entry))) (length (now (s .entry))) (length (now (r .entry))) (length (now (u .entry)))) (tableS v (now (t .entry))) (now (s .entry)) ⌝ }
     ensures { λ n. ⌜ now (r .exit) ≡ columnLeft (tabledOf v (now (t .entry)) (length (now (w .entry))) (length (now (s .entry))) (length (now (r .entry))) (length (now (u .entry)))) (tableR v (now (t .entry))) (now (r .entry)) ⌝ }
     ensures { λ n. ⌜ now (u .exit) ≡ columnLeft (tabledOf v (now (t .entry)) (length (now (w .entry))) (length (now (s .entry))) (length (now (r .entry))) (length (now (u .entry)))) (tableT v (now (t .entry))) (now (u .entry)) ⌝ }
     ensures { λ n. ⌜ (n ≡ 0 → Meaning v (now (t .entry))) ⌝ }
 {
-    let said = of_tables(coset::tables(v, t, w, s, r, u));
+    let said = of_filled(coset::tables(v, t, w, s, r, u));
     *place = said.place;
     said.number
 }
@@ -97,13 +95,13 @@ pub extern "C" fn farey_widths(
     out: &mut [u32],
     place: &mut usize,
 ) -> u64
-    ensures { λ n. ⌜ n ≡ tabledNumber (widthedOf v (now (t .entry)) (length (now (w .entry))) (length (now (out .entry)))) ⌝ }
-    ensures { λ n. ⌜ now (place .exit) ≡ tabledCount (widthedOf v (now (t .entry)) (length (now (w .entry))) (length (now (out .entry)))) ⌝ }
+    ensures { λ n. ⌜ n ≡ filledRefusal (widthedOf v (now (t .entry)) (length (now (w .entry))) (length (now (out .entry)))) .number ⌝ }
+    ensures { λ n. ⌜ now (place .exit) ≡ filledPlace (widthedOf v (now (t .entry)) (length (now (w .entry))) (length (now (out .entry)))) ⌝ }
     ensures { λ n. ⌜ now (w .exit) ≡ workAfter (checkOf v (now (t .entry))) (now (w .entry)) ⌝ }
     ensures { λ n. ⌜ now (out .exit) ≡ columnLeft (widthedOf v (now (t .entry)) (length (now (w .entry))) (length (now (out .entry)))) (widthsOf v (now (t .entry))) (now (out .entry)) ⌝ }
     ensures { λ n. ⌜ (n ≡ 0 → Meaning v (now (t .entry))) ⌝ }
 {
-    let said = of_tables(coset::widths(v, t, w, out));
+    let said = of_filled(coset::widths(v, t, w, out));
     *place = said.place;
     said.number
 }
@@ -117,21 +115,17 @@ pub extern "C" fn farey_figures(
     out: &mut [u64; 8],
     place: &mut usize,
 ) -> u64
-    ensures { λ n. ⌜ n ≡ saysNumber (figuredOf v (now (t .entry)) (length (now (w .entry)))) ⌝ }
-    ensures { λ n. ⌜ now (place .exit) ≡ saysPlace (figuredOf v (now (t .entry)) (length (now (w .entry)))) ⌝ }
+    ensures { λ n. ⌜ n ≡ saysRefusal (figuredOf v (now (t .entry)) (length (now (w .entry)))) .number ⌝ }
+    ensures { λ n. ⌜ now (place .exit) ≡ saysRefusal (figuredOf v (now (t .entry)) (length (now (w .entry)))) .place ⌝ }
     ensures { λ n. ⌜ now (w .exit) ≡ workAfter (checkOf v (now (t .entry))) (now (w .entry)) ⌝ }
     ensures { λ n. ⌜ now (out .exit) ≡ figuresLeft (figuredOf v (now (t .entry)) (length (now (w .entry)))) (now (out .entry)) ⌝ }
     ensures { λ n. ⌜ (n ≡ 0 → Meaning v (now (t .entry))) ⌝ }
 {
     let answer = coset::figures(v, t, w);
     match answer {
-        Figured::Refused(fault) => {
-            *place = fault_place(fault);
-            fault_number(fault)
-        }
-        Figured::Short(n) => {
-            *place = n;
-            11
+        Figured::Refused(refusal) => {
+            *place = refusal.place;
+            refusal.number
         }
         Figured::Made(f) => {
             let g = f.genus;
@@ -163,13 +157,13 @@ pub extern "C" fn farey_import(
     out: &mut [i64],
     place: &mut usize,
 ) -> u64
-    ensures { λ n. ⌜ n ≡ import.importedNumber (import.importOf (now (s .entry)) (now (r .entry)) (length (now (w .entry))) (length (now (out .entry)))) ⌝ }
-    ensures { λ n. ⌜ now (place .exit) ≡ importedCount (import.importOf (now (s .entry)) (now (r .entry)) (length (now (w .entry))) (length (now (out .entry)))) ⌝ }
+    ensures { λ n. ⌜ n ≡ filledRefusal (import.importOf (now (s .entry)) (now (r .entry)) (length (now (w .entry))) (length (now (out .entry)))) .number ⌝ }
+    ensures { λ n. ⌜ now (place .exit) ≡ filledPlace (import.importOf (now (s .entry)) (now (r .entry)) (length (now (w .entry))) (length (now (out .entry)))) ⌝ }
     ensures { λ n. ⌜ now (w .exit) ≡ import.workLeft (passport.checkOf (now (s .entry)) (now (r .entry))) (now (w .entry)) ⌝ }
     ensures { λ n. ⌜ now (out .exit) ≡ import.tableLeft (import.ruleFor (now (s .entry)) (now (r .entry))) (import.importOf (now (s .entry)) (now (r .entry)) (length (now (w .entry))) (length (now (out .entry)))) (now (out .entry)) ⌝ }
     ensures { λ n. ⌜ (n ≡ 0 → import.Symbolised (now (s .entry)) (now (r .entry)) (now (place .exit)) (take (3 * now (place .exit) + 1) (now (out .exit)))) ⌝ }
 {
-    let said = of_import(passport::import(s, r, w, out));
+    let said = of_filled(passport::import(s, r, w, out));
     *place = said.place;
     said.number
 }
@@ -186,8 +180,8 @@ pub extern "C" fn farey_query(
     start: usize,
     place: &mut usize,
 ) -> u64
-    ensures { λ n. ⌜ n ≡ queryNumber (queryOf v (now (t .entry)) (now (a .entry)) (now (b .entry)) (length (now (w .entry))) (length (now (out .entry))) start) ⌝ }
-    ensures { λ n. ⌜ now (place .exit) ≡ queriedCount (queryOf v (now (t .entry)) (now (a .entry)) (now (b .entry)) (length (now (w .entry))) (length (now (out .entry))) start) ⌝ }
+    ensures { λ n. ⌜ n ≡ queryRefusal (queryOf v (now (t .entry)) (now (a .entry)) (now (b .entry)) (length (now (w .entry))) (length (now (out .entry))) start) .number ⌝ }
+    ensures { λ n. ⌜ now (place .exit) ≡ queryPlace (queryOf v (now (t .entry)) (now (a .entry)) (now (b .entry)) (length (now (w .entry))) (length (now (out .entry))) start) ⌝ }
     ensures { λ n. ⌜ now (w .exit) ≡ workLeft v (now (t .entry)) (now (a .entry)) (now (b .entry)) (now (w .entry)) ⌝ }
     ensures { λ n. ⌜ now (out .exit) ≡ wordLeft (queryOf v (now (t .entry)) (now (a .entry)) (now (b .entry)) (length (now (w .entry))) (length (now (out .entry))) start) (foundWord v (now (t .entry)) (ofList (now (a .entry))) (ofList (now (b .entry)))) (now (out .entry)) ⌝ }
     ensures { λ n. ⌜ Claim v (now (t .entry)) (now (a .entry)) (now (b .entry)) (now (w .entry)) (now (out .entry)) start (queryOf v (now (t .entry)) (now (a .entry)) (now (b .entry)) (length (now (w .entry))) (length (now (out .entry))) start) (now (out .exit)) ⌝ }
@@ -207,9 +201,10 @@ pub extern "C" fn farey_same(
     w: &mut [u16],
     place: &mut usize,
 ) -> u64
-    ensures { λ n. ⌜ n ≡ samenessNumber (samenessOf v (now (t .entry)) m (now (u .entry)) (length (now (w .entry)))) ⌝ }
-    ensures { λ n. ⌜ now (place .exit) ≡ samenessCount (samenessOf v (now (t .entry)) m (now (u .entry)) (length (now (w .entry)))) ⌝ }
+    ensures { λ n. ⌜ n ≡ samenessRefusal (samenessOf v (now (t .entry)) m (now (u .entry)) (length (now (w .entry)))) .number ⌝ }
+    ensures { λ n. ⌜ now (place .exit) ≡ samenessPlace (samenessOf v (now (t .entry)) m (now (u .entry)) (length (now (w .entry)))) ⌝ }
     ensures { λ n. ⌜ now (w .exit) ≡ workAfterBoth (checkOf v (now (t .entry))) (checkOf m (now (u .entry))) (now (w .entry)) ⌝ }
+    ensures { λ n. ⌜ SameMeans v (now (t .entry)) m (now (u .entry)) (samenessOf v (now (t .entry)) m (now (u .entry)) (length (now (w .entry)))) ⌝ }
 {
     let said = of_sameness(pairing::same::same(v, t, m, u, w));
     *place = said.place;

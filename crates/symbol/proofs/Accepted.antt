@@ -1,6 +1,6 @@
 -- THE CHECKS ACCEPT EXACTLY THE SYMBOLS: `accepted`.
 --
--- In order: the first refusal of two, and what it is to pass a check; what each check says; the theorem.
+-- In order: what it is to pass a check; what each check says; the theorem; the numbers of refusals (`check-above`).
 -- Assumes nothing.
 use mathlib.Core.Path.{_≡_, refl, sym, _∙_, ap}
 use mathlib.Core.Logic.{_⊎_, inl, inr, _↔_}
@@ -17,10 +17,11 @@ use Rattle.matrix.specs.Matrix.{nth, det}
 use Rattle.matrix.specs.Euclid.{pick, positive}
 use Rattle.symbol.specs.Count.{first, count}
 use Rattle.symbol.specs.Table.{numer, denom, pairings, pairing, sideAt, frame, gap, pairingOf}
-use Rattle.symbol.specs.Check.{refuse, refuseAt, eqZ, check1, check2, check3, check4, check5, check6, check7, checkOf, outOfRange, apart, isZero, sides, unpairedIn, unpairedBy, isOdd}
+use Rattle.symbol.specs.Check.{refuse, refuseAt, eqZ, check1, check2, check3, check4, check5, check6, check7, checkOf, outOfRange, apart, isZero, sides, unpairedIn, unpairedBy, isOdd, lacksOdd}
 use Rattle.symbol.specs.Symbol.{ZeroAt, FreeLabel, IsSymbol, Verdict}
 use Rattle.refusal.proofs.Apart.{refused-accepted}
 use Rattle.refusal.proofs.Answers.{both-pass}
+use Rattle.refusal.proofs.Numbered.{Above, above-first}
 use Rattle.symbol.specs.declared.Side.{Side}
 use Rattle.symbol.specs.declared.Pairing.{Pairing}
 use Rattle.symbol.specs.declared.Pairing.the-variants.{Even, Odd, Free, Bad}
@@ -235,3 +236,29 @@ accepted v t = (λ e. meaning v t (passed-all v t e), λ s. all-passed v t (pass
 -- an answer that is the checks' says what it means
 pub verdict : (v : ℕ) (t : List ℤ) (r : Checked) → r ≡ checkOf v t → Verdict v t r
 verdict v t r e = record { returned = e; means = (λ a. accepted v t .0 (sym e ∙ a), λ s. e ∙ accepted v t .1 s) }
+
+-- ---- the numbers
+
+pub above-refuse : (b : Bool) (f : Refusal) → 0 < f .number → Above (refuse b f)
+above-refuse true f h = h
+above-refuse false f h = tt
+
+-- what the checks refuse has a number above 0
+pub check-above : (v : ℕ) (t : List ℤ) → Above (checkOf v t)
+check-above v t =
+    let p = pairings v t in
+    let c6 = check6 v p orElse check7 v p in
+    let c5 = check5 v t orElse c6 in
+    let c4 = check4 v t orElse c5 in
+    let c3 = check3 v t orElse c4 in
+    let c2 = check2 v t orElse c3 in
+    let i3 = first (outOfRange t) (2 * v) in
+    let i4 = first (apart v t) (v + 1) in
+    let i6 = first (unpairedIn v p) (v + 1) in
+    above-first (check1 v) c2 (above-refuse (not (leb 1 v && leb v 1023)) vertexCount (omega arith))
+    (above-first (check2 v t) c3 (above-refuse (not (eqb (length t) (3 * v + 1))) (tableLength (length t)) (omega arith))
+    (above-first (check3 v t) c4 (above-refuse (ltb i3 (2 * v)) (vertexEntry i3) (omega arith))
+    (above-first (check4 v t) c5 (above-refuse (ltb i4 (v + 1)) (notNeighbours i4) (omega arith))
+    (above-first (check5 v t) c6 (above-refuse (not (ltb (first (isZero t) v) v)) noZero (omega arith))
+    (above-first (check6 v p) (check7 v p) (above-refuse (ltb i6 (v + 1)) (badPairing i6) (omega arith))
+    (above-refuse (lacksOdd v p) noOddSide (omega arith)))))))

@@ -1,7 +1,10 @@
 -- `farey_check` meets its contract: the number and the place of the answer of the checks. Assumes nothing.
-use mathlib.Core.Path.{sym, ap, _∙_}
-use Rattle.engine.specs.Exported.{checkedNumber, checkedPlace}
-use Rattle.engine.proofs.Zero.{zero-accepted, accepted-zero}
+use mathlib.Core.Path.{sym, ap, subst, _∙_}
+use Rattle.refusal.specs.Refusal.{checkedRefusal}
+use Rattle.refusal.specs.declared.Refusal.{Refusal}
+use Rattle.refusal.specs.declared.Checked.{Checked}
+use Rattle.refusal.proofs.Numbered.{Above, accepted-zero, zero-accepted}
+use Rattle.symbol.proofs.Accepted.{check-above}
 use borrow.Author.Needs.{needs}
 use Rattle.engine.proofs.farey_check.Statement.{statement}
 use Rattle.engine.proofs.farey_check.Tie as tie
@@ -9,23 +12,26 @@ use Rattle.engine.proofs.farey_check.Tie as tie
 check-requires : tie.Need-check-requires
 check-requires c κs = search needs
 
-of-check-requires : tie.Need-of-check-requires
-of-check-requires c κs = search needs
+checked-refusal-requires : tie.Need-checked-refusal-requires
+checked-refusal-requires c κs = search needs
 
 returns : tie.Need-returns
 returns c =
     let q = c .before .check in
     let r = q .result in
-    let s = c .before .before in (
-      c .of-check .ensures .0 ∙ ap checkedNumber (q .ensures .returned),
+    let s = c .before .before in
+    let e = c .checked-refusal .ensures in
+    let k = e ∙ ap checkedRefusal (q .ensures .returned) in
+    let above = subst Above (sym (q .ensures .returned)) (check-above (s .args .v) (s .args .t .now)) in (
+      ap (λ (f : Refusal). f .number) k,
       (
-        c .of-check .ensures .1 ∙ ap checkedPlace (q .ensures .returned),
+        ap (λ (f : Refusal). f .place) k,
         (
-          (λ e. q .ensures .means .0 (zero-accepted r (sym (c .of-check .ensures .0) ∙ e))),
-          (λ h. c .of-check .ensures .0 ∙ accepted-zero r (q .ensures .means .1 h)),
+          (λ z. q .ensures .means .0 (zero-accepted r above (sym (ap (λ (f : Refusal). f .number) e) ∙ z))),
+          (λ h. ap (λ (f : Refusal). f .number) e ∙ accepted-zero r (q .ensures .means .1 h)),
         ),
       ),
     )
 
 pub farey-check-spec : {M : Type 1} → statement M
-farey-check-spec = tie.close (tie.spec check-requires of-check-requires returns)
+farey-check-spec = tie.close (tie.spec check-requires checked-refusal-requires returns)

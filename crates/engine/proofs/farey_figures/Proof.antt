@@ -1,18 +1,20 @@
 -- `farey_figures` meets its contract: in each arm, what the answer says gives the number, the place and the eight numbers. Assumes nothing.
-use mathlib.Core.Path.{_≡_, refl, sym, ap, _∙_}
+use mathlib.Core.Path.{_≡_, refl, sym, ap, subst, _∙_}
 use mathlib.Core.List.{List, [], _∷_}
 use Prim.Native.Nat.{ℕ}
 use native.Mathlib.Omega.{arith}
-use Rattle.coset.specs.Answer.{Says, saidBy}
+use lib.ListN.{length}
+use Rattle.coset.specs.Answer.{Says, saidBy, saysRefusal}
 use Rattle.coset.specs.declared.FigureRecord.{FigureRecord}
-use Rattle.engine.specs.Exported.{saysNumber, saysPlace, figuresLeft}
-use Rattle.engine.proofs.Zero.{fault-above}
+use Rattle.engine.specs.Exported.{figuresLeft}
+use Rattle.engine.proofs.Zero.{AboveSaid, figured-above}
 use borrow.Author.Needs.{needs}
 use Rattle.engine.proofs.farey_figures.Statement.{statement}
 use Rattle.engine.proofs.farey_figures.Tie as tie
 
 -- the eight numbers, from what the four functions return
-eight : {gn gv ln lv gn' gv' ln' lv' : ℕ} (f : FigureRecord) → gn ≡ gn' → gv ≡ gv' → ln ≡ ln' → lv ≡ lv' → f .index ∷ f .e2 ∷ f .e3 ∷ f .cusps ∷ gn ∷ gv ∷ ln ∷ lv ∷ [] ≡ f .index ∷ f .e2 ∷ f .e3 ∷ f .cusps ∷ gn' ∷ gv' ∷ ln' ∷ lv' ∷ []
+eight : {gn gv ln lv gn' gv' ln' lv' : ℕ} (f : FigureRecord) → gn ≡ gn' → gv ≡ gv' → ln ≡ ln' → lv ≡ lv'
+    → f .index ∷ f .e2 ∷ f .e3 ∷ f .cusps ∷ gn ∷ gv ∷ ln ∷ lv ∷ [] ≡ f .index ∷ f .e2 ∷ f .e3 ∷ f .cusps ∷ gn' ∷ gv' ∷ ln' ∷ lv' ∷ []
 eight f a b d e = cc
 
 figures-requires : tie.Need-figures-requires
@@ -21,17 +23,8 @@ figures-requires c κs = search needs
 enum-known-answer : tie.Need-enum-known-answer
 enum-known-answer c = search needs
 
-fault-place-requires : tie.Need-fault-place-requires
-fault-place-requires c κs = search needs
-
-fault-number-requires : tie.Need-fault-number-requires
-fault-number-requires c κs = search needs
-
 enum-known-answer-2 : tie.Need-enum-known-answer-2
 enum-known-answer-2 c = search needs
-
-enum-known-answer-3 : tie.Need-enum-known-answer-3
-enum-known-answer-3 c = search needs
 
 of-genus-requires : tie.Need-of-genus-requires
 of-genus-requires c κs = search needs
@@ -44,21 +37,15 @@ same-length c = search needs
 
 returns : tie.Need-returns
 returns c =
-    let q = c .before .before .before .before .before .before .before .figures in
-    let s = c .before .before .before .before .before .before .before .before .before .before in
-    let a = c .before .before .before in
-    let k = sym (ap saidBy (a .answer .given .1)) ∙ q .ensures .0 in
-    let out = s .args .out .now in (
-      c .fault-number .ensures ∙ ap saysNumber k,
+    let q = c .before .before .before .before .before .figures in
+    let s = c .before .before .before .before .before .before .before .before in
+    let told = (c .before) .answer .given in
+    let k = sym (ap saidBy (told .1)) ∙ q .ensures .0 in
+    let above = subst (AboveSaid (s .args .v) (s .args .t .now) (length (s .args .w .now))) (sym k) (figured-above (s .args .v) (s .args .t .now) (length (s .args .w .now))) in (
+      ap (λ (x : Says). saysRefusal x .number) k,
       (
-        c .before .fault-place .ensures ∙ ap saysPlace k,
-        (
-          q .ensures .1 .0,
-          (
-            ap (λ (x : Says). figuresLeft x out) k,
-            λ z. absurd (fault-above (a .answer .given .0 .0) (sym (c .fault-number .ensures) ∙ z)),
-          ),
-        ),
+        ap (λ (x : Says). saysRefusal x .place) k,
+        (q .ensures .1 .0, (ap (λ (x : Says). figuresLeft x (s .args .out .now)) k, λ z. absurd (omega (arith, above, z)))),
       ),
     )
 
@@ -67,48 +54,16 @@ same-length-2 c = search needs
 
 returns-2 : tie.Need-returns-2
 returns-2 c =
-    let q = c .before .before .before .before .before .figures in
-    let s = c .before .before .before .before .before .before .before .before in
-    let a = c .before in
-    let k = sym (ap saidBy (a .answer2 .given .1)) ∙ q .ensures .0 in
-    let out = s .args .out .now in (
-      ap saysNumber k,
-      (
-        ap saysPlace k,
-        (
-          q .ensures .1 .0,
-          (
-            ap (λ (x : Says). figuresLeft x out) k,
-            λ z. absurd (omega (arith, z)),
-          ),
-        ),
-      ),
-    )
-
-same-length-3 : tie.Need-same-length-3
-same-length-3 c = search needs
-
-returns-3 : tie.Need-returns-3
-returns-3 c =
     let q = c .before .before .before .before .before .before .before .before .figures in
     let s = c .before .before .before .before .before .before .before .before .before .before .before in
-    let a = c .before .before .before .before in
-    let k = sym (ap saidBy (a .answer3 .given .1)) ∙ q .ensures .0 in
-    let out = s .args .out .now in
-    let f = a .answer3 .given .0 .0 in
+    let told = (c .before .before .before .before) .answer2 .given in
+    let k = sym (ap saidBy (told .1)) ∙ q .ensures .0 in
     let g = c .before .before .of-genus .ensures in
     let l = c .before .of-level .ensures in (
-      ap saysNumber k,
+      ap (λ (x : Says). saysRefusal x .number) k,
       (
-        ap saysPlace k,
-        (
-          q .ensures .1 .0,
-          (
-            eight f (g .0) (g .1) (l .0) (l .1)
-                ∙ ap (λ (x : Says). figuresLeft x out) k,
-            λ z. q .ensures .1 .1 f (a .answer3 .given .1),
-          ),
-        ),
+        ap (λ (x : Says). saysRefusal x .place) k,
+        (q .ensures .1 .0, (eight (told .0 .0) (g .0) (g .1) (l .0) (l .1) ∙ ap (λ (x : Says). figuresLeft x (s .args .out .now)) k, λ z. q .ensures .1 .1 (told .0 .0) (told .1))),
       ),
     )
 
@@ -118,15 +73,10 @@ farey-figures-spec =
     (tie.spec
     figures-requires
     enum-known-answer
-    fault-place-requires
-    fault-number-requires
     enum-known-answer-2
-    enum-known-answer-3
     of-genus-requires
     of-level-requires
     same-length
     returns
     same-length-2
-    returns-2
-    same-length-3
-    returns-3)
+    returns-2)

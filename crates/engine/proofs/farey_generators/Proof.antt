@@ -1,10 +1,13 @@
--- `farey_generators` meets its contract: the number and the count of the answer, and what the call leaves. Assumes nothing.
-use mathlib.Core.Path.{ap, _∙_}
-use mathlib.Core.List.{List}
-use lib.IntN.{ℤ}
-use Rattle.pairing.specs.Generator.{generatorTable, generatedNumber, tableLeft}
-use Rattle.pairing.specs.declared.generator.Generated.{Generated}
-use Rattle.engine.specs.Exported.{generatedCount}
+-- `farey_generators` meets its contract: the number and the count of the answer, what the call leaves, and what that means. Assumes nothing.
+use mathlib.Core.Path.{sym, ap, subst, _∙_}
+use Prim.Native.Nat.{ℕ}
+use lib.ListN.{length}
+use Rattle.pairing.specs.Generator.{generatorTable, tableLeft, Generates}
+use Rattle.refusal.specs.Refusal.{filledRefusal}
+use Rattle.refusal.specs.declared.Filled.{Filled}
+use Rattle.engine.specs.Exported.{filledPlace}
+use Rattle.refusal.proofs.Numbered.{AboveIn}
+use Rattle.engine.proofs.Zero.{generated-above, zero-means}
 use borrow.Author.Needs.{needs}
 use Rattle.engine.proofs.farey_generators.Statement.{statement}
 use Rattle.engine.proofs.farey_generators.Tie as tie
@@ -12,8 +15,8 @@ use Rattle.engine.proofs.farey_generators.Tie as tie
 generators-requires : tie.Need-generators-requires
 generators-requires c κs = search needs
 
-of-generators-requires : tie.Need-of-generators-requires
-of-generators-requires c κs = search needs
+of-filled-requires : tie.Need-of-filled-requires
+of-filled-requires c κs = search needs
 
 same-length : tie.Need-same-length
 same-length c = search needs
@@ -26,12 +29,15 @@ returns c =
     let q = c .before .before .before .before .generators in
     let s = c .before .before .before .before .before .before .before .before in
     let e = q .ensures .0 in (
-      c .of-generators .ensures .0 ∙ ap generatedNumber e,
+      c .of-filled .ensures .0 ∙ ap (λ (x : Filled). filledRefusal x .number) e,
       (
-        c .of-generators .ensures .1 ∙ ap generatedCount e,
+        c .of-filled .ensures .1 ∙ ap filledPlace e,
         (
           q .ensures .1 .0,
-          q .ensures .1 .1 ∙ ap (λ (r : Generated). tableLeft r (generatorTable (s .args .v) (s .args .t .now)) (s .args .out .now)) e,
+          (
+            q .ensures .1 .1 .0 ∙ ap (λ (r : Filled). tableLeft r (generatorTable (s .args .v) (s .args .t .now)) (s .args .out .now)) e,
+            λ z. zero-means (λ (n : ℕ). Generates (s .args .v) (s .args .t .now)) (q .result) (subst AboveIn (sym e) (generated-above (s .args .v) (s .args .t .now) (length (s .args .w .now)) (length (s .args .out .now)))) (q .ensures .1 .1 .1) (sym (c .of-filled .ensures .0) ∙ z),
+          ),
         ),
       ),
     )
@@ -39,4 +45,4 @@ returns c =
 pub farey-generators-spec : {M : Type 1} → statement M
 farey-generators-spec =
     tie.close
-    (tie.spec generators-requires of-generators-requires same-length same-length-2 returns)
+    (tie.spec generators-requires of-filled-requires same-length same-length-2 returns)

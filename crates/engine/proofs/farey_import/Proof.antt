@@ -1,11 +1,13 @@
 -- `farey_import` meets its contract: the number and the count of the answer, what the call leaves, and what that means. Assumes nothing.
 use mathlib.Core.Path.{_≡_, sym, ap, _∙_, subst}
 use Prim.Native.Nat.{ℕ, _+_, _*_}
-use lib.ListN.{take}
-use Rattle.passport.specs.Import.{importedNumber, tableLeft, ruleFor, Symbolised}
-use Rattle.passport.specs.declared.Imported.{Imported}
-use Rattle.engine.specs.Exported.{importedCount}
-use Rattle.engine.proofs.Zero.{imported-means}
+use lib.ListN.{length, take}
+use Rattle.passport.specs.Import.{tableLeft, ruleFor, Symbolised}
+use Rattle.refusal.specs.Refusal.{filledRefusal}
+use Rattle.refusal.specs.declared.Filled.{Filled}
+use Rattle.refusal.proofs.Numbered.{AboveIn}
+use Rattle.engine.specs.Exported.{filledPlace}
+use Rattle.engine.proofs.Zero.{import-above, zero-means}
 use borrow.Author.Needs.{needs}
 use Rattle.engine.proofs.farey_import.Statement.{statement}
 use Rattle.engine.proofs.farey_import.Tie as tie
@@ -13,8 +15,8 @@ use Rattle.engine.proofs.farey_import.Tie as tie
 import-requires : tie.Need-import-requires
 import-requires c κs = search needs
 
-of-import-requires : tie.Need-of-import-requires
-of-import-requires c κs = search needs
+of-filled-requires : tie.Need-of-filled-requires
+of-filled-requires c κs = search needs
 
 same-length : tie.Need-same-length
 same-length c = search needs
@@ -30,15 +32,17 @@ returns c =
     let R = s .args .r .now in
     let e = q .ensures .0 in
     let l = q .ensures .1 .1 in
-    let k = c .of-import .ensures .1 in (
-      c .of-import .ensures .0 ∙ ap importedNumber e,
+    let k = c .of-filled .ensures .1 in (
+      c .of-filled .ensures .0 ∙ ap (λ (x : Filled). filledRefusal x .number) e,
       (
-        k ∙ ap importedCount e,
+        k ∙ ap filledPlace e,
         (
           q .ensures .1 .0,
           (
-            l .0 ∙ ap (λ (a : Imported). tableLeft (ruleFor S R) a (s .args .out .now)) e,
-            λ z. subst (λ (n : ℕ). Symbolised S R n (take (3 * n + 1) (q .last .1 .1 .1 .0))) (sym k) (imported-means S R (q .result) (q .last .1 .1 .1 .0) (l .1) (sym (c .of-import .ensures .0) ∙ z)),
+            l .0 ∙ ap (λ (a : Filled). tableLeft (ruleFor S R) a (s .args .out .now)) e,
+            λ z. subst (λ (n : ℕ). Symbolised S R n (take (3 * n + 1) (q .last .1 .1 .1 .0))) (sym k)
+            (zero-means (λ (n : ℕ). Symbolised S R n (take (3 * n + 1) (q .last .1 .1 .1 .0))) (q .result)
+            (subst AboveIn (sym e) (import-above S R (length (s .args .w .now)) (length (s .args .out .now)))) (l .1) (sym (c .of-filled .ensures .0) ∙ z)),
           ),
         ),
       ),
@@ -46,4 +50,4 @@ returns c =
 
 pub farey-import-spec : {M : Type 1} → statement M
 farey-import-spec =
-    tie.close (tie.spec import-requires of-import-requires same-length same-length-2 returns)
+    tie.close (tie.spec import-requires of-filled-requires same-length same-length-2 returns)

@@ -1,10 +1,10 @@
 -- `farey_query` meets its contract: the number and the count of the answer, what the call leaves, and the claim. Assumes nothing.
 use mathlib.Core.Path.{ap, _∙_, subst}
 use Rattle.matrix.specs.Matrix.{ofList}
-use Rattle.word.specs.Answer.{queryNumber, foundWord, wordLeft}
+use Rattle.word.specs.Answer.{queryRefusal, foundWord, wordLeft}
 use Rattle.word.specs.Claim.{Claim}
 use Rattle.word.specs.declared.Queried.{Queried}
-use Rattle.engine.specs.Exported.{queriedCount}
+use Rattle.engine.specs.Exported.{queryPlace}
 use borrow.Author.Needs.{needs}
 use Rattle.engine.proofs.farey_query.Statement.{statement}
 use Rattle.engine.proofs.farey_query.Tie as tie
@@ -32,9 +32,9 @@ returns c =
     let O = s .args .out .now in
     let e = q .ensures .0 in
     let l = q .ensures .1 .1 in (
-      c .of-query .ensures .0 ∙ ap queryNumber e,
+      c .of-query .ensures .0 ∙ ap (λ (r : Queried). queryRefusal r .number) e,
       (
-        c .of-query .ensures .1 ∙ ap queriedCount e,
+        c .of-query .ensures .1 ∙ ap queryPlace e,
         (
           q .ensures .1 .0,
           (

@@ -1,7 +1,8 @@
--- `farey_same` meets its contract: the number and the count of the answer, and what the call leaves. Assumes nothing.
-use mathlib.Core.Path.{ap, _∙_}
-use Rattle.pairing.specs.Same.{samenessNumber}
-use Rattle.engine.specs.Exported.{samenessCount}
+-- `farey_same` meets its contract: the number and the count of the answer, what the call leaves, and what that means. Assumes nothing.
+use mathlib.Core.Path.{ap, subst, _∙_}
+use Rattle.pairing.specs.Same.{samenessRefusal, SameMeans}
+use Rattle.pairing.specs.declared.same.Sameness.{Sameness}
+use Rattle.engine.specs.Exported.{samenessPlace}
 use borrow.Author.Needs.{needs}
 use Rattle.engine.proofs.farey_same.Statement.{statement}
 use Rattle.engine.proofs.farey_same.Tie as tie
@@ -18,8 +19,14 @@ same-length c = search needs
 returns : tie.Need-returns
 returns c =
     let q = c .before .before .before .same in
-    let e = q .ensures .0 in
-    (c .of-sameness .ensures .0 ∙ ap samenessNumber e, (c .of-sameness .ensures .1 ∙ ap samenessCount e, q .ensures .1))
+    let s = c .before .before .before .before .before .before in
+    let e = q .ensures .0 in (
+      c .of-sameness .ensures .0 ∙ ap (λ (r : Sameness). samenessRefusal r .number) e,
+      (
+        c .of-sameness .ensures .1 ∙ ap samenessPlace e,
+        (q .ensures .1 .0, subst (SameMeans (s .args .v) (s .args .t .now) (s .args .m) (s .args .u .now)) e (q .ensures .1 .1)),
+      ),
+    )
 
 pub farey-same-spec : {M : Type 1} → statement M
 farey-same-spec = tie.close (tie.spec same-requires of-sameness-requires same-length returns)

@@ -1,9 +1,13 @@
 -- `farey_widths` meets its contract: the number and the count of the answer, what the call leaves, and what that means. Assumes nothing.
-use mathlib.Core.Path.{sym, ap, _∙_}
-use Rattle.coset.specs.Answer.{tabledNumber, columnLeft, widthsOf}
-use Rattle.coset.specs.declared.Tabled.{Tabled}
-use Rattle.engine.specs.Exported.{tabledCount}
-use Rattle.engine.proofs.Zero.{tabled-means}
+use mathlib.Core.Path.{sym, ap, subst, _∙_}
+use Prim.Native.Nat.{ℕ}
+use lib.ListN.{length}
+use Rattle.coset.specs.Answer.{columnLeft, widthsOf, Meaning}
+use Rattle.refusal.specs.Refusal.{filledRefusal}
+use Rattle.refusal.specs.declared.Filled.{Filled}
+use Rattle.refusal.proofs.Numbered.{AboveIn}
+use Rattle.engine.specs.Exported.{filledPlace}
+use Rattle.engine.proofs.Zero.{widthed-above, zero-means}
 use borrow.Author.Needs.{needs}
 use Rattle.engine.proofs.farey_widths.Statement.{statement}
 use Rattle.engine.proofs.farey_widths.Tie as tie
@@ -11,8 +15,8 @@ use Rattle.engine.proofs.farey_widths.Tie as tie
 widths-requires : tie.Need-widths-requires
 widths-requires c κs = search needs
 
-of-tables-requires : tie.Need-of-tables-requires
-of-tables-requires c κs = search needs
+of-filled-requires : tie.Need-of-filled-requires
+of-filled-requires c κs = search needs
 
 same-length : tie.Need-same-length
 same-length c = search needs
@@ -28,14 +32,14 @@ returns c =
     let t = s .args .t .now in
     let e = q .ensures .0 in
     let l = q .ensures .1 .1 in (
-      c .of-tables .ensures .0 ∙ ap tabledNumber e,
+      c .of-filled .ensures .0 ∙ ap (λ (x : Filled). filledRefusal x .number) e,
       (
-        c .of-tables .ensures .1 ∙ ap tabledCount e,
+        c .of-filled .ensures .1 ∙ ap filledPlace e,
         (
           q .ensures .1 .0,
           (
-            l .0 ∙ ap (λ (r : Tabled). columnLeft r (widthsOf v t) (s .args .out .now)) e,
-            λ z. tabled-means v t (q .result) (l .1) (sym (c .of-tables .ensures .0) ∙ z),
+            l .0 ∙ ap (λ (r : Filled). columnLeft r (widthsOf v t) (s .args .out .now)) e,
+            λ z. zero-means (λ (n : ℕ). Meaning v t) (q .result) (subst AboveIn (sym e) (widthed-above v t (length (s .args .w .now)) (length (s .args .out .now)))) (l .1) (sym (c .of-filled .ensures .0) ∙ z),
           ),
         ),
       ),
@@ -43,4 +47,4 @@ returns c =
 
 pub farey-widths-spec : {M : Type 1} → statement M
 farey-widths-spec =
-    tie.close (tie.spec widths-requires of-tables-requires same-length same-length-2 returns)
+    tie.close (tie.spec widths-requires of-filled-requires same-length same-length-2 returns)

@@ -117,8 +117,8 @@ returns-2 c =
     let x = Numbers (count d) in (
       puts-as (ap repliedTo (front d) ∙ reply-by (s .args .longer) (s .args .text .now) x (numbered d)) (l .0),
       leaves-by x (numbered d) (numbers-left d)
-      (l .1 .0 ∙ ap (λ (m : List ℤ). workTo m (s .args .w .now)) (front d))
-      (l .1 .1 ∙ ap (λ (m : List ℤ). lettersTo m (s .args .letters .now)) (front d)),
+          (l .1 .0 ∙ ap (λ (m : List ℤ). workTo m (s .args .w .now)) (front d))
+          (l .1 .1 ∙ ap (λ (m : List ℤ). lettersTo m (s .args .letters .now)) (front d)),
     )
 
 pub reply-text-spec : {M : Type 1} → statement M
