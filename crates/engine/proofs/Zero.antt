@@ -38,6 +38,11 @@ above-pick false x y h k = k
 above-work : (work : ℕ) (a : Filled) → AboveIn a → AboveIn (byWork work a)
 above-work work a h = above-pick (ltb work workLength) (filled.Refused (tooShort workLength)) a (omega arith) h
 
+-- the same of what `figures` says
+abbrev pub AboveSaid : Says → Type 0
+AboveSaid (made n e2 e3 k genus level) = Unit {0}
+AboveSaid (refused f) = 0 < f .number
+
 module _ (v : ℕ) (t : List ℤ) (work : ℕ) where
   above-asked : (a : Filled) → AboveIn a → AboveIn (filledBy (checkOf v t) (byWork work a))
   above-asked a h = above-by (checkOf v t) (byWork work a) (check-above v t) (above-work work a h)
@@ -60,11 +65,6 @@ module _ (v : ℕ) (t : List ℤ) (work : ℕ) where
   widthed-above a =
       let n = length (widthsOf v t) in
       above-asked (roomOne n a) (above-pick (ltb a n) (filled.Refused (tooShort n)) (filled.Made n) (omega arith) tt)
-
-  -- figures
-  abbrev pub AboveSaid : Says → Type 0
-  AboveSaid (made n e2 e3 k genus level) = Unit {0}
-  AboveSaid (refused f) = 0 < f .number
 
   pub figured-above : AboveSaid (figuredOf v t work)
   figured-above = go (checkOf v t) (check-above v t)

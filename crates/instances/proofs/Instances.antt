@@ -15,6 +15,7 @@ use lib.IntN.{pos}
 use borrow.Author.Tests.{eqb-true}
 use Rattle.matrix.specs.Matrix.{_⊗_, adj, det, matS, matQ}
 use Rattle.matrix.specs.Action.{at}
+use Rattle.refusal.specs.Refusal.{refusal, noWord}
 use Rattle.space.specs.Space.{workLength}
 use Rattle.symbol.specs.Check.{eqZ}
 use Rattle.symbol.proofs.Choice.{clash, and-left, and-right, eqZ-true}
@@ -25,7 +26,7 @@ use Rattle.polygon.specs.Cut.{flipOf, underZero}
 use Rattle.polygon.specs.Step.{real, stepS, turnQ, written, startOf, originOf}
 use Rattle.polygon.specs.Walk.{followed}
 use Rattle.coset.specs.Tables.{stepR, cosets, tableS, tableR, tableT}
-use Rattle.word.specs.Answer.{queryOf, queryNumber, queryPlace, home, foundWord}
+use Rattle.word.specs.Answer.{queryOf, queryRefusal, home, foundWord}
 use Rattle.instances.specs.Instances.{Answer, refuses, gives, answerTo, tables, Γ2, Γ0-2, I, S, lentTable, Instance, instances, instanceAt, sameList, sameAnswer, holds, allHold, Holds}
 
 pub all-hold : allHold instances ≡ true
@@ -65,5 +66,5 @@ each i h = holds-at instances _ all-hold i h
 pub Γ2-tables : answerTo (tables 3 Γ2 workLength (lentTable 6) (lentTable 6) (lentTable 6)) ≡ gives (map pos (1 ∷ 0 ∷ 4 ∷ 5 ∷ 2 ∷ 3 ∷ []) ∷ map pos (2 ∷ 3 ∷ 5 ∷ 4 ∷ 1 ∷ 0 ∷ []) ∷ map pos (3 ∷ 2 ∷ 1 ∷ 0 ∷ 5 ∷ 4 ∷ []) ∷ [])
 Γ2-tables = each 8 (lit< tt)
 
-pub Γ0-2-none : (queryNumber (queryOf 2 Γ0-2 I S workLength 1 0) ≡ 10) × (queryPlace (queryOf 2 Γ0-2 I S workLength 1 0) ≡ 0)
-Γ0-2-none = (ap (λ (a : Answer). a .number) (each 12 (lit< tt)), ap (λ (a : Answer). a .place) (each 12 (lit< tt)))
+pub Γ0-2-none : queryRefusal (queryOf 2 Γ0-2 I S workLength 1 0) ≡ noWord
+Γ0-2-none = ap (λ (a : Answer). refusal (a .number) (a .place)) (each 12 (lit< tt))

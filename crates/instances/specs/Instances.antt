@@ -5,6 +5,7 @@
 --   Answer                 document 01's number and place of a refusal, both 0 where nothing is refused; and rows of numbers: what the call
 --                          returns, and then what it leaves in each result space
 --   refuses n p rows       the refusal n at the place p
+--   says f rows            the refusal f, or none
 --   gives rows             no refusal
 --   indexIs n              no refusal, and the index n
 --   word l                 no refusal, and the word l, which fills the lent space
@@ -26,21 +27,21 @@ use lib.IntN.{ℤ, pos, negsuc}
 use Rattle.matrix.specs.Matrix.{ofList}
 use Rattle.space.specs.Space.{workLength}
 use Rattle.symbol.specs.Check as symbol
-use Rattle.symbol.specs.Check.{eqZ, numberOf, placeOf}
+use Rattle.symbol.specs.Check.{eqZ}
 use Rattle.pairing.specs.Generator as generator
-use Rattle.pairing.specs.Generator.{generatorTable, generatedOf, generatedNumber, generatedPlace}
-use Rattle.symbol.specs.declared.Checked.{Checked}
-use Rattle.symbol.specs.declared.Checked.the-variants as checked
+use Rattle.pairing.specs.Generator.{generatorTable, generatedOf}
+use Rattle.refusal.specs.Refusal.{checkedRefusal, filledRefusal}
+use Rattle.refusal.specs.declared.Refusal.{Refusal}
+use Rattle.refusal.specs.declared.Filled.{Filled}
+use Rattle.refusal.specs.declared.Filled.the-variants as filled
 use Rattle.coset.specs.Tables.{tableS, tableR, tableT}
 use Rattle.coset.specs.Answer as coset
-use Rattle.coset.specs.Answer.{Says, tabledOf, tabledNumber, tabledPlace, columnLeft, figuredOf}
-use Rattle.word.specs.Answer.{queryOf, queryNumber, queryPlace, foundWord, wordLeft, partOf}
+use Rattle.coset.specs.Answer.{Says, tabledOf, columnLeft, figuredOf}
+use Rattle.word.specs.Answer.{queryOf, queryRefusal, foundWord, wordLeft, partOf}
 use Rattle.word.specs.declared.Queried.{Queried}
 use Rattle.word.specs.declared.Queried.the-variants as queried
 use Rattle.passport.specs.Import as passport
-use Rattle.passport.specs.Import.{importOf, importedNumber, importedPlace, ruleFor}
-use Rattle.passport.specs.declared.Imported.{Imported}
-use Rattle.passport.specs.declared.Imported.the-variants as imported
+use Rattle.passport.specs.Import.{importOf, ruleFor}
 
 -- ---- what is asked
 
@@ -77,49 +78,40 @@ indexIs n = gives ((pos n ∷ []) ∷ [])
 abbrev pub word : List ℤ → Answer
 word l = gives (l ∷ l ∷ [])
 
-abbrev pub checkSays : Checked → Answer
-checkSays checked.Accepted = gives []
-checkSays (checked.Refused f) = refuses (numberOf f) (placeOf f) []
+-- the refusal f, or none
+abbrev pub says : Refusal → List (List ℤ) → Answer
+says f l = refuses (f .number) (f .place) l
 
 abbrev pub indexSays : Says → Answer
 indexSays (coset.made n e2 e3 cusps genus level) = indexIs n
-indexSays (coset.refused n p) = refuses n p []
+indexSays (coset.refused f) = says f []
 
 -- the word that an answer names, in the word space that the call leaves
 abbrev pub wordIn : Queried → List ℤ → List ℤ
 wordIn (queried.Word start n) out = partOf out start n
 wordIn (queried.Refused f) out = []
-wordIn (queried.Entry i) out = []
-wordIn (queried.Determinant i) out = []
-wordIn queried.Absent out = []
-wordIn (queried.Short n) out = []
 
 -- the number of vertices
-abbrev pub verticesIn : Imported → List ℤ
-verticesIn (imported.Made v) = pos v ∷ []
-verticesIn imported.Count = []
-verticesIn (imported.Entry i) = []
-verticesIn (imported.Order x) = []
-verticesIn (imported.Unreached x) = []
-verticesIn (imported.Short n) = []
-verticesIn (imported.Split i) = []
+abbrev pub verticesIn : Filled → List ℤ
+verticesIn (filled.Made v) = pos v ∷ []
+verticesIn (filled.Refused f) = []
 
 abbrev pub answerTo : Question → Answer
-answerTo (check v t) = checkSays (symbol.checkOf v t)
+answerTo (check v t) = says (checkedRefusal (symbol.checkOf v t)) []
 answerTo (index v t work) = indexSays (figuredOf v t work)
 answerTo (generators v t work out) =
     let r = generatedOf v t work (length out) in
-    refuses (generatedNumber r) (generatedPlace r) (generator.tableLeft r (generatorTable v t) out ∷ [])
+    says (filledRefusal r) (generator.tableLeft r (generatorTable v t) out ∷ [])
 answerTo (tables v t work s r u) =
     let a = tabledOf v t work (length s) (length r) (length u) in
-    refuses (tabledNumber a) (tabledPlace a) (map pos (columnLeft a (tableS v t) s) ∷ map pos (columnLeft a (tableR v t) r) ∷ map pos (columnLeft a (tableT v t) u) ∷ [])
+    says (filledRefusal a) (map pos (columnLeft a (tableS v t) s) ∷ map pos (columnLeft a (tableR v t) r) ∷ map pos (columnLeft a (tableT v t) u) ∷ [])
 answerTo (query v t a b work out start) =
     let r = queryOf v t a b work (length out) start in
     let left = wordLeft r (foundWord v t (ofList a) (ofList b)) out in
-    refuses (queryNumber r) (queryPlace r) (wordIn r left ∷ left ∷ [])
+    says (queryRefusal r) (wordIn r left ∷ left ∷ [])
 answerTo (import s r work out) =
     let a = importOf s r work (length out) in
-    refuses (importedNumber a) (importedPlace a) (verticesIn a ∷ passport.tableLeft (ruleFor s r) a out ∷ [])
+    says (filledRefusal a) (verticesIn a ∷ passport.tableLeft (ruleFor s r) a out ∷ [])
 
 -- ---- the symbols and matrices of the table
 

@@ -41,7 +41,7 @@ returns c =
     let s = c .before .before .before .before .before .before .before .before in
     let told = (c .before) .answer .given in
     let k = sym (ap saidBy (told .1)) ∙ q .ensures .0 in
-    let above = subst (AboveSaid (s .args .v) (s .args .t .now) (length (s .args .w .now))) (sym k) (figured-above (s .args .v) (s .args .t .now) (length (s .args .w .now))) in (
+    let above = subst AboveSaid (sym k) (figured-above (s .args .v) (s .args .t .now) (length (s .args .w .now))) in (
       ap (λ (x : Says). saysRefusal x .number) k,
       (
         ap (λ (x : Says). saysRefusal x .place) k,

@@ -41,8 +41,8 @@ returns c =
           (
             l .0 ∙ ap (λ (a : Filled). tableLeft (ruleFor S R) a (s .args .out .now)) e,
             λ z. subst (λ (n : ℕ). Symbolised S R n (take (3 * n + 1) (q .last .1 .1 .1 .0))) (sym k)
-            (zero-means (λ (n : ℕ). Symbolised S R n (take (3 * n + 1) (q .last .1 .1 .1 .0))) (q .result)
-            (subst AboveIn (sym e) (import-above S R (length (s .args .w .now)) (length (s .args .out .now)))) (l .1) (sym (c .of-filled .ensures .0) ∙ z)),
+                (zero-means (λ (n : ℕ). Symbolised S R n (take (3 * n + 1) (q .last .1 .1 .1 .0))) (q .result)
+                (subst AboveIn (sym e) (import-above S R (length (s .args .w .now)) (length (s .args .out .now)))) (l .1) (sym (c .of-filled .ensures .0) ∙ z)),
           ),
         ),
       ),
