@@ -1,11 +1,12 @@
 /* The Farey symbol engine: finite index subgroups of PSL2(Z) from C.
  *
- * Link with libengine.a. Every function below is proved to do what its comment says, for every input that keeps these rules of
- * C's side, which nothing can check:
- *   - a pointer with a length points to that many numbers of its type, aligned, also where the length is 0 (then to anything aligned,
- *     but not NULL); the other pointers point to what their comment says;
+ * Link with libengine.a, on x86-64 Linux. The code of every function below is proved to do what its comment says, and is then compiled
+ * (docs/HANDBOOK.md says what is assumed there), for every input that keeps these rules of C's side, which nothing can check:
+ *   - a pointer with a length points to that many numbers of its type, aligned; where the length is 0 it may be anything, NULL too;
+ *     the other pointers point to what their comment says, and none of them is NULL;
  *   - no two spaces that are lent for writing overlap, and none overlaps what is lent for reading;
- *   - nobody else writes to any of them during the call.
+ *   - nobody else writes to any of them during the call;
+ *   - FAREY_STACK bytes of stack are free at the call.
  * There is no state between calls. A function allocates nothing, reads and writes no other memory, and always returns.
  *
  * THE SYMBOL is lent as v and a table t of t_len numbers: for each of the v finite vertices its numerator and its denominator, from
@@ -50,6 +51,11 @@
 extern "C" {
 #endif
 
+/* Stack that is enough for every call, in bytes, with what it calls in turn. This is measured and not proved, on x86-64: farey_import takes
+ * under 10,000 and every other call under 2,000, on the largest inputs, by a thread whose stack was filled beforehand
+ * (rust/differential/tests/stack.rs, which the gate runs). A call that the dynamic linker has to look up at its first use (memset) may
+ * take some thousand more, once. */
+#define FAREY_STACK 16384
 /* The length of the work space. */
 #define FAREY_WORK 32768
 /* Lengths that are enough for every symbol: of a symbol's table, of the generators, of a table of cosets or widths. */

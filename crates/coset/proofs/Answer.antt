@@ -11,12 +11,13 @@ use lib.ListN.{length}
 use lib.IntN.{ℤ}
 use borrow.Author.Tests.{lt-ltb, le-ltb}
 use Rattle.space.specs.Space.{workLength, zeros}
-use Rattle.symbol.specs.Check.{numberOf, placeOf, checkOf}
+use Rattle.symbol.specs.Check.{checkOf}
 use Rattle.symbol.specs.Symbol.{IsSymbol}
 use Rattle.pairing.specs.Generator.{workAfter}
-use Rattle.symbol.specs.declared.Fault.{Fault}
-use Rattle.symbol.specs.declared.Checked.{Checked}
-use Rattle.symbol.specs.declared.Checked.the-variants.{Accepted, Refused}
+use Rattle.refusal.specs.Refusal.{tooShort}
+use Rattle.refusal.specs.declared.Refusal.{Refusal}
+use Rattle.refusal.specs.declared.Checked.{Checked}
+use Rattle.refusal.specs.declared.Checked.the-variants.{Accepted, Refused}
 use Rattle.symbol.proofs.Choice.{pick-true, pick-false}
 use Rattle.polygon.proofs.Polygon.{polygon}
 use Rattle.points.specs.Space.{S-TABLE, R-TABLE, T-TABLE, entries}
@@ -32,29 +33,30 @@ use Rattle.coset.specs.Tables.{cosets, tableS, tableR, tableT, indexOf}
 use Rattle.coset.specs.Work.{Arranged}
 use Rattle.coset.specs.Answer.{roomFor, roomOne, tabledBy, figuresOf, figuredBy, figuredOf, Surveyed, Meaning, TablesMean, FiguresMean}
 use Rattle.coset.specs.Answer as answer
-use Rattle.coset.specs.declared.Tabled.{Tabled}
-use Rattle.coset.specs.declared.Tabled.the-variants as tabled
+use Rattle.refusal.specs.declared.Filled.{Filled}
+use Rattle.refusal.specs.declared.Filled.the-variants as filled
 use Rattle.coset.specs.declared.Figured.the-variants as figured
+use Rattle.coset.proofs.TableFigures.{table-figures}
 use Rattle.coset.proofs.Theorem.{size-is, cosets-are, maps, injective-S, injective-R}
 
 module _ (n a b c : ℕ) where
-  pub room-first : a < n → tabled.Short n ≡ roomFor n a b c
+  pub room-first : a < n → filled.Refused (tooShort n) ≡ roomFor n a b c
   room-first h = rw (lt-ltb a n h)
 
-  pub room-second : n ≤ a → b < n → tabled.Short n ≡ roomFor n a b c
+  pub room-second : n ≤ a → b < n → filled.Refused (tooShort n) ≡ roomFor n a b c
   room-second h k = rw (le-ltb a n h, lt-ltb b n k)
 
-  pub room-third : n ≤ a → n ≤ b → c < n → tabled.Short n ≡ roomFor n a b c
+  pub room-third : n ≤ a → n ≤ b → c < n → filled.Refused (tooShort n) ≡ roomFor n a b c
   room-third h k l = rw (le-ltb a n h, le-ltb b n k, lt-ltb c n l)
 
-  pub room-all : n ≤ a → n ≤ b → n ≤ c → tabled.Made n ≡ roomFor n a b c
+  pub room-all : n ≤ a → n ≤ b → n ≤ c → filled.Made n ≡ roomFor n a b c
   room-all h k l = rw (le-ltb a n h, le-ltb b n k, le-ltb c n l)
 
 module _ (n a : ℕ) where
-  pub one-short : a < n → tabled.Short n ≡ roomOne n a
+  pub one-short : a < n → filled.Refused (tooShort n) ≡ roomOne n a
   one-short h = rw (lt-ltb a n h)
 
-  pub one-room : n ≤ a → tabled.Made n ≡ roomOne n a
+  pub one-room : n ≤ a → filled.Made n ≡ roomOne n a
   one-room h = rw (le-ltb a n h)
 
 -- what was arranged: so many cosets as the index says, and their tables
@@ -81,21 +83,21 @@ made {t} {v} ok a =
 
 -- ---- the order of refusals
 
-module _ (v : ℕ) (t : List ℤ) (w : List ℕ) (r : Tabled) where
-  pub by-refused : (f : Fault) → checkOf v t ≡ Refused f → (tabled.Refused f ≡ tabledBy (checkOf v t) (length w) r) × (w ≡ workAfter (checkOf v t) w)
+module _ (v : ℕ) (t : List ℤ) (w : List ℕ) (r : Filled) where
+  pub by-refused : (f : Refusal) → checkOf v t ≡ Refused f → (filled.Refused f ≡ tabledBy (checkOf v t) (length w) r) × (w ≡ workAfter (checkOf v t) w)
   by-refused f e = (sym (ap (λ (c : Checked). tabledBy c (length w) r) e), sym (ap (λ (c : Checked). workAfter c w) e))
 
-  pub by-short : checkOf v t ≡ Accepted → length w < workLength → (tabled.Short workLength ≡ tabledBy (checkOf v t) (length w) r) × (w ≡ workAfter (checkOf v t) w)
+  pub by-short : checkOf v t ≡ Accepted → length w < workLength → (filled.Refused (tooShort workLength) ≡ tabledBy (checkOf v t) (length w) r) × (w ≡ workAfter (checkOf v t) w)
   by-short e h =
       let b = lt-ltb (length w) workLength h in (
-        sym (ap (λ (c : Checked). tabledBy c (length w) r) e ∙ pick-true (ltb (length w) workLength) (tabled.Short workLength) r b),
+        sym (ap (λ (c : Checked). tabledBy c (length w) r) e ∙ pick-true (ltb (length w) workLength) (filled.Refused (tooShort workLength)) r b),
         sym (ap (λ (c : Checked). workAfter c w) e ∙ pick-true (ltb (length w) workLength) w (zeros (length w)) b),
       )
 
   pub by-long : checkOf v t ≡ Accepted → workLength ≤ length w → (r ≡ tabledBy (checkOf v t) (length w) r) × (zeros (length w) ≡ workAfter (checkOf v t) w)
   by-long e h =
       let b = le-ltb (length w) workLength h in (
-        sym (ap (λ (c : Checked). tabledBy c (length w) r) e ∙ pick-false (ltb (length w) workLength) (tabled.Short workLength) r b),
+        sym (ap (λ (c : Checked). tabledBy c (length w) r) e ∙ pick-false (ltb (length w) workLength) (filled.Refused (tooShort workLength)) r b),
         sym (ap (λ (c : Checked). workAfter c w) e ∙ pick-false (ltb (length w) workLength) w (zeros (length w)) b),
       )
 
@@ -105,12 +107,13 @@ pub meaning : {v : ℕ} {t : List ℤ} → IsSymbol v t → Meaning v t
 meaning {v} {t} ok =
     let g = polygon v t ok in
     let c = cosets-are v t g in
-    record { symbol = ok; polygon = g; cosets = c; cusps = cusps-are (c .permutations .T) }
+    let k = cusps-are (c .permutations .T) in
+    record { symbol = ok; polygon = g; cosets = c; cusps = k; figures = table-figures (indexOf v t) (tableS v t) (tableR v t) (tableT v t) (c .permutations .T) k }
 
-pub means-refused : {v : ℕ} {t : List ℤ} (f : Fault) → TablesMean v t (tabled.Refused f)
+pub means-refused : {v : ℕ} {t : List ℤ} (f : Refusal) → TablesMean v t (filled.Refused f)
 means-refused f n e = let z : _≡_ {A = ℕ} 0 1 = cc in absurd (omega arith)
 
-pub figures-mean-refused : {v : ℕ} {t : List ℤ} (f : Fault) → FiguresMean v t (figured.Refused f)
+pub figures-mean-refused : {v : ℕ} {t : List ℤ} (f : Refusal) → FiguresMean v t (figured.Refused f)
 figures-mean-refused f r e = let z : _≡_ {A = ℕ} 0 1 = cc in absurd (omega arith)
 
 -- ---- figures
@@ -137,11 +140,11 @@ module _ {t : List ℤ} {v n e2 e3 k : ℕ} {w w' : List ℕ} {g : genus.Genus} 
   }
 
 module _ (v : ℕ) (t : List ℤ) (n : ℕ) where
-  pub figures-refused : (f : Fault) → checkOf v t ≡ Refused f → answer.refused (numberOf f) (placeOf f) ≡ figuredOf v t n
+  pub figures-refused : (f : Refusal) → checkOf v t ≡ Refused f → answer.refused f ≡ figuredOf v t n
   figures-refused f e = sym (ap (λ (c : Checked). figuredBy c n (figuresOf v t)) e)
 
-  pub figures-short : checkOf v t ≡ Accepted → n < workLength → answer.refused 11 workLength ≡ figuredOf v t n
-  figures-short e h = sym (ap (λ (c : Checked). figuredBy c n (figuresOf v t)) e ∙ pick-true (ltb n workLength) (answer.refused 11 workLength) (figuresOf v t) (lt-ltb n workLength h))
+  pub figures-short : checkOf v t ≡ Accepted → n < workLength → answer.refused (tooShort workLength) ≡ figuredOf v t n
+  figures-short e h = sym (ap (λ (c : Checked). figuredBy c n (figuresOf v t)) e ∙ pick-true (ltb n workLength) (answer.refused (tooShort workLength)) (figuresOf v t) (lt-ltb n workLength h))
 
   pub figures-long : checkOf v t ≡ Accepted → workLength ≤ n → figuresOf v t ≡ figuredOf v t n
-  figures-long e h = sym (ap (λ (c : Checked). figuredBy c n (figuresOf v t)) e ∙ pick-false (ltb n workLength) (answer.refused 11 workLength) (figuresOf v t) (le-ltb n workLength h))
+  figures-long e h = sym (ap (λ (c : Checked). figuredBy c n (figuresOf v t)) e ∙ pick-false (ltb n workLength) (answer.refused (tooShort workLength)) (figuresOf v t) (le-ltb n workLength h))

@@ -1,4 +1,5 @@
 -- Why the crate `coset` answers what it does, in reading order: the theorem on the tables, the filling of the work space, the answers.
 pub mod Theorem
+pub mod TableFigures
 pub mod Work
 pub mod Answer

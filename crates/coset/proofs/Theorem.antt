@@ -83,7 +83,7 @@ module _ (v : ℕ) (t : List ℤ) (g : Polygon v t) where
   ρ-real x h = rw (ρ-is x) (g .closed S (κ (κ (σ x))) (g .closed P (σ x) (g .closed S x h)))
 
   listed-real : (x : ℕ) → Reached σ ρ origin x → Real v t x
-  listed-real _ here = g .origin
+  listed-real _ here = g .walks .origin
   listed-real _ (by-σ {x} r) = g .closed S x (listed-real x r)
   listed-real _ (by-ρ {x} r) = ρ-real x (listed-real x r)
 
@@ -104,7 +104,7 @@ module _ (v : ℕ) (t : List ℤ) (g : Polygon v t) where
 
   pub maps : Maps σ ρ origin (places v)
   maps = record {
-    start-low = g .within origin (g .origin);
+    start-low = g .within origin (g .walks .origin);
     σ-low = λ x h. elim (either (real v t x)) [ inl e ↦ g .within (σ x) (g .closed S x e) | inr e ↦ rw (σ-still x e) h ];
     ρ-low = λ x h. elim (either (real v t x)) [ inl e ↦ g .within (ρ x) (ρ-real x e) | inr e ↦ rw (ρ-still x e) h ];
   }
@@ -190,11 +190,11 @@ module _ (v : ℕ) (t : List ℤ) (g : Polygon v t) where
 
   arrives-real : (m : Mat) → Real v t (arrives v t origin m)
   unfolding action.at
-  arrives-real m = g .walk-real (wordOf m) origin (g .origin)
+  arrives-real m = g .walks .walk-real (wordOf m) origin (g .walks .origin)
 
   leads-is : (m : Mat) → leads s r m ≡ number (arrives v t origin m)
   unfolding action.at
-  leads-is m = ap (λ (z : ℕ). action.run (at s) (byQ s r) z (wordOf m)) (sym zero-is) ∙ run-is (wordOf m) origin (g .origin)
+  leads-is m = ap (λ (z : ℕ). action.run (at s) (byQ s r) z (wordOf m)) (sym zero-is) ∙ run-is (wordOf m) origin (g .walks .origin)
 
   -- positions with one number are one position
   number-one : (x y : ℕ) → Real v t x → Real v t y → number x ≡ number y → x ≡ y
@@ -261,7 +261,7 @@ module _ (v : ℕ) (t : List ℤ) (g : Polygon v t) where
   all-led j h =
       let p = getD (cosets v t) j 0 in
       let k = listed-real p (numbers .only p (getD-in (cosets v t) j h)) in
-      record { matrix = g .frame p; unit = g .unit p k; is = leads-is (g .frame p) ∙ ap number (g .by-frame p k) ∙ numbers .once .place j h }
+      record { matrix = g .frame p; unit = g .cut .unit p (g .within p k); is = leads-is (g .frame p) ∙ ap number (g .walks .by-frame p k) ∙ numbers .once .place j h }
 
   in-order : orderOf (at s) (at r) 0 (indexOf v t) ≡ upTo (indexOf v t)
   unfolding cosets tableS tableR

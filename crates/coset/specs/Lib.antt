@@ -1,6 +1,7 @@
--- What a reader of the crate `coset` must believe, in reading order: the tables, what they are tables of, the answers; and then what the
+-- What a reader of the crate `coset` must believe, in reading order: the tables, what they are tables of, their figures, the answers; and then what the
 -- functions inside the crate promise each other.
 pub mod Tables
 pub mod Theorem
+pub mod TableFigures
 pub mod Answer
 pub mod Work

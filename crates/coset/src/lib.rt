@@ -10,8 +10,10 @@ use points::S_TABLE;
 use points::T_TABLE;
 use points::WIDTHS;
 use points::copy_out;
-use symbol::Checked;
-use symbol::Fault;
+use refusal::Checked;
+use refusal::Filled;
+use refusal::Refusal;
+use refusal::TOO_SHORT;
 use symbol::check;
 ghost use mathlib.Core.Path.{_≡_};
 ghost use Prim.Native.Nat.{_≤_};
@@ -26,18 +28,8 @@ ghost use Rattle.coset.specs.Answer.{roomFor, tabledOf, columnLeft, room
 
 mod arrange;
 
-// The answer of `tables`.
-pub enum Tabled {
-    // So many cosets; each table stands at the front of its space.
-    Made(usize),
-    // The table is no symbol.
-    Refused(Fault),
-    // Refusal 11: the length that a space needs.
-    Short(usize),
-}
-
 // Copies the tables of n cosets, where there is room for all three.
-fn copy_tables(w: &[u16], n: usize, s: &mut [u32], r: &mut [u32], u: &mut [u32]) -> Tabled
+fn copy_tables(w: &[u16], n: usize, s: &mut [u32], r: &mut [u32], u: &mut [u32]) -> Filled
     requires { ⌜ (n ≤ 4096) × (workLength ≤ length (now w)) ⌝ }
     ensures { λ a. ⌜ a ≡ roomFor n (length (now (s .entry))) (length (now (r .entry))) (length (now (u .entry))) ⌝ }
     ensures { λ a. ⌜ now (s .exit) ≡ columnLeft a (entries S-TABLE n (now (w .entry))) (now (s .entry)) ⌝ }
@@ -45,18 +37,27 @@ fn copy_tables(w: &[u16], n: usize, s: &mut [u32], r: &mut [u32], u: &mut [u32])
     ensures { λ a. ⌜ now (u .exit) ≡ columnLeft a (entries T-TABLE n (now (w .entry))) (now (u .entry)) ⌝ }
 {
     if s.len() < n {
-        return Tabled::Short(n);
+        return Filled::Refused(Refusal {
+            number: TOO_SHORT,
+            place: n,
+        });
     }
     if r.len() < n {
-        return Tabled::Short(n);
+        return Filled::Refused(Refusal {
+            number: TOO_SHORT,
+            place: n,
+        });
     }
     if u.len() < n {
-        return Tabled::Short(n);
+        return Filled::Refused(Refusal {
+            number: TOO_SHORT,
+            place: n,
+        });
     }
     copy_out(w, S_TABLE, n, s);
     copy_out(w, R_TABLE, n, r);
     copy_out(w, T_TABLE, n, u);
-    Tabled::Made(n)
+    Filled::Made(n)
 }
 
 // The same from an accepted symbol; the work space is cleared after.
@@ -67,7 +68,7 @@ fn make_tables(
     s: &mut [u32],
     r: &mut [u32],
     u: &mut [u32],
-) -> Tabled
+) -> Filled
     requires { ⌜ IsSymbol v (now t) × (workLength ≤ length (now w)) ⌝ }
     ensures { λ a. ⌜ a ≡ roomFor (indexOf v (now (t .entry))) (length (now (s .entry))) (length (now (r .entry))) (length (now (u .entry))) ⌝ }
     ensures { λ a. ⌜ now (w .exit) ≡ zeros (length (now (w .entry))) ⌝ }
@@ -90,7 +91,7 @@ pub fn tables(
     s: &mut [u32],
     r: &mut [u32],
     u: &mut [u32],
-) -> Tabled
+) -> Filled
     ensures { λ a. ⌜ a ≡ tabledOf v (now (t .entry)) (length (now (w .entry))) (length (now (s .entry))) (length (now (r .entry))) (length (now (u .entry))) ⌝ }
     ensures { λ a. ⌜ now (w .exit) ≡ workAfter (checkOf v (now (t .entry))) (now (w .entry)) ⌝ }
     ensures { λ a. ⌜ now (s .exit) ≡ columnLeft a (tableS v (now (t .entry))) (now (s .entry)) ⌝ }
@@ -100,10 +101,13 @@ pub fn tables(
 {
     let checked = check(v, t);
     match checked {
-        Checked::Refused(fault) => Tabled::Refused(fault),
+        Checked::Refused(refusal) => Filled::Refused(refusal),
         Checked::Accepted => {
             if w.len() < space::WORK {
-                return Tabled::Short(space::WORK);
+                return Filled::Refused(Refusal {
+                    number: TOO_SHORT,
+                    place: space::WORK,
+                });
             }
             make_tables(v, t, w, s, r, u)
         }
@@ -111,20 +115,23 @@ pub fn tables(
 }
 
 // Copies the widths of k cusps, where there is room.
-fn copy_widths(w: &[u16], k: usize, out: &mut [u32]) -> Tabled
+fn copy_widths(w: &[u16], k: usize, out: &mut [u32]) -> Filled
     requires { ⌜ (k ≤ 4096) × (workLength ≤ length (now w)) ⌝ }
     ensures { λ a. ⌜ a ≡ roomOne k (length (now (out .entry))) ⌝ }
     ensures { λ a. ⌜ now (out .exit) ≡ columnLeft a (entries WIDTHS k (now (w .entry))) (now (out .entry)) ⌝ }
 {
     if out.len() < k {
-        return Tabled::Short(k);
+        return Filled::Refused(Refusal {
+            number: TOO_SHORT,
+            place: k,
+        });
     }
     copy_out(w, WIDTHS, k, out);
-    Tabled::Made(k)
+    Filled::Made(k)
 }
 
 // The same from an accepted symbol; the work space is cleared after.
-fn make_widths(v: usize, t: &[i64], w: &mut [u16], out: &mut [u32]) -> Tabled
+fn make_widths(v: usize, t: &[i64], w: &mut [u16], out: &mut [u32]) -> Filled
     requires { ⌜ IsSymbol v (now t) × (workLength ≤ length (now w)) ⌝ }
     ensures { λ a. ⌜ a ≡ roomOne (length (widthsOf v (now (t .entry)))) (length (now (out .entry))) ⌝ }
     ensures { λ a. ⌜ now (w .exit) ≡ zeros (length (now (w .entry))) ⌝ }
@@ -138,7 +145,7 @@ fn make_widths(v: usize, t: &[i64], w: &mut [u16], out: &mut [u32]) -> Tabled
 }
 
 // The widths of the cusps of the symbol in t, by smallest point, at the front of out: checks 1 to 7, then the work space, then out.
-pub fn widths(v: usize, t: &[i64], w: &mut [u16], out: &mut [u32]) -> Tabled
+pub fn widths(v: usize, t: &[i64], w: &mut [u16], out: &mut [u32]) -> Filled
     ensures { λ a. ⌜ a ≡ widthedOf v (now (t .entry)) (length (now (w .entry))) (length (now (out .entry))) ⌝ }
     ensures { λ a. ⌜ now (w .exit) ≡ workAfter (checkOf v (now (t .entry))) (now (w .entry)) ⌝ }
     ensures { λ a. ⌜ now (out .exit) ≡ columnLeft a (widthsOf v (now (t .entry))) (now (out .entry)) ⌝ }
@@ -146,10 +153,13 @@ pub fn widths(v: usize, t: &[i64], w: &mut [u16], out: &mut [u32]) -> Tabled
 {
     let checked = check(v, t);
     match checked {
-        Checked::Refused(fault) => Tabled::Refused(fault),
+        Checked::Refused(refusal) => Filled::Refused(refusal),
         Checked::Accepted => {
             if w.len() < space::WORK {
-                return Tabled::Short(space::WORK);
+                return Filled::Refused(Refusal {
+                    number: TOO_SHORT,
+                    place: space::WORK,
+                });
             }
             make_widths(v, t, w, out)
         }
@@ -169,10 +179,8 @@ pub struct FigureRecord {
 // The answer of `figures`.
 pub enum Figured {
     Made(FigureRecord),
-    // The table is no symbol.
-    Refused(Fault),
-    // Refusal 11: the length that the work space needs.
-    Short(usize),
+    // The table is no symbol, or the work space is too short.
+    Refused(Refusal),
 }
 
 // The figures of an accepted symbol. The widths of its cusps and its tables of S, R and T stay in the work space, for whoever reads them there.
@@ -216,10 +224,13 @@ pub fn figures(v: usize, t: &[i64], w: &mut [u16]) -> Figured
 {
     let checked = check(v, t);
     match checked {
-        Checked::Refused(fault) => Figured::Refused(fault),
+        Checked::Refused(refusal) => Figured::Refused(refusal),
         Checked::Accepted => {
             if w.len() < space::WORK {
-                return Figured::Short(space::WORK);
+                return Figured::Refused(Refusal {
+                    number: TOO_SHORT,
+                    place: space::WORK,
+                });
             }
             make_figures(v, t, w)
         }

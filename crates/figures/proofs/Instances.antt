@@ -5,6 +5,7 @@ use mathlib.Core.Path.{_≡_, refl}
 use mathlib.Core.List.{[], _∷_}
 use Rattle.points.specs.Select.{select}
 use Rattle.figures.specs.Cusps.{fixedPoints, stepsTo, width, run, noneBelow, widths}
+use Rattle.refusal.specs.Refusal.{levelTooLarge, noGenus}
 use Rattle.figures.specs.Figure.{value, refused}
 use Rattle.figures.specs.GenusOf.{genusOf}
 use Rattle.figures.specs.LevelOf.{euclid, lcmFrom, fitting, levelOf}
@@ -36,11 +37,11 @@ unfolding select width stepsTo run noneBelow
 gamma2-widths = refl
 
 -- ---- refusal 18: below 0, and broken
-genus-negative : genusOf 1 0 0 3 ≡ refused 18 0
+genus-negative : genusOf 1 0 0 3 ≡ refused noGenus
 unfolding genusOf
 genus-negative = refl
 
-genus-half : genusOf 6 0 0 2 ≡ refused 18 0
+genus-half : genusOf 6 0 0 2 ≡ refused noGenus
 unfolding genusOf
 genus-half = refl
 
@@ -48,13 +49,13 @@ genus-half = refl
 below-2-64 : fitting 18446744073709551615 ≡ value 18446744073709551615
 below-2-64 = refl
 
-at-2-64 : fitting 18446744073709551616 ≡ refused 17 0
+at-2-64 : fitting 18446744073709551616 ≡ refused levelTooLarge
 at-2-64 = refl
 
 primes-15 : levelOf (2 ∷ 3 ∷ 5 ∷ 7 ∷ 11 ∷ 13 ∷ 17 ∷ 19 ∷ 23 ∷ 29 ∷ 31 ∷ 37 ∷ 41 ∷ 43 ∷ 47 ∷ []) ≡ value 614889782588491410
 unfolding euclid lcmFrom
 primes-15 = refl
 
-primes-16 : levelOf (2 ∷ 3 ∷ 5 ∷ 7 ∷ 11 ∷ 13 ∷ 17 ∷ 19 ∷ 23 ∷ 29 ∷ 31 ∷ 37 ∷ 41 ∷ 43 ∷ 47 ∷ 53 ∷ []) ≡ refused 17 0
+primes-16 : levelOf (2 ∷ 3 ∷ 5 ∷ 7 ∷ 11 ∷ 13 ∷ 17 ∷ 19 ∷ 23 ∷ 29 ∷ 31 ∷ 37 ∷ 41 ∷ 43 ∷ 47 ∷ 53 ∷ []) ≡ refused levelTooLarge
 unfolding euclid lcmFrom
 primes-16 = refl

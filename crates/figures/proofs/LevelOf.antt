@@ -12,6 +12,7 @@ use native.Mathlib.Omega.{arith}
 use lib.ListN.{length, getD}
 use lib.Dec.{ltb}
 use borrow.Author.Tests.{lt-ltb, le-ltb, ltb-true, ltb-false}
+use Rattle.refusal.specs.Refusal.{levelTooLarge}
 use Rattle.figures.specs.Figure.{value, refused}
 use Rattle.figures.specs.LevelOf.{euclid, gcd, lcm, lcmFrom, lcmOf, TOO-LARGE, fitting, Positive, LeastMultiple}
 use Rattle.points.proofs.Find.{none-below, test}
@@ -142,7 +143,7 @@ under q b h k = omega (arith, le-div-iff-mul-le h .0 k)
 pub fitting-yes : (m : ℕ) → m < TOO-LARGE → value m ≡ fitting m
 fitting-yes m h = rw (lt-ltb m TOO-LARGE h)
 
-pub fitting-no : (m : ℕ) → TOO-LARGE ≤ m → refused 17 0 ≡ fitting m
+pub fitting-no : (m : ℕ) → TOO-LARGE ≤ m → refused levelTooLarge ≡ fitting m
 fitting-no m h = rw (le-ltb m TOO-LARGE h)
 
 -- what an answer says of the number
@@ -152,7 +153,7 @@ value-fits m k e = elim (test (ltb m TOO-LARGE)) [
   | inr q ↦ let d = rw q at e in let z : _≡_ {A = ℕ} 0 1 = cc in let no : ⊥ = omega arith in absurd no
 ]
 
-pub refused-over : (m : ℕ) → refused 17 0 ≡ fitting m → TOO-LARGE ≤ m
+pub refused-over : (m : ℕ) → refused levelTooLarge ≡ fitting m → TOO-LARGE ≤ m
 refused-over m e = elim (test (ltb m TOO-LARGE)) [
   | inl q ↦ let d = rw q at e in let z : _≡_ {A = ℕ} 0 1 = cc in let no : ⊥ = omega arith in absurd no
   | inr q ↦ ltb-false m TOO-LARGE q

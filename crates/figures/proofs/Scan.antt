@@ -16,6 +16,7 @@ use Rattle.points.specs.Find.{find, _∈_, _∉_, isIn}
 use Rattle.points.specs.Table.{at}
 use Rattle.figures.specs.Cusps.{isFixed, fixedPoints, times, width, run, cycle, smallest, cuspsTo, cusps, cycles}
 use Rattle.points.specs.Select.{select}
+use Rattle.refusal.specs.Refusal.{levelTooLarge}
 use Rattle.figures.specs.Figure.{value, refused}
 use Rattle.figures.specs.LevelOf.{lcm, lcmFrom, lcmOf, TOO-LARGE, fitting, levelOf, Positive}
 use Rattle.points.specs.Space.{WORK, ROOM, WIDTHS, NUMBER, ORDER, R-TABLE, T-TABLE, entries, Within}
@@ -335,7 +336,7 @@ module _ {off n : ℕ} {w : List ℕ} (p : PositiveTable off n w) {m i : ℕ} (s
     }
 
     -- over 2^64 once is over it for good
-    pub level-over : refused 17 0 ≡ fitting (lcm m x) → refused 17 0 ≡ levelOf table
+    pub level-over : refused levelTooLarge ≡ fitting (lcm m x) → refused levelTooLarge ≡ levelOf table
     level-over e =
         let a = lcm-from-le (lcm m x) (drop (i + 1) table) (lcm-some m x (s .some) level-positive) rest-positive in
         fitting-no (lcmOf table) (omega (arith, refused-over (lcm m x) e, a, level-left))

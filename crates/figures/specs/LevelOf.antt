@@ -15,6 +15,7 @@ use Prim.Native.Nat.{ℕ, zero, suc, _*_, _/_, _%_, _<_, _∣_}
 use lib.ListN.{length, getD}
 use lib.Dec.{ltb}
 use Rattle.points.specs.Find.{pick}
+use Rattle.refusal.specs.Refusal.{levelTooLarge}
 use Rattle.figures.specs.Figure.{Figure, value, refused}
 
 unfoldable pub euclid : ℕ → ℕ → ℕ → ℕ
@@ -39,7 +40,7 @@ abbrev pub TOO-LARGE : ℕ
 TOO-LARGE = 18446744073709551616
 
 abbrev pub fitting : ℕ → Figure
-fitting m = pick (ltb m TOO-LARGE) (value m) (refused 17 0)
+fitting m = pick (ltb m TOO-LARGE) (value m) (refused levelTooLarge)
 
 abbrev pub levelOf : List ℕ → Figure
 levelOf l = fitting (lcmOf l)

@@ -1,16 +1,16 @@
 // The program `import`: the index and the tables of S and R as text on standard input, and on standard output the symbol of the subgroup
 // of the matrices that fix point 0, as text that the program `listing` reads, or the number and the place of a refusal.
 //
-// The crate `imported` makes all that is written; here it is read and written.
+// The crate `imported` makes all that is written; here it is read and written (`stdio`).
+// Where standard input can't be read to its end, nothing is written to standard output.
+use stdio::Input;
 
 fn main() {
     let mut text = [0u8; 65536];
-    let n = io::read_full(0, &mut text);
-    let mut more = [0u8; 1];
-    let mut extra: usize = 0;
-    if n == 65536 {
-        extra = io::read_full(0, &mut more);
-    }
+    let input = stdio::read_whole(&mut text);
+    let Input::Read(n, longer) = input else {
+        return;
+    };
     let mut numbers = [0i64; 6133];
     let mut s = [0u32; 3066];
     let mut r = [0u32; 3066];
@@ -19,7 +19,7 @@ fn main() {
     let mut out = [0u8; 65536];
     let end = imported::answer(
         &text[..n],
-        0 < extra,
+        longer,
         &mut numbers,
         &mut s,
         &mut r,
@@ -27,5 +27,5 @@ fn main() {
         &mut table,
         &mut out,
     );
-    io::write_all(1, &out[..end]);
+    stdio::write_whole(&out[..end]);
 }

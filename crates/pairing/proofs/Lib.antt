@@ -4,3 +4,4 @@ pub mod Partners
 pub mod Relabel
 pub mod Alike
 pub mod Rows
+pub mod Meaning

@@ -24,7 +24,7 @@ use Rattle.symbol.specs.Symbol.{IsSymbol, FreeLabel}
 use Rattle.pairing.specs.Generator.{partner, pairingAt, leadsIn, kindOf, leads, leaders, frameAt, generatorBy, generator, row, rows, generatorTable}
 use Rattle.pairing.specs.Work.{AllPaired, Partnered, Prepared, putRow, RowsTo}
 use Rattle.symbol.specs.declared.Pairing.{Pairing}
-use Rattle.symbol.specs.declared.Fault.the-variants.{BadPairing}
+use Rattle.refusal.specs.Refusal.{badPairing}
 use Rattle.symbol.proofs.Choice.{pick-true, pick-false, either}
 use Rattle.symbol.proofs.Count.{length-those, count-yes, count-no}
 use Rattle.symbol.proofs.Accepted.{accepted, range-of, passed-all, passes-at}
@@ -111,7 +111,7 @@ module _ (v : ℕ) (t : List ℤ) (s : IsSymbol v t) where
   pub symbol-paired : AllPaired v (pairings v t)
   symbol-paired = record {
     long = omega (arith, length-drop (2 * v) t, s .long);
-    none = passes-at (unpairedIn v (pairings v t)) (v + 1) BadPairing (passed-all v t (accepted v t .1 s) .six) .none;
+    none = passes-at (unpairedIn v (pairings v t)) (v + 1) badPairing (passed-all v t (accepted v t .1 s) .six) .none;
   }
 
 module _ (v : ℕ) (t p : List ℤ) (w : List ℕ) (r : Prepared v t p w) where

@@ -7,28 +7,32 @@
 --   generator v t i       the generator that side i leads: even M S M⁻¹, odd M Q M⁻¹, free N S M⁻¹ with N the partner's frame
 --   generators v t        the list of generators; number j, counted from 1, belongs to the j-th leading side
 --   kindOf                1 free, 2 even, 3 odd
---   Generated             the answer of the call that lists them
---   generatedNumber, generatedPlace     document 01's number and place of its refusing cases, and 0 for the other
+--   byWork work a         refused with 11 where the work space is too short, or else the answer a
 --   generatedOf           the refusals 1 to 7, then the work space, then the result space, or the number of generators
 --   workAfter             what a call leaves in the work space: zeros where it got past the length check, else all as it was
 --   tableLeft             what the call leaves in the result space: the table at its front, or all as it was
 --   generatorTable v t    for each generator its kind and its four entries, one after another
+--   Generates v t         what a list that was made means: the table is a symbol, and each generator has determinant 1, so that its adjugate
+--                         is its inverse
+use mathlib.Core.Path.{_≡_}
 use mathlib.Core.Bool.{Bool, true, false, not, _&&_}
 use mathlib.Core.List.{List, [], _∷_, _++_, map}
-use Prim.Native.Nat.{ℕ, suc, _+_, _*_}
+use Prim.Native.Nat.{ℕ, suc, _+_, _*_, _<_}
 use lib.Dec.{ltb, eqb}
 use lib.IntN.{ℤ, pos}
-use lib.ListN.{length, drop}
-use Rattle.matrix.specs.Matrix.{nth, Mat, 𝟙, matS, matQ, toList}
+use lib.ListN.{length, drop, getD}
+use Rattle.matrix.specs.Matrix.{nth, Mat, _⊗_, 𝟙, det, adj, matS, matQ, toList}
 use Rattle.matrix.specs.Euclid.{pick}
 use Rattle.symbol.specs.Count.{first, count, those}
 use Rattle.symbol.specs.Table.{pairings, pairing, sideAt, frame, carried, pairingOf}
 use Rattle.space.specs.Space.{workLength, zeros}
-use Rattle.symbol.specs.Check.{eqZ, numberOf, placeOf, checkOf}
-use Rattle.symbol.specs.declared.Checked.{Checked}
-use Rattle.symbol.specs.declared.Checked.the-variants.{Accepted, Refused}
-use Rattle.pairing.specs.declared.generator.Generated.{Generated}
-use Rattle.pairing.specs.declared.generator.Generated.the-variants as generated
+use Rattle.refusal.specs.Refusal.{tooShort, filledBy}
+use Rattle.refusal.specs.declared.Checked.{Checked}
+use Rattle.refusal.specs.declared.Checked.the-variants.{Accepted, Refused}
+use Rattle.refusal.specs.declared.Filled.{Filled}
+use Rattle.refusal.specs.declared.Filled.the-variants as filled
+use Rattle.symbol.specs.Check.{eqZ, checkOf}
+use Rattle.symbol.specs.Symbol.{IsSymbol}
 use Rattle.symbol.specs.declared.Pairing.{Pairing}
 use Rattle.symbol.specs.declared.Pairing.the-variants.{Even, Odd, Free, Bad}
 
@@ -92,35 +96,27 @@ abbrev pub generatorTable : ℕ → List ℤ → List ℤ
 generatorTable v t = rows v t (leaders v t)
 
 -- n generators, or 11 with the length that the result space needs for them
-abbrev pub roomOf : ℕ → ℕ → Generated
-roomOf n out = pick (ltb out (5 * n)) (generated.Short (5 * n)) (generated.Made n)
+abbrev pub roomOf : ℕ → ℕ → Filled
+roomOf n out = pick (ltb out (5 * n)) (filled.Refused (tooShort (5 * n))) (filled.Made n)
 
--- the work space's length comes first
-abbrev pub listedOf : ℕ → ℕ → ℕ → Generated
-listedOf n work out = pick (ltb work workLength) (generated.Short workLength) (roomOf n out)
+abbrev pub byWork : ℕ → Filled → Filled
+byWork work a = pick (ltb work workLength) (filled.Refused (tooShort workLength)) a
 
-abbrev pub generatedBy : Checked → Generated → Generated
-generatedBy (Refused f) g = generated.Refused f
-generatedBy Accepted g = g
-
-abbrev pub generatedOf : ℕ → List ℤ → ℕ → ℕ → Generated
-generatedOf v t work out = generatedBy (checkOf v t) (listedOf (length (leaders v t)) work out)
+abbrev pub generatedOf : ℕ → List ℤ → ℕ → ℕ → Filled
+generatedOf v t work out = filledBy (checkOf v t) (byWork work (roomOf (length (leaders v t)) out))
 
 abbrev pub workAfter : Checked → List ℕ → List ℕ
 workAfter (Refused f) w = w
 workAfter Accepted w = pick (ltb (length w) workLength) w (zeros (length w))
 
-abbrev pub tableLeft : Generated → List ℤ → List ℤ → List ℤ
-tableLeft (generated.Made n) table out = table ++ drop (5 * n) out
-tableLeft (generated.Refused f) table out = out
-tableLeft (generated.Short n) table out = out
+abbrev pub tableLeft : Filled → List ℤ → List ℤ → List ℤ
+tableLeft (filled.Made n) table out = table ++ drop (5 * n) out
+tableLeft (filled.Refused f) table out = out
 
-abbrev pub generatedNumber : Generated → ℕ
-generatedNumber (generated.Made n) = 0
-generatedNumber (generated.Refused f) = numberOf f
-generatedNumber (generated.Short n) = 11
+pub record Generates (v : ℕ) (t : List ℤ) : Type 0 where
+  pub symbol : IsSymbol v t
+  pub unit : (j : ℕ) → j < length (generators v t) → det (getD (generators v t) j 𝟙) ≡ pos 1
+  pub inverse : (j : ℕ) → j < length (generators v t) → adj (getD (generators v t) j 𝟙) ⊗ getD (generators v t) j 𝟙 ≡ 𝟙
 
-abbrev pub generatedPlace : Generated → ℕ
-generatedPlace (generated.Made n) = 0
-generatedPlace (generated.Refused f) = placeOf f
-generatedPlace (generated.Short n) = n
+abbrev pub GeneratorsMean : ℕ → List ℤ → Filled → Type 0
+GeneratorsMean v t r = (n : ℕ) → r ≡ filled.Made n → Generates v t

@@ -4,22 +4,28 @@
 --   sameSymbol           yes or no
 --   Sameness             the answer of the call
 --   samenessOf           the first symbol's refusals, then the second's, then the work space, then yes or no
---   samenessNumber, samenessPlace     document 01's number and place of its refusing cases, and 0 for the others
+--   samenessRefusal      the refusal that the answer is
 --   workAfterBoth        what the call leaves in the work space
+--   Equal v t v' t'      as many vertices, the same ones, and equal pairings after relabelling
+--   SameMeans            yes means that both tables are symbols and equal, no that both are symbols and not equal
+use mathlib.Core.Path.{_≡_}
 use mathlib.Core.Bool.{Bool, true, false, not, _&&_}
 use mathlib.Core.List.{List}
-use Prim.Native.Nat.{ℕ, zero, suc, _+_, _*_}
+use Prim.Native.Nat.{ℕ, zero, suc, _+_, _*_, _<_, _≤_}
 use lib.Dec.{ltb, eqb}
 use lib.IntN.{ℤ, pos}
 use Rattle.matrix.specs.Matrix.{nth}
 use Rattle.matrix.specs.Euclid.{pick}
+use Rattle.refusal.specs.Refusal.{none, tooShort}
+use Rattle.refusal.specs.declared.Refusal.{Refusal}
 use Rattle.symbol.specs.Count.{first, count}
 use Rattle.symbol.specs.Table.{pairing, pairingOf}
-use Rattle.symbol.specs.Check.{eqZ, numberOf, placeOf, checkOf}
+use Rattle.symbol.specs.Check.{eqZ, checkOf}
+use Rattle.symbol.specs.Symbol.{IsSymbol}
 use Rattle.pairing.specs.Generator.{partner, pairingAt, workAfter}
 use Rattle.space.specs.Space.{workLength}
-use Rattle.symbol.specs.declared.Checked.{Checked}
-use Rattle.symbol.specs.declared.Checked.the-variants.{Accepted, Refused}
+use Rattle.refusal.specs.declared.Checked.{Checked}
+use Rattle.refusal.specs.declared.Checked.the-variants.{Accepted, Refused}
 use Rattle.pairing.specs.declared.same.Sameness.{Sameness}
 use Rattle.pairing.specs.declared.same.Sameness.the-variants as sameness
 use Rattle.symbol.specs.declared.Pairing.{Pairing}
@@ -56,13 +62,13 @@ abbrev pub sameSymbol : ℕ → List ℤ → ℕ → List ℤ → Bool
 sameSymbol v t v' t' = eqb v v' && agreeBelow (nth t) (nth t') (2 * v) && agreeBelow (relabelled v t) (relabelled v' t') (v + 1)
 
 abbrev pub samenessBy : Checked → Checked → Sameness → Sameness
-samenessBy (Refused f) c s = sameness.First f
-samenessBy Accepted (Refused f) s = sameness.Second f
+samenessBy (Refused f) c s = sameness.Refused f
+samenessBy Accepted (Refused f) s = sameness.Refused f
 samenessBy Accepted Accepted s = s
 
 -- for two accepted symbols
 abbrev pub answered : ℕ → List ℤ → ℕ → List ℤ → ℕ → Sameness
-answered v t v' t' work = pick (ltb work workLength) (sameness.Short workLength) (pick (sameSymbol v t v' t') sameness.Yes sameness.No)
+answered v t v' t' work = pick (ltb work workLength) (sameness.Refused (tooShort workLength)) (pick (sameSymbol v t v' t') sameness.Yes sameness.No)
 
 abbrev pub samenessOf : ℕ → List ℤ → ℕ → List ℤ → ℕ → Sameness
 samenessOf v t v' t' work = samenessBy (checkOf v t) (checkOf v' t') (answered v t v' t' work)
@@ -71,16 +77,18 @@ abbrev pub workAfterBoth : Checked → Checked → List ℕ → List ℕ
 workAfterBoth (Refused f) c w = w
 workAfterBoth Accepted c w = workAfter c w
 
-abbrev pub samenessNumber : Sameness → ℕ
-samenessNumber sameness.Yes = 0
-samenessNumber sameness.No = 0
-samenessNumber (sameness.First f) = numberOf f
-samenessNumber (sameness.Second f) = numberOf f
-samenessNumber (sameness.Short n) = 11
+abbrev pub samenessRefusal : Sameness → Refusal
+samenessRefusal sameness.Yes = none
+samenessRefusal sameness.No = none
+samenessRefusal (sameness.Refused f) = f
 
-abbrev pub samenessPlace : Sameness → ℕ
-samenessPlace sameness.Yes = 0
-samenessPlace sameness.No = 0
-samenessPlace (sameness.First f) = placeOf f
-samenessPlace (sameness.Second f) = placeOf f
-samenessPlace (sameness.Short n) = n
+-- ---- what the answer means
+
+pub record Equal (v : ℕ) (t : List ℤ) (v' : ℕ) (t' : List ℤ) : Type 0 where
+  pub count : v ≡ v'
+  pub vertices : (i : ℕ) → i < 2 * v → nth t i ≡ nth t' i
+  pub pairings : (i : ℕ) → i ≤ v → relabelled v t i ≡ relabelled v' t' i
+
+pub record SameMeans (v : ℕ) (t : List ℤ) (v' : ℕ) (t' : List ℤ) (r : Sameness) : Type 0 where
+  pub yes : r ≡ sameness.Yes → IsSymbol v t × IsSymbol v' t' × Equal v t v' t'
+  pub no : r ≡ sameness.No → IsSymbol v t × IsSymbol v' t' × (Equal v t v' t' → ⊥)

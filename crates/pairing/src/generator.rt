@@ -2,8 +2,10 @@
 use super::partner::PARTNER;
 use super::partner::kind_at;
 use super::partner::pair_sides;
-use symbol::Checked;
-use symbol::Fault;
+use refusal::Checked;
+use refusal::Filled;
+use refusal::Refusal;
+use refusal::TOO_SHORT;
 use symbol::Pairing;
 use symbol::Side;
 use symbol::check;
@@ -18,18 +20,8 @@ ghost use Rattle.space.specs.Space.{workLength, zeros};
 ghost use Rattle.symbol.specs.Count.{count};
 ghost use Rattle.symbol.specs.Check.{checkOf};
 ghost use Rattle.symbol.specs.Symbol.{IsSymbol};
-ghost use Rattle.pairing.specs.Generator.{leadsIn, leads, generator, generatorTable, leaders, roomOf, generatedOf, workAfter, tableLeft};
+ghost use Rattle.pairing.specs.Generator.{leadsIn, leads, generator, generatorTable, leaders, roomOf, generatedOf, workAfter, tableLeft, GeneratorsMean};
 ghost use Rattle.pairing.specs.Work.{Partnered, Prepared, putRow, RowsTo, Listed};
-
-// The answer of `generators`.
-pub enum Generated {
-    // So many generators stand at the front of the result space, five numbers each: its kind and its four entries.
-    Made(usize),
-    // The table is no symbol.
-    Refused(Fault),
-    // Refusal 11: the length that a space needs.
-    Short(usize),
-}
 
 // Whether side i is the leftmost side of its generator.
 fn leads_at(v: usize, p: &[i64], w: &[u16], i: usize) -> bool
@@ -126,7 +118,7 @@ fn list_all(v: usize, t: &[i64], p: &[i64], w: &[u16], out: &mut [i64])
 }
 
 // Lists the generators where out has room for them.
-fn list_if_room(v: usize, t: &[i64], p: &[i64], w: &[u16], out: &mut [i64]) -> Generated
+fn list_if_room(v: usize, t: &[i64], p: &[i64], w: &[u16], out: &mut [i64]) -> Filled
     requires { ⌜ Prepared v (now t) (now p) (now w) ⌝ }
     ensures { λ r. ⌜ r ≡ roomOf (length (leaders v (now (t .entry)))) (length (now (out .entry))) ⌝ }
     ensures { λ r. ⌜ now (out .exit) ≡ tableLeft r (generatorTable v (now (t .entry))) (now (out .entry)) ⌝ }
@@ -134,14 +126,17 @@ fn list_if_room(v: usize, t: &[i64], p: &[i64], w: &[u16], out: &mut [i64]) -> G
     let n = count_leaders(v, p, w);
     let needed = 5 * n;
     if out.len() < needed {
-        return Generated::Short(needed);
+        return Filled::Refused(Refusal {
+            number: TOO_SHORT,
+            place: needed,
+        });
     }
     list_all(v, t, p, w, out);
-    Generated::Made(n)
+    Filled::Made(n)
 }
 
 // The same for an accepted symbol; the work space is cleared before and after.
-fn list_accepted(v: usize, t: &[i64], w: &mut [u16], out: &mut [i64]) -> Generated
+fn list_accepted(v: usize, t: &[i64], w: &mut [u16], out: &mut [i64]) -> Filled
     requires { ⌜ IsSymbol v (now t) × (workLength ≤ length (now w)) ⌝ }
     ensures { λ r. ⌜ r ≡ roomOf (length (leaders v (now (t .entry)))) (length (now (out .entry))) ⌝ }
     ensures { λ r. ⌜ now (w .exit) ≡ zeros (length (now (w .entry))) ⌝ }
@@ -156,17 +151,21 @@ fn list_accepted(v: usize, t: &[i64], w: &mut [u16], out: &mut [i64]) -> Generat
 }
 
 // The generators of the symbol in t with their kinds, from the front of out: checks 1 to 7, then the work space, then the result space.
-pub fn generators(v: usize, t: &[i64], w: &mut [u16], out: &mut [i64]) -> Generated
+pub fn generators(v: usize, t: &[i64], w: &mut [u16], out: &mut [i64]) -> Filled
     ensures { λ r. ⌜ r ≡ generatedOf v (now (t .entry)) (length (now (w .entry))) (length (now (out .entry))) ⌝ }
     ensures { λ r. ⌜ now (w .exit) ≡ workAfter (checkOf v (now (t .entry))) (now (w .entry)) ⌝ }
     ensures { λ r. ⌜ now (out .exit) ≡ tableLeft r (generatorTable v (now (t .entry))) (now (out .entry)) ⌝ }
+    ensures { λ r. ⌜ GeneratorsMean v (now (t .entry)) r ⌝ }
 {
     let checked = check(v, t);
     match checked {
-        Checked::Refused(fault) => Generated::Refused(fault),
+        Checked::Refused(refusal) => Filled::Refused(refusal),
         Checked::Accepted => {
             if w.len() < space::WORK {
-                return Generated::Short(space::WORK);
+                return Filled::Refused(Refusal {
+                    number: TOO_SHORT,
+                    place: space::WORK,
+                });
             }
             list_accepted(v, t, w, out)
         }

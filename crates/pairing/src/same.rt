@@ -2,8 +2,9 @@
 use super::partner::PARTNER;
 use super::partner::kind_at;
 use super::partner::pair_sides;
-use symbol::Checked;
-use symbol::Fault;
+use refusal::Checked;
+use refusal::Refusal;
+use refusal::TOO_SHORT;
 use symbol::check;
 ghost use mathlib.Core.Path.{_≡_};
 ghost use Prim.Native.Nat.{_+_, _*_, _≤_, _<_};
@@ -13,19 +14,15 @@ ghost use Rattle.space.specs.Space.{workLength, zeros};
 ghost use Rattle.symbol.specs.Table.{pairings};
 ghost use Rattle.symbol.specs.Check.{checkOf};
 ghost use Rattle.symbol.specs.Symbol.{IsSymbol};
-ghost use Rattle.pairing.specs.Same.{agreeBelow, sameSymbol, samenessOf, workAfterBoth};
+ghost use Rattle.pairing.specs.Same.{agreeBelow, sameSymbol, samenessOf, workAfterBoth, SameMeans};
 ghost use Rattle.pairing.specs.Alike.{alike, allAlike, BothPrepared};
 
 // The answer of `same`.
 pub enum Sameness {
     Yes,
     No,
-    // The first table is no symbol.
-    First(Fault),
-    // The second table is no symbol.
-    Second(Fault),
-    // Refusal 11: the length that the work space needs.
-    Short(usize),
+    // One of the tables is no symbol, or the work space is too short.
+    Refused(Refusal),
 }
 
 // Whether the first n entries of two tables are equal.
@@ -102,10 +99,13 @@ fn same_second(v: usize, t: &[i64], n: usize, u: &[i64], w: &mut [u16]) -> Samen
 {
     let second = check(n, u);
     match second {
-        Checked::Refused(fault) => Sameness::Second(fault),
+        Checked::Refused(refusal) => Sameness::Refused(refusal),
         Checked::Accepted => {
             if w.len() < space::WORK {
-                return Sameness::Short(space::WORK);
+                return Sameness::Refused(Refusal {
+                    number: TOO_SHORT,
+                    place: space::WORK,
+                });
             }
             if compare(v, t, n, u, w) {
                 return Sameness::Yes;
@@ -119,10 +119,11 @@ fn same_second(v: usize, t: &[i64], n: usize, u: &[i64], w: &mut [u16]) -> Samen
 pub fn same(v: usize, t: &[i64], n: usize, u: &[i64], w: &mut [u16]) -> Sameness
     ensures { λ r. ⌜ r ≡ samenessOf v (now (t .entry)) n (now (u .entry)) (length (now (w .entry))) ⌝ }
     ensures { λ r. ⌜ now (w .exit) ≡ workAfterBoth (checkOf v (now (t .entry))) (checkOf n (now (u .entry))) (now (w .entry)) ⌝ }
+    ensures { λ r. ⌜ SameMeans v (now (t .entry)) n (now (u .entry)) r ⌝ }
 {
     let first = check(v, t);
     match first {
-        Checked::Refused(fault) => Sameness::First(fault),
+        Checked::Refused(refusal) => Sameness::Refused(refusal),
         Checked::Accepted => same_second(v, t, n, u, w),
     }
 }

@@ -25,7 +25,7 @@ use Rattle.points.specs.Order.{orderOf, Numbering}
 use Rattle.points.proofs.Order.{numbering}
 use Rattle.growth.specs.Fixed.{image, Permuting}
 use Rattle.passport.specs.Check.{check12, earlier, badEntry, check13, twiceMoved, thriceMoved, check14, notReached, check15, checkOf, Passport, Verdict}
-use Rattle.passport.proofs.Passing.{passes, pass, passes-at, pass-at}
+use Rattle.symbol.proofs.Accepted.{passes, pass, passes-at, pass-at}
 
 -- ---- the checks one by one
 

@@ -1,5 +1,4 @@
 -- Why the calls answer and leave what they do, in reading order.
-pub mod Passing
 pub mod Accepted
 pub mod Renumbered
 pub mod Means

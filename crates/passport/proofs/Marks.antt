@@ -22,7 +22,8 @@ use Rattle.symbol.proofs.Choice.{pick-true, pick-false, either, clash}
 use Rattle.symbol.proofs.Count.{Clear, Found, clear-zero, clear-more, search-first, first-clear, first-hit, found, clear-first, first-le}
 use Rattle.growth.specs.Fixed.{image}
 use Rattle.growth.proofs.Images.{image-in}
-use Rattle.passport.specs.Check.{refuseAt, badEntry, earlier, twiceMoved, thriceMoved}
+use Rattle.symbol.specs.Check.{refuseAt}
+use Rattle.passport.specs.Check.{badEntry, earlier, twiceMoved, thriceMoved}
 use Rattle.passport.proofs.Accepted.{entry-low}
 use Rattle.passport.specs.Seen.{earlierIn, SeenTo, Entries}
 

@@ -1,7 +1,5 @@
 -- The checks 12 to 15 of document 01, in their order, each with its place: s and r are the tables of S and R.
 --
---   refuse b f           refused with f where b holds
---   refuseAt i n f       refused at i, the first place that fails, where it is below n
 --   check12 .. check15   the four checks; 13 and 14 look at S before R
 --   checkOf s r          all of them, in order: the first fault counts
 --   Passport s r         what a pair of permutations is: from 1 to 3,066 points, as many in R as in S; in each table every entry is a point, and
@@ -17,22 +15,14 @@ use Prim.Native.Nat.{ℕ, _≤_, _<_}
 use lib.Dec.{leb, ltb, eqb}
 use lib.ListN.{length, getD}
 use Rattle.refusal.specs.Refusal.{_orElse_, pointCount, tableEntry, wrongOrder, unreached}
-use Rattle.refusal.specs.declared.Refusal.{Refusal}
 use Rattle.refusal.specs.declared.Checked.{Checked}
-use Rattle.refusal.specs.declared.Checked.the-variants.{Accepted, Refused}
+use Rattle.refusal.specs.declared.Checked.the-variants.{Accepted}
 use Rattle.matrix.specs.Euclid.{pick}
 use Rattle.symbol.specs.Count.{first}
+use Rattle.symbol.specs.Check.{refuse, refuseAt}
 use Rattle.points.specs.Find.{isIn}
 use Rattle.points.specs.Order.{orderOf, Reached}
 use Rattle.growth.specs.Fixed.{image}
-
--- refused where b holds
-abbrev pub refuse : Bool → Refusal → Checked
-refuse b f = pick b (Refused f) Accepted
-
--- refused at the first i < n that fails
-abbrev pub refuseAt : ℕ → ℕ → (ℕ → Refusal) → Checked
-refuseAt i n f = refuse (ltb i n) (f i)
 
 -- 12: from 1 to 3,066 points, and as many in both tables
 abbrev pub check12 : (s r : List ℕ) → Checked

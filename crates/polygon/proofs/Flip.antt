@@ -1,7 +1,7 @@
 -- What the cut promises: the other side of each position, the turns within a triangle, and the frames that go with both.
 --
 -- In order: turns (`turn-next`, `turn-last`, `turn-face`, `order-three`); positions that are real (`real-corner`, `real-face`, `real-odd`);
--- the promise, one record (`Cutting`), and that it holds (`cutting`).
+-- the cut (`triangles`), and with it where the edge from infinity to 0 is (`Cutting`, `cutting`).
 -- Assumes nothing.
 use mathlib.Core.Path.{_≡_, sym, _∙_, ap}
 use mathlib.Core.Bool.{true}
@@ -10,18 +10,20 @@ use Prim.Native.Nat.{ℕ, zero, _+_, _*_, _-_, _/_, _%_, _≤_, _<_}
 use native.Mathlib.Omega.{arith}
 use native.Mathlib.Decide.{ℕ-discrete, decLt}
 use lib.ListN.{List·getD-eq-default}
-use lib.IntN.{ℤ, pos}
+use lib.IntN.{ℤ}
 use borrow.Author.Tests.{lt-ltb, le-ltb, eq-eqb, ne-eqb}
-use Rattle.matrix.specs.Matrix.{Mat, _⊗_, det, matS, matQ, matP, _≈_}
+use Rattle.matrix.specs.Matrix.{Mat, _⊗_, matS, matQ, matP}
 use Rattle.matrix.specs.Action.{OrderThree}
 use Rattle.matrix.proofs.Matrix.{⊗-assoc, ⊗-idr, Q-Q, P-Q}
 use Rattle.symbol.specs.Symbol.{IsSymbol}
 use Rattle.pairing.specs.Generator.{frameAt}
 use Rattle.polygon.specs.Cut.{corners, outer, places, flipOf, flip, underZero}
 use Rattle.polygon.specs.Step.{oddAt, real, Real, turnQ}
+use Rattle.polygon.specs.Triangles.{Farey, Triangles}
 use Rattle.polygon.proofs.SymbolFacts.{odd-in}
 use Rattle.polygon.proofs.Edges.{Known, corner, face, known-in, spun, frame-outer, frame-corner, Way, Shut}
 use Rattle.polygon.proofs.Scan.{framed, Whole, whole}
+use Rattle.polygon.proofs.Triangles.{side-edge, farey}
 
 -- ---- turns
 
@@ -80,18 +82,11 @@ real-odd v t p i e r = sym (real-face v t i) ∙ ap (real v t) (sym e) ∙ r
 pub real-in : (v : ℕ) (t : List ℤ) → IsSymbol v t → (p : ℕ) → Real v t p → p < places v
 real-in v t ok p r = elim (place v p) [ inner h ↦ omega arith | outside i e ↦ omega (arith, odd-in v t ok i (real-odd v t p i e r)) ]
 
--- ---- the promise
+-- ---- the cut
 
 pub record Cutting (v : ℕ) (t : List ℤ) : Type 0 where
   pub frame : ℕ → Mat
-  pub sides : (i : ℕ) → frame (outer v i) ≡ frameAt v t i
-  pub unit : (p : ℕ) → p < places v → det (frame p) ≡ pos 1
-  pub flips : (p : ℕ) → flip v t (flip v t p) ≡ p
-  pub within : (p : ℕ) → p < places v → flip v t p < places v
-  pub differs : (p : ℕ) → p < places v → p ≡ flip v t p → ⊥
-  pub turn-S : (p : ℕ) → p < places v → frame p ⊗ matS ≈ frame (flip v t p)
-  pub turn-Q : (p : ℕ) → p < corners v → frame p ⊗ matQ ≡ frame (turnQ v p)
-  pub way : (p : ℕ) → p < places v → Way v p (flip v t p)
+  pub cut : Triangles v t frame
   pub zero-in : underZero v t < places v
   pub zero-is : frame (underZero v t) ≡ matS
 
@@ -134,11 +129,24 @@ module _ (v : ℕ) (t : List ℤ) (ok : IsSymbol v t) where
         ∙ sym (ap (framed v t top) (turn-last v p h e) ∙ at (p - 2) (p / 3) 0 (omega arith) (omega arith) (omega arith))
   ]
 
-  pub cutting : Cutting v t
-  cutting = record {
-    frame = framed v t top;
+  -- the corners of triangle k
+  corners-of : (k : ℕ) → k < v - 1 → Farey v t (framed v t top) k
+  corners-of k h =
+      farey v t ok (top k) (w .overs k h) (framed v t top) k
+      (at (3 * k) k 0 (omega arith) (omega arith) (omega arith))
+      (at-corner k 1 (omega arith) (omega arith))
+      (at-corner k 2 (omega arith) (omega arith))
+
+  way : (p : ℕ) → p < places v → Way v p (flip v t p)
+  way p h = let s = shut p h in rw (s .is) (s .way)
+
+  triangles : Triangles v t (framed v t top)
+  triangles = record {
     sides = λ i. frame-outer v (frameAt v t) top i;
+    side-edge = λ i h. rw (frame-outer v (frameAt v t) top i) (side-edge v t ok i h);
+    triangle = corners-of;
     unit = λ p h. w .fits .unit p (known p h);
+    turn-Q = spins;
     flips = λ p. elim (decLt p (places v)) [
       | yes h ↦ (let s = shut p h in ap (flip v t) (s .is) ∙ s .back)
       | no h ↦ (let e = beyond p (omega arith) in cc)
@@ -146,8 +154,14 @@ module _ (v : ℕ) (t : List ℤ) (ok : IsSymbol v t) where
     within = λ p h. let s = shut p h in rw (s .is) (known-in (s .known) (w .fits .room) (w .fits .most));
     differs = λ p h e. let s = shut p h in s .differs (e ∙ s .is);
     turn-S = λ p h. let s = shut p h in rw (s .is) (s .turn);
-    turn-Q = spins;
-    way = λ p h. let s = shut p h in rw (s .is) (s .way);
+    inside = λ i h. way (outer v i) (omega arith) .inside (omega arith);
+    above = λ k h. way (3 * k) (omega arith) .up (omega arith) (omega arith);
+  }
+
+  pub cutting : Cutting v t
+  cutting = record {
+    frame = framed v t top;
+    cut = triangles;
     zero-in = w .zero .0;
     zero-is = w .zero .1;
   }

@@ -5,6 +5,7 @@ pub mod Framed
 pub mod Mediant
 pub mod Edges
 pub mod Scan
+pub mod Triangles
 pub mod Flip
 pub mod Steps
 pub mod Promise

@@ -7,7 +7,7 @@
 -- is no triangle, and one of the two outer faces, or both, are real.
 -- Assumes nothing.
 use mathlib.Core.Path.{_≡_, refl, sym, _∙_, ap}
-use mathlib.Core.Logic.{inl, inr}
+use mathlib.Core.Logic.{_⊎_, inl, inr}
 use mathlib.Core.Bool.{false}
 use mathlib.Core.List.{List}
 use Prim.Native.Nat.{ℕ, zero, suc, _+_, _*_, _/_, _≤_, _<_}
@@ -30,7 +30,7 @@ module _ (v : ℕ) (t : List ℤ) (ok : IsSymbol v t) (C : Cutting v t) where
   Joined x y = Near (stepS v t) (turnQ v) (C .frame) x y
 
   unit : (p : ℕ) → Real v t p → det (C .frame p) ≡ pos 1
-  unit p r = C .unit p (real-in v t ok p r)
+  unit p r = C .cut .unit p (real-in v t ok p r)
 
   via : (x y z : ℕ) → Real v t x → Real v t y → Real v t z → Joined x y → Joined y z → Joined x z
   via x y z a b c = near-trans (stepS v t) (turnQ v) (C .frame) (involution v t ok C) (order-three v) x y z (unit x a) (unit y b) (unit z c)
@@ -43,12 +43,12 @@ module _ (v : ℕ) (t : List ℤ) (ok : IsSymbol v t) (C : Cutting v t) where
   near-flip x y a b e =
       near-step (stepS v t) (turnQ v) (C .frame) (involution v t ok C) (order-three v) S x y (unit x a)
       (step-across v t ok C x a (ap (real v t) e ∙ b) ∙ e)
-      (rw (← e) (C .turn-S x (real-in v t ok x a)))
+      (rw (← e) (C .cut .turn-S x (real-in v t ok x a)))
 
   -- round a corner
   near-turn : (x y : ℕ) → x < corners v → turnQ v x ≡ y → Joined x y
   near-turn x y h e =
-      near-step (stepS v t) (turnQ v) (C .frame) (involution v t ok C) (order-three v) Q x y (unit x (real-corner v t x h)) e (inl (C .turn-Q x h ∙ ap (C .frame) e))
+      near-step (stepS v t) (turnQ v) (C .frame) (involution v t ok C) (order-three v) Q x y (unit x (real-corner v t x h)) e (inl (C .cut .turn-Q x h ∙ ap (C .frame) e))
 
   -- from corner 0 to p
   near-turns : (p q : ℕ) → p < corners v → q ≡ 3 * (p / 3) → Joined q p
@@ -72,11 +72,11 @@ module _ (v : ℕ) (t : List ℤ) (ok : IsSymbol v t) (C : Cutting v t) where
       let ro = real-corner v t o (omega arith) in
       let rp = real-corner v t p h in
       let q = flip v t o in
-      let u = C .way o (omega arith) .up (omega arith) (omega arith) in
+      let u = C .cut .above (p / 3) (omega arith) in
       let b = u .0 in
       let there : Joined last o = elim (u .1) [
-        | inl e ↦ via last q o r (real-corner v t q e) ro (near-corner n q r e (omega arith)) (near-flip q o (real-corner v t q e) ro (C .flips o))
-        | inr e ↦ (let z : last ≡ o = ap (flip v t) (sym e) ∙ C .flips o in rw z (self o ro))
+        | inl e ↦ via last q o r (real-corner v t q e) ro (near-corner n q r e (omega arith)) (near-flip q o (real-corner v t q e) ro (C .cut .flips o))
+        | inr e ↦ (let z : last ≡ o = ap (flip v t) (sym e) ∙ C .cut .flips o in rw z (self o ro))
       ] in
       via last o p r ro rp there (near-turns p o h refl)
 
@@ -85,15 +85,19 @@ module _ (v : ℕ) (t : List ℤ) (ok : IsSymbol v t) (C : Cutting v t) where
     pub counts : Real v t at
     pub near : (p : ℕ) → Real v t p → Joined at p
 
+  -- beyond an outer face
+  inside-at : (p i : ℕ) → p ≡ outer v i → p < places v → (flip v t p < corners v) ⊎ (v ≡ 1)
+  inside-at p i e h = rw e (C .cut .inside i (omega arith))
+
   -- an outer face that is real, from the inner face of the last side
   near-face : (p i : ℕ) → Real v t last → Real v t p → p ≡ outer v i → Joined last p
   near-face p i r rp e =
       let low = real-in v t ok p rp in
       let q = flip v t p in
-      elim (C .way p low .inside (omega arith)) [
-        | inl h ↦ via last q p r (real-corner v t q h) rp (near-corner (corners v) q r h (omega arith)) (near-flip q p (real-corner v t q h) rp (C .flips p))
+      elim (inside-at p i e low) [
+        | inl h ↦ via last q p r (real-corner v t q h) rp (near-corner (corners v) q r h (omega arith)) (near-flip q p (real-corner v t q h) rp (C .cut .flips p))
         | inr one ↦ elim (ℕ-discrete p (outer v v)) [
-          | yes z ↦ near-flip last p r rp (C .flips (outer v v) ∙ sym z)
+          | yes z ↦ near-flip last p r rp (C .cut .flips (outer v v) ∙ sym z)
           | no z ↦ (let y : last ≡ p = other p low one z in rw y (self p rp))
         ]
       ]
@@ -101,8 +105,8 @@ module _ (v : ℕ) (t : List ℤ) (ok : IsSymbol v t) (C : Cutting v t) where
       -- with one vertex there are two positions
       other : (p : ℕ) → p < places v → v ≡ 1 → (p ≡ outer v v → ⊥) → last ≡ p
       other p low one z =
-          let a = C .within (outer v v) (omega arith) in
-          let b = C .differs (outer v v) (omega arith) in
+          let a = C .cut .within (outer v v) (omega arith) in
+          let b = C .cut .differs (outer v v) (omega arith) in
           omega arith
 
   near-last : Real v t last → (p : ℕ) → Real v t p → Joined last p
@@ -115,12 +119,12 @@ module _ (v : ℕ) (t : List ℤ) (ok : IsSymbol v t) (C : Cutting v t) where
   near-only : real v t last ≡ false → (p : ℕ) → Real v t p → Joined (outer v v) p
   near-only n p rp = elim (ℕ-discrete p (outer v v)) [
     | yes z ↦ rw z (self (outer v v) (only n))
-    | no z ↦ elim (C .way (outer v v) (omega arith) .inside (omega arith)) [
+    | no z ↦ elim (C .cut .inside v (omega arith)) [
       | inl h ↦ clash (real-corner v t last h) n
       | inr one ↦
           (let low = real-in v t ok p rp in
-          let a = C .within (outer v v) (omega arith) in
-          let b = C .differs (outer v v) (omega arith) in
+          let a = C .cut .within (outer v v) (omega arith) in
+          let b = C .cut .differs (outer v v) (omega arith) in
           let y : p ≡ last = omega arith in
           clash rp (ap (real v t) y ∙ n))
     ]

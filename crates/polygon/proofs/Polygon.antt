@@ -1,7 +1,7 @@
 -- THE THEOREM: every accepted symbol has the promise of specs/Theorem.antt.
 --
 -- In order: the index, a count (`index`); the steps of a symbol meet the interface of proofs/Framed.antt (`glued`); from the matrices that its
--- theorems speak of to those of the walk (`followed-is`, `origin-is`); `polygon`.
+-- theorems speak of to those of the walk (`followed-is`, `origin-is`); `walks`, `polygon`.
 -- Assumes nothing.
 use mathlib.Core.Path.{_≡_, refl, sym, _∙_, ap}
 use mathlib.Core.Logic.{inl, inr}
@@ -23,7 +23,7 @@ use Rattle.pairing.specs.Generator.{generators}
 use Rattle.polygon.specs.Cut.{corners, outer, places}
 use Rattle.polygon.specs.Step.{oddAt, real, Real, stepS, turnQ, written, startOf, originOf}
 use Rattle.polygon.specs.Walk.{arrives, followed}
-use Rattle.polygon.specs.Theorem.{Polygon}
+use Rattle.polygon.specs.Theorem.{Walks, Polygon}
 use Rattle.symbol.proofs.Count.{count-eq}
 use Rattle.polygon.proofs.Framed.{Framed, wrote-word, wrote-short, run-real, walk, home, found, stabiliser, cosets}
 use Rattle.polygon.proofs.Flip.{Cutting, cutting, order-three, real-corner, real-face, real-in}
@@ -68,7 +68,7 @@ module _ (v : ℕ) (t : List ℤ) (ok : IsSymbol v t) where
     involution = involution v t ok C;
     order-three = order-three v;
     closed = closed v t ok C;
-    unit = λ p r. C .unit p (real-in v t ok p r);
+    unit = λ p r. C .cut .unit p (real-in v t ok p r);
     units = units v t ok;
     letters = letters v t ok C;
     short = short v t ok C;
@@ -114,6 +114,18 @@ module _ (v : ℕ) (t : List ℤ) (ok : IsSymbol v t) where
   unfolding at
   by-word p r = home (stepS v t) (turnQ v) (C .frame) (Real v t) (generators v t) (written v t) glued start starts p r
 
+  -- ---- what follows for walks
+
+  walks : Walks v t (C .frame)
+  walks = record {
+    walk-real = run-real (stepS v t) (turnQ v) (C .frame) (Real v t) (generators v t) (written v t) glued;
+    walk-letters = wrote-word (stepS v t) (turnQ v) (C .frame) (Real v t) (generators v t) (written v t) glued;
+    walk-short = wrote-short (stepS v t) (turnQ v) (C .frame) (Real v t) (generators v t) (written v t) glued;
+    walk = walk (stepS v t) (turnQ v) (C .frame) (Real v t) (generators v t) (written v t) glued;
+    origin = origin-real v t ok C;
+    by-frame = λ p r. sym (origin-is (C .frame p) (C .cut .unit p (real-in v t ok p r))) ∙ home (stepS v t) (turnQ v) (C .frame) (Real v t) (generators v t) (written v t) glued start starts p r;
+  }
+
   -- ---- the theorem
 
   pub polygon : Polygon v t
@@ -123,21 +135,16 @@ module _ (v : ℕ) (t : List ℤ) (ok : IsSymbol v t) where
     within = real-in v t ok;
     closed = closed v t ok C;
     start = starts;
-    origin = origin-real v t ok C;
     frame = C .frame;
-    unit = λ p r. C .unit p (real-in v t ok p r);
+    cut = C .cut;
     start-frame = start-frame v t ok C;
     letters = letters v t ok C;
     short = short v t ok C;
     promise = promise v t ok C;
-    walk-real = run-real (stepS v t) (turnQ v) (C .frame) (Real v t) (generators v t) (written v t) glued;
-    walk-letters = wrote-word (stepS v t) (turnQ v) (C .frame) (Real v t) (generators v t) (written v t) glued;
-    walk-short = wrote-short (stepS v t) (turnQ v) (C .frame) (Real v t) (generators v t) (written v t) glued;
-    walk = walk (stepS v t) (turnQ v) (C .frame) (Real v t) (generators v t) (written v t) glued;
     stabiliser = λ m d. rw (← same-walk m) (stabiliser (stepS v t) (turnQ v) (C .frame) (Real v t) (generators v t) (written v t) glued start starts m d);
     found = λ m d h. rw (← wordOf-≈ (followed-is m)) (found (stepS v t) (turnQ v) (C .frame) (Real v t) (generators v t) (written v t) glued start starts m d (same-walk m ∙ h));
     cosets = λ m n d e. rw (← origin-is m d, ← origin-is n e) (cosets (stepS v t) (turnQ v) (C .frame) (Real v t) (generators v t) (written v t) glued start starts m n d e);
-    by-frame = λ p r. sym (origin-is (C .frame p) (C .unit p (real-in v t ok p r))) ∙ home (stepS v t) (turnQ v) (C .frame) (Real v t) (generators v t) (written v t) glued start starts p r;
     reached = λ p r. record { word = wordOf (adj (C .frame start) ⊗ C .frame p); is = by-word p r };
     index = index v t;
+    walks = walks;
   }

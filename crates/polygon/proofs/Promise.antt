@@ -96,11 +96,11 @@ module _ (v : ℕ) (t : List ℤ) where
     module _ (C : Cutting v t) where
       -- the inner face of side i, seen from the side
       face-S : (i : ℕ) → i ≤ v → frameAt v t i ⊗ matS ≈ C .frame (flip v t (outer v i))
-      face-S i h = inl (ap (λ (m : Mat). m ⊗ matS) (sym (C .sides i))) ∙≈ C .turn-S (outer v i) (omega arith)
+      face-S i h = inl (ap (λ (m : Mat). m ⊗ matS) (sym (C .cut .sides i))) ∙≈ C .cut .turn-S (outer v i) (omega arith)
 
       -- and from within
       out-S : (p i : ℕ) → p < places v → flip v t p ≡ outer v i → C .frame p ⊗ matS ≈ frameAt v t i
-      out-S p i h e = C .turn-S p h ∙≈ inl (ap (C .frame) e ∙ C .sides i)
+      out-S p i h e = C .cut .turn-S p h ∙≈ inl (ap (C .frame) e ∙ C .cut .sides i)
 
       in-S : (p i : ℕ) → p < places v → flip v t p ≡ outer v i → frameAt v t i ⊗ matS ≈ C .frame p
       in-S p i h e = turn-back (C .frame p) (frameAt v t i) (out-S p i h e)
@@ -140,7 +140,7 @@ module _ (v : ℕ) (t : List ℤ) where
           low = real-in v t ok p r
 
           go : Beyond v t p → C .frame p ⊗ matS ≈ wordOf (generators v t) (written v t S p) ⊗ C .frame (stepS v t p)
-          go (crosses a b c) = rw (b, c) (C .turn-S p low ∙≈ inl (sym (⊗-idl (C .frame (flip v t p)))))
+          go (crosses a b c) = rw (b, c) (C .cut .turn-S p low ∙≈ inl (sym (⊗-idl (C .frame (flip v t p)))))
           go (even-side i h e k o a b) =
               rw (a, b, forth-is i i (number-even v t i h k), generator-even i k)
               (out-S p i low e ∙≈ carry (frameAt v t i) (frameAt v t i) (C .frame p) (frame-det v t ok i h) (in-S p i low e))
@@ -175,11 +175,11 @@ module _ (v : ℕ) (t : List ℤ) where
       odd-face p i e r =
           let o = real-odd v t p i e r in
           let h = odd-in v t ok i o in
-          (generator-det v t ok i h, rw (e, C .sides i, generator-odd i (odd-pairing i o)) (carried-own (frameAt v t i) matQ (frameAt v t i) (frame-det v t ok i h)))
+          (generator-det v t ok i h, rw (e, C .cut .sides i, generator-odd i (odd-pairing i o)) (carried-own (frameAt v t i) matQ (frameAt v t i) (frame-det v t ok i h)))
 
       promise-Q : (p : ℕ) → Real v t p → C .frame p ⊗ matQ ≈ wordOf (generators v t) (written v t Q p) ⊗ C .frame (turnQ v p)
       promise-Q p r = elim (place v p) [
-        | inner h ↦ rw (silent-Q p h) (inl (C .turn-Q p h ∙ sym (⊗-idl (C .frame (turnQ v p)))))
+        | inner h ↦ rw (silent-Q p h) (inl (C .cut .turn-Q p h ∙ sym (⊗-idl (C .frame (turnQ v p)))))
         | outside i e ↦ rw (written-Q p i e, forth-is i i (number-face p i e r), turn-face v p (omega arith)) (inl (sym (odd-face p i e r .1)))
       ]
 
@@ -187,7 +187,7 @@ module _ (v : ℕ) (t : List ℤ) where
       twice-Q p r h = go (place v (turnQ v p))
         where
           go : Place v (turnQ v p) → C .frame p ⊗ matP ≡ C .frame (turnQ v (turnQ v p))
-          go (inner k) = ap (λ (m : Mat). C .frame p ⊗ m) (sym Q-Q) ∙ sym (⊗-assoc (C .frame p) matQ matQ) ∙ ap (λ (m : Mat). m ⊗ matQ) (C .turn-Q p h) ∙ C .turn-Q (turnQ v p) k
+          go (inner k) = ap (λ (m : Mat). C .frame p ⊗ m) (sym Q-Q) ∙ sym (⊗-assoc (C .frame p) matQ matQ) ∙ ap (λ (m : Mat). m ⊗ matQ) (C .cut .turn-Q p h) ∙ C .cut .turn-Q (turnQ v p) k
           go (outside i e) = absurd (omega (arith, turn-in v t ok C p h))
 
       promise-P : (p : ℕ) → Real v t p → C .frame p ⊗ matP ≈ wordOf (generators v t) (written v t P p) ⊗ C .frame (turnQ v (turnQ v p))
@@ -264,7 +264,7 @@ module _ (v : ℕ) (t : List ℤ) where
             from = flip v t (outer v i);
             by = S;
             counts = under-real v t ok C i low o;
-            writes = written-S v t (flip v t (outer v i)) i (C .flips (outer v i)) ∙ ap (λ (x : Pairing). crossed x i (partner v t i) (numberAt v t i)) k ∙ ap forth number;
+            writes = written-S v t (flip v t (outer v i)) i (C .cut .flips (outer v i)) ∙ ap (λ (x : Pairing). crossed x i (partner v t i) (numberAt v t i)) k ∙ ap forth number;
           }
           go (odd k o) = record {
             from = outer v i;
@@ -283,5 +283,5 @@ module _ (v : ℕ) (t : List ℤ) where
                 from = flip v t (outer v n);
                 by = S;
                 counts = mate-real v t ok C i l k m o;
-                writes = written-S v t (flip v t (outer v n)) n (C .flips (outer v n)) ∙ second ∙ ap forth (number-mate v t n l (ap (pairingOf v) (m .same) ∙ k) (free-mate v t ok n l (m .within) (ap (pairingOf v) (m .same) ∙ k)) (let z = m .back in omega arith) ∙ ap (numberAt v t) (m .back) ∙ number);
+                writes = written-S v t (flip v t (outer v n)) n (C .cut .flips (outer v n)) ∙ second ∙ ap forth (number-mate v t n l (ap (pairingOf v) (m .same) ∙ k) (free-mate v t ok n l (m .within) (ap (pairingOf v) (m .same) ∙ k)) (let z = m .back in omega arith) ∙ ap (numberAt v t) (m .back) ∙ number);
               }

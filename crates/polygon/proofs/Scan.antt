@@ -1,7 +1,8 @@
 -- The scan cuts the whole polygon: after its last vertex one position is open, and it lies under the chord from -1/0 to the last vertex.
 --
--- In order: chords and their frames (`chord`, `side-chord`); what the stack keeps (`Stacked`); a triangle cut off (`cut-off`); a vertex pushed
--- (`push-ready`); the scan (`Ready`, `ready`); a vertex of denominator 1 is alone on the stack (`alone`); the array at the end (`Whole`, `whole`).
+-- In order: chords and their frames (`chord`, `side-chord`), also over a triangle (`Over`); what the stack keeps (`Stacked`, `Rising`); a triangle
+-- cut off (`cut-off`); a vertex pushed (`push-ready`); the scan (`Ready`, `ready`); a vertex of denominator 1 is alone on the stack (`alone`); the
+-- array at the end (`Whole`, `whole`).
 --
 -- Why: denominators rise strictly up the stack, since a top that isn't the mediant is at most half of the sum of its neighbours. So under a
 -- vertex of denominator 1 nothing is left; 0/1 is one, and the last vertex is one by the last side.
@@ -17,7 +18,7 @@ use native.Mathlib.Numerals.{add-one}
 use lib.Dec.{eqb}
 use lib.ListN.{length, length-replicate}
 use lib.IntN.{ℤ, pos, negsuc, natAbs, _+ℤ_}
-use borrow.Author.Tests.{eqb-true, eqb-false, lt-ltb, le-ltb, eq-eqb}
+use borrow.Author.Tests.{eqb-true, eqb-false, lt-ltb, le-ltb, eq-eqb, ne-eqb}
 use Rattle.matrix.specs.Matrix.{Mat, mat, _⊗_, 𝟙, det, matS, _≈_}
 use Rattle.matrix.specs.Euclid.{pick}
 use Rattle.matrix.proofs.Matrix.{≈-neg, _∙≈_, ≈-right}
@@ -44,6 +45,16 @@ chord t x y = mat (leftNum t y) (leftNum t x) (pos (den t y)) (pos (den t x))
 triangle-at : (t : List ℤ) (x m y : ℕ) → leftNum t m ≡ leftNum t x +ℤ leftNum t y → den t m ≡ den t x + den t y → Triangle (chord t x m) (chord t m y) (chord t x y)
 triangle-at t x m y n d = rw (n, d) (triangle (leftNum t x) (pos (den t x)) (leftNum t y) (pos (den t y)))
 
+-- x is the frame of a chord between vertices, with their mediant between them
+pub record Over (v : ℕ) (t : List ℤ) (x : Mat) : Type 0 where
+  pub left : ℕ
+  pub middle : ℕ
+  pub right : ℕ
+  pub ordered : (left < middle) × (middle < right) × (right ≤ v)
+  pub num-is : leftNum t middle ≡ leftNum t left +ℤ leftNum t right
+  pub den-is : den t middle ≡ den t left + den t right
+  pub is : x ≡ chord t left right
+
 abbrev pub handles : List Cell → List ℕ
 handles [] = []
 handles (c ∷ l) = c .under ∷ handles l
@@ -58,6 +69,11 @@ pick-false P b x y e p = rw e p
 abbrev pub Stacked : List ℤ → (ℕ → Mat) → List Cell → Type 0
 Stacked t F [] = Unit {0}
 Stacked t F (c ∷ l) = (F (c .under) ≡ chord t (below l) (c .vertex)) × (den t (below l) < den t (c .vertex)) × Stacked t F l
+
+-- vertices rise up the stack
+abbrev pub Rising : List Cell → Type 0
+Rising [] = Unit {0}
+Rising (c ∷ l) = (below l < c .vertex) × Rising l
 
 -- a vertex of denominator 1 is alone
 pub alone : (t : List ℤ) (F : ℕ → Mat) (l : List Cell) → Stacked t F l → den t (below l) ≡ 1 → (F (handle l) ≡ chord t 0 (below l)) × (handles l ≡ handle l ∷ []) × (length l ≡ 1)
@@ -119,6 +135,8 @@ module _ (v : ℕ) (t : List ℤ) where
     pub on-top : below (s .stack) ≡ y
     pub cuts : m ≤ s .cut
     pub same : (p : ℕ) → Known v m o p → framed tops p ≡ framed top p
+    pub rising : Rising (s .stack)
+    pub overs : (k : ℕ) → k < s .cut → Over v t (tops k)
 
   abbrev Chords : ℕ → ℕ → ℕ → Type 0
   Chords x m y = (det (chord t x m) ≡ pos 1) × (det (chord t m y) ≡ pos 1) × (den t x < den t m)
@@ -129,8 +147,18 @@ module _ (v : ℕ) (t : List ℤ) where
       [ inl z ↦ absurd (n z) | inr z ↦ (let r = k .2 in omega arith) ]
 
   -- one that is makes a triangle
+  num-of : (x m y : ℕ) → Chords x m y → den t m ≡ den t x + den t y → leftNum t m ≡ leftNum t x +ℤ leftNum t y
+  num-of x m y k e = mediant (leftNum t x) (leftNum t m) (leftNum t y) (den t x) (den t m) (den t y) (k .0) (k .1) e (let r = k .2 in omega arith)
+
   triangle-of : (x m y : ℕ) → Chords x m y → den t m ≡ den t x + den t y → Triangle (chord t x m) (chord t m y) (chord t x y)
-  triangle-of x m y k e = triangle-at t x m y (mediant (leftNum t x) (leftNum t m) (leftNum t y) (den t x) (den t m) (den t y) (k .0) (k .1) e (let r = k .2 in omega arith)) e
+  triangle-of x m y k e = triangle-at t x m y (num-of x m y k e) e
+
+  -- one triangle more
+  overs-put : (m : ℕ) (x : Mat) (top : ℕ → Mat) → Over v t x → ((k : ℕ) → k < m → Over v t (top k)) → (k : ℕ) → k < m + 1 → Over v t (put m x top k)
+  overs-put m x top o f k h = elim (ℕ-discrete k m) [
+    | yes e ↦ pick-true (Over v t) (eqb k m) x (top k) (eq-eqb k m e) o
+    | no e ↦ pick-false (Over v t) (eqb k m) x (top k) (ne-eqb k m e) (f k (omega arith))
+  ]
 
   -- the push goes on below the triangle
   over : (m o y : ℕ) (top top' : ℕ → Mat) (s : Scan) → ((p : ℕ) → Known v m o p → framed top' p ≡ framed top p) → Pushed (m + 1) o y top' s → Pushed m o y top s
@@ -142,19 +170,32 @@ module _ (v : ℕ) (t : List ℤ) where
     on-top = i .on-top;
     cuts = let z = i .cuts in omega arith;
     same = λ q z. i .same q (known-more z (omega arith) (omega arith)) ∙ h q z;
+    rising = i .rising;
+    overs = i .overs;
   }
 
   pub push-ready : (l : List Cell) (a : List ℕ) (m o h y : ℕ) (top : ℕ → Mat) → Fits v (frameAt v t) a m o (h ∷ handles l) top → m + suc (length l) ≡ o → o ≤ v
-      → Stacked t (framed top) l → framed top h ≡ chord t (below l) y → 0 < den t y → Pushed m o y top (push t l a m h y)
-  push-ready [] a m o h y top f n k s e p =
-      record { tops = top; fits = f; stacked = (e, p, tt); count = n; on-top = refl; cuts = omega arith; same = λ q z. refl }
-  push-ready (c ∷ l) a m o h y top f n k s e p =
+      → Stacked t (framed top) l → framed top h ≡ chord t (below l) y → 0 < den t y
+      → Rising l → below l < y → y ≤ v → ((k : ℕ) → k < m → Over v t (top k)) → Pushed m o y top (push t l a m h y)
+  push-ready [] a m o h y top f n k s e p ri b b' ov =
+      record { tops = top; fits = f; stacked = (e, p, tt); count = n; on-top = refl; cuts = omega arith; same = λ q z. refl; rising = (b, tt); overs = ov }
+  push-ready (c ∷ l) a m o h y top f n k s e p ri b' b'' ov =
       let ch : Chords (below l) (c .vertex) y = (ap det (sym (s .0)) ∙ f .unit (c .under) (f .known .1 .0), ap det (sym e) ∙ f .unit h (f .known .0), s .1) in
       let test = eqb (den t (c .vertex)) (den t (below l) + den t y) in
       let x = chord t (below l) y in
       elim (either test) [
         | inl b ↦
-            (let tri₀ = triangle-of (below l) (c .vertex) y ch (eqb-true (den t (c .vertex)) (den t (below l) + den t y) b) in
+            (let sum = eqb-true (den t (c .vertex)) (den t (below l) + den t y) b in
+            let tri₀ = triangle-of (below l) (c .vertex) y ch sum in
+            let over₀ : Over v t x = record {
+              left = below l;
+              middle = c .vertex;
+              right = y;
+              ordered = (ri .0, b', b'');
+              num-is = num-of (below l) (c .vertex) y ch sum;
+              den-is = sum;
+              is = refl;
+            } in
             let tri : Triangle (framed top (c .under)) (framed top h) x = rw (s .0, e) tri₀ in
             let d : det x ≡ pos 1 = tri₀ .unit ∙ ch .0 in
             let r : 3 * (m + 1) ≤ corners v = omega (n, k, arith) in
@@ -164,11 +205,11 @@ module _ (v : ℕ) (t : List ℤ) where
             (push-ready l (attach a m (c .under) h) (m + 1) o (3 * m) y (put m x top)
             (cut-off a m o h (c .under) (handles l) top f r x d tri) (omega (n, arith)) k
             (stacked-same t v m o (framed top) (framed (put m x top)) l old (f .known .1 .1) (s .2))
-            (top-is a m o h (c .under) (handles l) top f r x d tri) p)))
+            (top-is a m o h (c .under) (handles l) top f r x d tri) p (ri .1) (omega (arith, ri .0)) b'' (overs-put m x top over₀ ov))))
         | inr b ↦
             (let up = rises (below l) (c .vertex) y ch p (eqb-false (den t (c .vertex)) (den t (below l) + den t y) b) in
             pick-false (Pushed m o y top) test _ _ b
-            (record { tops = top; fits = f; stacked = (e, up, s); count = n; on-top = refl; cuts = omega arith; same = λ q z. refl }))
+            (record { tops = top; fits = f; stacked = (e, up, s); count = n; on-top = refl; cuts = omega arith; same = λ q z. refl; rising = (b', ri); overs = ov }))
       ]
 
 -- ---- the sides are chords
@@ -225,6 +266,8 @@ module _ (v : ℕ) (t : List ℤ) (ok : IsSymbol v t) where
     pub stacked : Stacked t (framed v t tops) (s .stack)
     pub count : s .cut + length (s .stack) ≡ n
     pub on-top : below (s .stack) ≡ n
+    pub rising : Rising (s .stack)
+    pub overs : (k : ℕ) → k < s .cut → Over v t (tops k)
     pub zero : zeroth < n → Known v (s .cut) n (underZero v t) × (framed v t tops (underZero v t) ≡ matS)
 
   nothing : {p : ℕ} → Known v 0 0 p → ⊥
@@ -237,6 +280,7 @@ module _ (v : ℕ) (t : List ℤ) (ok : IsSymbol v t) where
       push-ready v t (s .stack) (s .flips) (s .cut) (suc n) (outer v n) (suc n) (r .tops) f (let c = r .count in omega arith) h (r .stacked)
       (frame-outer v (frameAt v t) (r .tops) n ∙ side-chord n (omega arith) ∙ ap (λ (x : ℕ). chord t x (suc n)) (sym (r .on-top)))
       (let d = ok .denoms n (omega arith) .0 in omega arith)
+      (r .rising) (let e = r .on-top in omega arith) h (r .overs)
 
   -- 0/1 has been pushed just now
   zero-now : (n : ℕ) (r : Ready n (scanned v t n)) (p : Pushed v t (scanned v t n .cut) (suc n) (suc n) (r .tops) (scanned v t (suc n))) → zeroth ≡ n
@@ -265,6 +309,8 @@ module _ (v : ℕ) (t : List ℤ) (ok : IsSymbol v t) where
     stacked = tt;
     count = refl;
     on-top = refl;
+    rising = tt;
+    overs = λ k h. absurd (omega arith);
     zero = λ l. absurd (omega arith);
   }
   ready (suc n) h =
@@ -276,6 +322,8 @@ module _ (v : ℕ) (t : List ℤ) (ok : IsSymbol v t) where
         stacked = p .stacked;
         count = p .count;
         on-top = p .on-top;
+        rising = p .rising;
+        overs = p .overs;
         zero = λ l. elim (below-suc zeroth n l) [
           | inl z ↦
               (let q = r .zero z in (
@@ -291,6 +339,7 @@ module _ (v : ℕ) (t : List ℤ) (ok : IsSymbol v t) where
   pub record Whole : Type 0 where
     pub tops : ℕ → Mat
     pub fits : Fits v (frameAt v t) (flipOf v t) (v - 1) (v + 1) [] tops
+    pub overs : (k : ℕ) → k < v - 1 → Over v t (tops k)
     pub zero : (underZero v t < places v) × (framed v t tops (underZero v t) ≡ matS)
 
   -- the one position that is open before the last side comes in is a corner, unless there is no triangle
@@ -333,5 +382,6 @@ module _ (v : ℕ) (t : List ℤ) (ok : IsSymbol v t) where
       record {
         tops = r .tops;
         fits = rw (add-one v) (closing (s .flips) (handle (s .stack)) (r .tops) f (a .0 ∙ ap (chord t 0) (r .on-top)));
+        overs = λ k h. r .overs k (omega (arith, m));
         zero = (known-in (z .0) (r .fits .room) (r .fits .most), z .1);
       }

@@ -115,18 +115,18 @@ module _ (v : ℕ) (t : List ℤ) (ok : IsSymbol v t) where
 
     -- beyond the chord from -1/0 to 0/1
     beyond-is : C .frame (flip v t under) ≈ 𝟙
-    beyond-is = ≈-sym (C .turn-S under (C .zero-in)) ∙≈ inl (ap (λ (m : Mat). m ⊗ matS) (C .zero-is) ∙ S-S) ∙≈ inr refl
+    beyond-is = ≈-sym (C .cut .turn-S under (C .zero-in)) ∙≈ inl (ap (λ (m : Mat). m ⊗ matS) (C .zero-is) ∙ S-S) ∙≈ inr refl
 
     -- where the walk starts as usual
     start-out : turned v t ≡ false → Real v t (flip v t under)
     start-out n = elim (place v (flip v t under)) [
       | inner h ↦ real-corner v t (flip v t under) h
       | outside i e ↦
-          (let low = C .within under (C .zero-in) in
+          (let low = C .cut .within under (C .zero-in) in
           elim (either (oddAt v t i)) [
             | inl o ↦ ap (real v t) e ∙ real-face v t i ∙ o
             | inr o ↦
-                (let k = last-is i (omega arith) (inl (sym (ap (C .frame) e ∙ C .sides i)) ∙≈ beyond-is) in
+                (let k = last-is i (omega arith) (inl (sym (ap (C .frame) e ∙ C .cut .sides i)) ∙≈ beyond-is) in
                 let no-odd : oddAt v t v ≡ false = ap (oddAt v t) (sym (k .0)) ∙ o in
                 let z : turned v t ≡ true = rw (k .1, no-odd) refl in
                 clash z n)
@@ -139,7 +139,7 @@ module _ (v : ℕ) (t : List ℤ) (ok : IsSymbol v t) where
       | inner h ↦ real-corner v t under h
       | outside i e ↦
           (let low = C .zero-in in
-          let k = first-is i (omega arith) (sym (C .sides i) ∙ ap (C .frame) (sym e) ∙ C .zero-is) in
+          let k = first-is i (omega arith) (sym (C .cut .sides i) ∙ ap (C .frame) (sym e) ∙ C .zero-is) in
           let zero = and-left (isZero t (v - 1)) (not (oddAt v t v)) z in
           let not-odd = and-right (isZero t (v - 1)) (not (oddAt v t v)) z in
           let last = and-left (eqZ (numer t (v - 1)) (pos 0)) (eqZ (denom t (v - 1)) (pos 1)) zero in

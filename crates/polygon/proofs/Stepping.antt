@@ -44,7 +44,7 @@ module _ (t : List ℤ) (v : ℕ) (w : List ℕ) (T : Tables t v w) where
       ∙ ap (λ (a : List ℕ). getD a p p) (T .flips)
 
   pub flip-in : (p : ℕ) → p < places v → getD w (FLIP + p) 0 < places v
-  flip-in p h = rw (flip-read p h) (C .within p h)
+  flip-in p h = rw (flip-read p h) (C .cut .within p h)
 
   -- S, out of the real position p, beyond which lies q
   module _ (p q : ℕ) (r : Real v t p) (e : q ≡ getD w (FLIP + p) 0) where

@@ -91,7 +91,7 @@ module _ (v : ℕ) (t : List ℤ) (ok : IsSymbol v t) (C : Cutting v t) where
   beyond p r = elim (place v (flip v t p)) [
     | inner h ↦ crosses (real-corner v t (flip v t p) h) (step-inner v t p r h) (silent-S v t p h)
     | outside i e ↦
-        (let h = side-in (flip v t p) i (C .within p (real-in v t ok p r)) e in
+        (let h = side-in (flip v t p) i (C .cut .within p (real-in v t ok p r)) e in
         beyond-side p i r h e (step-face v t p i r e) (kind v t ok i h))
   ]
 
@@ -109,8 +109,8 @@ module _ (v : ℕ) (t : List ℤ) (ok : IsSymbol v t) (C : Cutting v t) where
   lone : (i : ℕ) → v ≡ 1 → i ≤ v → oddAt v t i ≡ false → Real v t (flip v t (outer v i))
   lone i one h n₀ =
       let q = flip v t (outer v i) in
-      let low = C .within (outer v i) (omega arith) in
-      let differs = C .differs (outer v i) (omega arith) in
+      let low = C .cut .within (outer v i) (omega arith) in
+      let differs = C .cut .differs (outer v i) (omega arith) in
       let k = q - corners v in
       let is : q ≡ outer v k = omega arith in
       let odd-at : (j : ℕ) → oddAt v t j ≡ true → k + i ≡ 1 → (i ≡ j → ⊥) → j ≤ 1 → Real v t q =
@@ -123,7 +123,7 @@ module _ (v : ℕ) (t : List ℤ) (ok : IsSymbol v t) (C : Cutting v t) where
       ]
 
   pub under-real : (i : ℕ) → i ≤ v → oddAt v t i ≡ false → Real v t (flip v t (outer v i))
-  under-real i h n = elim (C .way (outer v i) (omega arith) .inside (omega arith))
+  under-real i h n = elim (C .cut .inside i h)
       [ inl b ↦ real-corner v t (flip v t (outer v i)) b | inr e ↦ lone i e h n ]
 
   mate-odd : (i l : ℕ) → pairingAt v t i ≡ Free l → Mate v t i → oddAt v t i ≡ false → oddAt v t (partner v t i) ≡ false
@@ -138,15 +138,15 @@ module _ (v : ℕ) (t : List ℤ) (ok : IsSymbol v t) (C : Cutting v t) where
   involution p = elim (either (real v t p)) [ inr e ↦ (let z = stays v t p e in cc) | inl r ↦ go r (beyond p r) ]
     where
       go : Real v t p → Beyond v t p → stepS v t (stepS v t p) ≡ p
-      go r (crosses a b c) = ap (stepS v t) b ∙ step-across (flip v t p) a (ap (real v t) (C .flips p) ∙ r) ∙ C .flips p
+      go r (crosses a b c) = ap (stepS v t) b ∙ step-across (flip v t p) a (ap (real v t) (C .cut .flips p) ∙ r) ∙ C .cut .flips p
       go r (even-side i h e k o a b) = cc
       go r (free-side i l h e k o m a b) =
           let j = partner v t i in
           ap (stepS v t) a
-          ∙ step-face v t (flip v t (outer v j)) j (mate-real i l k m o) (C .flips (outer v j))
+          ∙ step-face v t (flip v t (outer v j)) j (mate-real i l k m o) (C .cut .flips (outer v j))
           ∙ ap (λ (x : Pairing). crossBy x (flip v t (outer v j)) (outer v j) (flip v t (outer v (partner v t j)))) (ap (pairingOf v) (m .same) ∙ k)
           ∙ ap (λ (x : ℕ). flip v t (outer v x)) (m .back)
-          ∙ ap (flip v t) (sym e) ∙ C .flips p
+          ∙ ap (flip v t) (sym e) ∙ C .cut .flips p
 
   -- ---- real positions stay real
 

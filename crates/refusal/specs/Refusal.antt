@@ -7,16 +7,11 @@
 --   vertexCount .. badText     the refusals 1 to 19 by name, each at the place that document 01 gives it
 --   Checked            the answer of checks: accepted, or refused
 --   c orElse d         the first refusal of the two
---   refuse b f         refused with f where b holds
---   refuseAt i n f     refused at the first place that fails, where one below n does
 --   checkedRefusal     the refusal that an answer of checks is
 --   Filled             the answer of a call that fills a result space: how many things it made, or its refusal
 --   filledBy c a       the refusal of the checks, or else the answer a
---   room out n k       n things made, where the k numbers that they take fit into a space of length `out`; or 11 with that length
 --   filledRefusal, filledCount     the refusal that such an answer is; how many things it made, none for a refusal
-use mathlib.Core.Bool.{Bool}
 use Prim.Native.Nat.{ℕ}
-use lib.Dec.{ltb}
 use Rattle.refusal.specs.declared.Refusal.{Refusal}
 use Rattle.refusal.specs.declared.Checked.{Checked}
 use Rattle.refusal.specs.declared.Checked.the-variants as checked

@@ -25,26 +25,39 @@ pub enum Filled {
 
 // Whoever writes the symbol.
 pub const VERTEX_COUNT: u64 = 1;
+
 pub const TABLE_LENGTH: u64 = 2;
+
 pub const VERTEX_ENTRY: u64 = 3;
+
 pub const NOT_NEIGHBOURS: u64 = 4;
+
 pub const NO_ZERO: u64 = 5;
+
 pub const BAD_PAIRING: u64 = 6;
+
 pub const NO_ODD_SIDE: u64 = 7;
 // Whoever sends matrices.
 pub const MATRIX_ENTRY: u64 = 8;
+
 pub const DETERMINANT: u64 = 9;
+
 pub const NO_WORD: u64 = 10;
 // Whoever lends space.
 pub const TOO_SHORT: u64 = 11;
 // Whoever sends permutations.
 pub const POINT_COUNT: u64 = 12;
+
 pub const TABLE_ENTRY: u64 = 13;
+
 pub const WRONG_ORDER: u64 = 14;
+
 pub const UNREACHED: u64 = 15;
 // The group itself.
 pub const ENTRY_TOO_LARGE: u64 = 16;
+
 pub const LEVEL_TOO_LARGE: u64 = 17;
+
 pub const NO_GENUS: u64 = 18;
 // Whoever types.
 pub const BAD_TEXT: u64 = 19;

@@ -1,80 +1,90 @@
 -- Laws of the reply's definitions.
---     said-word, said-other      the line for a word, and for any other answer
---     replied-as                 the line for an answer of `query`
---     few-numbers, enough-numbers     the line for the numbers of a text, by the test that the code makes
---     reply-longer, reply-by     the line for a text that is too long, and for an answer of `read`
+--     said-other                 the line for an answer that is no word
+--     replied-as, letters-as     the line for an answer of `query`, and what it leaves in the word space
+--     few-.., enough-..          the line for the numbers of a text and what is left, by the test that the code makes
+--     reply-by, leaves-by        the same for an answer of `read_input`
 -- Assumes nothing.
 use mathlib.Core.Path.{_≡_, refl, sym, ap, _∙_}
 use mathlib.Core.Bool.{Bool, true, false}
 use mathlib.Core.List.{List}
-use Prim.Native.Nat.{ℕ, _-_, _≤_, _<_}
-use lib.Dec.{eqb, ltb}
+use Prim.Native.Nat.{ℕ, _≤_, _<_}
+use lib.Dec.{ltb}
 use lib.IntN.{ℤ}
-use lib.ListN.{length, take, drop}
+use lib.ListN.{length}
 use borrow.Author.Tests.{lt-ltb, le-ltb}
-use Rattle.matrix.specs.Matrix.{nth, ofList}
+use Rattle.matrix.specs.Matrix.{ofList}
+use Rattle.refusal.specs.Refusal.{vertexCount}
 use Rattle.space.specs.Space.{workLength}
-use Rattle.text.specs.Piece.{pieces, numbers}
-use Rattle.text.specs.Reading.{readingOf, vertexCount}
-use Rattle.text.specs.declared.Reading.{Reading}
-use Rattle.line.specs.Line.{line, refusal}
-use Rattle.symbol.specs.Check.{numberOf}
-use Rattle.symbol.specs.declared.Fault.{Fault}
-use Rattle.symbol.specs.declared.Fault.the-variants as fault
 use Rattle.symbol.proofs.Choice.{pick-true, pick-false}
-use Rattle.word.specs.Answer.{queryNumber, queryPlace, foundWord, queryOf}
+use Rattle.text.specs.Piece.{pieces, numbers}
+use Rattle.text.specs.Reading.{inputOf, leftBy}
+use Rattle.text.specs.declared.Reading.{Reading}
+use Rattle.line.specs.Line.{refusalLine}
+use Rattle.word.specs.Answer.{queryRefusal, foundWord, queryOf, wordLeft, workLeft}
 use Rattle.word.specs.declared.Queried.{Queried}
 use Rattle.word.specs.declared.Queried.the-variants as queried
-use Rattle.reply.specs.Reply.{wordWord, lettersLent, said, replied, four, repliedTo, queryFormat, replyBy, replyOf}
+use Rattle.reply.specs.Reply.{lettersLent, said, replied, lettersLeft, countIn, tableIn, firstIn, secondIn, byCount, repliedTo, workTo, lettersTo, queryFormat, replyBy, workBy, lettersBy, replyOf, Leaves}
 
-no-zero : (f : Fault) → eqb (numberOf f) 0 ≡ false
-no-zero fault.VertexCount = refl
-no-zero (fault.TableLength n) = refl
-no-zero (fault.VertexEntry i) = refl
-no-zero (fault.Neighbours i) = refl
-no-zero fault.NoZero = refl
-no-zero (fault.BadPairing i) = refl
-no-zero fault.NoOddSide = refl
+-- an answer that is no word is its refusal
+pub said-other : (r : Queried) (l : List ℤ) → ((s n : ℕ) → r ≡ queried.Word s n → ⊥) → refusalLine (queryRefusal r) ≡ said r l
+said-other (queried.Word s n) l never = absurd (never s n refl)
+said-other (queried.Refused f) l never = refl
 
-other : (r : Queried) → ((s n : ℕ) → r ≡ queried.Word s n → ⊥) → eqb (queryNumber r) 0 ≡ false
-other (queried.Word s n) never = absurd (never s n refl)
-other (queried.Refused f) never = no-zero f
-other (queried.Entry i) never = refl
-other (queried.Determinant i) never = refl
-other queried.Absent never = refl
-other (queried.Short n) never = refl
+module _ (v : ℕ) (t a b : List ℤ) (r : Queried) (work room : ℕ) (g : work ≡ workLength) (h : room ≡ lettersLent) (e : r ≡ queryOf v t a b work room 0) where
+  as-lent : r ≡ queryOf v t a b workLength lettersLent 0
+  as-lent = e ∙ ap (λ (n : ℕ). queryOf v t a b n room 0) g ∙ ap (λ (n : ℕ). queryOf v t a b workLength n 0) h
 
-pub said-other : (r : Queried) (l : List ℤ) → ((s n : ℕ) → r ≡ queried.Word s n → ⊥) → refusal (queryNumber r) (queryPlace r) ≡ said r l
-unfolding said
-said-other r l never = sym (pick-false (eqb (queryNumber r) 0) (line wordWord l) (refusal (queryNumber r) (queryPlace r)) (other r never))
+  pub replied-as : said r (foundWord v t (ofList a) (ofList b)) ≡ replied v t a b
+  unfolding replied
+  replied-as = ap (λ (x : Queried). said x (foundWord v t (ofList a) (ofList b))) as-lent
 
-pub said-word : (r : Queried) (s n : ℕ) (l : List ℤ) → r ≡ queried.Word s n → line wordWord l ≡ said r l
-unfolding said
-said-word r s n l e = sym (pick-true (eqb (queryNumber r) 0) (line wordWord l) (refusal (queryNumber r) (queryPlace r)) (ap (λ (x : Queried). eqb (queryNumber x) 0) e))
+  pub letters-as : (letters : List ℤ) → wordLeft r (foundWord v t (ofList a) (ofList b)) letters ≡ lettersLeft v t a b letters
+  letters-as letters = ap (λ (x : Queried). wordLeft x (foundWord v t (ofList a) (ofList b)) letters) as-lent
 
-pub replied-as : (v : ℕ) (t a b : List ℤ) (r : Queried) (work room : ℕ) → work ≡ workLength → room ≡ lettersLent → r ≡ queryOf v t a b work room 0
-    → said r (foundWord v t (ofList a) (ofList b)) ≡ replied v t a b
-unfolding replied
-replied-as v t a b r work room g h e =
-    ap (λ (x : Queried). said x (foundWord v t (ofList a) (ofList b)))
-    (e ∙ ap (λ (n : ℕ). queryOf v t a b n room 0) g ∙ ap (λ (n : ℕ). queryOf v t a b workLength n 0) h)
+-- what is asked, by equals
+pub asked-as : {X : Type 0} {v v' : ℕ} {t t' a a' b b' : List ℤ} (f : ℕ → List ℤ → List ℤ → List ℤ → X) → v ≡ v' → t ≡ t' → a ≡ a' → b ≡ b' → f v t a b ≡ f v' t' a' b'
+asked-as f e g h k = cc
 
 module _ (ns : List ℤ) where
-  abbrev long : List ℕ
-  long = replied (vertexCount (nth ns 0)) (take (length ns - 9) (drop 1 ns)) (four ns (length ns - 8)) (four ns (length ns - 4))
+  few : {X : Type 0} (x y : X) → length ns < 10 → x ≡ byCount ns x y
+  few x y h = sym (pick-true (ltb (length ns) 10) x y (lt-ltb (length ns) 10 h))
 
-  pub few-numbers : length ns < 10 → refusal 1 0 ≡ repliedTo ns
+  enough : {X : Type 0} (x y : X) → 10 ≤ length ns → y ≡ byCount ns x y
+  enough x y h = sym (pick-false (ltb (length ns) 10) x y (le-ltb (length ns) 10 h))
+
+  pub few-line : length ns < 10 → refusalLine vertexCount ≡ repliedTo ns
   unfolding repliedTo
-  few-numbers h = sym (pick-true (ltb (length ns) 10) (refusal 1 0) long (lt-ltb (length ns) 10 h))
+  few-line h = few _ _ h
 
-  pub enough-numbers : 10 ≤ length ns → long ≡ repliedTo ns
+  pub few-work : (w : List ℕ) → length ns < 10 → w ≡ workTo ns w
+  unfolding workTo
+  few-work w h = few _ _ h
+
+  pub few-letters : (letters : List ℤ) → length ns < 10 → letters ≡ lettersTo ns letters
+  unfolding lettersTo
+  few-letters letters h = few _ _ h
+
+  pub enough-line : 10 ≤ length ns → replied (countIn ns) (tableIn ns) (firstIn ns) (secondIn ns) ≡ repliedTo ns
   unfolding repliedTo
-  enough-numbers h = sym (pick-false (ltb (length ns) 10) (refusal 1 0) long (le-ltb (length ns) 10 h))
+  enough-line h = enough _ _ h
 
-pub reply-longer : (longer : Bool) (text : List ℕ) → longer ≡ true → refusal 19 65536 ≡ replyOf longer text
-unfolding replyOf
-reply-longer longer text e = rw e refl
+  pub enough-work : (w : List ℕ) → 10 ≤ length ns → workLeft (countIn ns) (tableIn ns) (firstIn ns) (secondIn ns) w ≡ workTo ns w
+  unfolding workTo
+  enough-work w h = enough _ _ h
 
-pub reply-by : (longer : Bool) (text : List ℕ) (r : Reading) → longer ≡ false → r ≡ readingOf queryFormat text 3079 → replyBy r (numbers (pieces text)) ≡ replyOf longer text
+  pub enough-letters : (letters : List ℤ) → 10 ≤ length ns → lettersLeft (countIn ns) (tableIn ns) (firstIn ns) (secondIn ns) letters ≡ lettersTo ns letters
+  unfolding lettersTo
+  enough-letters letters h = enough _ _ h
+
+pub reply-by : (longer : Bool) (text : List ℕ) (r : Reading) → r ≡ inputOf longer queryFormat text 3079 → replyBy r (numbers (pieces text)) ≡ replyOf longer text
 unfolding replyOf
-reply-by longer text r e f = rw (e, f) refl
+reply-by longer text r e = ap (λ (x : Reading). replyBy x (numbers (pieces text))) e
+
+pub leaves-by : {longer : Bool} {text : List ℕ} {ns letters : List ℤ} {w : List ℕ} {ns' letters' : List ℤ} {w' : List ℕ} (r : Reading) → r ≡ inputOf longer queryFormat text 3079
+    → ns' ≡ leftBy r (numbers (pieces text)) ns → w' ≡ workBy r (numbers (pieces text)) w → letters' ≡ lettersBy r (numbers (pieces text)) letters
+    → Leaves longer text ns letters w ns' letters' w'
+leaves-by {longer} {text} {ns} {letters} {w} r e a b d = record {
+  numbers-left = a ∙ ap (λ (x : Reading). leftBy x (numbers (pieces text)) ns) e;
+  work-left = b ∙ ap (λ (x : Reading). workBy x (numbers (pieces text)) w) e;
+  letters-left = d ∙ ap (λ (x : Reading). lettersBy x (numbers (pieces text)) letters) e;
+}

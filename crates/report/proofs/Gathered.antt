@@ -1,6 +1,6 @@
 -- The generators of a symbol, in a table that has room for those of every symbol.
 --     leaders-most, rows-long     how many there are at most, and how long their rows are
---     Gathered v t r              the answer r of `generators`: how many there are, of an accepted symbol, or the fault of another
+--     Gathered v t r              the answer r of `generators`: how many there are, of an accepted symbol, or the refusal of another
 --     gathered                    it is one of these
 --     gathered-..                 which of them, by the answer
 --     rows-filled                 what then stands at the front of the table
@@ -17,12 +17,13 @@ use borrow.Author.Tests.{le-ltb}
 use Rattle.space.specs.Space.{workLength}
 use Rattle.symbol.specs.Check.{checkOf}
 use Rattle.symbol.specs.Symbol.{IsSymbol}
-use Rattle.pairing.specs.Generator.{leads, leaders, generatorTable, roomOf, listedOf, generatedBy, generatedOf, tableLeft}
-use Rattle.symbol.specs.declared.Fault.{Fault}
-use Rattle.symbol.specs.declared.Checked.{Checked}
-use Rattle.symbol.specs.declared.Checked.the-variants.{Accepted, Refused}
-use Rattle.pairing.specs.declared.generator.Generated.{Generated}
-use Rattle.pairing.specs.declared.generator.Generated.the-variants as generated
+use Rattle.pairing.specs.Generator.{leads, leaders, generatorTable, roomOf, byWork, generatedOf, tableLeft}
+use Rattle.refusal.specs.Refusal.{tooShort, filledBy}
+use Rattle.refusal.specs.declared.Refusal.{Refusal}
+use Rattle.refusal.specs.declared.Checked.{Checked}
+use Rattle.refusal.specs.declared.Checked.the-variants.{Accepted, Refused}
+use Rattle.refusal.specs.declared.Filled.{Filled}
+use Rattle.refusal.specs.declared.Filled.the-variants as filled
 use Rattle.symbol.proofs.Accepted.{accepted}
 use Rattle.symbol.proofs.Choice.{pick-false}
 use Rattle.symbol.proofs.Count.{length-those}
@@ -35,41 +36,37 @@ leaders-most v t ok = omega (arith, length-those (leads v t) (v + 1), count-most
 pub rows-long : (v : ℕ) (t : List ℤ) → length (generatorTable v t) ≡ 5 * length (leaders v t)
 rows-long v t = length-rows v t (leaders v t)
 
-pub data Gathered (v : ℕ) (t : List ℤ) (r : Generated) : Type 0 where
-  all : checkOf v t ≡ Accepted → IsSymbol v t → r ≡ generated.Made (length (leaders v t)) → Gathered v t r
-  none : (f : Fault) → checkOf v t ≡ Refused f → r ≡ generated.Refused f → Gathered v t r
+pub data Gathered (v : ℕ) (t : List ℤ) (r : Filled) : Type 0 where
+  all : checkOf v t ≡ Accepted → IsSymbol v t → r ≡ filled.Made (length (leaders v t)) → Gathered v t r
+  none : (f : Refusal) → checkOf v t ≡ Refused f → r ≡ filled.Refused f → Gathered v t r
 
-pub gathered : (v : ℕ) (t : List ℤ) (work room : ℕ) (r : Generated) → workLength ≤ work → 5120 ≤ room → r ≡ generatedOf v t work room → Gathered v t r
+pub gathered : (v : ℕ) (t : List ℤ) (work room : ℕ) (r : Filled) → workLength ≤ work → 5120 ≤ room → r ≡ generatedOf v t work room → Gathered v t r
 gathered v t work room r h k e = go (checkOf v t) refl
   where
     go : (c : Checked) → checkOf v t ≡ c → Gathered v t r
-    go (Refused f) q = none f q (e ∙ ap (λ (c : Checked). generatedBy c (listedOf (length (leaders v t)) work room)) q)
+    go (Refused f) q = none f q (e ∙ ap (λ (c : Checked). filledBy c (byWork work (roomOf (length (leaders v t)) room))) q)
     go Accepted q =
         let ok = accepted v t .0 q in
         let n = length (leaders v t) in
         all q ok (
         e
-        ∙ ap (λ (c : Checked). generatedBy c (listedOf n work room)) q
-        ∙ pick-false (ltb work workLength) (generated.Short workLength) (roomOf n room) (le-ltb work workLength h)
-        ∙ pick-false (ltb room (5 * n)) (generated.Short (5 * n)) (generated.Made n) (le-ltb room (5 * n) (omega (arith, leaders-most v t ok)))
+        ∙ ap (λ (c : Checked). filledBy c (byWork work (roomOf n room))) q
+        ∙ pick-false (ltb work workLength) (filled.Refused (tooShort workLength)) (roomOf n room) (le-ltb work workLength h)
+        ∙ pick-false (ltb room (5 * n)) (filled.Refused (tooShort (5 * n))) (filled.Made n) (le-ltb room (5 * n) (omega (arith, leaders-most v t ok)))
         )
 
-module _ {v : ℕ} {t : List ℤ} {r : Generated} where
-  pub gathered-made : Gathered v t r → (k : ℕ) → r ≡ generated.Made k → (checkOf v t ≡ Accepted) × IsSymbol v t × (k ≡ length (leaders v t))
+module _ {v : ℕ} {t : List ℤ} {r : Filled} where
+  pub gathered-made : Gathered v t r → (k : ℕ) → r ≡ filled.Made k → (checkOf v t ≡ Accepted) × IsSymbol v t × (k ≡ length (leaders v t))
   gathered-made (all q ok e) k m = (q, ok, cc)
   gathered-made (none f q e) k m = let z : _≡_ {A = ℕ} 0 1 = cc in absurd (omega arith)
 
-  pub gathered-refused : Gathered v t r → (f : Fault) → r ≡ generated.Refused f → checkOf v t ≡ Refused f
+  pub gathered-refused : Gathered v t r → (f : Refusal) → r ≡ filled.Refused f → checkOf v t ≡ Refused f
   gathered-refused (all q ok e) f m = let z : _≡_ {A = ℕ} 0 1 = cc in absurd (omega arith)
   gathered-refused (none g q e) f m = cc
 
-  pub gathered-long : {A : Type 0} → Gathered v t r → (k : ℕ) → r ≡ generated.Short k → A
-  gathered-long (all q ok e) k m = let z : _≡_ {A = ℕ} 0 1 = cc in absurd (omega arith)
-  gathered-long (none f q e) k m = let z : _≡_ {A = ℕ} 0 1 = cc in absurd (omega arith)
-
-pub rows-filled : (v : ℕ) (t : List ℤ) (k : ℕ) (out : List ℤ) {r : Generated} {out' : List ℤ} → k ≡ length (leaders v t) → r ≡ generated.Made k → out' ≡ tableLeft r (generatorTable v t) out
+pub rows-filled : (v : ℕ) (t : List ℤ) (k : ℕ) (out : List ℤ) {r : Filled} {out' : List ℤ} → k ≡ length (leaders v t) → r ≡ filled.Made k → out' ≡ tableLeft r (generatorTable v t) out
     → take (5 * k) out' ≡ generatorTable v t
 rows-filled v t k out {r} {out'} n f l =
     let table = generatorTable v t in
-    let m : out' ≡ table ++ drop (5 * k) out = l ∙ ap (λ (x : Generated). tableLeft x table out) f in
+    let m : out' ≡ table ++ drop (5 * k) out = l ∙ ap (λ (x : Filled). tableLeft x table out) f in
     ap (take (5 * k)) m ∙ take-at table (drop (5 * k) out) (5 * k) (rows-long v t ∙ ap (λ (j : ℕ). 5 * j) (sym n))

@@ -4,7 +4,7 @@
 --     lines-more                              one generator more
 --     listed-refused, listed-accepted         what is listed by the answer of the checks
 --     parts-listed                            the parts in the slices of a symbol that was surveyed are its listing
---     listing-longer, listing-by              what is listed for a text that is too long, and for an answer of `read`
+--     listing-by                              what is listed for an answer of `read_input`, and `leaves-by` what is left
 -- Assumes nothing.
 use mathlib.Core.Path.{_≡_, refl, sym, ap, _∙_}
 use mathlib.Core.Bool.{Bool, true, false}
@@ -23,21 +23,21 @@ use Rattle.symbol.specs.Check.{eqZ}
 use Rattle.symbol.proofs.Choice.{either, eqZ-true}
 use Rattle.symbol.proofs.Signed.{bits-positive}
 use Rattle.text.specs.Decimal.{digits}
-use Rattle.line.specs.Line.{line, refusal, Puts}
+use Rattle.line.specs.Line.{line, refusalLine, Puts}
 use Rattle.line.proofs.Placing.{puts-as, puts-then}
 use Rattle.space.specs.Space.{workLength}
 use Rattle.text.specs.Piece.{pieces, numbers}
-use Rattle.text.specs.Reading.{readingOf}
+use Rattle.text.specs.Reading.{inputOf, leftBy}
 use Rattle.text.specs.declared.Reading.{Reading}
-use Rattle.symbol.specs.Check.{numberOf, placeOf, checkOf}
+use Rattle.symbol.specs.Check.{checkOf}
 use Rattle.pairing.specs.Generator.{leaders, generatorTable}
-use Rattle.symbol.specs.declared.Fault.{Fault}
-use Rattle.symbol.specs.declared.Checked.the-variants.{Accepted, Refused}
+use Rattle.refusal.specs.declared.Refusal.{Refusal}
+use Rattle.refusal.specs.declared.Checked.the-variants.{Accepted, Refused}
 use Rattle.coset.specs.Answer.{saidBy, figuresOf, Surveyed}
 use Rattle.coset.specs.declared.FigureRecord.{FigureRecord}
 use Rattle.coset.specs.declared.Figured.the-variants as figured
 use Rattle.coset.proofs.Answer.{figures-refused, figures-long}
-use Rattle.report.specs.Listing.{listedBy, listed, listingFormat, readBy, listingOf, freeWord, evenWord, oddWord, kindWord, generatorLine, generatorLines}
+use Rattle.report.specs.Listing.{listedBy, listed, listingFormat, readBy, listingOf, workBy, tableBy, Leaves, freeWord, evenWord, oddWord, kindWord, generatorLine, generatorLines}
 use Rattle.report.specs.Parts.{partsOf}
 
 module _ (z : ℤ) where
@@ -66,7 +66,7 @@ row-put j row {word} k f g h =
     puts-then f (puts-as same g) h
 
 module _ (v : ℕ) (t : List ℤ) where
-  pub listed-refused : (f : Fault) → checkOf v t ≡ Refused f → refusal (numberOf f) (placeOf f) ≡ listed v t
+  pub listed-refused : (f : Refusal) → checkOf v t ≡ Refused f → refusalLine f ≡ listed v t
   unfolding listed
   listed-refused f q = ap (listedBy v t) (figures-refused v t workLength f q)
 
@@ -81,10 +81,16 @@ parts-listed {v} {t} {w} {w'} {f} g rows s n r =
     let same : partsOf f g rows w' ≡ listedBy v t (saidBy (figured.Made f)) = cc (s .widths-are, s .S-is, s .R-is, s .T-is, n, r) in
     same ∙ ap (listedBy v t) (s .figures)
 
-pub listing-longer : (longer : Bool) (text : List ℕ) → longer ≡ true → refusal 19 65536 ≡ listingOf longer text
+pub listing-by : (longer : Bool) (text : List ℕ) (r : Reading) → r ≡ inputOf longer listingFormat text 3071 → readBy r (numbers (pieces text)) ≡ listingOf longer text
 unfolding listingOf
-listing-longer longer text e = rw e refl
+listing-by longer text r e = ap (λ (x : Reading). readBy x (numbers (pieces text))) e
 
-pub listing-by : (longer : Bool) (text : List ℕ) (r : Reading) → longer ≡ false → r ≡ readingOf listingFormat text 3071 → readBy r (numbers (pieces text)) ≡ listingOf longer text
-unfolding listingOf
-listing-by longer text r e f = rw (e, f) refl
+-- what is left, by the answer of `read_input`
+pub leaves-by : {longer : Bool} {text : List ℕ} {ns table : List ℤ} {w : List ℕ} {ns' table' : List ℤ} {w' : List ℕ} (r : Reading) → r ≡ inputOf longer listingFormat text 3071
+    → ns' ≡ leftBy r (numbers (pieces text)) ns → w' ≡ workBy r (numbers (pieces text)) w → table' ≡ tableBy r (numbers (pieces text)) (length w) table
+    → Leaves longer text ns table w ns' table' w'
+leaves-by {longer} {text} {ns} {table} {w} r e a b d = record {
+  numbers-left = a ∙ ap (λ (x : Reading). leftBy x (numbers (pieces text)) ns) e;
+  work-left = b ∙ ap (λ (x : Reading). workBy x (numbers (pieces text)) w) e;
+  table-left = d ∙ ap (λ (x : Reading). tableBy x (numbers (pieces text)) (length w) table) e;
+}

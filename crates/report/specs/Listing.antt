@@ -13,22 +13,26 @@
 --   listed v t                      all of it for the symbol in t, or its refusal
 --   listingFormat                   the form of the text: v from 1 to 1,023, and then 3v + 1 numbers
 --   listingOf longer text           the bytes for a text, or for one with more than the 65,536 bytes that fit into the buffer
+--   workBy, tableBy                 what the call leaves in the work space and in the space for generators, by the answer of `read_input`
+--   Leaves ..                       what it leaves in every lent space but that of the bytes
+use mathlib.Core.Path.{_≡_}
 use mathlib.Core.Bool.{Bool}
 use mathlib.Core.List.{List, [], _∷_, _++_, map}
 use Prim.Native.Nat.{ℕ, zero, suc, _*_}
 use lib.IntN.{ℤ, pos}
 use lib.ListN.{length, take, drop, getD}
+use Rattle.matrix.specs.Matrix.{nth}
 use Rattle.matrix.specs.Euclid.{pick}
 use Rattle.space.specs.Space.{workLength}
 use Rattle.text.specs.Decimal.{digits}
 use Rattle.text.specs.Piece.{pieces, numbers}
-use Rattle.text.specs.Reading.{readingOf, vertexCount}
+use Rattle.text.specs.Reading.{inputOf, leftBy, vertexCount}
 use Rattle.text.specs.declared.Format.{Format}
 use Rattle.text.specs.declared.Reading.{Reading}
 use Rattle.text.specs.declared.Reading.the-variants as reading
-use Rattle.line.specs.Line.{natural, line, refusedWord, refusal}
-use Rattle.symbol.specs.Check.{eqZ}
-use Rattle.pairing.specs.Generator.{leaders, generatorTable}
+use Rattle.line.specs.Line.{natural, line, refusedWord, refusalLine}
+use Rattle.symbol.specs.Check.{eqZ, checkOf}
+use Rattle.pairing.specs.Generator.{leaders, generatorTable, generatedOf, workAfter, tableLeft}
 use Rattle.figures.specs.Figure as figure
 use Rattle.coset.specs.Tables.{tableS, tableR, tableT}
 use Rattle.coset.specs.Answer.{Says, made, refused, widthsOf, figuredOf}
@@ -65,7 +69,7 @@ oddWord = 32 ∷ 111 ∷ 100 ∷ 100 ∷ []
 
 unfoldable pub figureLine : List ℕ → figure.Figure → List ℕ
 figureLine name (figure.value x) = line name (natural x ∷ [])
-figureLine name (figure.refused n p) = line (name ++ (32 ∷ refusedWord)) (natural n ∷ natural p ∷ [])
+figureLine name (figure.refused f) = line (name ++ (32 ∷ refusedWord)) (natural (f .number) ∷ natural (f .place) ∷ [])
 
 abbrev pub kindWord : ℤ → List ℕ
 kindWord z = pick (eqZ z (pos 1)) freeWord (pick (eqZ z (pos 2)) evenWord oddWord)
@@ -97,7 +101,7 @@ listedBy v t (made n e2 e3 k genus level) =
     figureLines n e2 e3 k genus level (widthsOf v t)
     ++ generatorPart (length (leaders v t)) (generatorTable v t)
     ++ tableLines (tableS v t) (tableR v t) (tableT v t)
-listedBy v t (refused n p) = refusal n p
+listedBy v t (refused f) = refusalLine f
 
 unfoldable pub listed : ℕ → List ℤ → List ℕ
 listed v t = listedBy v t (figuredOf v t workLength)
@@ -106,9 +110,26 @@ abbrev pub listingFormat : Format
 listingFormat = record { most = 1023; each = 3; more = 2 }
 
 abbrev pub readBy : Reading → List ℤ → List ℕ
-readBy (reading.Numbers k) ns = listed (vertexCount (getD ns 0 (pos 0))) (drop 1 (take k ns))
-readBy (reading.Refused p) ns = refusal 19 p
-readBy (reading.Short k) ns = refusal 11 k
+readBy (reading.Numbers k) ns = listed (vertexCount (nth ns 0)) (drop 1 (take k ns))
+readBy (reading.Refused f) ns = refusalLine f
 
 unfoldable pub listingOf : Bool → List ℕ → List ℕ
-listingOf longer text = pick longer (refusal 19 65536) (readBy (readingOf listingFormat text 3071) (numbers (pieces text)))
+listingOf longer text = readBy (inputOf longer listingFormat text 3071) (numbers (pieces text))
+
+-- ---- what it leaves
+
+abbrev pub workBy : Reading → List ℤ → List ℕ → List ℕ
+workBy (reading.Numbers k) ns w = workAfter (checkOf (vertexCount (nth ns 0)) (drop 1 (take k ns))) w
+workBy (reading.Refused f) ns w = w
+
+abbrev pub tableIn : ℕ → List ℤ → (work : ℕ) → List ℤ → List ℤ
+tableIn v t work table = tableLeft (generatedOf v t work (length table)) (generatorTable v t) table
+
+abbrev pub tableBy : Reading → List ℤ → (work : ℕ) → List ℤ → List ℤ
+tableBy (reading.Numbers k) ns work table = tableIn (vertexCount (nth ns 0)) (drop 1 (take k ns)) work table
+tableBy (reading.Refused f) ns work table = table
+
+pub record Leaves (longer : Bool) (text : List ℕ) (ns table : List ℤ) (w : List ℕ) (ns' table' : List ℤ) (w' : List ℕ) : Type 0 where
+  pub numbers-left : ns' ≡ leftBy (inputOf longer listingFormat text 3071) (numbers (pieces text)) ns
+  pub work-left : w' ≡ workBy (inputOf longer listingFormat text 3071) (numbers (pieces text)) w
+  pub table-left : table' ≡ tableBy (inputOf longer listingFormat text 3071) (numbers (pieces text)) (length w) table

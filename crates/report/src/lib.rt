@@ -5,22 +5,22 @@ use line::refusal_line;
 use lines::figure_lines;
 use lines::generator_part;
 use lines::table_lines;
-use pairing::generator::Generated;
 use pairing::generator::generators;
-use symbol::fault_number;
-use symbol::fault_place;
+use refusal::Filled;
 use text::Format;
 use text::Reading;
+use text::read_input;
 use text::vertex_count;
 ghost use mathlib.Core.Path.{_≡_};
 ghost use Prim.Native.Nat.{_*_, _≤_};
 ghost use lib.ListN.{length};
 ghost use Rattle.space.specs.Space.{workLength, zeros};
 ghost use Rattle.line.specs.Line.{Puts};
+ghost use Rattle.symbol.specs.Check.{checkOf};
 ghost use Rattle.symbol.specs.Symbol.{IsSymbol};
-ghost use Rattle.pairing.specs.Generator.{leaders, generatorTable};
+ghost use Rattle.pairing.specs.Generator.{leaders, generatorTable, workAfter};
 ghost use Rattle.coset.specs.Answer.{figuresOf};
-ghost use Rattle.report.specs.Listing.{listedBy, listed, listingOf};
+ghost use Rattle.report.specs.Listing.{listedBy, listed, listingOf, tableIn, Leaves};
 ghost use Rattle.report.specs.Parts.{Spaces, partsOf};
 
 mod lines;
@@ -58,16 +58,13 @@ fn list_accepted(
 fn list_symbol(v: usize, t: &[i64], w: &mut [u16], table: &mut [i64], out: &mut [u8]) -> usize
     requires { ⌜ Spaces (now w) (now table) (now out) ⌝ }
     ensures { λ e. ⌜ Puts (listed v (now (t .entry))) 0 e (now (out .entry)) (now (out .exit)) ⌝ }
+    ensures { λ e. ⌜ now (w .exit) ≡ workAfter (checkOf v (now (t .entry))) (now (w .entry)) ⌝ }
+    ensures { λ e. ⌜ now (table .exit) ≡ tableIn v (now (t .entry)) (length (now (w .entry))) (now (table .entry)) ⌝ }
 {
     let made = generators(v, t, w, table);
     match made {
-        Generated::Refused(fault) => {
-            let number = fault_number(fault);
-            let place = fault_place(fault);
-            refusal_line(number, place, out)
-        }
-        Generated::Short(n) => refusal_line(11, n, out),
-        Generated::Made(g) => {
+        Filled::Refused(refusal) => refusal_line(refusal, out),
+        Filled::Made(g) => {
             let end = 5 * g;
             list_accepted(v, t, &table[..end], g, w, out)
         }
@@ -85,12 +82,11 @@ fn list_text(
 ) -> usize
     requires { ⌜ (length (now numbers) ≡ 3071) × Spaces (now w) (now table) (now out) ⌝ }
     ensures { λ e. ⌜ Puts (listingOf longer (now (text .entry))) 0 e (now (out .entry)) (now (out .exit)) ⌝ }
+    ensures { λ e. ⌜ Leaves longer (now (text .entry)) (now (numbers .entry)) (now (table .entry)) (now (w .entry)) (now (numbers .exit)) (now (table .exit)) (now (w .exit)) ⌝ }
 {
-    if longer {
-        return refusal_line(19, 65536, out);
-    }
-    let read = text::read(
+    let read = read_input(
         text,
+        longer,
         Format {
             most: 1023,
             each: 3,
@@ -99,8 +95,7 @@ fn list_text(
         numbers,
     );
     match read {
-        Reading::Refused(place) => refusal_line(19, place, out),
-        Reading::Short(k) => refusal_line(11, k, out),
+        Reading::Refused(refusal) => refusal_line(refusal, out),
         Reading::Numbers(k) => {
             let v = vertex_count(numbers[0]);
             list_symbol(v, &numbers[1..k], w, table, out)
@@ -109,7 +104,7 @@ fn list_text(
 }
 
 // What the program writes for the text, or for one that is longer than its buffer, from the front of `out`; where it ends. The arrays are
-// the program's own, and what stands in them is free.
+// the program's own, and what stands in them at the start is free.
 pub fn list(
     text: &[u8],
     longer: bool,
@@ -119,6 +114,7 @@ pub fn list(
     out: &mut [u8; 212992],
 ) -> usize
     ensures { λ e. ⌜ Puts (listingOf longer (now (text .entry))) 0 e (now (out .entry)) (now (out .exit)) × (e ≤ length (now (out .exit))) ⌝ }
+    ensures { λ e. ⌜ Leaves longer (now (text .entry)) (now (numbers .entry)) (now (table .entry)) (now (w .entry)) (now (numbers .exit)) (now (table .exit)) (now (w .exit)) ⌝ }
 {
     list_text(text, longer, numbers, w, table, out)
 }

@@ -11,6 +11,8 @@ use points::R_TABLE;
 use points::S_TABLE;
 use points::T_TABLE;
 use points::WIDTHS;
+use refusal::LEVEL_TOO_LARGE;
+use refusal::NO_GENUS;
 ghost use mathlib.Core.Path.{_≡_};
 ghost use mathlib.Core.List.{map};
 ghost use Prim.Native.Nat.{_+_, _*_, _≤_};
@@ -28,7 +30,7 @@ fn genus_line(genus: Genus, out: &mut [u8], at: usize) -> usize
 {
     match genus {
         Genus::Genus(g) => line_of_one(b"genus", g, out, at),
-        Genus::NoGenus => line_of_two(b"genus refused", 18, 0, out, at),
+        Genus::NoGenus => line_of_two(b"genus refused", NO_GENUS, 0, out, at),
     }
 }
 
@@ -39,7 +41,7 @@ fn level_line(level: Level, out: &mut [u8], at: usize) -> usize
 {
     match level {
         Level::Level(m) => line_of_one(b"level", m, out, at),
-        Level::TooLarge => line_of_two(b"level refused", 17, 0, out, at),
+        Level::TooLarge => line_of_two(b"level refused", LEVEL_TOO_LARGE, 0, out, at),
     }
 }
 

@@ -17,46 +17,38 @@ use Rattle.matrix.specs.Matrix.{nth, det}
 use Rattle.matrix.specs.Euclid.{pick, positive}
 use Rattle.symbol.specs.Count.{first, count}
 use Rattle.symbol.specs.Table.{numer, denom, pairings, pairing, sideAt, frame, gap, pairingOf}
-use Rattle.symbol.specs.Check.{_orElse_, refuse, refuseAt, eqZ, check1, check2, check3, check4, check5, check6, check7, checkOf, outOfRange, apart, isZero, sides, unpairedIn, unpairedBy, isOdd}
+use Rattle.symbol.specs.Check.{refuse, refuseAt, eqZ, check1, check2, check3, check4, check5, check6, check7, checkOf, outOfRange, apart, isZero, sides, unpairedIn, unpairedBy, isOdd}
 use Rattle.symbol.specs.Symbol.{ZeroAt, FreeLabel, IsSymbol, Verdict}
+use Rattle.refusal.proofs.Apart.{refused-accepted}
+use Rattle.refusal.proofs.Answers.{both-pass}
 use Rattle.symbol.specs.declared.Side.{Side}
 use Rattle.symbol.specs.declared.Pairing.{Pairing}
 use Rattle.symbol.specs.declared.Pairing.the-variants.{Even, Odd, Free, Bad}
-use Rattle.symbol.specs.declared.Fault.{Fault}
-use Rattle.symbol.specs.declared.Fault.the-variants.{VertexCount, TableLength, VertexEntry, Neighbours, NoZero, BadPairing, NoOddSide}
-use Rattle.symbol.specs.declared.Checked.{Checked}
-use Rattle.symbol.specs.declared.Checked.the-variants.{Accepted, Refused}
+use Rattle.refusal.specs.declared.Refusal.{Refusal}
+use Rattle.refusal.specs.Refusal.{_orElse_, vertexCount, tableLength, vertexEntry, notNeighbours, noZero, badPairing, noOddSide}
+use Rattle.refusal.specs.declared.Checked.{Checked}
+use Rattle.refusal.specs.declared.Checked.the-variants.{Accepted, Refused}
 use Rattle.symbol.proofs.Choice.{pick-true, pick-false, either, clash, and-left, and-right, eqZ-true, eq-eqZ, positive-true, true-positive}
 use Rattle.symbol.proofs.Count.{Clear, Found, first-clear, clear-first, first-hit, found, search-first}
 use Rattle.symbol.proofs.Pairings.{PairingView, even, odd, free, bad, pairing-view, pairing-free}
 
 -- ---- passing
 
-pub refused-accepted : {A : Type 0} {f : Fault} → Refused f ≡ Accepted → A
-refused-accepted e = let z : _≡_ {A = ℕ} 0 1 = cc in absurd (omega arith)
-
-pub both-pass : (c d : Checked) → (c orElse d) ≡ Accepted → (c ≡ Accepted) × (d ≡ Accepted)
-both-pass Accepted d e = (refl, e)
-both-pass (Refused f) d e = refused-accepted e
-
-pub pass-both : (c d : Checked) → c ≡ Accepted → d ≡ Accepted → (c orElse d) ≡ Accepted
-pass-both c d p q = ap (λ (x : Checked). x orElse d) p ∙ q
-
-pub passes : (b : Bool) (f : Fault) → refuse b f ≡ Accepted → b ≡ false
+pub passes : (b : Bool) (f : Refusal) → refuse b f ≡ Accepted → b ≡ false
 passes true f e = refused-accepted e
 passes false f e = refl
 
-pub pass : (b : Bool) (f : Fault) → b ≡ false → refuse b f ≡ Accepted
+pub pass : (b : Bool) (f : Refusal) → b ≡ false → refuse b f ≡ Accepted
 pass b f e = pick-false b (Refused f) Accepted e
 
-pub passes-at : (test : ℕ → Bool) (n : ℕ) (f : ℕ → Fault) → refuseAt (first test n) n f ≡ Accepted → Clear test n
+pub passes-at : (test : ℕ → Bool) (n : ℕ) (f : ℕ → Refusal) → refuseAt (first test n) n f ≡ Accepted → Clear test n
 passes-at test n f e = go (search-first test n)
   where
     go : Clear test n ⊎ Found test n → Clear test n
     go (inl c) = c
     go (inr k) = clash (lt-ltb (first test n) n (k .below)) (passes (ltb (first test n) n) (f (first test n)) e)
 
-pub pass-at : (test : ℕ → Bool) (n : ℕ) (f : ℕ → Fault) → Clear test n → refuseAt (first test n) n f ≡ Accepted
+pub pass-at : (test : ℕ → Bool) (n : ℕ) (f : ℕ → Refusal) → Clear test n → refuseAt (first test n) n f ≡ Accepted
 pass-at test n f c = pass (ltb (first test n) n) (f (first test n)) (le-ltb (first test n) n (let e = first-clear test n c in omega arith))
 
 false-not : (b : Bool) → b ≡ true → not b ≡ false
@@ -190,23 +182,23 @@ module _ (v : ℕ) (t : List ℤ) where
 
   meaning : Passed → IsSymbol v t
   meaning p =
-      let one = not-false (leb 1 v && leb v 1023) (passes (not (leb 1 v && leb v 1023)) VertexCount (p .one)) in
-      let three = passes-at (outOfRange t) (2 * v) VertexEntry (p .three) in
-      let four = passes-at (apart v t) (v + 1) Neighbours (p .four) in
-      let six = passes-at (unpairedIn v (pairings v t)) (v + 1) BadPairing (p .six) in
+      let one = not-false (leb 1 v && leb v 1023) (passes (not (leb 1 v && leb v 1023)) vertexCount (p .one)) in
+      let three = passes-at (outOfRange t) (2 * v) vertexEntry (p .three) in
+      let four = passes-at (apart v t) (v + 1) notNeighbours (p .four) in
+      let six = passes-at (unpairedIn v (pairings v t)) (v + 1) badPairing (p .six) in
       record {
         some = leb-true 1 v (and-left (leb 1 v) (leb v 1023) one);
         most = leb-true v 1023 (and-right (leb 1 v) (leb v 1023) one);
-        long = eqb-true (length t) (3 * v + 1) (not-false (eqb (length t) (3 * v + 1)) (passes (not (eqb (length t) (3 * v + 1))) (TableLength (length t)) (p .two)));
+        long = eqb-true (length t) (3 * v + 1) (not-false (eqb (length t) (3 * v + 1)) (passes (not (eqb (length t) (3 * v + 1))) (tableLength (length t)) (p .two)));
         numers = λ i h. in-range (2 * i) (three .none (2 * i) (omega arith)) .0;
         denoms = λ i h.
             let k = in-range (2 * i + 1) (three .none (2 * i + 1) (omega arith)) in
             let q = positive-true (denom t i) (at-odd i (positive (denom t i)) (k .1)) in
             (q .0, k .0, q .1);
         neighbours = λ i h. sym (neighbour (sideAt v t i)) ∙ eqZ-true (gap (sideAt v t i)) (pos 1) (not-false (eqZ (gap (sideAt v t i)) (pos 1)) (four .none i (omega arith)));
-        zero = zero-found (passes (not (ltb (first (isZero t) v) v)) NoZero (p .five));
+        zero = zero-found (passes (not (ltb (first (isZero t) v) v)) noZero (p .five));
         pairings = λ i h. paired (pairing v t i) (six .none i (omega arith));
-        odd = odd-one (passes (eqb v 1 && not (isOdd (pairings v t) 0 || isOdd (pairings v t) 1)) NoOddSide (p .seven));
+        odd = odd-one (passes (eqb v 1 && not (isOdd (pairings v t) 0 || isOdd (pairings v t) 1)) noOddSide (p .seven));
       }
 
   -- an entry's place is 2 i or 2 i + 1
@@ -228,13 +220,13 @@ module _ (v : ℕ) (t : List ℤ) where
       let a = s .some in
       let b = s .most in
       record {
-        one = pass (not (leb 1 v && leb v 1023)) VertexCount (false-not (leb 1 v && leb v 1023) (and-true (leb 1 v) (leb v 1023) (le-leb 1 v a) (le-leb v 1023 b)));
-        two = pass (not (eqb (length t) (3 * v + 1))) (TableLength (length t)) (false-not (eqb (length t) (3 * v + 1)) (eq-eqb (length t) (3 * v + 1) (s .long)));
-        three = pass-at (outOfRange t) (2 * v) VertexEntry (record { none = range-of s });
-        four = pass-at (apart v t) (v + 1) Neighbours (record { none = λ i h. false-not (eqZ (gap (sideAt v t i)) (pos 1)) (eq-eqZ (gap (sideAt v t i)) (pos 1) (neighbour (sideAt v t i) ∙ s .neighbours i (omega arith))) });
-        five = pass (not (ltb (first (isZero t) v) v)) NoZero (found-zero (s .zero));
-        six = pass-at (unpairedIn v (pairings v t)) (v + 1) BadPairing (record { none = λ i h. not-lonely (pairing v t i) (s .pairings i (omega arith)) });
-        seven = pass (eqb v 1 && not (isOdd (pairings v t) 0 || isOdd (pairings v t) 1)) NoOddSide (one-odd (s .odd));
+        one = pass (not (leb 1 v && leb v 1023)) vertexCount (false-not (leb 1 v && leb v 1023) (and-true (leb 1 v) (leb v 1023) (le-leb 1 v a) (le-leb v 1023 b)));
+        two = pass (not (eqb (length t) (3 * v + 1))) (tableLength (length t)) (false-not (eqb (length t) (3 * v + 1)) (eq-eqb (length t) (3 * v + 1) (s .long)));
+        three = pass-at (outOfRange t) (2 * v) vertexEntry (record { none = range-of s });
+        four = pass-at (apart v t) (v + 1) notNeighbours (record { none = λ i h. false-not (eqZ (gap (sideAt v t i)) (pos 1)) (eq-eqZ (gap (sideAt v t i)) (pos 1) (neighbour (sideAt v t i) ∙ s .neighbours i (omega arith))) });
+        five = pass (not (ltb (first (isZero t) v) v)) noZero (found-zero (s .zero));
+        six = pass-at (unpairedIn v (pairings v t)) (v + 1) badPairing (record { none = λ i h. not-lonely (pairing v t i) (s .pairings i (omega arith)) });
+        seven = pass (eqb v 1 && not (isOdd (pairings v t) 0 || isOdd (pairings v t) 1)) noOddSide (one-odd (s .odd));
       }
 
 pub accepted : (v : ℕ) (t : List ℤ) → (checkOf v t ≡ Accepted) ↔ IsSymbol v t

@@ -19,20 +19,20 @@ use Rattle.matrix.specs.Matrix.{nth}
 use Rattle.matrix.specs.Euclid.{pick}
 use Rattle.symbol.specs.Count.{first}
 use Rattle.symbol.specs.Table.{pairings}
-use Rattle.symbol.specs.Check.{_orElse_, refuse, refuseAt, eqZ, outOfRange, isOdd, lacksOdd, check1, check2, check3, check4, check5, check6, check7, checkOf}
+use Rattle.symbol.specs.Check.{refuse, refuseAt, eqZ, outOfRange, isOdd, lacksOdd, check1, check2, check3, check4, check5, check6, check7, checkOf}
 use Rattle.symbol.specs.Marks.{digit, Tallied}
 use Rattle.symbol.specs.Ready.{Ready}
-use Rattle.symbol.specs.declared.Fault.{Fault}
-use Rattle.symbol.specs.declared.Fault.the-variants.{VertexCount, TableLength}
-use Rattle.symbol.specs.declared.Checked.{Checked}
-use Rattle.symbol.specs.declared.Checked.the-variants.{Accepted, Refused}
+use Rattle.refusal.specs.declared.Refusal.{Refusal}
+use Rattle.refusal.specs.Refusal.{_orElse_, vertexCount, tableLength}
+use Rattle.refusal.specs.declared.Checked.{Checked}
+use Rattle.refusal.specs.declared.Checked.the-variants.{Accepted, Refused}
 use Rattle.symbol.proofs.Choice.{pick-true, pick-false, clash, eqZ-true, eq-eqZ}
 use Rattle.symbol.proofs.Count.{Clear, first-le, clear-first}
 use Rattle.symbol.proofs.Signed.{bits-negative}
 
 -- ---- the first refusal of several
 
-pub first-refused : {c : Checked} {f : Fault} (d : Checked) → c ≡ Refused f → (c orElse d) ≡ Refused f
+pub first-refused : {c : Checked} {f : Refusal} (d : Checked) → c ≡ Refused f → (c orElse d) ≡ Refused f
 first-refused d e = ap (λ (x : Checked). x orElse d) e
 
 pub next-check : {c : Checked} (d : Checked) → c ≡ Accepted → (c orElse d) ≡ d
@@ -44,16 +44,16 @@ orElse-assoc (Refused f) d e = refl
 
 -- ---- a check by its test
 
-pub refuse-yes : (b : Bool) (f : Fault) → b ≡ true → refuse b f ≡ Refused f
+pub refuse-yes : (b : Bool) (f : Refusal) → b ≡ true → refuse b f ≡ Refused f
 refuse-yes b f e = pick-true b (Refused f) Accepted e
 
-pub refuse-no : (b : Bool) (f : Fault) → b ≡ false → refuse b f ≡ Accepted
+pub refuse-no : (b : Bool) (f : Refusal) → b ≡ false → refuse b f ≡ Accepted
 refuse-no b f e = pick-false b (Refused f) Accepted e
 
-pub refuse-at : (test : ℕ → Bool) (n k : ℕ) (f : ℕ → Fault) → k ≡ first test n → k < n → refuseAt (first test n) n f ≡ Refused (f k)
+pub refuse-at : (test : ℕ → Bool) (n k : ℕ) (f : ℕ → Refusal) → k ≡ first test n → k < n → refuseAt (first test n) n f ≡ Refused (f k)
 refuse-at test n k f e h = refuse-yes (ltb (first test n) n) (f (first test n)) (lt-ltb (first test n) n (omega arith)) ∙ ap (λ (i : ℕ). Refused (f i)) (sym e)
 
-pub accept-at : (test : ℕ → Bool) (n k : ℕ) (f : ℕ → Fault) → k ≡ first test n → n ≤ k → refuseAt (first test n) n f ≡ Accepted
+pub accept-at : (test : ℕ → Bool) (n k : ℕ) (f : ℕ → Refusal) → k ≡ first test n → n ≤ k → refuseAt (first test n) n f ≡ Accepted
 accept-at test n k f e h = refuse-no (ltb (first test n) n) (f (first test n)) (le-ltb (first test n) n (omega arith))
 
 -- nothing was found
@@ -62,24 +62,24 @@ none-found test n k e h = let l = first-le test n in clear-first test n (omega a
 
 -- ---- checks 1 and 2
 
-pub too-few : (v : ℕ) (t : List ℤ) → v < 1 → checkOf v t ≡ Refused VertexCount
-too-few v t h = first-refused _ (refuse-yes (not (leb 1 v && leb v 1023)) VertexCount (ap (λ (b : Bool). not (b && leb v 1023)) (lt-leb 1 v h)))
+pub too-few : (v : ℕ) (t : List ℤ) → v < 1 → checkOf v t ≡ Refused vertexCount
+too-few v t h = first-refused _ (refuse-yes (not (leb 1 v && leb v 1023)) vertexCount (ap (λ (b : Bool). not (b && leb v 1023)) (lt-leb 1 v h)))
 
-pub too-many : (v : ℕ) (t : List ℤ) → 1 ≤ v → 1023 < v → checkOf v t ≡ Refused VertexCount
-too-many v t h k = first-refused _ (refuse-yes (not (leb 1 v && leb v 1023)) VertexCount (ap (λ (b : Bool). not (leb 1 v && b)) (lt-leb v 1023 k) ∙ and-false (leb 1 v)))
+pub too-many : (v : ℕ) (t : List ℤ) → 1 ≤ v → 1023 < v → checkOf v t ≡ Refused vertexCount
+too-many v t h k = first-refused _ (refuse-yes (not (leb 1 v && leb v 1023)) vertexCount (ap (λ (b : Bool). not (leb 1 v && b)) (lt-leb v 1023 k) ∙ and-false (leb 1 v)))
   where
     and-false : (b : Bool) → not (b && false) ≡ true
     and-false true = refl
     and-false false = refl
 
 in-number : (v : ℕ) → 1 ≤ v → v ≤ 1023 → check1 v ≡ Accepted
-in-number v h k = refuse-no (not (leb 1 v && leb v 1023)) VertexCount (ap not (both (leb 1 v) (leb v 1023) (le-leb 1 v h) (le-leb v 1023 k)))
+in-number v h k = refuse-no (not (leb 1 v && leb v 1023)) vertexCount (ap not (both (leb 1 v) (leb v 1023) (le-leb 1 v h) (le-leb v 1023 k)))
   where
     both : (a b : Bool) → a ≡ true → b ≡ true → (a && b) ≡ true
     both a b p q = ap (λ (x : Bool). x && b) p ∙ q
 
-pub wrong-length : (v : ℕ) (t : List ℤ) → 1 ≤ v → v ≤ 1023 → (length t ≡ 3 * v + 1 → ⊥) → checkOf v t ≡ Refused (TableLength (length t))
-wrong-length v t h k n = next-check _ (in-number v h k) ∙ first-refused _ (refuse-yes (not (eqb (length t) (3 * v + 1))) (TableLength (length t)) (ap not (ne-eqb (length t) (3 * v + 1) n)))
+pub wrong-length : (v : ℕ) (t : List ℤ) → 1 ≤ v → v ≤ 1023 → (length t ≡ 3 * v + 1 → ⊥) → checkOf v t ≡ Refused (tableLength (length t))
+wrong-length v t h k n = next-check _ (in-number v h k) ∙ first-refused _ (refuse-yes (not (eqb (length t) (3 * v + 1))) (tableLength (length t)) (ap not (ne-eqb (length t) (3 * v + 1) n)))
 
 -- what is left after them: the vertices, then the pairings
 abbrev pub later : ℕ → List ℤ → Checked
@@ -89,7 +89,7 @@ pub first-two : (v : ℕ) (t : List ℤ) → 1 ≤ v → v ≤ 1023 → length t
 first-two v t h k e =
     let rest = check6 v (pairings v t) orElse check7 v (pairings v t) in
     next-check _ (in-number v h k)
-    ∙ next-check _ (refuse-no (not (eqb (length t) (3 * v + 1))) (TableLength (length t)) (ap not (eq-eqb (length t) (3 * v + 1) e)))
+    ∙ next-check _ (refuse-no (not (eqb (length t) (3 * v + 1))) (tableLength (length t)) (ap not (eq-eqb (length t) (3 * v + 1) e)))
     ∙ ap (λ (x : Checked). check3 v t orElse x) (sym (orElse-assoc (check4 v t) (check5 v t) rest))
     ∙ sym (orElse-assoc (check3 v t) (check4 v t orElse check5 v t) rest)
 

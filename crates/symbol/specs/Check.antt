@@ -1,8 +1,7 @@
 -- The checks 1 to 7 of document 01, in their order, each with its place. Every later call cites `checkOf`.
 --
---   Fault, Checked        a symbol is accepted, or refused for a fault
---   numberOf, placeOf     document 01's number and place of each fault
---   c orElse c'           the first refusal of the two
+--   refuse b f            refused with f where b holds
+--   refuseAt i n f        refused at i, the first place that fails, where it is below n
 --   check1 .. check7      the seven checks; the last two are on the pairings alone
 --   checkOf v t           all of them, in order: the first fault counts
 use mathlib.Core.Bool.{Bool, true, false, not, _&&_, _||_}
@@ -17,40 +16,17 @@ use Rattle.symbol.specs.Count.{first, count}
 use Rattle.symbol.specs.Table.{numer, denom, pairings, pairing, sideAt, gap, pairingOf}
 use Rattle.symbol.specs.declared.Pairing.{Pairing}
 use Rattle.symbol.specs.declared.Pairing.the-variants.{Even, Odd, Free, Bad}
-use Rattle.symbol.specs.declared.Fault.{Fault}
-use Rattle.symbol.specs.declared.Fault.the-variants.{VertexCount, TableLength, VertexEntry, Neighbours, NoZero, BadPairing, NoOddSide}
-use Rattle.symbol.specs.declared.Checked.{Checked}
-use Rattle.symbol.specs.declared.Checked.the-variants.{Accepted, Refused}
-
-abbrev pub numberOf : Fault → ℕ
-numberOf VertexCount = 1
-numberOf (TableLength n) = 2
-numberOf (VertexEntry i) = 3
-numberOf (Neighbours i) = 4
-numberOf NoZero = 5
-numberOf (BadPairing i) = 6
-numberOf NoOddSide = 7
-
-abbrev pub placeOf : Fault → ℕ
-placeOf VertexCount = 0
-placeOf (TableLength n) = n
-placeOf (VertexEntry i) = i
-placeOf (Neighbours i) = i
-placeOf NoZero = 0
-placeOf (BadPairing i) = i
-placeOf NoOddSide = 0
-
-infixr 5 _orElse_
-abbrev pub _orElse_ : Checked → Checked → Checked
-Refused f orElse c = Refused f
-Accepted orElse c = c
+use Rattle.refusal.specs.declared.Refusal.{Refusal}
+use Rattle.refusal.specs.Refusal.{_orElse_, vertexCount, tableLength, vertexEntry, notNeighbours, noZero, badPairing, noOddSide}
+use Rattle.refusal.specs.declared.Checked.{Checked}
+use Rattle.refusal.specs.declared.Checked.the-variants.{Accepted, Refused}
 
 -- refused where b holds
-abbrev pub refuse : Bool → Fault → Checked
+abbrev pub refuse : Bool → Refusal → Checked
 refuse b f = pick b (Refused f) Accepted
 
 -- refused at the first i < n that fails
-abbrev pub refuseAt : ℕ → ℕ → (ℕ → Fault) → Checked
+abbrev pub refuseAt : ℕ → ℕ → (ℕ → Refusal) → Checked
 refuseAt i n f = refuse (ltb i n) (f i)
 
 abbrev pub eqZ : ℤ → ℤ → Bool
@@ -61,32 +37,32 @@ eqZ (negsuc m) (negsuc n) = eqb m n
 
 -- 1: v is from 1 to 1,023
 abbrev pub check1 : ℕ → Checked
-check1 v = refuse (not (leb 1 v && leb v 1023)) VertexCount
+check1 v = refuse (not (leb 1 v && leb v 1023)) vertexCount
 
 -- 2: the table has 3v + 1 entries
 abbrev pub check2 : ℕ → List ℤ → Checked
-check2 v t = refuse (not (eqb (length t) (3 * v + 1))) (TableLength (length t))
+check2 v t = refuse (not (eqb (length t) (3 * v + 1))) (tableLength (length t))
 
 -- 3: numerators, at even places, from -10⁹ to 10⁹; denominators, at odd places, from 1 to 10⁹
 abbrev pub outOfRange : List ℤ → ℕ → Bool
 outOfRange t i = not (leb (natAbs (nth t i)) 1000000000 && (eqb (i % 2) 0 || positive (nth t i)))
 
 abbrev pub check3 : ℕ → List ℤ → Checked
-check3 v t = refuseAt (first (outOfRange t) (2 * v)) (2 * v) VertexEntry
+check3 v t = refuseAt (first (outOfRange t) (2 * v)) (2 * v) vertexEntry
 
 -- 4: the ends of each side are neighbours
 abbrev pub apart : ℕ → List ℤ → ℕ → Bool
 apart v t i = not (eqZ (gap (sideAt v t i)) (pos 1))
 
 abbrev pub check4 : ℕ → List ℤ → Checked
-check4 v t = refuseAt (first (apart v t) (v + 1)) (v + 1) Neighbours
+check4 v t = refuseAt (first (apart v t) (v + 1)) (v + 1) notNeighbours
 
 -- 5: some vertex is 0/1
 abbrev pub isZero : List ℤ → ℕ → Bool
 isZero t i = eqZ (numer t i) (pos 0) && eqZ (denom t i) (pos 1)
 
 abbrev pub check5 : ℕ → List ℤ → Checked
-check5 v t = refuse (not (ltb (first (isZero t) v) v)) NoZero
+check5 v t = refuse (not (ltb (first (isZero t) v) v)) noZero
 
 -- 6: each pairing is even, odd, or a free label that two sides have
 abbrev pub sidesIn : ℕ → List ℤ → ℤ → ℕ
@@ -105,7 +81,7 @@ abbrev pub unpairedIn : ℕ → List ℤ → ℕ → Bool
 unpairedIn v p i = unpairedBy (pairingOf v (nth p i)) (sidesIn v p (nth p i))
 
 abbrev pub check6 : ℕ → List ℤ → Checked
-check6 v p = refuseAt (first (unpairedIn v p) (v + 1)) (v + 1) BadPairing
+check6 v p = refuseAt (first (unpairedIn v p) (v + 1)) (v + 1) badPairing
 
 -- 7: with one vertex some side is odd
 abbrev pub isOdd : List ℤ → ℕ → Bool
@@ -115,7 +91,7 @@ abbrev pub lacksOdd : ℕ → List ℤ → Bool
 lacksOdd v p = eqb v 1 && not (isOdd p 0 || isOdd p 1)
 
 abbrev pub check7 : ℕ → List ℤ → Checked
-check7 v p = refuse (lacksOdd v p) NoOddSide
+check7 v p = refuse (lacksOdd v p) noOddSide
 
 abbrev pub checkOf : ℕ → List ℤ → Checked
 checkOf v t =

@@ -13,8 +13,8 @@ use lib.IntN.{ℤ, pos, negsuc, natAbs}
 use Rattle.matrix.specs.Matrix.{det}
 use Rattle.symbol.specs.Table.{numer, denom, pairing, sideAt, frame}
 use Rattle.symbol.specs.Check.{sides, checkOf}
-use Rattle.symbol.specs.declared.Checked.{Checked}
-use Rattle.symbol.specs.declared.Checked.the-variants.{Accepted}
+use Rattle.refusal.specs.declared.Checked.{Checked}
+use Rattle.refusal.specs.declared.Checked.the-variants.{Accepted}
 
 -- a vertex that is 0/1
 pub record ZeroAt (v : ℕ) (t : List ℤ) : Type 0 where

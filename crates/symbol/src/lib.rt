@@ -1,6 +1,15 @@
 // A Farey symbol in a lent table: the checks of document 01, and its sides with their frames and generators.
 //
 // A table of a symbol with v vertices holds 2v vertex entries and then v + 1 pairings. specs/ says what each call returns and leaves.
+use refusal::BAD_PAIRING;
+use refusal::Checked;
+use refusal::NO_ODD_SIDE;
+use refusal::NO_ZERO;
+use refusal::NOT_NEIGHBOURS;
+use refusal::Refusal;
+use refusal::TABLE_LENGTH;
+use refusal::VERTEX_COUNT;
+use refusal::VERTEX_ENTRY;
 ghost use mathlib.Core.Path.{_≡_};
 ghost use Prim.Native.Nat.{ℕ, _+_, _*_, _%_, _≤_, _<_};
 ghost use lib.Dec.{leb};
@@ -9,9 +18,10 @@ ghost use Rattle.matrix.specs.Euclid.{positive};
 ghost use lib.ListN.{length};
 ghost use Rattle.matrix.specs.Matrix.{nth, ofList, toList, matS, matQ};
 ghost use Rattle.matrix.specs.Bounds.{Small};
+ghost use Rattle.refusal.specs.Refusal.{_orElse_};
 ghost use Rattle.symbol.specs.Count.{first};
 ghost use Rattle.symbol.specs.Table.{leftNum, leftDen, rightNum, rightDen, sideAt, frame, gap, carried, pairingOf};
-ghost use Rattle.symbol.specs.Check.{numberOf, placeOf, _orElse_, eqZ, outOfRange, apart, isZero, unpairedIn, check3, check4, check5, lacksOdd, check6, check7};
+ghost use Rattle.symbol.specs.Check.{eqZ, outOfRange, apart, isZero, unpairedIn, check3, check4, check5, lacksOdd, check6, check7};
 ghost use Rattle.symbol.specs.Marks.{digit, Marked, Noted, Tallied};
 ghost use Rattle.symbol.specs.Symbol.{Verdict};
 ghost use Rattle.symbol.specs.Ready.{SmallSide, failsOf, placesOf, Ready};
@@ -36,53 +46,6 @@ pub enum Pairing {
     Odd,
     Free(usize),
     Bad,
-}
-
-// Why a table is no symbol: document 01's refusals 1 to 7 (specs/Check.antt has the number and the place of each).
-pub enum Fault {
-    VertexCount,
-    TableLength(usize),
-    VertexEntry(usize),
-    Neighbours(usize),
-    NoZero,
-    BadPairing(usize),
-    NoOddSide,
-}
-
-// The answer of the checks.
-pub enum Checked {
-    Accepted,
-    Refused(Fault),
-}
-
-// Document 01's number of a fault.
-pub fn fault_number(fault: Fault) -> u64
-    ensures { λ r. ⌜ r ≡ numberOf fault ⌝ }
-{
-    match fault {
-        Fault::VertexCount => 1,
-        Fault::TableLength(_) => 2,
-        Fault::VertexEntry(_) => 3,
-        Fault::Neighbours(_) => 4,
-        Fault::NoZero => 5,
-        Fault::BadPairing(_) => 6,
-        Fault::NoOddSide => 7,
-    }
-}
-
-// Document 01's place of a fault.
-pub fn fault_place(fault: Fault) -> usize
-    ensures { λ r. ⌜ r ≡ placeOf fault ⌝ }
-{
-    match fault {
-        Fault::VertexCount => 0,
-        Fault::TableLength(n) => n,
-        Fault::VertexEntry(i) => i,
-        Fault::Neighbours(i) => i,
-        Fault::NoZero => 0,
-        Fault::BadPairing(i) => i,
-        Fault::NoOddSide => 0,
-    }
 }
 
 // Whether x is at most 10^9 in size.
@@ -361,17 +324,26 @@ fn check_vertices(v: usize, t: &[i64], marks: &[u8; 512]) -> Checked
 {
     let entry = first_place(3, v, t, marks, 2 * v);
     if entry < 2 * v {
-        return Checked::Refused(Fault::VertexEntry(entry));
+        return Checked::Refused(Refusal {
+            number: VERTEX_ENTRY,
+            place: entry,
+        });
     }
     let side = first_place(4, v, t, marks, v + 1);
     if side < v + 1 {
-        return Checked::Refused(Fault::Neighbours(side));
+        return Checked::Refused(Refusal {
+            number: NOT_NEIGHBOURS,
+            place: side,
+        });
     }
     let zero = first_place(5, v, t, marks, v);
     if zero < v {
         return Checked::Accepted;
     }
-    Checked::Refused(Fault::NoZero)
+    Checked::Refused(Refusal {
+        number: NO_ZERO,
+        place: 0,
+    })
 }
 
 // Whether there is just one vertex and no odd side.
@@ -396,10 +368,16 @@ fn check_pairings(v: usize, p: &[i64], marks: &mut [u8; 512]) -> Checked
     tally(v, p, marks);
     let side = first_place(6, v, p, marks, v + 1);
     if side < v + 1 {
-        return Checked::Refused(Fault::BadPairing(side));
+        return Checked::Refused(Refusal {
+            number: BAD_PAIRING,
+            place: side,
+        });
     }
     if lacks_odd(v, p) {
-        return Checked::Refused(Fault::NoOddSide);
+        return Checked::Refused(Refusal {
+            number: NO_ODD_SIDE,
+            place: 0,
+        });
     }
     Checked::Accepted
 }
@@ -409,19 +387,28 @@ pub fn check(v: usize, t: &[i64]) -> Checked
     ensures { λ r. ⌜ Verdict v (now (t .entry)) r ⌝ }
 {
     if v < 1 {
-        return Checked::Refused(Fault::VertexCount);
+        return Checked::Refused(Refusal {
+            number: VERTEX_COUNT,
+            place: 0,
+        });
     }
     if 1023 < v {
-        return Checked::Refused(Fault::VertexCount);
+        return Checked::Refused(Refusal {
+            number: VERTEX_COUNT,
+            place: 0,
+        });
     }
     let n = t.len();
     if n != 3 * v + 1 {
-        return Checked::Refused(Fault::TableLength(n));
+        return Checked::Refused(Refusal {
+            number: TABLE_LENGTH,
+            place: n,
+        });
     }
     let mut marks = [0u8; 512];
     let vertices = check_vertices(v, t, &marks);
     match vertices {
-        Checked::Refused(fault) => Checked::Refused(fault),
+        Checked::Refused(refusal) => Checked::Refused(refusal),
         Checked::Accepted => check_pairings(v, &t[2 * v..], &mut marks),
     }
 }

@@ -1,6 +1,7 @@
 -- What an answer of numbers says: there are so many, at least one, and they fit into the space.
 --     numbers-count     a text without a bad piece has a number for each piece
 --     handed-on         the law
+--     input-longer, input-read, input-on     the same for a program's text
 --     first-entry, other-entries     where they then stand
 --     front-entries     all of them
 -- Assumes nothing.
@@ -16,10 +17,10 @@ use lib.IntN.{ℤ, pos, negsuc}
 use lib.ListN.{length, getD, take, drop, length-drop}
 use lib.Seq.{take-at, drop-append-le, length-take-le}
 use borrow.Author.Tests.{lt-ltb, le-ltb}
-use Rattle.refusal.specs.Refusal.{tooShort}
+use Rattle.refusal.specs.Refusal.{tooShort, badText}
 use Rattle.text.specs.Choice.{pick}
 use Rattle.text.specs.Piece.{Piece, pieces, firstBad, numbers, placeAt}
-use Rattle.text.specs.Reading.{textMost, wanted, handed, countPlace, firstPlace, orElse, place19, answer, readingOf, leftBy}
+use Rattle.text.specs.Reading.{textMost, wanted, handed, countPlace, firstPlace, orElse, place19, answer, readingOf, inputOf, leftBy}
 use Rattle.text.specs.declared.Format.{Format}
 use Rattle.text.specs.declared.Reading.{Reading}
 use Rattle.text.specs.declared.Reading.the-variants as reading
@@ -117,6 +118,20 @@ handed-on f t room k m e =
     let s = sound f t (g .placeless) in
     let h = handed-there f (numbers (pieces t)) (length t) (pieces t) m (numbers-count (pieces t) (s .good)) (s .counted) in
     record { some-one = omega (arith, g .count, h .0); there = omega (arith, g .count, h .1); fitting = omega (arith, g .count, g .fitting) }
+
+-- the same for a program's text
+pub input-longer : (longer : Bool) (f : Format) (t : List ℕ) (room : ℕ) → longer ≡ true → reading.Refused (badText textMost) ≡ inputOf longer f t room
+unfolding inputOf
+input-longer longer f t room e = rw e refl
+
+pub input-read : (longer : Bool) (f : Format) (t : List ℕ) (room : ℕ) → longer ≡ false → readingOf f t room ≡ inputOf longer f t room
+unfolding inputOf
+input-read longer f t room e = rw e refl
+
+pub input-on : (longer : Bool) (f : Format) (t : List ℕ) (room k : ℕ) → 1 ≤ f .more → reading.Numbers k ≡ inputOf longer f t room → Handed (numbers (pieces t)) room k
+unfolding inputOf
+input-on true f t room k m e = clash cc
+input-on false f t room k m e = handed-on f t room k m e
 
 -- the first number, and the others
 module _ (ns out : List ℤ) (k : ℕ) (some-one : 1 ≤ k) (there : k ≤ length ns) where

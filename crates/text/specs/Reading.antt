@@ -11,11 +11,12 @@
 --     place19 f t           the place of refusal 19; none where the text t is not refused
 --     answer p k room       19 at the place p; or else k numbers, where they fit into `room` entries, or 11 with k
 --     readingOf f t room    the answer to the text t
+--     inputOf longer f t room     the same for a program's text: refused where more was sent than the program's buffer holds
 --     leftBy r ns out       what the slice holds in the end, where it held `out` and the text's numbers are ns
 --     vertexCount z         the first number as a number of vertices; a negative one is out of range as 0 is
 -- Assumes nothing.
 use Prim.Native.Nat.{ℕ, _+_, _*_}
-use mathlib.Core.Bool.{_&&_}
+use mathlib.Core.Bool.{Bool, _&&_}
 use mathlib.Core.List.{List, [], _∷_, _++_}
 use mathlib.Core.Option.{Option, none, some}
 use lib.Dec.{ltb, leb}
@@ -70,6 +71,9 @@ answer none k room = pick (ltb room k) (Refused (tooShort k)) (Numbers k)
 
 unfoldable pub readingOf : Format → List ℕ → ℕ → Reading
 readingOf f t room = answer (place19 f t) (handed f (numbers (pieces t))) room
+
+unfoldable pub inputOf : Bool → Format → List ℕ → ℕ → Reading
+inputOf longer f t room = pick longer (Refused (badText textMost)) (readingOf f t room)
 
 unfoldable pub leftBy : Reading → List ℤ → List ℤ → List ℤ
 leftBy (Numbers k) ns out = take k ns ++ drop k out

@@ -12,7 +12,7 @@ ghost use lib.IntN.{pos, negℤ, natAbs};
 ghost use Rattle.text.specs.Blank.{isBlank};
 ghost use Rattle.text.specs.Number.{natural, within, numberOf};
 ghost use Rattle.text.specs.Piece.{pieces, numbers, firstBad, placeAt};
-ghost use Rattle.text.specs.Reading.{readingOf, answer, leftBy, wanted, vertexCount};
+ghost use Rattle.text.specs.Reading.{readingOf, inputOf, answer, leftBy, wanted, vertexCount};
 ghost use Rattle.text.specs.Decimal.{digits, decimalOf};
 ghost use Rattle.text.specs.Writing.{roomMost, writtenOf, placed, standing};
 ghost use Rattle.text.specs.Inside.{naturalOf, integerOf, pushed, wantedOf, stretch, Steps, surveyOf, countedOf};
@@ -366,6 +366,19 @@ pub fn read(text: &[u8], format: Format, out: &mut [i64]) -> Reading
         }),
         Survey::Count(count) => count_and_give(text, format, count, out),
     }
+}
+
+// The same for a program's text, where `longer` says that more was sent than the program's buffer of 65,536 bytes holds.
+pub fn read_input(text: &[u8], longer: bool, format: Format, out: &mut [i64]) -> Reading
+    ensures { λ r. ⌜ (r ≡ inputOf longer format (now (text .entry)) (length (now (out .entry)))) × (now (out .exit) ≡ leftBy r (numbers (pieces (now (text .entry)))) (now (out .entry))) ⌝ }
+{
+    if longer {
+        return Reading::Refused(Refusal {
+            number: BAD_TEXT,
+            place: TEXT_MOST,
+        });
+    }
+    read(text, format, out)
 }
 
 // The first number of a text as a number of vertices.

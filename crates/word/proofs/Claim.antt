@@ -1,6 +1,6 @@
 -- THE CLAIM (specs/Claim.antt), from what the crate `polygon` promises of an accepted symbol: its steps, frames and start.
 --
--- In order: the walk comes home exactly where a word exists (`joined-home`, `home-product`); the word's letters, its length (`letters-of`,
+-- In order: the walk comes home exactly where a word exists (`joined-home`, `home-product`), and where A and B lead to the same point (`joined-same`, `same-joined`); the word's letters, its length (`letters-of`,
 -- `bound-of`, `sixteen-of`); the word in its place (`part-placed`); the three answers (`absent`, `fitting`, `too-short`); the claim (`answered`).
 --
 -- Why: a product W of generators has W A ≈ B exactly where W ≈ B A⁻¹, so such a product exists exactly where B A⁻¹ is in H, and H is the
@@ -21,15 +21,19 @@ use Rattle.matrix.specs.Matrix.{Mat, _⊗_, adj, det, _≈_, ofList}
 use Rattle.matrix.specs.Euclid as euclid
 use Rattle.matrix.proofs.Matrix.{⊗-assoc, ⊗-idr, ⊗-adj, adj-⊗, det-adj, det-one, ≈-sym, _∙≈_, ≈-right}
 use Rattle.symbol.specs.Symbol.{IsSymbol}
-use Rattle.pairing.specs.Generator.{generators, leads}
+use Rattle.pairing.specs.Generator as generator
+use Rattle.pairing.specs.Generator.{generators}
 use Rattle.pairing.specs.Subgroup.{IsWord, wordOf}
 use Rattle.symbol.proofs.Choice.{either, clash, pick-true, pick-false, and-left, and-right}
 use Rattle.polygon.specs.Step.{startOf}
 use Rattle.polygon.specs.Walk.{followed, walkEnds}
 use Rattle.polygon.specs.Theorem.{Polygon}
 use Rattle.polygon.proofs.SymbolFacts.{length-generators, count-most}
+use Rattle.coset.specs.Tables.{tableS, tableR}
+use Rattle.coset.specs.Theorem.{leads}
 use Rattle.coset.proofs.Answer.{meaning}
 use Rattle.walk.specs.Way.{placed}
+use Rattle.refusal.specs.Refusal.{noWord, tooShort}
 use Rattle.word.specs.Answer.{home, foundWord, fits, roomOf, foundOf, wordLeft, partOf}
 use Rattle.word.specs.Claim.{Joined, Fits, Answered}
 use Rattle.word.specs.declared.Queried.{Queried}
@@ -86,17 +90,25 @@ module _ {v : ℕ} {t : List ℤ} (ok : IsSymbol v t) (A B : Mat) (d : det A ≡
 
   letters-of : IsWord (length (generators v t)) word
   unfolding foundWord
-  letters-of = g .walk-letters (euclid.wordOf (followed v t X)) (startOf v t) (g .start)
+  letters-of = g .walks .walk-letters (euclid.wordOf (followed v t X)) (startOf v t) (g .start)
 
   bound-of : length word ≤ length (euclid.wordOf X) + 2
   unfolding foundWord
-  bound-of = omega (arith, g .walk-short (euclid.wordOf (followed v t X)) (startOf v t), followed-length X X-unit v t)
+  bound-of = omega (arith, g .walks .walk-short (euclid.wordOf (followed v t X)) (startOf v t), followed-length X X-unit v t)
 
   sixteen-of : (i : ℕ) → i < length word → natAbs (getD word i (pos 0)) ≤ 1024
-  sixteen-of i h = omega (arith, letter-most (length (generators v t)) word letters-of i h, length-generators v t, count-most (leads v t) (v + 1), ok .most)
+  sixteen-of i h = omega (arith, letter-most (length (generators v t)) word letters-of i h, length-generators v t, count-most (generator.leads v t) (v + 1), ok .most)
 
   home-joined : home v t A B ≡ true → Joined v t A B
   home-joined h = record { word = word; letters = letters-of; is = home-product h }
+
+  -- ---- the same point of the tables
+
+  joined-same : Joined v t A B → leads (tableS v t) (tableR v t) A ≡ leads (tableS v t) (tableR v t) B
+  joined-same j = meaning ok .cosets .cosets A B d e .1 j
+
+  same-joined : leads (tableS v t) (tableR v t) A ≡ leads (tableS v t) (tableR v t) B → Joined v t A B
+  same-joined q = meaning ok .cosets .cosets A B d e .0 q
 
   -- ---- the three answers
 
@@ -113,11 +125,12 @@ module _ {v : ℕ} {t : List ℤ} (ok : IsSymbol v t) (A B : Mat) (d : det A ≡
     yes-fits : Fits start (length word) (length out) → fits start (length word) (length out) ≡ true
     yes-fits f = ap (λ (b : Bool). b && leb (length word) (length out - start)) (le-leb start (length out) (f .inside)) ∙ le-leb (length word) (length out - start) (f .enough)
 
-    absent : home v t A B ≡ false → Here queried.Absent out
+    absent : home v t A B ≡ false → Here (queried.Refused noWord) out
     absent h =
         let no : Joined v t A B → ⊥ = λ j. clash (joined-home j) h in
         record {
           found = ((λ f. elim f [ inl z ↦ absurd (omega arith) | inr z ↦ absurd (omega arith) ]), (λ j. absurd (no j)));
+          points = ((λ f. elim f [ inl z ↦ absurd (omega arith) | inr z ↦ absurd (omega arith) ]), (λ e. absurd (no (same-joined e))));
           letters = λ f. letters-of;
           product = λ f. elim f [ inl z ↦ absurd (omega arith) | inr z ↦ absurd (omega arith) ];
           none = ((λ z. no), (λ z. refl));
@@ -137,6 +150,7 @@ module _ {v : ℕ} {t : List ℤ} (ok : IsSymbol v t) (A B : Mat) (d : det A ≡
         let f = fits-yes k in
         record {
           found = ((λ z. j), (λ z. inl refl));
+          points = ((λ z. joined-same j), (λ e. inl refl));
           letters = λ z. letters-of;
           product = λ z. home-product h;
           none = ((λ z. absurd (omega arith)), (λ n. absurd (n j)));
@@ -150,11 +164,12 @@ module _ {v : ℕ} {t : List ℤ} (ok : IsSymbol v t) (A B : Mat) (d : det A ≡
           sixteen = sixteen-of;
         }
 
-    too-short : home v t A B ≡ true → fits start (length word) (length out) ≡ false → Here (queried.Short (length word)) out
+    too-short : home v t A B ≡ true → fits start (length word) (length out) ≡ false → Here (queried.Refused (tooShort (length word))) out
     too-short h k =
         let j = home-joined h in
         record {
           found = ((λ z. j), (λ z. inr refl));
+          points = ((λ z. joined-same j), (λ e. inr refl));
           letters = λ z. letters-of;
           product = λ z. home-product h;
           none = ((λ z. absurd (omega arith)), (λ n. absurd (n j)));
@@ -183,16 +198,16 @@ module _ {v : ℕ} {t : List ℤ} (ok : IsSymbol v t) (a b : List ℤ) (d : det 
   Room k = fits start (length l) (length out) ≡ k
 
   in-room : Home true → roomOf (length l) start (length out) ≡ foundOf v t a b start (length out)
-  in-room h = sym (pick-true (home v t (ofList a) (ofList b)) (roomOf (length l) start (length out)) queried.Absent h)
+  in-room h = sym (pick-true (home v t (ofList a) (ofList b)) (roomOf (length l) start (length out)) (queried.Refused noWord) h)
 
   answered-by : Home true ⊎ Home false → Room true ⊎ Room false → Left (foundOf v t a b start (length out))
   answered-by (inr h) k =
-      subst Left (sym (pick-false (home v t (ofList a) (ofList b)) (roomOf (length l) start (length out)) queried.Absent h)) (absent ok (ofList a) (ofList b) d e out start h)
+      subst Left (sym (pick-false (home v t (ofList a) (ofList b)) (roomOf (length l) start (length out)) (queried.Refused noWord) h)) (absent ok (ofList a) (ofList b) d e out start h)
   answered-by (inl h) (inl k) =
-      subst Left (sym (pick-true (fits start (length l) (length out)) (queried.Word start (length l)) (queried.Short (length l)) k) ∙ in-room h)
+      subst Left (sym (pick-true (fits start (length l) (length out)) (queried.Word start (length l)) (queried.Refused (tooShort (length l))) k) ∙ in-room h)
       (fitting ok (ofList a) (ofList b) d e out start h k)
   answered-by (inl h) (inr k) =
-      subst Left (sym (pick-false (fits start (length l) (length out)) (queried.Word start (length l)) (queried.Short (length l)) k) ∙ in-room h)
+      subst Left (sym (pick-false (fits start (length l) (length out)) (queried.Word start (length l)) (queried.Refused (tooShort (length l))) k) ∙ in-room h)
       (too-short ok (ofList a) (ofList b) d e out start h k)
 
   pub answered : Left (foundOf v t a b start (length out))

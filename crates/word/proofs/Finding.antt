@@ -26,6 +26,7 @@ use Rattle.steps.specs.Steps.{Prepared}
 use Rattle.walk.specs.Way.{stored, placed, Setting, Walked}
 use Rattle.walk.specs.declared.Way.{Way}
 use Rattle.walk.proofs.Stored.{stored-none, stored-all}
+use Rattle.refusal.specs.Refusal.{noWord, tooShort}
 use Rattle.word.specs.Answer.{home, foundWord, fits, roomOf, foundOf}
 use Rattle.word.specs.Claim.{Asked}
 use Rattle.word.specs.Ready.{lettersAlong, endOf, Ready}
@@ -100,22 +101,22 @@ module _ (v : ℕ) (t : List ℤ) (m : Mat) (start room : ℕ) where
   abbrev last : ℕ
   last = ends v t (startOf v t) (wordOf m)
 
-  pub not-home : (x : ℕ) → x ≡ last → (x ≡ startOf v t → ⊥) → queried.Absent ≡ endOf v t m start room
-  not-home x e h = sym (pick-false (eqb last (startOf v t)) (roomOf n start room) queried.Absent (ne-eqb last (startOf v t) (λ z. h (e ∙ z))))
+  pub not-home : (x : ℕ) → x ≡ last → (x ≡ startOf v t → ⊥) → (queried.Refused noWord) ≡ endOf v t m start room
+  not-home x e h = sym (pick-false (eqb last (startOf v t)) (roomOf n start room) (queried.Refused noWord) (ne-eqb last (startOf v t) (λ z. h (e ∙ z))))
 
   at-home : (x : ℕ) → x ≡ last → x ≡ startOf v t → roomOf n start room ≡ endOf v t m start room
-  at-home x e h = sym (pick-true (eqb last (startOf v t)) (roomOf n start room) queried.Absent (eq-eqb last (startOf v t) (sym e ∙ h)))
+  at-home x e h = sym (pick-true (eqb last (startOf v t)) (roomOf n start room) (queried.Refused noWord) (eq-eqb last (startOf v t) (sym e ∙ h)))
 
   module _ (x : ℕ) (e : x ≡ last) (h : x ≡ startOf v t) where
-    pub too-far : room < start → queried.Short n ≡ endOf v t m start room
+    pub too-far : room < start → queried.Refused (tooShort n) ≡ endOf v t m start room
     too-far k =
-        sym (pick-false (fits start n room) (queried.Word start n) (queried.Short n) (ap (λ (c : Bool). c && leb n (room - start)) (lt-leb start room k))) ∙ at-home x e h
+        sym (pick-false (fits start n room) (queried.Word start n) (queried.Refused (tooShort n)) (ap (λ (c : Bool). c && leb n (room - start)) (lt-leb start room k))) ∙ at-home x e h
 
     fits-by : start ≤ room → fits start n room ≡ leb n (room - start)
     fits-by k = ap (λ (c : Bool). c && leb n (room - start)) (le-leb start room k)
 
-    pub too-long : start ≤ room → room - start < n → queried.Short n ≡ endOf v t m start room
-    too-long k l = sym (pick-false (fits start n room) (queried.Word start n) (queried.Short n) (fits-by k ∙ lt-leb n (room - start) l)) ∙ at-home x e h
+    pub too-long : start ≤ room → room - start < n → queried.Refused (tooShort n) ≡ endOf v t m start room
+    too-long k l = sym (pick-false (fits start n room) (queried.Word start n) (queried.Refused (tooShort n)) (fits-by k ∙ lt-leb n (room - start) l)) ∙ at-home x e h
 
     pub fitting : start ≤ room → n ≤ room - start → queried.Word start n ≡ endOf v t m start room
-    fitting k l = sym (pick-true (fits start n room) (queried.Word start n) (queried.Short n) (fits-by k ∙ le-leb n (room - start) l)) ∙ at-home x e h
+    fitting k l = sym (pick-true (fits start n room) (queried.Word start n) (queried.Refused (tooShort n)) (fits-by k ∙ le-leb n (room - start) l)) ∙ at-home x e h

@@ -19,12 +19,13 @@ use Rattle.symbol.specs.Count.{first}
 use Rattle.symbol.specs.Check.{checkOf}
 use Rattle.symbol.specs.Symbol.{IsSymbol}
 use Rattle.pairing.specs.Generator.{workAfter}
-use Rattle.symbol.specs.declared.Fault.{Fault}
-use Rattle.symbol.specs.declared.Checked.{Checked}
-use Rattle.symbol.specs.declared.Checked.the-variants.{Accepted, Refused}
+use Rattle.refusal.specs.declared.Refusal.{Refusal}
+use Rattle.refusal.specs.declared.Checked.{Checked}
+use Rattle.refusal.specs.declared.Checked.the-variants.{Accepted, Refused}
 use Rattle.symbol.proofs.Accepted.{accepted}
 use Rattle.symbol.proofs.Choice.{either, pick-true, pick-false}
 use Rattle.symbol.proofs.Count.{first-clear, clear-first, first-le}
+use Rattle.refusal.specs.Refusal.{matrixEntry, determinant, tooShort}
 use Rattle.word.specs.Answer.{large, unit, passes, foundWord, foundOf, byWork, byDeterminants, byEntries, byCheck, queryOf, workLeft, wordLeft}
 use Rattle.word.specs.Claim.{Asked, Answered, Claim}
 use Rattle.word.specs.Ready.{judgedOf}
@@ -61,16 +62,16 @@ module _ (v : ℕ) (t a b : List ℤ) (w : List ℕ) (room start : ℕ) where
   past-check e = sym (ap (λ (c : Checked). byCheck c entered) e)
 
   past-entries : 8 ≤ i → unital ≡ entered
-  past-entries h = sym (pick-false (ltb i 8) (queried.Entry i) unital (le-ltb i 8 h))
+  past-entries h = sym (pick-false (ltb i 8) (queried.Refused (matrixEntry i)) unital (le-ltb i 8 h))
 
-  past-A : unit a ≡ true → pick (unit b) worked (queried.Determinant 1) ≡ unital
-  past-A e = sym (pick-true (unit a) (pick (unit b) worked (queried.Determinant 1)) (queried.Determinant 0) e)
+  past-A : unit a ≡ true → pick (unit b) worked (queried.Refused (determinant 1)) ≡ unital
+  past-A e = sym (pick-true (unit a) (pick (unit b) worked (queried.Refused (determinant 1))) (queried.Refused (determinant 0)) e)
 
-  past-B : unit b ≡ true → worked ≡ pick (unit b) worked (queried.Determinant 1)
-  past-B e = sym (pick-true (unit b) worked (queried.Determinant 1) e)
+  past-B : unit b ≡ true → worked ≡ pick (unit b) worked (queried.Refused (determinant 1))
+  past-B e = sym (pick-true (unit b) worked (queried.Refused (determinant 1)) e)
 
   past-work : workLength ≤ length w → found ≡ worked
-  past-work h = sym (pick-false (ltb (length w) workLength) (queried.Short workLength) found (le-ltb (length w) workLength h))
+  past-work h = sym (pick-false (ltb (length w) workLength) (queried.Refused (tooShort workLength)) found (le-ltb (length w) workLength h))
 
   -- the work space
   passes-is : (x y z : Bool) → not (ltb i 8) ≡ x → unit a ≡ y → unit b ≡ z → passes a b ≡ (x && (y && z))
@@ -82,16 +83,16 @@ module _ (v : ℕ) (t a b : List ℤ) (w : List ℕ) (room start : ℕ) where
   work-by : passes a b ≡ true → checkOf v t ≡ Accepted → pick (ltb (length w) workLength) w (zeros (length w)) ≡ workLeft v t a b w
   work-by e f = sym (pick-true (passes a b) (workAfter (checkOf v t) w) w e ∙ ap (λ (c : Checked). workAfter c w) f)
 
-  pub by-fault : (f : Fault) → checkOf v t ≡ Refused f → (queried.Refused f ≡ all) × (w ≡ workLeft v t a b w)
+  pub by-fault : (f : Refusal) → checkOf v t ≡ Refused f → (queried.Refused f ≡ all) × (w ≡ workLeft v t a b w)
   by-fault f e = (
     sym (ap (λ (c : Checked). byCheck c entered) e),
     sym (ap (λ (c : Checked). pick (passes a b) (workAfter c w) w) e ∙ same (passes a b) w),
   )
 
   module _ (e : checkOf v t ≡ Accepted) where
-    pub by-entry : i < 8 → (queried.Entry i ≡ all) × (w ≡ workLeft v t a b w)
+    pub by-entry : i < 8 → (queried.Refused (matrixEntry i) ≡ all) × (w ≡ workLeft v t a b w)
     by-entry h = (
-      sym (pick-true (ltb i 8) (queried.Entry i) unital (lt-ltb i 8 h)) ∙ past-check e,
+      sym (pick-true (ltb i 8) (queried.Refused (matrixEntry i)) unital (lt-ltb i 8 h)) ∙ past-check e,
       work-kept (ap (λ (x : Bool). not x && (unit a && unit b)) (lt-ltb i 8 h)),
     )
 
@@ -99,16 +100,16 @@ module _ (v : ℕ) (t a b : List ℤ) (w : List ℕ) (room start : ℕ) where
       small-entries : not (ltb i 8) ≡ true
       small-entries = ap not (le-ltb i 8 h)
 
-      pub by-A : unit a ≡ false → (queried.Determinant 0 ≡ all) × (w ≡ workLeft v t a b w)
+      pub by-A : unit a ≡ false → (queried.Refused (determinant 0) ≡ all) × (w ≡ workLeft v t a b w)
       by-A f = (
-        sym (pick-false (unit a) (pick (unit b) worked (queried.Determinant 1)) (queried.Determinant 0) f) ∙ past-entries h ∙ past-check e,
+        sym (pick-false (unit a) (pick (unit b) worked (queried.Refused (determinant 1))) (queried.Refused (determinant 0)) f) ∙ past-entries h ∙ past-check e,
         work-kept (passes-is true false (unit b) small-entries f refl),
       )
 
       module _ (f : unit a ≡ true) where
-        pub by-B : unit b ≡ false → (queried.Determinant 1 ≡ all) × (w ≡ workLeft v t a b w)
+        pub by-B : unit b ≡ false → (queried.Refused (determinant 1) ≡ all) × (w ≡ workLeft v t a b w)
         by-B g = (
-          sym (pick-false (unit b) worked (queried.Determinant 1) g) ∙ past-A f ∙ past-entries h ∙ past-check e,
+          sym (pick-false (unit b) worked (queried.Refused (determinant 1)) g) ∙ past-A f ∙ past-entries h ∙ past-check e,
           work-kept (passes-is true true false small-entries f g),
         )
 
@@ -116,10 +117,10 @@ module _ (v : ℕ) (t a b : List ℤ) (w : List ℕ) (room start : ℕ) where
           passed : passes a b ≡ true
           passed = passes-is true true true small-entries f g
 
-          pub by-short : length w < workLength → (queried.Short workLength ≡ all) × (w ≡ workLeft v t a b w)
+          pub by-short : length w < workLength → (queried.Refused (tooShort workLength) ≡ all) × (w ≡ workLeft v t a b w)
           by-short k =
               let z = lt-ltb (length w) workLength k in (
-                sym (pick-true (ltb (length w) workLength) (queried.Short workLength) found z) ∙ past-B g ∙ past-A f ∙ past-entries h ∙ past-check e,
+                sym (pick-true (ltb (length w) workLength) (queried.Refused (tooShort workLength)) found z) ∙ past-B g ∙ past-A f ∙ past-entries h ∙ past-check e,
                 sym (pick-true (ltb (length w) workLength) w (zeros (length w)) z) ∙ work-by passed e,
               )
 
@@ -176,9 +177,9 @@ module _ (a b : List ℤ) where
   ]
 
 module _ (v : ℕ) (t a b : List ℤ) (w : List ℕ) (room start : ℕ) (e : checkOf v t ≡ Accepted) (k : ℕ) (j : k ≡ judgedOf a b) where
-  pub by-large : k < 8 → (queried.Entry k ≡ queryOf v t a b (length w) room start) × (w ≡ workLeft v t a b w)
+  pub by-large : k < 8 → (queried.Refused (matrixEntry k) ≡ queryOf v t a b (length w) room start) × (w ≡ workLeft v t a b w)
   by-large h = elim (decLt (first (large a b) 8) 8) [
-    | yes l ↦ (let z = by-entry v t a b w room start e l in (ap queried.Entry (j ∙ judged-entry a b l) ∙ z .0, z .1))
+    | yes l ↦ (let z = by-entry v t a b w room start e l in (ap (λ (i : ℕ). queried.Refused (matrixEntry i)) (j ∙ judged-entry a b l) ∙ z .0, z .1))
     | no l ↦ (
         let m : 8 ≤ first (large a b) 8 = omega arith in
         elim (either (unit a)) [
@@ -188,7 +189,7 @@ module _ (v : ℕ) (t a b : List ℤ) (w : List ℕ) (room start : ℕ) (e : che
         )
   ]
 
-  pub by-determinant : 8 ≤ k → k < 10 → (queried.Determinant (k - 8) ≡ queryOf v t a b (length w) room start) × (w ≡ workLeft v t a b w)
+  pub by-determinant : 8 ≤ k → k < 10 → (queried.Refused (determinant (k - 8)) ≡ queryOf v t a b (length w) room start) × (w ≡ workLeft v t a b w)
   by-determinant h h' = elim (decLt (first (large a b) 8) 8) [
     | yes l ↦ (let z = judged-entry a b l in absurd (omega arith))
     | no l ↦ (
@@ -198,14 +199,14 @@ module _ (v : ℕ) (t a b : List ℤ) (w : List ℕ) (room start : ℕ) (e : che
               let z = judged-A a b m f in
               let y : k - 8 ≡ 0 = omega arith in
               let x = by-A v t a b w room start e m f in
-              (ap queried.Determinant y ∙ x .0, x .1)
+              (ap (λ (i : ℕ). queried.Refused (determinant i)) y ∙ x .0, x .1)
               )
           | inl f ↦ elim (either (unit b)) [
             | inr g ↦ (
                 let z = judged-B a b m f g in
                 let y : k - 8 ≡ 1 = omega arith in
                 let x = by-B v t a b w room start e m f g in
-                (ap queried.Determinant y ∙ x .0, x .1)
+                (ap (λ (i : ℕ). queried.Refused (determinant i)) y ∙ x .0, x .1)
                 )
             | inl g ↦ (let z = judged-passed a b m f g in absurd (omega arith))
           ]

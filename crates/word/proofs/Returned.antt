@@ -17,10 +17,11 @@ use Rattle.matrix.specs.Euclid.{pick}
 use Rattle.space.specs.Space.{workLength}
 use Rattle.symbol.specs.Count.{first}
 use Rattle.symbol.specs.Check.{checkOf}
-use Rattle.symbol.specs.declared.Checked.{Checked}
-use Rattle.symbol.specs.declared.Checked.the-variants.{Accepted, Refused}
+use Rattle.refusal.specs.declared.Checked.{Checked}
+use Rattle.refusal.specs.declared.Checked.the-variants.{Accepted, Refused}
 use Rattle.symbol.proofs.Choice.{and-left, and-right}
 use Rattle.walk.specs.Way.{placed}
+use Rattle.refusal.specs.Refusal.{matrixEntry, determinant, noWord, tooShort}
 use Rattle.word.specs.Answer.{large, unit, home, foundWord, fits, roomOf, foundOf, byWork, byDeterminants, byEntries, byCheck, queryOf, partOf}
 use Rattle.word.specs.declared.Queried.{Queried}
 use Rattle.word.specs.declared.Queried.the-variants as queried
@@ -39,16 +40,16 @@ module _ (s n : ℕ) where
   first-one true x y never e = e
   first-one false x y never e = absurd (never e)
 
-  no-entry : (i : ℕ) → Is (queried.Entry i) → ⊥
+  no-entry : (i : ℕ) → Is (queried.Refused (matrixEntry i)) → ⊥
   no-entry i e = let z : _≡_ {A = ℕ} 0 1 = cc in absurd (omega arith)
 
-  no-determinant : (i : ℕ) → Is (queried.Determinant i) → ⊥
+  no-determinant : (i : ℕ) → Is (queried.Refused (determinant i)) → ⊥
   no-determinant i e = let z : _≡_ {A = ℕ} 0 1 = cc in absurd (omega arith)
 
-  no-short : (k : ℕ) → Is (queried.Short k) → ⊥
+  no-short : (k : ℕ) → Is (queried.Refused (tooShort k)) → ⊥
   no-short k e = let z : _≡_ {A = ℕ} 0 1 = cc in absurd (omega arith)
 
-  no-absent : Is queried.Absent → ⊥
+  no-absent : Is (queried.Refused noWord) → ⊥
   no-absent e = let z : _≡_ {A = ℕ} 0 1 = cc in absurd (omega arith)
 
   by-check : (c : Checked) (r : Queried) → Is (byCheck c r) → Is r
@@ -65,7 +66,7 @@ module _ (s n : ℕ) where
     where
       go : (b : Bool) → fits start k room ≡ b → Named k start room
       go true h = let f : Is (queried.Word start k) = rw h at e in record { place-is = cc; length-is = cc; fitting = h }
-      go false h = let f : Is (queried.Short k) = rw h at e in absurd (no-short k f)
+      go false h = let f : Is (queried.Refused (tooShort k)) = rw h at e in absurd (no-short k f)
 
   module _ (v : ℕ) (t a b : List ℤ) (work start : ℕ) (out : List ℤ) (e : Is (queryOf v t a b work (length out) start)) where
     abbrev word : List ℤ
@@ -76,11 +77,11 @@ module _ (s n : ℕ) where
         let found = foundOf v t a b start (length out) in
         let enough = byWork work found in
         let e1 = by-check (checkOf v t) (byEntries a b (byDeterminants a b enough)) e in
-        let e2 = second (ltb (first (large a b) 8) 8) (queried.Entry (first (large a b) 8)) (byDeterminants a b enough) (no-entry (first (large a b) 8)) e1 in
-        let e3 = first-one (unit a) (pick (unit b) enough (queried.Determinant 1)) (queried.Determinant 0) (no-determinant 0) e2 in
-        let e4 = first-one (unit b) enough (queried.Determinant 1) (no-determinant 1) e3 in
-        let e5 = second (ltb work workLength) (queried.Short workLength) found (no-short workLength) e4 in
-        let e6 = first-one (home v t (ofList a) (ofList b)) (roomOf (length word) start (length out)) queried.Absent no-absent e5 in
+        let e2 = second (ltb (first (large a b) 8) 8) (queried.Refused (matrixEntry (first (large a b) 8))) (byDeterminants a b enough) (no-entry (first (large a b) 8)) e1 in
+        let e3 = first-one (unit a) (pick (unit b) enough (queried.Refused (determinant 1))) (queried.Refused (determinant 0)) (no-determinant 0) e2 in
+        let e4 = first-one (unit b) enough (queried.Refused (determinant 1)) (no-determinant 1) e3 in
+        let e5 = second (ltb work workLength) (queried.Refused (tooShort workLength)) found (no-short workLength) e4 in
+        let e6 = first-one (home v t (ofList a) (ofList b)) (roomOf (length word) start (length out)) (queried.Refused noWord) no-absent e5 in
         by-room (length word) start (length out) e6
 
     pub part-found : partOf (placed s word out) s n ≡ word

@@ -1,7 +1,7 @@
 -- The answer of a pair query, and what it leaves in the two lent spaces.
 --
 --   Queried                     the answer of `query`
---   queryNumber, queryPlace     document 01's number and place of its refusing cases, and 0 for a word
+--   queryRefusal                the refusal that the answer is, none for a word
 --   entryAt a b i               the entry i of the pair: 0 to 3 in A, 4 to 7 in B
 --   large a b i                 whether it is beyond 1,000,000 in size
 --   unit m                      whether the determinant of m is 1
@@ -23,32 +23,22 @@ use lib.IntN.{ℤ, pos, natAbs}
 use Rattle.matrix.specs.Matrix.{Mat, _⊗_, adj, det, nth, ofList}
 use Rattle.matrix.specs.Euclid.{pick}
 use Rattle.space.specs.Space.{workLength}
+use Rattle.refusal.specs.Refusal.{none, matrixEntry, determinant, noWord, tooShort}
+use Rattle.refusal.specs.declared.Refusal.{Refusal}
 use Rattle.symbol.specs.Count.{first}
-use Rattle.symbol.specs.Check.{eqZ, numberOf, placeOf, checkOf}
+use Rattle.symbol.specs.Check.{eqZ, checkOf}
 use Rattle.pairing.specs.Generator.{workAfter}
-use Rattle.symbol.specs.declared.Checked.{Checked}
-use Rattle.symbol.specs.declared.Checked.the-variants.{Accepted, Refused}
+use Rattle.refusal.specs.declared.Checked.{Checked}
+use Rattle.refusal.specs.declared.Checked.the-variants.{Accepted, Refused}
 use Rattle.polygon.specs.Step.{startOf}
 use Rattle.polygon.specs.Walk.{walkEnds, walkWrites}
 use Rattle.walk.specs.Way.{placed}
 use Rattle.word.specs.declared.Queried.{Queried}
 use Rattle.word.specs.declared.Queried.the-variants as queried
 
-abbrev pub queryNumber : Queried → ℕ
-queryNumber (queried.Word start n) = 0
-queryNumber (queried.Refused f) = numberOf f
-queryNumber (queried.Entry i) = 8
-queryNumber (queried.Determinant i) = 9
-queryNumber queried.Absent = 10
-queryNumber (queried.Short n) = 11
-
-abbrev pub queryPlace : Queried → ℕ
-queryPlace (queried.Word start n) = 0
-queryPlace (queried.Refused f) = placeOf f
-queryPlace (queried.Entry i) = i
-queryPlace (queried.Determinant i) = i
-queryPlace queried.Absent = 0
-queryPlace (queried.Short n) = n
+abbrev pub queryRefusal : Queried → Refusal
+queryRefusal (queried.Word start n) = none
+queryRefusal (queried.Refused f) = f
 
 -- ---- the pair
 
@@ -78,21 +68,21 @@ abbrev pub fits : (start n room : ℕ) → Bool
 fits start n room = leb start room && leb n (room - start)
 
 abbrev pub roomOf : (n start room : ℕ) → Queried
-roomOf n start room = pick (fits start n room) (queried.Word start n) (queried.Short n)
+roomOf n start room = pick (fits start n room) (queried.Word start n) (queried.Refused (tooShort n))
 
 abbrev pub foundOf : (v : ℕ) (t a b : List ℤ) (start room : ℕ) → Queried
-foundOf v t a b start room = pick (home v t (ofList a) (ofList b)) (roomOf (length (foundWord v t (ofList a) (ofList b))) start room) queried.Absent
+foundOf v t a b start room = pick (home v t (ofList a) (ofList b)) (roomOf (length (foundWord v t (ofList a) (ofList b))) start room) (queried.Refused noWord)
 
 abbrev pub byWork : (work : ℕ) → Queried → Queried
-byWork work r = pick (ltb work workLength) (queried.Short workLength) r
+byWork work r = pick (ltb work workLength) (queried.Refused (tooShort workLength)) r
 
 -- 9, A before B
 abbrev pub byDeterminants : (a b : List ℤ) → Queried → Queried
-byDeterminants a b r = pick (unit a) (pick (unit b) r (queried.Determinant 1)) (queried.Determinant 0)
+byDeterminants a b r = pick (unit a) (pick (unit b) r (queried.Refused (determinant 1))) (queried.Refused (determinant 0))
 
 -- 8, A before B
 abbrev pub byEntries : (a b : List ℤ) → Queried → Queried
-byEntries a b r = let i = first (large a b) 8 in pick (ltb i 8) (queried.Entry i) r
+byEntries a b r = let i = first (large a b) 8 in pick (ltb i 8) (queried.Refused (matrixEntry i)) r
 
 abbrev pub byCheck : Checked → Queried → Queried
 byCheck (Refused f) r = queried.Refused f
@@ -109,10 +99,6 @@ workLeft v t a b w = pick (passes a b) (workAfter (checkOf v t) w) w
 abbrev pub wordLeft : Queried → (l out : List ℤ) → List ℤ
 wordLeft (queried.Word start n) l out = placed start l out
 wordLeft (queried.Refused f) l out = out
-wordLeft (queried.Entry i) l out = out
-wordLeft (queried.Determinant i) l out = out
-wordLeft queried.Absent l out = out
-wordLeft (queried.Short n) l out = out
 
 abbrev pub partOf : List ℤ → (start n : ℕ) → List ℤ
 partOf out start n = pick (fits start n (length out)) (take n (drop start out)) []

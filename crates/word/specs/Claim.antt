@@ -10,6 +10,7 @@
 --   Found r                 a word is found: it is returned, or refused with 11, by the word space
 --   Answered                the claim, in these parts:
 --     found                 a word is found exactly when some product of generators and inverses times A is B up to sign
+--     points                and exactly when A and B lead from point 0 to the same point of the coset tables of S and R: the same right coset
 --     letters, product      the word found is such a product, with the letter j for generator j and -j for its inverse
 --     none                  otherwise the answer is 10, and only then: 'none' means that there is no such product
 --     returned, short       the word found is returned exactly when it fits, and otherwise refused with 11
@@ -32,8 +33,10 @@ use Rattle.symbol.specs.Symbol.{IsSymbol}
 use Rattle.pairing.specs.Generator.{generators}
 use Rattle.pairing.specs.Subgroup.{IsWord, wordOf}
 use Rattle.polygon.specs.Theorem.{SameCoset}
+use Rattle.coset.specs.Tables.{tableS, tableR}
+use Rattle.coset.specs.Theorem.{leads}
 use Rattle.walk.specs.Way.{placed}
-use Rattle.word.specs.Answer.{queryNumber, queryPlace, foundWord, partOf}
+use Rattle.word.specs.Answer.{queryRefusal, foundWord, partOf}
 use Rattle.word.specs.declared.Queried.{Queried}
 use Rattle.word.specs.declared.Queried.the-variants as queried
 
@@ -53,19 +56,20 @@ pub record Fits (start n room : ℕ) : Type 0 where
   pub enough : n ≤ room - start
 
 abbrev pub Found : Queried → Type 0
-Found r = (queryNumber r ≡ 0) ⊎ (queryNumber r ≡ 11)
+Found r = (queryRefusal r .number ≡ 0) ⊎ (queryRefusal r .number ≡ 11)
 
 pub record Answered (v : ℕ) (t : List ℤ) (A B : Mat) (word out : List ℤ) (start : ℕ) (r : Queried) (out' : List ℤ) : Type 0 where
   pub found : Found r ↔ Joined v t A B
   pub letters : Found r → IsWord (length (generators v t)) word
   pub product : Found r → wordOf (generators v t) word ⊗ A ≈ B
-  pub none : (queryNumber r ≡ 10) ↔ (Joined v t A B → ⊥)
-  pub returned : (queryNumber r ≡ 0) ↔ (Joined v t A B × Fits start (length word) (length out))
-  pub short : (queryNumber r ≡ 11) ↔ (Joined v t A B × (Fits start (length word) (length out) → ⊥))
-  pub places : (queryNumber r ≡ 10 → queryPlace r ≡ 0) × (queryNumber r ≡ 11 → queryPlace r ≡ length word)
-  pub names : queryNumber r ≡ 0 → r ≡ queried.Word start (length word)
-  pub stands : queryNumber r ≡ 0 → (out' ≡ placed start word out) × (partOf out' start (length word) ≡ word)
-  pub untouched : (queryNumber r ≡ 0 → ⊥) → out' ≡ out
+  pub points : Found r ↔ (leads (tableS v t) (tableR v t) A ≡ leads (tableS v t) (tableR v t) B)
+  pub none : (queryRefusal r .number ≡ 10) ↔ (Joined v t A B → ⊥)
+  pub returned : (queryRefusal r .number ≡ 0) ↔ (Joined v t A B × Fits start (length word) (length out))
+  pub short : (queryRefusal r .number ≡ 11) ↔ (Joined v t A B × (Fits start (length word) (length out) → ⊥))
+  pub places : (queryRefusal r .number ≡ 10 → queryRefusal r .place ≡ 0) × (queryRefusal r .number ≡ 11 → queryRefusal r .place ≡ length word)
+  pub names : queryRefusal r .number ≡ 0 → r ≡ queried.Word start (length word)
+  pub stands : queryRefusal r .number ≡ 0 → (out' ≡ placed start word out) × (partOf out' start (length word) ≡ word)
+  pub untouched : (queryRefusal r .number ≡ 0 → ⊥) → out' ≡ out
   pub bound : length word ≤ length (euclid.wordOf (B ⊗ adj A)) + 2
   pub sixteen : (i : ℕ) → i < length word → natAbs (getD word i (pos 0)) ≤ 1024
 

@@ -19,6 +19,7 @@ use Rattle.polygon.specs.Cut.{places}
 use Rattle.polygon.specs.Step.{startOf}
 use Rattle.polygon.specs.Walk.{ends, writes}
 use Rattle.steps.specs.Steps.{Prepared}
+use Rattle.refusal.specs.Refusal.{noWord}
 use Rattle.word.specs.Answer.{large, unit, roomOf}
 use Rattle.word.specs.declared.Queried.{Queried}
 use Rattle.word.specs.declared.Queried.the-variants as queried
@@ -30,7 +31,7 @@ unfoldable pub lettersAlong : ℕ → List ℤ → Mat → List ℤ
 lettersAlong v t m = writes v t (startOf v t) (wordOf m)
 
 abbrev pub endOf : ℕ → List ℤ → Mat → (start room : ℕ) → Queried
-endOf v t m start room = pick (eqb (ends v t (startOf v t) (wordOf m)) (startOf v t)) (roomOf (length (lettersAlong v t m)) start room) queried.Absent
+endOf v t m start room = pick (eqb (ends v t (startOf v t) (wordOf m)) (startOf v t)) (roomOf (length (lettersAlong v t m)) start room) (queried.Refused noWord)
 
 pub record Ready (t : List ℤ) (v : ℕ) (w : List ℕ) (m : List ℤ) (x : ℕ) : Type 0 where
   pub prepared : Prepared t v w (places v)

@@ -6,12 +6,14 @@ use matrix::inverse;
 use matrix::matrix_s;
 use matrix::product;
 use polygon::walking::is_turned;
+use refusal::Checked;
+use refusal::DETERMINANT;
+use refusal::MATRIX_ENTRY;
+use refusal::NO_WORD;
+use refusal::Refusal;
+use refusal::TOO_SHORT;
 use steps::prepare;
-use symbol::Checked;
-use symbol::Fault;
 use symbol::check;
-use symbol::fault_number;
-use symbol::fault_place;
 use walk::walk;
 ghost use mathlib.Core.Path.{_≡_};
 ghost use Prim.Native.Nat.{_+_, _-_, _<_};
@@ -24,7 +26,7 @@ ghost use Rattle.space.specs.Space.{zeros};
 ghost use Rattle.symbol.specs.Count.{first};
 ghost use Rattle.symbol.specs.Symbol.{IsSymbol};
 ghost use Rattle.polygon.specs.Walk.{followed};
-ghost use Rattle.word.specs.Answer.{queryNumber, queryPlace, entryAt, large, unit, foundWord, foundOf, queryOf, workLeft, wordLeft, partOf};
+ghost use Rattle.word.specs.Answer.{queryRefusal, entryAt, large, unit, foundWord, foundOf, queryOf, workLeft, wordLeft, partOf};
 ghost use Rattle.word.specs.Claim.{Asked, Claim};
 ghost use Rattle.word.specs.Ready.{judgedOf, lettersAlong, endOf, Ready};
 
@@ -32,16 +34,8 @@ ghost use Rattle.word.specs.Ready.{judgedOf, lettersAlong, endOf, Ready}
 pub enum Queried {
     // The word stands in the lent space: the place where it starts, and its length.
     Word(usize, usize),
-    // The table is no symbol.
-    Refused(Fault),
-    // Refusal 8: the entry, 0 to 3 in A and 4 to 7 in B.
-    Entry(usize),
-    // Refusal 9: 0 for A, 1 for B.
-    Determinant(usize),
-    // Refusal 10: no word exists.
-    Absent,
-    // Refusal 11: the length that a space needs, for the word from the start place on.
-    Short(usize),
+    // The table is no symbol, the pair is no pair of matrices, a space is too short, or no word exists.
+    Refused(Refusal),
 }
 
 // Whether x is at most 1,000,000 in size.
@@ -133,14 +127,23 @@ fn find(
 {
     let end = walk(t, v, w, m, home, out, start, 0);
     if end.at != home {
-        return Queried::Absent;
+        return Queried::Refused(Refusal {
+            number: NO_WORD,
+            place: 0,
+        });
     }
     let n = end.count;
     if out.len() < start {
-        return Queried::Short(n);
+        return Queried::Refused(Refusal {
+            number: TOO_SHORT,
+            place: n,
+        });
     }
     if out.len() - start < n {
-        return Queried::Short(n);
+        return Queried::Refused(Refusal {
+            number: TOO_SHORT,
+            place: n,
+        });
     }
     walk(t, v, w, m, home, out, start, n);
     Queried::Word(start, n)
@@ -187,48 +190,42 @@ pub fn query(
 {
     let checked = check(v, t);
     match checked {
-        Checked::Refused(fault) => Queried::Refused(fault),
+        Checked::Refused(refusal) => Queried::Refused(refusal),
         Checked::Accepted => {
             let judged = judge(a, b);
             if judged < 8 {
-                return Queried::Entry(judged);
+                return Queried::Refused(Refusal {
+                    number: MATRIX_ENTRY,
+                    place: judged,
+                });
             }
             if judged < 10 {
-                return Queried::Determinant(judged - 8);
+                return Queried::Refused(Refusal {
+                    number: DETERMINANT,
+                    place: judged - 8,
+                });
             }
             if w.len() < space::WORK {
-                return Queried::Short(space::WORK);
+                return Queried::Refused(Refusal {
+                    number: TOO_SHORT,
+                    place: space::WORK,
+                });
             }
             answer(v, t, a, b, w, out, start)
         }
     }
 }
 
-// The number of an answer's refusal, and 0 for a word.
-pub fn answer_number(r: Queried) -> u64
-    ensures { λ n. ⌜ n ≡ queryNumber r ⌝ }
+// The refusal that an answer is.
+pub fn query_refusal(answer: Queried) -> Refusal
+    ensures { λ r. ⌜ r ≡ queryRefusal answer ⌝ }
 {
-    match r {
-        Queried::Word(_, _) => 0,
-        Queried::Refused(fault) => fault_number(fault),
-        Queried::Entry(_) => 8,
-        Queried::Determinant(_) => 9,
-        Queried::Absent => 10,
-        Queried::Short(_) => 11,
-    }
-}
-
-// Its place, and 0 for a word.
-pub fn answer_place(r: Queried) -> usize
-    ensures { λ n. ⌜ n ≡ queryPlace r ⌝ }
-{
-    match r {
-        Queried::Word(_, _) => 0,
-        Queried::Refused(fault) => fault_place(fault),
-        Queried::Entry(i) => i,
-        Queried::Determinant(i) => i,
-        Queried::Absent => 0,
-        Queried::Short(n) => n,
+    match answer {
+        Queried::Word(_, _) => Refusal {
+            number: 0,
+            place: 0,
+        },
+        Queried::Refused(refusal) => refusal,
     }
 }
 

@@ -102,7 +102,10 @@ fn matrices_are_refused() {
             place: 5
         }
     );
-    assert_eq!(large.sentence(), "entry 1 of B is over 1,000,000 in size");
+    assert_eq!(
+        large.sentence(),
+        "matrix entry 5 is over 1,000,000 in size; 0 to 3 are those of A, 4 to 7 those of B"
+    );
     let zero = group.word([0; 4], ONE).expect_err("determinant 0");
     assert_eq!(
         zero,

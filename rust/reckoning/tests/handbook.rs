@@ -1,18 +1,21 @@
 //! The pages of docs/HANDBOOK.md: what they show of files and of the programs'
-//! answers is so, by the reckoning and by the programs. Its Rust blocks are
-//! tests of the crate `farey`.
+//! answers is so, by the reckoning, by the programs and by `./farey`. Its Rust
+//! blocks are tests of the crate `farey`. And the commands of README.md.
 //!
-//! | block                     | what is checked                                   |
-//! |---------------------------|---------------------------------------------------|
-//! | `text PATH`               | the file of that path holds just this             |
-//! | `console`                 | `$ COMMAND`, and then all that the command prints |
-//! | a row of the refusals     | the program answers its example so                |
+//! | block                     | what is checked                                       |
+//! |---------------------------|-------------------------------------------------------|
+//! | `text PATH`               | the file of that path holds just this                 |
+//! | `console`                 | `$ COMMAND`, and then all that the command prints     |
+//! | a row of the refusals     | the program answers its example so, and the sentence  |
+//! |                           | is that of rust/farey/refusals.txt                    |
+//! | `./farey ..` of README.md | it prints what the reckoning says                     |
 
 mod child;
 
 use std::fs;
+use std::process::Command;
 
-use child::{repository, Program};
+use child::{farey, repository, Program};
 use reckoning::{import, listing, query};
 
 /// A block between two fences: what stands behind the first one, and the lines.
@@ -24,13 +27,17 @@ struct Block {
 /// A row of the table of refusals.
 struct Row {
     number: u32,
+    sentence: String,
     example: String,
     answer: String,
 }
 
+fn page(path: &str) -> String {
+    fs::read_to_string(repository().join(path)).unwrap_or_else(|e| panic!("{path}: {e}"))
+}
+
 fn handbook() -> String {
-    let path = repository().join("docs/HANDBOOK.md");
-    fs::read_to_string(&path).unwrap_or_else(|e| panic!("{}: {e}", path.display()))
+    page("docs/HANDBOOK.md")
 }
 
 fn file(path: &str) -> Vec<u8> {
@@ -69,6 +76,7 @@ fn rows(page: &str) -> Vec<Row> {
             assert_eq!(cells.len(), 7, "{line}");
             Some(Row {
                 number,
+                sentence: cells[2].trim().to_string(),
                 example: unmarked(cells[4]),
                 answer: unmarked(cells[5]),
             })
@@ -92,9 +100,14 @@ fn answers(program: &str, text: &[u8]) -> [String; 2] {
 }
 
 /// The answers to a command `./farey PROGRAM < PATH`, perhaps with `| ./farey
-/// PROGRAM` behind it.
-fn run(command: &str) -> [String; 2] {
-    let mut stages = command.split(" | ");
+/// PROGRAM` behind it: by the reckoning, by the programs, and by the command
+/// itself. `./farey` alone lists Γ0(2).
+fn run(command: &str) -> [String; 3] {
+    let whole = match command {
+        "./farey" => "./farey listing < examples/gamma0-2.txt",
+        _ => command,
+    };
+    let mut stages = whole.split(" | ");
     let first = stages.next().expect("there is a command");
     let (call, path) = first.split_once(" < ").expect("a file is read");
     let named = |call: &str| {
@@ -107,7 +120,21 @@ fn run(command: &str) -> [String; 2] {
         assert_eq!(came[0], came[1], "{command}");
         came = answers(&named(stage), came[0].as_bytes());
     }
-    came
+    let [reckoned, by_programs] = came;
+    let by_script = match farey() {
+        Some(_) => output_of(command),
+        None => reckoned.clone(),
+    };
+    [reckoned, by_programs, by_script]
+}
+
+/// What a command prints, in the folder of the repository.
+fn output_of(command: &str) -> String {
+    let mut shell = Command::new("sh");
+    shell.args(["-c", command]).current_dir(repository());
+    let came = shell.output().expect("there is a shell");
+    assert!(came.status.success(), "{command}");
+    String::from_utf8(came.stdout).expect("an answer is text")
 }
 
 #[test]
@@ -149,12 +176,49 @@ fn commands_print_what_is_shown() {
     }
 }
 
+/// The lines of README.md that begin with `./farey`; what they do stands behind
+/// some of them.
+#[test]
+fn commands_of_the_first_page() {
+    let readme = page("README.md");
+    let lines = readme.lines().filter_map(|line| line.strip_prefix("    "));
+    let commands: Vec<&str> = lines
+        .filter(|line| line.starts_with("./farey"))
+        .map(|line| line.split("  ").next().expect("there is a command"))
+        .collect();
+    for command in &commands {
+        let [reckoned, by_programs, by_script] = run(command);
+        assert_eq!(by_programs, reckoned, "{command}");
+        assert_eq!(by_script, reckoned, "{command}");
+    }
+    assert!(commands.len() >= 4, "only {commands:?}");
+    assert!(commands.iter().any(|command| command.contains(" | ")));
+}
+
+/// The table has a row for each line of refusals.txt, and the same sentence with
+/// P for the place.
+#[test]
+fn refusals_have_their_sentences() {
+    let listed = page("rust/farey/refusals.txt");
+    let expected: Vec<(u32, String)> = listed
+        .lines()
+        .map(|line| {
+            let (number, sentence) = line.split_once(' ').expect("a number and a sentence");
+            let number = number.parse().expect("a number");
+            (number, sentence.replace("{place}", "P"))
+        })
+        .collect();
+    let rows = rows(&handbook());
+    let shown: Vec<(u32, String)> = rows
+        .into_iter()
+        .map(|row| (row.number, row.sentence))
+        .collect();
+    assert_eq!(shown, expected);
+}
+
 #[test]
 fn refusals_are_met() {
-    let rows = rows(&handbook());
-    let numbers: Vec<u32> = rows.iter().map(|row| row.number).collect();
-    assert_eq!(numbers, (1..=19).collect::<Vec<u32>>());
-    for row in rows {
+    for row in rows(&handbook()) {
         // No text has refusal 2, and no symbol with refusal 18 is known.
         if row.number == 2 || row.number == 18 {
             assert_eq!(row.answer, "");

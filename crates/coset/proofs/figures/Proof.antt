@@ -4,9 +4,9 @@ use mathlib.Core.Path.{_≡_, sym, _∙_}
 use lib.ListN.{length}
 use Rattle.symbol.specs.Check.{checkOf}
 use Rattle.symbol.specs.Symbol.{IsSymbol}
-use Rattle.symbol.specs.declared.Checked.the-variants.{Accepted}
+use Rattle.refusal.specs.declared.Checked.the-variants.{Accepted}
 use Rattle.symbol.proofs.Accepted.{accepted}
-use Rattle.coset.specs.declared.Tabled.the-variants as tabled
+use Rattle.refusal.specs.declared.Filled.the-variants as filled
 use Rattle.coset.proofs.Answer.{by-refused, by-short, by-long, meaning, figures-mean-refused, figures-refused, figures-short, figures-long}
 use borrow.Author.Needs.{needs}
 use Rattle.coset.proofs.figures.Statement.{statement}
@@ -36,7 +36,7 @@ returns : tie.Need-returns
 returns c =
     let e = c .before in
     let s = st e in
-    (figures-short (s .args .v) (s .args .t .now) (length (s .args .w .now)) (ok e) (c .if1 .taken), (by-short (s .args .v) (s .args .t .now) (s .args .w .now) (tabled.Short 0) (ok e) (c .if1 .taken) .1, λ f z. meaning (symbol e)))
+    (figures-short (s .args .v) (s .args .t .now) (length (s .args .w .now)) (ok e) (c .if1 .taken), (by-short (s .args .v) (s .args .t .now) (s .args .w .now) (filled.Made 0) (ok e) (c .if1 .taken) .1, λ f z. meaning (symbol e)))
 
 make-figures-requires : tie.Need-make-figures-requires
 make-figures-requires c κs =
@@ -49,7 +49,7 @@ returns-2 c =
     let r = k .before .before in
     let s = r .before .before in
     let no = sym (r .check .ensures .returned) ∙ k .checked .given .1 in
-    (figures-refused (s .args .v) (s .args .t .now) (length (s .args .w .now)) (k .checked .given .0 .0) no, (by-refused (s .args .v) (s .args .t .now) (s .args .w .now) (tabled.Short 0) (k .checked .given .0 .0) no .1, figures-mean-refused (k .checked .given .0 .0)))
+    (figures-refused (s .args .v) (s .args .t .now) (length (s .args .w .now)) (k .checked .given .0 .0) no, (by-refused (s .args .v) (s .args .t .now) (s .args .w .now) (filled.Made 0) (k .checked .given .0 .0) no .1, figures-mean-refused (k .checked .given .0 .0)))
 
 same-length : tie.Need-same-length
 same-length c = search needs
@@ -60,7 +60,7 @@ returns-3 c =
     let d = m .before .before in
     let e = d .before in
     let s = st e in
-    (m .make-figures .ensures .0 ∙ figures-long (s .args .v) (s .args .t .now) (length (s .args .w .now)) (ok e) (d .if1 .left), (m .make-figures .ensures .1 ∙ by-long (s .args .v) (s .args .t .now) (s .args .w .now) (tabled.Short 0) (ok e) (d .if1 .left) .1, λ f z. meaning (symbol e)))
+    (m .make-figures .ensures .0 ∙ figures-long (s .args .v) (s .args .t .now) (length (s .args .w .now)) (ok e) (d .if1 .left), (m .make-figures .ensures .1 ∙ by-long (s .args .v) (s .args .t .now) (s .args .w .now) (filled.Made 0) (ok e) (d .if1 .left) .1, λ f z. meaning (symbol e)))
 
 pub figures-spec : {M : Type 1} → statement M
 figures-spec =

@@ -8,7 +8,7 @@ reply-text-requires : tie.Need-reply-text-requires
 reply-text-requires c κs = (omega arith, record { work = omega arith; lent = omega arith; out-long = omega arith })
 
 returns : tie.Need-returns
-returns c = let p = c .reply-text .ensures in (p, omega (arith, puts-within p (omega arith) (omega arith)))
+returns c = let p = c .reply-text .ensures in ((p .0, omega (arith, puts-within (p .0) (omega arith) (omega arith))), p .1)
 
 pub reply-spec : {M : Type 1} → statement M
 reply-spec = tie.close (tie.spec reply-text-requires returns)

@@ -9,15 +9,16 @@ use mir.Syntax.{w64}
 use mir.Facts.{toZ-ofZ}
 use Rattle.matrix.specs.Matrix.{nth}
 use Rattle.text.specs.Reading.{vertexCount}
+use Rattle.word.specs.Answer.{workLeft}
 use Rattle.line.proofs.Placing.{puts-as}
-use Rattle.reply.specs.Reply.{replied, four}
-use Rattle.reply.proofs.Replied.{few-numbers, enough-numbers}
+use Rattle.reply.specs.Reply.{replied, lettersLeft, four}
+use Rattle.reply.proofs.Replied.{asked-as, few-line, few-work, few-letters, enough-line, enough-work, enough-letters}
 use borrow.Author.Needs.{needs}
 use Rattle.reply.proofs.reply_numbers.Statement.{statement}
 use Rattle.reply.proofs.reply_numbers.Tie as tie
 
 refusal-line-requires : tie.Need-refusal-line-requires
-refusal-line-requires c κs = omega (arith, (c .before .before .before .before) .pre .out-long)
+refusal-line-requires c κs = search needs
 
 same-length : tie.Need-same-length
 same-length c = search needs
@@ -25,7 +26,9 @@ same-length c = search needs
 returns : tie.Need-returns
 returns c =
     let s = c .before .before .before .before .before .before .before in
-    puts-as (few-numbers (s .args .ns .now) ((c .before .before .before .before) .if1 .taken)) ((c .before .before) .refusal-line .ensures)
+    let ns = s .args .ns .now in
+    let h = (c .before .before .before .before) .if1 .taken in
+    (puts-as (few-line ns h) ((c .before .before) .refusal-line .ensures), (few-work ns (s .args .w .now) h, few-letters ns (s .args .letters .now) h))
 
 shared-slice-copy-out-vertex-count : tie.Need-shared-slice-copy-out-vertex-count
 shared-slice-copy-out-vertex-count c = search needs
@@ -73,15 +76,18 @@ returns-2 c =
     let n = c .before .before .before .before .before .before .before .before .before .before .before .before in
     let s = c .before .before .before .before .before .before .before .before .before .before .before .before .before .before .before .before .before in
     let ns = s .args .ns .now in
+    let w = s .args .w .now in
+    let letters = s .args .letters .now in
+    let p = (c .before .before .before .before .before) .reply-pair .ensures in
+    let h = (c .before .before .before .before .before .before .before .before .before .before .before .before .before .before) .if1 .left in
     let e = rw (toZ-ofZ {w = w64} {z = nth ns 0} (record { sfits = (c .before .before .before .before .before .before .before .before .before .before .before .before .before) .vertex-count-arg .given })) at (n .vertex-count .ensures) in
     let less : length ns - 8 - 1 ≡ length ns - 9 = omega arith in
-    let same =
-    ap (λ (m : ℕ). replied m (take (length ns - 8 - 1) (drop 1 ns)) (a .four-at .result) (b .four-at2 .result)) e
-    ∙ ap (λ (m : ℕ). replied (vertexCount (nth ns 0)) (take m (drop 1 ns)) (a .four-at .result) (b .four-at2 .result)) less
-    ∙ ap (λ (m : List ℤ). replied (vertexCount (nth ns 0)) (take (length ns - 9) (drop 1 ns)) m (b .four-at2 .result)) (a .four-at .ensures)
-    ∙ ap (λ (m : List ℤ). replied (vertexCount (nth ns 0)) (take (length ns - 9) (drop 1 ns)) (four ns (length ns - 8)) m) (b .four-at2 .ensures)
-    ∙ enough-numbers ns ((c .before .before .before .before .before .before .before .before .before .before .before .before .before .before) .if1 .left) in
-    puts-as same ((c .before .before .before .before .before) .reply-pair .ensures)
+    let t = ap (λ (m : ℕ). take m (drop 1 ns)) less in
+    let x = a .four-at .ensures in
+    let y = b .four-at2 .ensures in (
+      puts-as (asked-as replied e t x y ∙ enough-line ns h) (p .0),
+      (p .1 .0 ∙ asked-as (λ (m : ℕ) (u i j : List ℤ). workLeft m u i j w) e t x y ∙ enough-work ns w h, p .1 .1 ∙ asked-as (λ (m : ℕ) (u i j : List ℤ). lettersLeft m u i j letters) e t x y ∙ enough-letters ns letters h),
+    )
 
 pub reply-numbers-spec : {M : Type 1} → statement M
 reply-numbers-spec =

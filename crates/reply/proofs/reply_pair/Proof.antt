@@ -8,22 +8,23 @@ use lib.ListN.{length}
 use types.Run.{OneOf, miss}
 use denote.Enum.Declared.{tagOf}
 use Rattle.matrix.specs.Matrix.{ofList}
-use Rattle.line.specs.Line.{line, refusal}
+use Rattle.line.specs.Line.{line, refusalLine}
 use Rattle.line.proofs.Placing.{puts-as}
-use Rattle.word.specs.Answer.{queryNumber, foundWord, queryOf, wordLeft, partOf}
+use Rattle.word.specs.Answer.{queryRefusal, foundWord, queryOf, wordLeft, partOf}
+use Rattle.refusal.specs.declared.Refusal.{Refusal}
 use Rattle.word.specs.declared.Queried.{Queried}
 use Rattle.word.specs.declared.Queried.the-variants.{Word}
 use Rattle.word.proofs.Queried.{the-type}
 use Rattle.word.proofs.Returned.{part-found, word-most}
-use Rattle.reply.specs.Reply.{wordWord}
-use Rattle.reply.proofs.Replied.{said-word, said-other, replied-as}
+use Rattle.reply.specs.Reply.{wordWord, said}
+use Rattle.reply.proofs.Replied.{said-other, replied-as, letters-as}
 use borrow.Author.Needs.{needs}
 use Rattle.reply.proofs.reply_pair.Statement.{statement}
 use Rattle.reply.proofs.reply_pair.Tie as tie
 
 -- the branch of the other answers isn't taken for a word
-never-word : (r : Queried) → OneOf (1 ∷ 2 ∷ 3 ∷ 4 ∷ 5 ∷ []) (tagOf the-type r) → (s n : ℕ) → r ≡ Word s n → ⊥
-never-word r h s n e = miss (1 ∷ 2 ∷ 3 ∷ 4 ∷ 5 ∷ []) 0 tt (rw e at h)
+never-word : (r : Queried) → OneOf (1 ∷ []) (tagOf the-type r) → (s n : ℕ) → r ≡ Word s n → ⊥
+never-word r h s n e = miss (1 ∷ []) 0 tt (rw e at h)
 
 -- the word that was found
 module _ (n : tie.After-word-part) where
@@ -66,14 +67,14 @@ query-requires c κs = search needs
 enum-known-answer : tie.Need-enum-known-answer
 enum-known-answer c = search needs
 
-answer-number-requires : tie.Need-answer-number-requires
-answer-number-requires c κs = search needs
+enum-told : tie.Need-enum-told
+enum-told c = search needs
 
-answer-place-requires : tie.Need-answer-place-requires
-answer-place-requires c κs = search needs
+query-refusal-requires : tie.Need-query-refusal-requires
+query-refusal-requires c κs = search needs
 
 refusal-line-requires : tie.Need-refusal-line-requires
-refusal-line-requires c κs = omega (arith, (c .before .before .before .before .before .before .before .before .before .before .before .before) .pre .out-long)
+refusal-line-requires c κs = search needs
 
 same-length : tie.Need-same-length
 same-length c = search needs
@@ -86,9 +87,6 @@ same-length-3 c = search needs
 
 returns : tie.Need-returns
 returns c =
-    let p = c .before .before .before .before in
-    let n = c .before .before .before .before .before in
-    let m = c .before .before .before .before .before .before in
     let q = c .before .before .before .before .before .before .before .before .before .before in
     let s = c .before .before .before .before .before .before .before .before .before .before .before .before .before .before .before in
     let r = q .query .result in
@@ -97,11 +95,12 @@ returns c =
     let a = s .args .a in
     let b = s .args .b in
     let same =
-    ap (λ (k : ℕ). refusal k (p .answer-place .result)) (n .answer-number .ensures)
-    ∙ ap (refusal (queryNumber r)) (p .answer-place .ensures)
-    ∙ said-other r (foundWord v t (ofList a) (ofList b)) (never-word r (m .match .keys2))
-    ∙ replied-as v t a b r (length (s .args .w .now)) (length (s .args .letters .now)) (s .pre .work) (s .pre .lent) (q .query .ensures .0) in
-    puts-as same ((c .before .before) .refusal-line .ensures)
+    ap refusalLine ((c .before .before .before .before) .query-refusal .ensures)
+    ∙ said-other r (foundWord v t (ofList a) (ofList b)) (never-word r ((c .before .before .before .before .before .before) .match .keys2))
+    ∙ replied-as v t a b r (length (s .args .w .now)) (length (s .args .letters .now)) (s .pre .work) (s .pre .lent) (q .query .ensures .0) in (
+      puts-as same ((c .before .before) .refusal-line .ensures),
+      (q .query .ensures .1 .0, q .query .ensures .1 .1 .0 ∙ letters-as v t a b r (length (s .args .w .now)) (length (s .args .letters .now)) (s .pre .work) (s .pre .lent) (q .query .ensures .0) (s .args .letters .now)),
+    )
 
 word-part-requires : tie.Need-word-part-requires
 word-part-requires c κs = search needs
@@ -126,11 +125,18 @@ returns-2 c =
     let n = c .before .before .before .before .before in
     let q = c .before .before .before .before .before .before .before .before .before .before .before .before .before in
     let s = c .before .before .before .before .before .before .before .before .before .before .before .before .before .before .before .before .before .before in
+    let r = q .query .result in
+    let v = s .args .v in
+    let t = s .args .t .now in
+    let a = s .args .a in
+    let b = s .args .b in
     let same =
     ap (line wordWord) (part-is n)
-    ∙ said-word (q .query .result) (from n) (count n) (word n) (told n .answer .given .1)
-    ∙ replied-as (s .args .v) (s .args .t .now) (s .args .a) (s .args .b) (q .query .result) (length (s .args .w .now)) (length (s .args .letters .now)) (s .pre .work) (s .pre .lent) (q .query .ensures .0) in
-    puts-as same ((c .before .before) .line-of-letters .ensures .0)
+    ∙ ap (λ (x : Queried). said x (word n)) (sym (told n .answer .given .1))
+    ∙ replied-as v t a b r (length (s .args .w .now)) (length (s .args .letters .now)) (s .pre .work) (s .pre .lent) (q .query .ensures .0) in (
+      puts-as same ((c .before .before) .line-of-letters .ensures .0),
+      (q .query .ensures .1 .0, q .query .ensures .1 .1 .0 ∙ letters-as v t a b r (length (s .args .w .now)) (length (s .args .letters .now)) (s .pre .work) (s .pre .lent) (q .query .ensures .0) (s .args .letters .now)),
+    )
 
 pub reply-pair-spec : {M : Type 1} → statement M
 reply-pair-spec =
@@ -138,8 +144,8 @@ reply-pair-spec =
     (tie.spec
     query-requires
     enum-known-answer
-    answer-number-requires
-    answer-place-requires
+    enum-told
+    query-refusal-requires
     refusal-line-requires
     same-length
     same-length-2

@@ -9,7 +9,7 @@ list-text-requires : tie.Need-list-text-requires
 list-text-requires c κs = (omega arith, record { work = omega arith; table-long = omega arith; out-long = omega arith })
 
 returns : tie.Need-returns
-returns c = let p = c .list-text .ensures in (p, omega (arith, puts-within p (omega arith) (omega arith)))
+returns c = let p = c .list-text .ensures in ((p .0, omega (arith, puts-within (p .0) (omega arith) (omega arith))), p .1)
 
 pub list-spec : {M : Type 1} → statement M
 list-spec = tie.close (tie.spec list-text-requires returns)

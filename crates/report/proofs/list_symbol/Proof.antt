@@ -6,26 +6,40 @@ use Prim.Native.Nat.{ℕ, _*_, _≤_}
 use lib.IntN.{ℤ}
 use lib.ListN.{length}
 use lib.Seq.{length-take-le}
-use Rattle.line.specs.Line.{refusal}
+use Rattle.space.specs.Space.{zeros}
 use Rattle.line.proofs.Placing.{puts-as}
-use Rattle.symbol.specs.Check.{numberOf, checkOf}
+use Rattle.refusal.specs.declared.Checked.the-variants.{Accepted}
+use Rattle.refusal.specs.declared.Filled.{Filled}
+use Rattle.refusal.specs.declared.Filled.the-variants as filled
+use Rattle.symbol.specs.Check.{checkOf}
 use Rattle.symbol.specs.Symbol.{IsSymbol}
-use Rattle.pairing.specs.Generator.{leaders}
-use Rattle.symbol.specs.declared.Checked.the-variants.{Accepted}
-use Rattle.report.proofs.Gathered.{leaders-most, Gathered, gathered, gathered-made, gathered-refused, gathered-long, rows-filled}
+use Rattle.pairing.specs.Generator.{leaders, generatorTable, tableLeft}
+use Rattle.coset.proofs.Answer.{by-long}
+use Rattle.report.specs.Listing.{tableIn}
+use Rattle.report.proofs.Gathered.{leaders-most, Gathered, gathered, gathered-made, gathered-refused, rows-filled}
 use Rattle.report.proofs.Listed.{listed-refused, listed-accepted}
 use borrow.Author.Needs.{needs}
 use Rattle.report.proofs.list_symbol.Statement.{statement}
 use Rattle.report.proofs.list_symbol.Tie as tie
 
 -- the answer of `generators`
-told : (f : tie.After-generators) → Gathered (f .before .before .before .before .before .args .v) (f .before .before .before .before .before .args .t .now) (f .generators .result)
-told f =
-    let s = f .before .before .before .before .before in
-    gathered (s .args .v) (s .args .t .now) (length (s .args .w .now)) (length (s .args .table .now)) (f .generators .result) (s .pre .work) (s .pre .table-long) (f .generators .ensures .0)
+module _ (f : tie.After-generators) where
+  abbrev begun : tie.Start
+  begun = f .before .before .before .before .before
+
+  told : Gathered (begun .args .v) (begun .args .t .now) (f .generators .result)
+  told = gathered (begun .args .v) (begun .args .t .now) (length (begun .args .w .now)) (length (begun .args .table .now)) (f .generators .result) (begun .pre .work) (begun .pre .table-long) (f .generators .ensures .0)
+
+  abbrev rows : List ℤ
+  rows = f .generators .last .1 .1 .1 .0
+
+  table-is : rows ≡ tableIn (begun .args .v) (begun .args .t .now) (length (begun .args .w .now)) (begun .args .table .now)
+  table-is =
+      f .generators .ensures .1 .1 .0
+      ∙ ap (λ (r : Filled). tableLeft r (generatorTable (begun .args .v) (begun .args .t .now)) (begun .args .table .now)) (f .generators .ensures .0)
 
 -- the symbol was accepted
-module _ (d : tie.After-made3) where
+module _ (d : tie.After-made2) where
   abbrev f : tie.After-generators
   f = d .before .before .before .before .before
 
@@ -33,13 +47,10 @@ module _ (d : tie.After-made3) where
   st = f .before .before .before .before .before
 
   abbrev count : ℕ
-  count = d .made3 .given .0 .0
-
-  abbrev rows : List ℤ
-  rows = f .generators .last .1 .1 .1 .0
+  count = d .made2 .given .0 .0
 
   made : (checkOf (st .args .v) (st .args .t .now) ≡ Accepted) × IsSymbol (st .args .v) (st .args .t .now) × (count ≡ length (leaders (st .args .v) (st .args .t .now)))
-  made = gathered-made (told f) count (d .made3 .given .1)
+  made = gathered-made (told f) count (d .made2 .given .1)
 
   few : count ≤ 1024
   few = omega (arith, made .2, leaders-most (st .args .v) (st .args .t .now) (made .1))
@@ -50,23 +61,11 @@ generators-requires c κs = search needs
 enum-known-made : tie.Need-enum-known-made
 enum-known-made c = search needs
 
-fault-number-requires : tie.Need-fault-number-requires
-fault-number-requires c κs = search needs
-
-fault-place-requires : tie.Need-fault-place-requires
-fault-place-requires c κs = search needs
-
 refusal-line-requires : tie.Need-refusal-line-requires
-refusal-line-requires c κs = omega (arith, (c .before .before .before .before .before .before .before .before .before .before .before .before .before .before) .pre .out-long)
+refusal-line-requires c κs = search needs
 
 enum-known-made-2 : tie.Need-enum-known-made-2
 enum-known-made-2 c = search needs
-
-refusal-line-requires-2 : tie.Need-refusal-line-requires-2
-refusal-line-requires-2 c κs = omega (arith, (c .before .before .before .before .before .before .before .before .before .before .before .before) .pre .out-long)
-
-enum-known-made-3 : tie.Need-enum-known-made-3
-enum-known-made-3 c = search needs
 
 mul-end : tie.Need-mul-end
 mul-end c = omega (arith, few (c .before))
@@ -77,15 +76,15 @@ slice-reshare-prefix-list-accepted c = omega (arith, few (c .before), (c .before
 slice-aggregate-list-accepted : tie.Need-slice-aggregate-list-accepted
 slice-aggregate-list-accepted c =
     let d = c .before .before in
-    sym (length-take-le (5 * count d) (rows d) (omega (arith, few d, (c .before .before .before .before) .table .given, (c .before .before .before .before .before .before .before .before .before .before .before .before) .pre .table-long)))
+    sym (length-take-le (5 * count d) (rows (f d)) (omega (arith, few d, (c .before .before .before .before) .table .given, (c .before .before .before .before .before .before .before .before .before .before .before .before) .pre .table-long)))
 
 list-accepted-requires : tie.Need-list-accepted-requires
 list-accepted-requires c κs =
     let d = c .before .before .before .before in
     let g = made d in
     let s = c .before .before .before .before .before .before .before .before .before .before .before .before .before .before in
-    let e = (c .before .before .before .before .before .before .before .before .before) .generators .ensures .1 .1 in
-    (g .1, g .2, rows-filled (s .args .v) (s .args .t .now) (count d) (s .args .table .now) (g .2) (d .made3 .given .1) e, omega (arith, s .pre .work, (c .before .before .before .before .before .before .before .before) .w .given), s .pre .out-long)
+    let e = (c .before .before .before .before .before .before .before .before .before) .generators .ensures .1 .1 .0 in
+    (g .1, g .2, rows-filled (s .args .v) (s .args .t .now) (count d) (s .args .table .now) (g .2) (d .made2 .given .1) e, omega (arith, s .pre .work, (c .before .before .before .before .before .before .before .before) .w .given), s .pre .out-long)
 
 same-length : tie.Need-same-length
 same-length c = search needs
@@ -98,18 +97,13 @@ same-length-3 c = search needs
 
 returns : tie.Need-returns
 returns c =
-    let n = c .before .before .before .before .before in
-    let p = c .before .before .before .before in
-    let a = c .before .before .before .before .before .before .before in
-    let f = c .before .before .before .before .before .before .before .before .before .before .before .before in
-    let s = c .before .before .before .before .before .before .before .before .before .before .before .before .before .before .before .before .before in
-    let fault = a .made .given .0 .0 in
-    let q = gathered-refused (told f) fault (a .made .given .1) in
-    let same =
-    ap (λ (k : ℕ). refusal k (p .fault-place .result)) (n .fault-number .ensures)
-    ∙ ap (λ (k : ℕ). refusal (numberOf fault) k) (p .fault-place .ensures)
-    ∙ listed-refused (s .args .v) (s .args .t .now) fault q in
-    puts-as same ((c .before .before) .refusal-line .ensures)
+    let a = c .before .before .before .before .before in
+    let f = c .before .before .before .before .before .before .before .before .before .before in
+    let s = c .before .before .before .before .before .before .before .before .before .before .before .before .before .before .before in
+    let refusal = a .made .given .0 .0 in (
+      puts-as (listed-refused (s .args .v) (s .args .t .now) refusal (gathered-refused (told f) refusal (a .made .given .1))) ((c .before .before) .refusal-line .ensures),
+      (f .generators .ensures .1 .0, table-is f),
+    )
 
 same-length-4 : tie.Need-same-length-4
 same-length-4 c = search needs
@@ -122,22 +116,15 @@ same-length-6 c = search needs
 
 returns-2 : tie.Need-returns-2
 returns-2 c =
-    let a = c .before .before .before .before .before in
-    gathered-long (told (c .before .before .before .before .before .before .before .before .before .before)) (a .made2 .given .0 .0) (a .made2 .given .1)
-
-same-length-7 : tie.Need-same-length-7
-same-length-7 c = search needs
-
-same-length-8 : tie.Need-same-length-8
-same-length-8 c = search needs
-
-same-length-9 : tie.Need-same-length-9
-same-length-9 c = search needs
-
-returns-3 : tie.Need-returns-3
-returns-3 c =
+    let d = c .before .before .before .before .before .before .before .before .before in
+    let f = c .before .before .before .before .before .before .before .before .before .before .before .before .before .before in
     let s = c .before .before .before .before .before .before .before .before .before .before .before .before .before .before .before .before .before .before .before in
-    puts-as (listed-accepted (s .args .v) (s .args .t .now) (made (c .before .before .before .before .before .before .before .before .before) .0)) ((c .before .before .before .before) .list-accepted .ensures .0)
+    let e = (c .before .before .before .before) .list-accepted .ensures in
+    let ok = made d .0 in
+    let cleared = by-long (s .args .v) (s .args .t .now) (s .args .w .now) (filled.Made 0) ok (s .pre .work) .1 in (
+      puts-as (listed-accepted (s .args .v) (s .args .t .now) ok) (e .0),
+      (e .1 ∙ ap zeros ((c .before .before .before .before .before .before .before .before .before .before .before .before .before) .w .given) ∙ cleared, table-is f),
+    )
 
 pub list-symbol-spec : {M : Type 1} → statement M
 list-symbol-spec =
@@ -145,12 +132,8 @@ list-symbol-spec =
     (tie.spec
     generators-requires
     enum-known-made
-    fault-number-requires
-    fault-place-requires
     refusal-line-requires
     enum-known-made-2
-    refusal-line-requires-2
-    enum-known-made-3
     mul-end
     slice-reshare-prefix-list-accepted
     slice-aggregate-list-accepted
@@ -162,8 +145,4 @@ list-symbol-spec =
     same-length-4
     same-length-5
     same-length-6
-    returns-2
-    same-length-7
-    same-length-8
-    same-length-9
-    returns-3)
+    returns-2)

@@ -8,8 +8,9 @@ use borrow.Author.Needs.{needs}
 use lib.IntN.{ℤ}
 use lib.ListN.{length, length-drop}
 use Rattle.symbol.specs.Table.{pairings}
-use Rattle.symbol.specs.Check.{_orElse_, check6, check7, checkOf}
-use Rattle.symbol.specs.declared.Checked.{Checked}
+use Rattle.symbol.specs.Check.{check6, check7, checkOf}
+use Rattle.refusal.specs.Refusal.{_orElse_}
+use Rattle.refusal.specs.declared.Checked.{Checked}
 use Rattle.symbol.proofs.Accepted.{verdict}
 use Rattle.symbol.proofs.Order.{first-refused, next-check, too-few, too-many, wrong-length, later, first-two, tallied-none, behind}
 use Rattle.symbol.proofs.check.Statement.{statement}

@@ -4,8 +4,8 @@ use mathlib.Core.Path.{_≡_, refl, sym, _∙_, ap}
 use Prim.Native.Nat.{_+_}
 use borrow.Author.Needs.{needs}
 use Rattle.symbol.specs.Check.{unpairedIn, lacksOdd, check6, check7}
-use Rattle.symbol.specs.declared.Fault.the-variants.{BadPairing, NoOddSide}
-use Rattle.symbol.specs.declared.Checked.the-variants.{Accepted}
+use Rattle.refusal.specs.Refusal.{badPairing, noOddSide}
+use Rattle.refusal.specs.declared.Checked.the-variants.{Accepted}
 use Rattle.symbol.proofs.Order.{first-refused, next-check, refuse-yes, refuse-no, refuse-at, accept-at, ready-6}
 use Rattle.symbol.proofs.check_pairings.Statement.{statement}
 use Rattle.symbol.proofs.check_pairings.Tie as tie
@@ -28,7 +28,7 @@ returns : tie.Need-returns
 returns c =
     let s = c .before .before .before .before .before in
     let v = s .args .v in
-    sym (first-refused _ (refuse-at (unpairedIn v (s .args .p .now)) (v + 1) (c .before .first-place .result) BadPairing (c .before .first-place .ensures) (c .if1 .taken)))
+    sym (first-refused _ (refuse-at (unpairedIn v (s .args .p .now)) (v + 1) (c .before .first-place .result) badPairing (c .before .first-place .ensures) (c .if1 .taken)))
 
 lacks-odd-requires : tie.Need-lacks-odd-requires
 lacks-odd-requires c κs = let s = c .before .before .before .before .before in (s .pre .0, s .pre .2)
@@ -38,19 +38,19 @@ six : (c : tie.Else1) → check6 (c .before .before .before .before .before .arg
 six c =
     let s = c .before .before .before .before .before in
     let v = s .args .v in
-    accept-at (unpairedIn v (s .args .p .now)) (v + 1) (c .before .first-place .result) BadPairing (c .before .first-place .ensures) (c .if1 .left)
+    accept-at (unpairedIn v (s .args .p .now)) (v + 1) (c .before .first-place .result) badPairing (c .before .first-place .ensures) (c .if1 .left)
 
 returns-2 : tie.Need-returns-2
 returns-2 c =
     let d = c .before .before in
     let s = d .before .before .before .before .before in
-    sym (next-check _ (six d) ∙ refuse-yes (lacksOdd (s .args .v) (s .args .p .now)) NoOddSide (sym (c .before .lacks-odd .ensures) ∙ c .if2 .taken))
+    sym (next-check _ (six d) ∙ refuse-yes (lacksOdd (s .args .v) (s .args .p .now)) noOddSide (sym (c .before .lacks-odd .ensures) ∙ c .if2 .taken))
 
 returns-3 : tie.Need-returns-3
 returns-3 c =
     let d = c .before .before in
     let s = d .before .before .before .before .before in
-    sym (next-check _ (six d) ∙ refuse-no (lacksOdd (s .args .v) (s .args .p .now)) NoOddSide (sym (c .before .lacks-odd .ensures) ∙ c .if2 .left))
+    sym (next-check _ (six d) ∙ refuse-no (lacksOdd (s .args .v) (s .args .p .now)) noOddSide (sym (c .before .lacks-odd .ensures) ∙ c .if2 .left))
 
 pub check-pairings-spec : {M : Type 1} → statement M
 check-pairings-spec = tie.close (tie.spec tally-requires add-first-place first-place-requires add-if1 returns lacks-odd-requires returns-2 returns-3)

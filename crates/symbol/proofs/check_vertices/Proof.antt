@@ -10,8 +10,8 @@ use borrow.Author.Tests.{lt-ltb, le-ltb}
 use mathlib.Core.Bool.{not}
 use Rattle.symbol.specs.Count.{first}
 use Rattle.symbol.specs.Check.{outOfRange, apart, isZero, check3, check4, check5}
-use Rattle.symbol.specs.declared.Fault.the-variants.{VertexEntry, Neighbours, NoZero}
-use Rattle.symbol.specs.declared.Checked.the-variants.{Accepted}
+use Rattle.refusal.specs.Refusal.{vertexEntry, notNeighbours, noZero}
+use Rattle.refusal.specs.declared.Checked.the-variants.{Accepted}
 use Rattle.symbol.proofs.Order.{first-refused, next-check, refuse-yes, refuse-no, refuse-at, accept-at, none-found, ready-3, ready-4, ready-5}
 use Rattle.symbol.proofs.check_vertices.Statement.{statement}
 use Rattle.symbol.proofs.check_vertices.Tie as tie
@@ -34,7 +34,7 @@ returns c =
     let s = c .before .before in
     let v = s .args .v in
     let t = s .args .t .now in
-    sym (first-refused _ (refuse-at (outOfRange t) (2 * v) (c .before .first-place .result) VertexEntry (c .before .first-place .ensures) (c .if1 .taken)))
+    sym (first-refused _ (refuse-at (outOfRange t) (2 * v) (c .before .first-place .result) vertexEntry (c .before .first-place .ensures) (c .if1 .taken)))
 
 add-first-place : tie.Need-add-first-place
 add-first-place c = search needs
@@ -43,7 +43,7 @@ add-first-place c = search needs
 three : (c : tie.Else1) → check3 (c .before .before .args .v) (c .before .before .args .t .now) ≡ Accepted
 three c =
     let s = c .before .before in
-    accept-at (outOfRange (s .args .t .now)) (2 * s .args .v) (c .before .first-place .result) VertexEntry (c .before .first-place .ensures) (c .if1 .left)
+    accept-at (outOfRange (s .args .t .now)) (2 * s .args .v) (c .before .first-place .result) vertexEntry (c .before .first-place .ensures) (c .if1 .left)
 
 first-place-requires-2 : tie.Need-first-place-requires-2
 first-place-requires-2 c κs =
@@ -61,7 +61,7 @@ returns-2 c =
     let s = d .before .before in
     let v = s .args .v in
     let t = s .args .t .now in
-    sym (next-check _ (three d) ∙ first-refused (check5 v t) (refuse-at (apart v t) (v + 1) (c .before .first-place2 .result) Neighbours (c .before .first-place2 .ensures) (c .if2 .taken)))
+    sym (next-check _ (three d) ∙ first-refused (check5 v t) (refuse-at (apart v t) (v + 1) (c .before .first-place2 .result) notNeighbours (c .before .first-place2 .ensures) (c .if2 .taken)))
 
 first-place-requires-3 : tie.Need-first-place-requires-3
 first-place-requires-3 c κs =
@@ -73,7 +73,7 @@ four : (c : tie.Else2) → check4 (c .before .before .before .before .args .v) (
 four c =
     let s = c .before .before .before .before in
     let v = s .args .v in
-    accept-at (apart v (s .args .t .now)) (v + 1) (c .before .first-place2 .result) Neighbours (c .before .first-place2 .ensures) (c .if2 .left)
+    accept-at (apart v (s .args .t .now)) (v + 1) (c .before .first-place2 .result) notNeighbours (c .before .first-place2 .ensures) (c .if2 .left)
 
 returns-3 : tie.Need-returns-3
 returns-3 c =
@@ -82,7 +82,7 @@ returns-3 c =
     let v = s .args .v in
     let t = s .args .t .now in
     let k = first (isZero t) v in
-    sym (next-check _ (three (d .before .before)) ∙ next-check _ (four d) ∙ refuse-no (not (ltb k v)) NoZero (ap not (lt-ltb k v (omega (arith, c .before .first-place3 .ensures, c .if3 .taken)))))
+    sym (next-check _ (three (d .before .before)) ∙ next-check _ (four d) ∙ refuse-no (not (ltb k v)) noZero (ap not (lt-ltb k v (omega (arith, c .before .first-place3 .ensures, c .if3 .taken)))))
 
 returns-4 : tie.Need-returns-4
 returns-4 c =
@@ -91,7 +91,7 @@ returns-4 c =
     let v = s .args .v in
     let t = s .args .t .now in
     let k = first (isZero t) v in
-    sym (next-check _ (three (d .before .before)) ∙ next-check _ (four d) ∙ refuse-yes (not (ltb k v)) NoZero (ap not (le-ltb k v (omega (arith, c .before .first-place3 .ensures, c .if3 .left)))))
+    sym (next-check _ (three (d .before .before)) ∙ next-check _ (four d) ∙ refuse-yes (not (ltb k v)) noZero (ap not (le-ltb k v (omega (arith, c .before .first-place3 .ensures, c .if3 .left)))))
 
 pub check-vertices-spec : {M : Type 1} → statement M
 check-vertices-spec = tie.close (tie.spec mul-first-place first-place-requires mul-if1 returns add-first-place first-place-requires-2 add-if2 returns-2 first-place-requires-3 returns-3 returns-4)

@@ -2,8 +2,10 @@
 -- with its length; it fits, and the second walk stores it (`placed-out`). Assumes nothing.
 use mathlib.Core.Path.{sym, _∙_, ap}
 use native.Mathlib.Omega.{arith}
+use Prim.Native.Nat.{ℕ}
 use lib.ListN.{length}
 use Rattle.matrix.specs.Matrix.{ofList}
+use Rattle.refusal.specs.Refusal.{tooShort}
 use Rattle.word.specs.declared.Queried.the-variants as queried
 use Rattle.word.proofs.Finding.{setting, result, kept-out, placed-out, not-home, too-far, too-long, fitting}
 use borrow.Author.Needs.{needs}
@@ -48,7 +50,7 @@ returns-2 c =
     let end = w .walk .result in
     let r = result q (w .walk .ensures) in
     let e = kept-out r in
-    (ap queried.Short (r .count) ∙ too-far v t m start room (end .at) (r .at) (c .before .if1 .left ∙ q .start) (omega (arith, ap length e, c .if2 .taken)), e)
+    (ap (λ (i : ℕ). queried.Refused (tooShort i)) (r .count) ∙ too-far v t m start room (end .at) (r .at) (c .before .if1 .left ∙ q .start) (omega (arith, ap length e, c .if2 .taken)), e)
 
 sub-if3 : tie.Need-sub-if3
 sub-if3 c = search needs
@@ -69,7 +71,7 @@ returns-3 c =
     let end = w .walk .result in
     let r = result q (w .walk .ensures) in
     let e = kept-out r in
-    (ap queried.Short (r .count) ∙ too-long v t m start room (end .at) (r .at) (c .before .before .if1 .left ∙ q .start) (omega (arith, ap length e, c .before .if2 .left)) (omega (arith, ap length e, c .if3 .taken, r .count)), e)
+    (ap (λ (i : ℕ). queried.Refused (tooShort i)) (r .count) ∙ too-long v t m start room (end .at) (r .at) (c .before .before .if1 .left ∙ q .start) (omega (arith, ap length e, c .before .if2 .left)) (omega (arith, ap length e, c .if3 .taken, r .count)), e)
 
 walk-requires-2 : tie.Need-walk-requires-2
 walk-requires-2 c κs =

@@ -1,8 +1,8 @@
 //! Runs one of the engine's programs as a child process: a text in, what it
 //! prints and its exit status out.
 //!
-//! The programs are named by environment variables, as paths that are absolute
-//! or start at the root of the repository. A test whose program isn't named
+//! The programs, and the script `./farey`, are named by environment variables, as
+//! paths that are absolute or start at the root of the repository. A test whose program isn't named
 //! fails. Only SKIP_PROGRAMS, which lists the variables to be left out or is 1
 //! for all of them, lets it pass, and then it says so.
 
@@ -14,7 +14,7 @@ use std::fs;
 use std::io::{ErrorKind, Read, Write};
 use std::path::{Path, PathBuf};
 use std::process::{Command, Stdio};
-use std::sync::mpsc;
+use std::sync::{mpsc, OnceLock};
 use std::thread;
 use std::time::Duration;
 
@@ -35,6 +35,23 @@ pub struct Answer {
     pub stderr: Vec<u8>,
     /// The exit status, or `None` if a signal ended the program.
     pub status: Option<i32>,
+}
+
+/// The script `./farey`, named by `FAREY_PROGRAM`. The programs must have been
+/// proved already: it may ask for that, but nothing is proved anew.
+pub fn farey() -> Option<Program> {
+    static PROVED: OnceLock<()> = OnceLock::new();
+    let script = Program::named_by("FAREY_PROGRAM")?;
+    PROVED.get_or_init(|| {
+        for name in ["listing", "query", "import"] {
+            let came = script.command().arg(name).stdin(Stdio::null()).output();
+            let came = came.expect("./farey starts");
+            let said = String::from_utf8_lossy(&came.stderr);
+            assert!(came.status.success(), "{said}");
+            assert!(!said.contains("farey: proved "), "{said}");
+        }
+    });
+    Some(script)
 }
 
 /// The folder that holds the whole project.
@@ -69,9 +86,15 @@ impl Program {
         Some(Program { variable, path })
     }
 
+    /// The program, to be started otherwise than here.
+    pub fn command(&self) -> Command {
+        Command::new(&self.path)
+    }
+
     /// Runs the program over a text.
     pub fn run(&self, text: &[u8]) -> Answer {
-        let mut child = Command::new(&self.path)
+        let mut child = self
+            .command()
             .stdin(Stdio::piped())
             .stdout(Stdio::piped())
             .stderr(Stdio::piped())

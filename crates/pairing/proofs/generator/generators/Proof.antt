@@ -5,11 +5,14 @@ use lib.Dec.{ltb}
 use lib.ListN.{length}
 use borrow.Author.Tests.{lt-ltb, le-ltb}
 use Rattle.space.specs.Space.{zeros}
-use Rattle.pairing.specs.Generator.{leaders, roomOf, listedOf, generatedBy, workAfter}
-use Rattle.symbol.specs.declared.Checked.{Checked}
-use Rattle.pairing.specs.declared.generator.Generated.the-variants as generated
+use Rattle.pairing.specs.Generator.{leaders, roomOf, byWork, workAfter}
+use Rattle.refusal.specs.declared.Checked.{Checked}
+use Rattle.refusal.specs.Refusal.{tooShort, filledBy}
+use Rattle.refusal.proofs.Apart.{refused-made}
+use Rattle.refusal.specs.declared.Filled.the-variants as filled
 use Rattle.symbol.proofs.Choice.{pick-true, pick-false}
 use Rattle.symbol.proofs.Accepted.{accepted}
+use Rattle.pairing.proofs.Meaning.{generates}
 use borrow.Author.Needs.{needs}
 use Rattle.pairing.proofs.generator.generators.Statement.{statement}
 use Rattle.pairing.proofs.generator.generators.Tie as tie
@@ -34,8 +37,8 @@ returns c =
     let ok = sym (r .check .ensures .returned) ∙ e .enum-told .given .1 in
     let short = lt-ltb (length w) 32768 (c .if1 .taken) in
     let n = length (leaders v t) in (
-      sym (ap (λ (x : Checked). generatedBy x (listedOf n (length w) (length (s .args .out .now)))) ok ∙ pick-true (ltb (length w) 32768) (generated.Short 32768) (roomOf n (length (s .args .out .now))) short),
-      (sym (ap (λ (x : Checked). workAfter x w) ok ∙ pick-true (ltb (length w) 32768) w (zeros (length w)) short), refl),
+      sym (ap (λ (x : Checked). filledBy x (byWork (length w) (roomOf n (length (s .args .out .now))))) ok ∙ pick-true (ltb (length w) 32768) (filled.Refused (tooShort 32768)) (roomOf n (length (s .args .out .now))) short),
+      (sym (ap (λ (x : Checked). workAfter x w) ok ∙ pick-true (ltb (length w) 32768) w (zeros (length w)) short), (refl, λ n e. refused-made e)),
     )
 
 list-accepted-requires : tie.Need-list-accepted-requires
@@ -53,7 +56,7 @@ returns-2 c =
     let s = r .before .before in
     let w = s .args .w .now in
     let no = sym (r .check .ensures .returned) ∙ k .checked .given .1 in
-    (sym (ap (λ (x : Checked). generatedBy x (listedOf (length (leaders (s .args .v) (s .args .t .now))) (length w) (length (s .args .out .now)))) no), (sym (ap (λ (x : Checked). workAfter x w) no), refl))
+    (sym (ap (λ (x : Checked). filledBy x (byWork (length w) (roomOf (length (leaders (s .args .v) (s .args .t .now))) (length (s .args .out .now))))) no), (sym (ap (λ (x : Checked). workAfter x w) no), (refl, λ n e. refused-made e)))
 
 same-length : tie.Need-same-length
 same-length c = search needs
@@ -72,8 +75,8 @@ returns-3 c =
     let n = length (leaders (s .args .v) (s .args .t .now)) in
     let ok = sym (r .check .ensures .returned) ∙ e .enum-told .given .1 in
     let long = le-ltb (length w) 32768 (d .if1 .left) in (
-      l .list-accepted .ensures .0 ∙ sym (ap (λ (x : Checked). generatedBy x (listedOf n (length w) (length (s .args .out .now)))) ok ∙ pick-false (ltb (length w) 32768) (generated.Short 32768) (roomOf n (length (s .args .out .now))) long),
-      (l .list-accepted .ensures .1 .0 ∙ sym (ap (λ (x : Checked). workAfter x w) ok ∙ pick-false (ltb (length w) 32768) w (zeros (length w)) long), l .list-accepted .ensures .1 .1),
+      l .list-accepted .ensures .0 ∙ sym (ap (λ (x : Checked). filledBy x (byWork (length w) (roomOf n (length (s .args .out .now))))) ok ∙ pick-false (ltb (length w) 32768) (filled.Refused (tooShort 32768)) (roomOf n (length (s .args .out .now))) long),
+      (l .list-accepted .ensures .1 .0 ∙ sym (ap (λ (x : Checked). workAfter x w) ok ∙ pick-false (ltb (length w) 32768) w (zeros (length w)) long), (l .list-accepted .ensures .1 .1, λ k h. generates (s .args .v) (s .args .t .now) (accepted (s .args .v) (s .args .t .now) .0 ok))),
     )
 
 pub generators-spec : {M : Type 1} → statement M

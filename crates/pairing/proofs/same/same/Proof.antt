@@ -3,7 +3,8 @@ use mathlib.Core.Path.{_≡_, sym, _∙_, ap}
 use lib.ListN.{length}
 use Rattle.symbol.specs.Check.{checkOf}
 use Rattle.pairing.specs.Same.{answered, samenessBy, workAfterBoth}
-use Rattle.symbol.specs.declared.Checked.{Checked}
+use Rattle.refusal.specs.declared.Checked.{Checked}
+use Rattle.pairing.proofs.Meaning.{same-means}
 use borrow.Author.Needs.{needs}
 use Rattle.pairing.proofs.same.same.Statement.{statement}
 use Rattle.pairing.proofs.same.same.Tie as tie
@@ -27,13 +28,18 @@ returns c =
     let s = r .before .before in
     let w = s .args .w .now in
     let no = sym (r .check .ensures .returned) ∙ k .first .given .1 in
-    (sym (ap (λ (x : Checked). samenessBy x (checkOf (s .args .n) (s .args .u .now)) (answered (s .args .v) (s .args .t .now) (s .args .n) (s .args .u .now) (length w))) no), sym (ap (λ (x : Checked). workAfterBoth x (checkOf (s .args .n) (s .args .u .now)) w) no))
+    let said = answered (s .args .v) (s .args .t .now) (s .args .n) (s .args .u .now) (length w) in
+    let is = sym (ap (λ (x : Checked). samenessBy x (checkOf (s .args .n) (s .args .u .now)) said) no) in
+    (is, (sym (ap (λ (x : Checked). workAfterBoth x (checkOf (s .args .n) (s .args .u .now)) w) no), same-means (s .args .v) (s .args .t .now) (s .args .n) (s .args .u .now) (length w) _ is))
 
 same-length : tie.Need-same-length
 same-length c = search needs
 
 returns-2 : tie.Need-returns-2
-returns-2 c = search needs
+returns-2 c =
+    let q = c .before .before .same-second in
+    let s = c .before .before .before .before .before .before .before .before in
+    (q .ensures .0, (q .ensures .1, same-means (s .args .v) (s .args .t .now) (s .args .n) (s .args .u .now) (length (s .args .w .now)) _ (q .ensures .0)))
 
 pub same-spec : {M : Type 1} → statement M
 same-spec =

@@ -9,8 +9,8 @@ use Rattle.matrix.specs.Euclid.{pick}
 use Rattle.symbol.specs.Check.{checkOf}
 use Rattle.pairing.specs.Generator.{workAfter}
 use Rattle.pairing.specs.Same.{answered, samenessBy, samenessOf, workAfterBoth}
-use Rattle.symbol.specs.declared.Checked.{Checked}
-use Rattle.symbol.specs.declared.Checked.the-variants.{Accepted, Refused}
+use Rattle.refusal.specs.declared.Checked.{Checked}
+use Rattle.refusal.specs.declared.Checked.the-variants.{Accepted, Refused}
 use Rattle.pairing.specs.declared.same.Sameness.the-variants as sameness
 use Rattle.symbol.proofs.Choice.{pick-true, pick-false}
 use Rattle.symbol.proofs.Accepted.{accepted}

@@ -1,0 +1,73 @@
+/* NULL for every space of length 0, which is what a C program has there: each call answers as the header says, and touches nothing.
+ *
+ *     rt staticlib engine
+ *     cc -I include examples/library/empty.c target/staticlib/libengine.a -o empty && ./empty
+ *
+ * The group is Γ0(2). What is expected stands in empty.output: the number of each answer, and its place or count. */
+#include <inttypes.h>
+#include <stdio.h>
+#include "farey.h"
+
+static uint16_t work[FAREY_WORK];
+
+static void say(const char *call, uint64_t number, size_t place)
+{
+    printf("%s: %" PRIu64 " %zu\n", call, number, place);
+}
+
+int main(void)
+{
+    static const int64_t t[7] = {0, 1, 1, 1, 1, -2, 1};
+    static const uint32_t s[3] = {1, 0, 2}, r[3] = {2, 0, 1};
+    static const int64_t one[4] = {1, 0, 0, 1}, lower[4] = {1, 0, 2, 1};
+    int64_t generators[10], table[7];
+    uint32_t columns[3][3];
+    uint64_t figures[8];
+    size_t place = 99;
+    uint64_t number;
+
+    /* No table: v is out of range, or the length isn't 3v + 1. */
+    number = farey_check(0, NULL, 0, &place);
+    say("check of nothing", number, place);
+    number = farey_check(2, NULL, 0, &place);
+    say("check without a table", number, place);
+    number = farey_same(2, t, 7, 2, NULL, 0, work, FAREY_WORK, &place);
+    say("same without a second table", number, place);
+    number = farey_import(NULL, 0, NULL, 0, work, FAREY_WORK, table, 7, &place);
+    say("import of nothing", number, place);
+
+    /* No work space. */
+    number = farey_generators(2, t, 7, NULL, 0, generators, 10, &place);
+    say("generators without work", number, place);
+    number = farey_figures(2, t, 7, NULL, 0, figures, &place);
+    say("figures without work", number, place);
+    number = farey_widths(2, t, 7, NULL, 0, columns[0], 3, &place);
+    say("widths without work", number, place);
+    number = farey_tables(2, t, 7, NULL, 0, columns[0], 3, columns[1], 3, columns[2], 3, &place);
+    say("tables without work", number, place);
+    number = farey_import(s, 3, r, 3, NULL, 0, table, 7, &place);
+    say("import without work", number, place);
+    number = farey_query(2, t, 7, one, one, NULL, 0, NULL, 0, 0, &place);
+    say("query without work", number, place);
+    number = farey_same(2, t, 7, 2, t, 7, NULL, 0, &place);
+    say("same without work", number, place);
+
+    /* No result space: the length that is needed. */
+    number = farey_generators(2, t, 7, work, FAREY_WORK, NULL, 0, &place);
+    say("generators without room", number, place);
+    number = farey_widths(2, t, 7, work, FAREY_WORK, NULL, 0, &place);
+    say("widths without room", number, place);
+    number = farey_tables(2, t, 7, work, FAREY_WORK, NULL, 0, NULL, 0, NULL, 0, &place);
+    say("tables without room", number, place);
+    number = farey_import(s, 3, r, 3, work, FAREY_WORK, NULL, 0, &place);
+    say("import without room", number, place);
+    number = farey_query(2, t, 7, one, lower, work, FAREY_WORK, NULL, 0, 0, &place);
+    say("query without room", number, place);
+
+    /* The empty word needs none, from the place 0 on. */
+    number = farey_query(2, t, 7, one, one, work, FAREY_WORK, NULL, 0, 0, &place);
+    say("empty word", number, place);
+    number = farey_query(2, t, 7, one, one, work, FAREY_WORK, NULL, 0, 1, &place);
+    say("empty word past the end", number, place);
+    return 0;
+}

@@ -1,0 +1,421 @@
+//! Standard input and output that fail: what is read isn't taken for the whole
+//! text where it isn't, and an answer that can't be written isn't passed over in
+//! silence.
+//!
+//! | what fails           | what must be so                                                       |
+//! |----------------------|-----------------------------------------------------------------------|
+//! | a read               | nothing on standard output, a line `farey: ..` on standard error      |
+//! | a write              | a line `farey: ..` on standard error; what was written is a beginning |
+//! | nothing, but a pause | the answer to the whole text                                          |
+//!
+//! Each test is made of each of the three programs (`LISTING_PROGRAM`,
+//! `QUERY_PROGRAM`, `IMPORT_PROGRAM`) and of `./farey` with each of their names
+//! (`FAREY_PROGRAM`), whose exit status isn't 0 then. A program of the engine
+//! has no exit status of its own to give.
+
+mod child;
+
+use std::fs::{File, OpenOptions};
+use std::io::{Read, Write};
+use std::os::fd::{AsRawFd, FromRawFd, OwnedFd};
+use std::os::unix::process::CommandExt;
+use std::os::unix::process::ExitStatusExt;
+use std::process::{Child, Command, ExitStatus, Stdio};
+use std::thread;
+use std::time::{Duration, Instant};
+
+use child::{farey, repository, shown, Program};
+use reckoning::random::pairs::shallow_pair;
+use reckoning::random::Rng;
+use reckoning::text::MAX_TEXT;
+use reckoning::{import, listing, query};
+
+/// How long a program may take before it counts as hanging.
+const TIME_LIMIT: Duration = Duration::from_secs(120);
+/// The pause between two pieces of a text.
+const PAUSE: Duration = Duration::from_millis(15);
+
+// What fcntl is asked, on Linux.
+const F_GETFL: i32 = 3;
+const F_SETFL: i32 = 4;
+const F_SETPIPE_SZ: i32 = 1031;
+const O_NONBLOCK: i32 = 0o4000;
+const SIGPIPE: i32 = 13;
+const SIG_IGN: usize = 1;
+/// The room of a small pipe: one page.
+const SMALL: i32 = 4096;
+
+extern "C" {
+    fn pipe(fds: *mut i32) -> i32;
+    fn fcntl(fd: i32, command: i32, ...) -> i32;
+    fn close(fd: i32) -> i32;
+    fn signal(number: i32, handler: usize) -> usize;
+}
+
+/// A program, or `./farey` with its name.
+struct Subject {
+    name: &'static str,
+    program: Program,
+    by_script: bool,
+    reckoned: fn(&[u8]) -> String,
+    /// A text whose last number loses a digit, or its neighbours, when cut short.
+    text: &'static str,
+}
+
+impl Subject {
+    fn all() -> Vec<Subject> {
+        type Row = (
+            &'static str,
+            &'static str,
+            fn(&[u8]) -> String,
+            &'static str,
+        );
+        let rows: [Row; 3] = [
+            (
+                "LISTING_PROGRAM",
+                "listing",
+                listing,
+                "2\n0 1 1 1\n1 -2 1\n",
+            ),
+            (
+                "QUERY_PROGRAM",
+                "query",
+                query,
+                "2 0 1 1 1 1 -2 1 0 -1 1 0 0 -1 1 20",
+            ),
+            ("IMPORT_PROGRAM", "import", import, "3\n1 0 2\n2 0 1\n"),
+        ];
+        let mut all = Vec::new();
+        for by_script in [false, true] {
+            for (variable, name, reckoned, text) in rows {
+                let named = if by_script {
+                    farey()
+                } else {
+                    Program::named_by(variable)
+                };
+                all.extend(named.map(|program| Subject {
+                    name,
+                    program,
+                    by_script,
+                    reckoned,
+                    text,
+                }));
+            }
+        }
+        all
+    }
+
+    fn command(&self) -> Command {
+        let mut command = self.program.command();
+        if self.by_script {
+            command.arg(self.name);
+        }
+        command.stderr(Stdio::piped());
+        command
+    }
+
+    fn called(&self) -> String {
+        let by = if self.by_script { "./farey " } else { "" };
+        format!("{by}{}", self.name)
+    }
+
+    /// A text whose answer has more than `SMALL` bytes.
+    fn long_text(&self) -> String {
+        match self.name {
+            // T to the power 3,000, in a group that has T for a generator.
+            "query" => "2 0 1 1 1 1 -2 1 1 0 0 1 1 3000 0 1".to_string(),
+            _ => {
+                let pair = shallow_pair(&mut Rng::new(7), 1_000).numbers();
+                let pieces: Vec<String> = pair.iter().map(i64::to_string).collect();
+                let pair = pieces.join(" ");
+                match self.name {
+                    "import" => pair,
+                    _ => import(pair.as_bytes()),
+                }
+            }
+        }
+    }
+
+    /// A failure is told on standard error, and by the status of `./farey`.
+    fn must_tell(&self, came: &Came, on: &str) {
+        let told = came
+            .stderr
+            .lines()
+            .filter(|line| line.starts_with("farey:"));
+        assert!(
+            told.count() > 0,
+            "{}, {on}: standard error is {:?}",
+            self.called(),
+            came.stderr
+        );
+        if self.by_script {
+            assert!(!came.status.success(), "{}, {on}", self.called());
+        } else {
+            assert_eq!(came.stderr.lines().count(), 1, "{}, {on}", self.called());
+        }
+    }
+
+    /// A text that can't be read to its end has no answer.
+    fn must_not_answer(&self, came: &Came, on: &str) {
+        assert_eq!(shown(&came.stdout), "\"\"", "{}, {on}", self.called());
+        self.must_tell(came, on);
+    }
+}
+
+/// What a run brought about.
+struct Came {
+    stdout: Vec<u8>,
+    stderr: String,
+    status: ExitStatus,
+}
+
+/// The end of a child whose standard output, if it has a pipe, is small enough
+/// to be read when it has ended.
+fn ended(mut child: Child) -> Came {
+    let start = Instant::now();
+    let status = loop {
+        if let Some(status) = child.try_wait().expect("a child can be waited for") {
+            break status;
+        }
+        if start.elapsed() > TIME_LIMIT {
+            let _ = child.kill();
+            let _ = child.wait();
+            panic!("a program doesn't end within {TIME_LIMIT:?}");
+        }
+        thread::sleep(Duration::from_millis(1));
+    };
+    let mut stdout = Vec::new();
+    if let Some(mut pipe) = child.stdout.take() {
+        pipe.read_to_end(&mut stdout).expect("stdout can be read");
+    }
+    let mut stderr = String::new();
+    let mut pipe = child.stderr.take().expect("stderr is piped");
+    pipe.read_to_string(&mut stderr).expect("stderr is text");
+    Came {
+        stdout,
+        stderr,
+        status,
+    }
+}
+
+/// The two ends of a new pipe: to read from, to write to.
+fn new_pipe() -> (OwnedFd, OwnedFd) {
+    let mut fds = [0; 2];
+    // SAFETY: `pipe` fills two numbers, which are nobody else's descriptors.
+    unsafe {
+        assert_eq!(pipe(fds.as_mut_ptr()), 0);
+        (OwnedFd::from_raw_fd(fds[0]), OwnedFd::from_raw_fd(fds[1]))
+    }
+}
+
+fn set_non_blocking(end: &OwnedFd) {
+    // SAFETY: these calls touch no memory of ours.
+    unsafe {
+        let flags = fcntl(end.as_raw_fd(), F_GETFL);
+        assert!(flags >= 0);
+        assert_eq!(fcntl(end.as_raw_fd(), F_SETFL, flags | O_NONBLOCK), 0);
+    }
+}
+
+/// Has the child start with a descriptor closed.
+fn without(command: &mut Command, fd: i32) -> &mut Command {
+    // SAFETY: `close` may be called between fork and exec.
+    unsafe {
+        command.pre_exec(move || {
+            close(fd);
+            Ok(())
+        })
+    }
+}
+
+/// The text on an ordinary pipe.
+fn with_text(command: &mut Command, text: &str) -> Child {
+    let mut child = command
+        .stdin(Stdio::piped())
+        .spawn()
+        .expect("the program starts");
+    let mut stdin = child.stdin.take().expect("stdin is piped");
+    stdin
+        .write_all(text.as_bytes())
+        .expect("the text can be written");
+    child
+}
+
+#[test]
+fn a_directory_as_input() {
+    for subject in Subject::all() {
+        let folder = File::open(repository()).expect("a folder opens");
+        let mut command = subject.command();
+        command.stdin(folder).stdout(Stdio::piped());
+        let came = ended(command.spawn().expect("the program starts"));
+        subject.must_not_answer(&came, "a directory");
+    }
+}
+
+#[test]
+fn no_input() {
+    for subject in Subject::all() {
+        let mut command = subject.command();
+        command.stdin(Stdio::null()).stdout(Stdio::piped());
+        let came = ended(
+            without(&mut command, 0)
+                .spawn()
+                .expect("the program starts"),
+        );
+        subject.must_not_answer(&came, "standard input closed");
+    }
+}
+
+#[test]
+fn no_output() {
+    for subject in Subject::all() {
+        let mut command = subject.command();
+        command.stdout(Stdio::null());
+        let came = ended(with_text(without(&mut command, 1), subject.text));
+        subject.must_tell(&came, "standard output closed");
+    }
+}
+
+/// A pipe that doesn't wait: its text comes in two pieces, cut anywhere.
+#[test]
+fn two_pieces_without_waiting() {
+    for subject in Subject::all() {
+        let expected = (subject.reckoned)(subject.text.as_bytes());
+        // A script takes longer to start, so of its cuts only some are made.
+        let step = if subject.by_script { 5 } else { 1 };
+        for cut in (0..subject.text.len()).rev().step_by(step) {
+            let (reader, writer) = new_pipe();
+            set_non_blocking(&reader);
+            let mut writer = File::from(writer);
+            let (first, second) = subject.text.split_at(cut);
+            writer.write_all(first.as_bytes()).expect("there is room");
+            let mut command = subject.command();
+            command.stdin(reader).stdout(Stdio::piped());
+            let child = command.spawn().expect("the program starts");
+            // The command holds the reading end too.
+            drop(command);
+            thread::sleep(PAUSE);
+            // The program may have ended already.
+            let _ = writer.write_all(second.as_bytes());
+            drop(writer);
+            let came = ended(child);
+            let on = format!("cut at {cut}");
+            if came.stdout.is_empty() {
+                subject.must_not_answer(&came, &on);
+            } else {
+                assert_eq!(
+                    String::from_utf8_lossy(&came.stdout),
+                    expected,
+                    "{}, {on}",
+                    subject.called()
+                );
+            }
+        }
+    }
+}
+
+/// 65,536 bytes and no end yet: only one more read can tell that there is more.
+#[test]
+fn a_full_buffer_without_an_end() {
+    for subject in Subject::all() {
+        let (reader, writer) = new_pipe();
+        set_non_blocking(&reader);
+        let mut writer = File::from(writer);
+        let rest = " ".repeat(MAX_TEXT - subject.text.len());
+        let text = format!("{}{rest}", subject.text);
+        writer.write_all(text.as_bytes()).expect("there is room");
+        let mut command = subject.command();
+        command.stdin(reader).stdout(Stdio::piped());
+        let came = ended(command.spawn().expect("the program starts"));
+        subject.must_not_answer(&came, "a full buffer");
+        drop(writer);
+    }
+}
+
+#[test]
+fn two_pieces_with_waiting() {
+    for subject in Subject::all() {
+        let expected = (subject.reckoned)(subject.text.as_bytes());
+        for cut in [1, subject.text.len() - 1] {
+            let (first, second) = subject.text.split_at(cut);
+            let mut command = subject.command();
+            command.stdin(Stdio::piped()).stdout(Stdio::piped());
+            let mut child = command.spawn().expect("the program starts");
+            let mut stdin = child.stdin.take().expect("stdin is piped");
+            stdin.write_all(first.as_bytes()).expect("it is read");
+            thread::sleep(PAUSE);
+            stdin.write_all(second.as_bytes()).expect("it is read");
+            drop(stdin);
+            let came = ended(child);
+            assert_eq!(String::from_utf8_lossy(&came.stdout), expected);
+            assert_eq!(came.stderr, "", "{}", subject.called());
+            assert!(came.status.success(), "{}", subject.called());
+        }
+    }
+}
+
+#[test]
+fn a_full_device() {
+    for subject in Subject::all() {
+        let full = OpenOptions::new().write(true).open("/dev/full");
+        let mut command = subject.command();
+        command.stdout(full.expect("/dev/full opens"));
+        let came = ended(with_text(&mut command, subject.text));
+        subject.must_tell(&came, "a full device");
+    }
+}
+
+#[test]
+fn a_reader_that_went_away() {
+    for subject in Subject::all() {
+        for ignored in [false, true] {
+            let (reader, writer) = new_pipe();
+            drop(reader);
+            let mut command = subject.command();
+            command.stdout(writer);
+            if ignored {
+                // SAFETY: `signal` may be called between fork and exec.
+                unsafe {
+                    command.pre_exec(|| {
+                        signal(SIGPIPE, SIG_IGN);
+                        Ok(())
+                    })
+                };
+            }
+            let came = ended(with_text(&mut command, subject.text));
+            // The system ends a program that doesn't ignore the signal.
+            if came.status.signal() != Some(SIGPIPE) {
+                subject.must_tell(&came, "a reader that went away");
+            } else {
+                assert!(!ignored, "{}", subject.called());
+            }
+        }
+    }
+}
+
+/// A pipe that doesn't wait for its reader: the answer doesn't fit.
+#[test]
+fn a_full_pipe_without_waiting() {
+    for subject in Subject::all() {
+        let text = subject.long_text();
+        let expected = (subject.reckoned)(text.as_bytes());
+        assert!(expected.len() > SMALL as usize, "{expected}");
+        let (reader, writer) = new_pipe();
+        set_non_blocking(&writer);
+        // SAFETY: this call touches no memory of ours.
+        let room = unsafe { fcntl(writer.as_raw_fd(), F_SETPIPE_SZ, SMALL) };
+        assert_eq!(room, SMALL);
+        let mut command = subject.command();
+        command.stdout(writer);
+        let child = with_text(&mut command, &text);
+        drop(command);
+        let came = ended(child);
+        subject.must_tell(&came, "a full pipe");
+        let mut written = Vec::new();
+        File::from(reader)
+            .read_to_end(&mut written)
+            .expect("the pipe can be read");
+        assert!(written.len() < expected.len(), "{}", subject.called());
+        assert!(expected.as_bytes().starts_with(&written));
+    }
+}
