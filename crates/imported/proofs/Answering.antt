@@ -2,14 +2,13 @@
 --     front-is                          what stands at the front of the result space is the symbol's table
 --     made-is, lines-are                the answer of `import` in the program's spaces, and its lines
 --     few-numbers, enough-numbers       what the numbers of a text ask for
---     asked-longer, asked-by            what a text asks for that is too long, and by the answer of `read`
---     numbers-longer, numbers-by        and what is then left of the numbers
+--     asked-by, numbers-by              what a text asks for by the answer of `read_input`, and what is then left of the numbers
 --     handed-numbers                    the numbers handed on, where they stand
 --     untouched, leaves-as, leaves      what is left in the other slices: nothing is changed; the same in other words; by the two tables
 --     lines-as                          the lines for what is asked, in other words
 -- Assumes nothing.
 use mathlib.Core.Path.{_≡_, refl, sym, ap, _∙_}
-use mathlib.Core.Bool.{Bool, true, false}
+use mathlib.Core.Bool.{Bool}
 use mathlib.Core.List.{List, _++_}
 use Prim.Native.Nat.{ℕ, _+_, _-_, _*_, _/_, _≤_, _<_}
 use native.Mathlib.Omega.{arith}
@@ -18,12 +17,12 @@ use lib.IntN.{ℤ}
 use lib.ListN.{length, take, drop, length-append, length-drop}
 use lib.Seq.{take-at, length-take-le}
 use borrow.Author.Tests.{lt-ltb, le-ltb}
-use Rattle.refusal.specs.Refusal.{pointCount, badText}
+use Rattle.refusal.specs.Refusal.{pointCount}
 use Rattle.refusal.specs.declared.Refusal.{Refusal}
 use Rattle.refusal.specs.declared.Filled.{Filled}
 use Rattle.space.specs.Space.{workLength}
 use Rattle.text.specs.Piece.{pieces, numbers}
-use Rattle.text.specs.Reading.{readingOf, leftBy}
+use Rattle.text.specs.Reading.{inputOf, leftBy}
 use Rattle.text.specs.declared.Reading.{Reading}
 use Rattle.text.specs.declared.Reading.the-variants.{Numbers}
 use Rattle.line.specs.Line.{Puts}
@@ -55,22 +54,14 @@ unfolding tablesIn
 enough-numbers ns h = rw (le-ltb (length ns) 3 h) refl
 
 module _ (longer : Bool) (text : List ℕ) where
-  pub asked-longer : longer ≡ true → refused (badText 65536) ≡ asked longer text
-  unfolding asked
-  asked-longer e = rw e refl
-
-  pub numbers-longer : (ns : List ℤ) → longer ≡ true → ns ≡ numbersLeft longer text ns
-  unfolding numbersLeft
-  numbers-longer ns e = rw e refl
-
-  module _ (r : Reading) (e : longer ≡ false) (f : r ≡ readingOf importFormat text 6133) where
+  module _ (r : Reading) (e : r ≡ inputOf longer importFormat text 6133) where
     pub asked-by : askedBy r (numbers (pieces text)) ≡ asked longer text
     unfolding asked
-    asked-by = rw (e, f) refl
+    asked-by = ap (λ (x : Reading). askedBy x (numbers (pieces text))) e
 
     pub numbers-by : (ns : List ℤ) → leftBy r (numbers (pieces text)) ns ≡ numbersLeft longer text ns
     unfolding numbersLeft
-    numbers-by ns = rw (e, f) refl
+    numbers-by ns = ap (λ (x : Reading). leftBy x (numbers (pieces text)) ns) e
 
   pub lines-as : {a : Asked} → a ≡ asked longer text → linesFor a ≡ importedOf longer text
   unfolding importedOf

@@ -51,7 +51,8 @@ number-line-says : (zs : List ℤ) (u : List ℕ) (ys : List ℤ) → 1 ≤ leng
 unfolding numberLine
 number-line-says [] u ys n k s = absurd (omega arith)
 number-line-says (z ∷ zs) u ys n k s =
-    rw (append-assoc (decimalOf z) (spaced zs ++ (10 ∷ [])) u, append-assoc (spaced zs) (10 ∷ []) u) (line-says z zs u ys (k 0 (omega arith)) (λ i l. k (suc i) (omega arith)) s)
+    rw (append-assoc (decimalOf z) (spaced zs ++ (10 ∷ [])) u, append-assoc (spaced zs) (10 ∷ []) u)
+    (line-says z zs u ys (k 0 (omega arith)) (λ i l. k (suc i) (omega arith)) s)
 
 says-as : {t t' : List ℕ} {zs zs' : List ℤ} → t ≡ t' → zs ≡ zs' → Says t zs → Says t' zs'
 says-as {t} {t'} {zs} {zs'} e f s = rw (← e, ← f) s
@@ -70,11 +71,12 @@ module _ (v : ℕ) (t : List ℤ) (low : 1 ≤ v) (high : v ≤ 1023) (long : le
   lines-say : Says (symbolLines v t) (natural v ∷ t)
   unfolding symbolLines
   lines-say =
-      let third = number-line-says (drop (2 * v) t) [] [] (omega (arith, back-length)) (λ i l. rw (getD-drop (2 * v) t i (pos 0)) (each (2 * v + i) (omega (arith, long, back-length)))) says-none in
+      let third = number-line-says (drop (2 * v) t) [] [] (omega (arith, back-length))
+      (λ i l. rw (getD-drop (2 * v) t i (pos 0)) (each (2 * v + i) (omega (arith, long, back-length)))) says-none in
       let second = number-line-says (take (2 * v) t) (numberLine (drop (2 * v) t) ++ []) (drop (2 * v) t ++ []) (omega (arith, front-length))
       (λ i l. rw (getD-take (2 * v) t i (pos 0) (omega (arith, front-length))) (each i (omega (arith, long, front-length)))) third in
-      let first = number-line-says (natural v ∷ []) (numberLine (take (2 * v) t) ++ (numberLine (drop (2 * v) t) ++ [])) (take (2 * v) t ++ (drop (2 * v) t ++ [])) (omega arith)
-      (λ i l. let z : i ≡ 0 = omega arith in rw z (omega arith)) second in
+      let first = number-line-says (natural v ∷ []) (numberLine (take (2 * v) t) ++ (numberLine (drop (2 * v) t) ++ []))
+      (take (2 * v) t ++ (drop (2 * v) t ++ [])) (omega arith) (λ i l. let z : i ≡ 0 = omega arith in rw z (omega arith)) second in
       says-as (three (numberLine (natural v ∷ [])) (numberLine (take (2 * v) t)) (numberLine (drop (2 * v) t)))
       (ap (λ (l : List ℤ). natural v ∷ l) (ap (λ (l : List ℤ). take (2 * v) t ++ l) (append-nil (drop (2 * v) t)) ∙ take-append-drop (2 * v) t)) first
 

@@ -20,7 +20,7 @@ use Prim.Native.Nat.{ℕ, _+_, _-_, _*_, _/_}
 use lib.Dec.{ltb}
 use lib.IntN.{ℤ, pos, negsuc}
 use lib.ListN.{length, take, drop}
-use Rattle.refusal.specs.Refusal.{pointCount, badText}
+use Rattle.refusal.specs.Refusal.{pointCount}
 use Rattle.refusal.specs.declared.Refusal.{Refusal}
 use Rattle.refusal.specs.declared.Filled.{Filled}
 use Rattle.refusal.specs.declared.Filled.the-variants as filled
@@ -28,7 +28,7 @@ use Rattle.matrix.specs.Euclid.{pick}
 use Rattle.space.specs.Space.{workLength}
 use Rattle.text.specs.Decimal.{decimalOf}
 use Rattle.text.specs.Piece.{pieces, numbers}
-use Rattle.text.specs.Reading.{readingOf}
+use Rattle.text.specs.Reading.{inputOf}
 use Rattle.text.specs.declared.Format.{Format}
 use Rattle.text.specs.declared.Reading.{Reading}
 use Rattle.text.specs.declared.Reading.the-variants as reading
@@ -68,7 +68,7 @@ askedBy (reading.Numbers k) ns = tablesIn (take k ns)
 askedBy (reading.Refused f) ns = refused f
 
 unfoldable pub asked : Bool → List ℕ → Asked
-asked longer text = pick longer (refused (badText 65536)) (askedBy (readingOf importFormat text 6133) (numbers (pieces text)))
+asked longer text = askedBy (inputOf longer importFormat text 6133) (numbers (pieces text))
 
 abbrev pub madeOf : (s r : List ℕ) → Filled
 madeOf s r = importOf s r workLength 3070

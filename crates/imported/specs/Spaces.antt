@@ -13,10 +13,9 @@ use Prim.Native.Nat.{ℕ, _≤_}
 use mathlib.Core.Path.{_≡_}
 use lib.IntN.{ℤ}
 use lib.ListN.{length, drop}
-use Rattle.matrix.specs.Euclid.{pick}
 use Rattle.space.specs.Space.{workLength}
 use Rattle.text.specs.Piece.{pieces, numbers}
-use Rattle.text.specs.Reading.{readingOf, leftBy}
+use Rattle.text.specs.Reading.{inputOf, leftBy}
 use Rattle.passport.specs.Check.{checkOf}
 use Rattle.passport.specs.Import.{ruleFor, tableLeft, workLeft}
 use Rattle.imported.specs.Answer.{Asked, tables, refused, importFormat, madeOf}
@@ -32,7 +31,7 @@ unfoldable pub filled : (t out : List ℕ) → List ℕ
 filled t out = t ++ drop (length t) out
 
 unfoldable pub numbersLeft : Bool → (text : List ℕ) → List ℤ → List ℤ
-numbersLeft longer text ns = pick longer ns (leftBy (readingOf importFormat text 6133) (numbers (pieces text)) ns)
+numbersLeft longer text ns = leftBy (inputOf longer importFormat text 6133) (numbers (pieces text)) ns
 
 abbrev pub leftOfS : Asked → List ℕ → List ℕ
 leftOfS (tables s r) out = filled s out

@@ -4,12 +4,12 @@ use line::put_decimal;
 use line::put_integers;
 use line::refusal_line;
 use passport::import;
-use refusal::BAD_TEXT;
 use refusal::Filled;
 use refusal::POINT_COUNT;
 use refusal::Refusal;
 use text::Format;
 use text::Reading;
+use text::read_input;
 ghost use mathlib.Core.Path.{_≡_};
 ghost use mathlib.Core.List.{[], _∷_, map};
 ghost use Prim.Native.Nat.{_+_, _*_, _≤_};
@@ -143,17 +143,9 @@ fn import_text(
     ensures { λ _. ⌜ now (numbers .exit) ≡ numbersLeft longer (now (text .entry)) (now (numbers .entry)) ⌝ }
     ensures { λ _. ⌜ Leaves (asked longer (now (text .entry))) (now (s .entry)) (now (r .entry)) (now (w .entry)) (now (table .entry)) (now (s .exit)) (now (r .exit)) (now (w .exit)) (now (table .exit)) ⌝ }
 {
-    if longer {
-        return refusal_line(
-            Refusal {
-                number: BAD_TEXT,
-                place: 65536,
-            },
-            out,
-        );
-    }
-    let read = text::read(
+    let read = read_input(
         text,
+        longer,
         Format {
             most: 3066,
             each: 2,

@@ -85,7 +85,8 @@ pub entry-low : (l : List ℕ) → Clear (badEntry l) (length l) → (x : ℕ) �
 entry-low l c x h = rw (image-in l x 0 h) (ltb-true (getD l x 0) (length l) (not-false (ltb (getD l x 0) (length l)) (or-left (not (ltb (getD l x 0) (length l))) (earlier l x) (c .none x h))))
 
 -- entries that are points, no two the same
-entries-clear : (l : List ℕ) → ((x : ℕ) → x < length l → image l x < length l) → ((x y : ℕ) → x < length l → y < length l → image l x ≡ image l y → x ≡ y) → Clear (badEntry l) (length l)
+entries-clear : (l : List ℕ) → ((x : ℕ) → x < length l → image l x < length l)
+    → ((x y : ℕ) → x < length l → y < length l → image l x ≡ image l y → x ≡ y) → Clear (badEntry l) (length l)
 entries-clear l low one = record {
   none = λ i h. (
       ap (λ (b : Bool). not b || earlier l i) (lt-ltb (getD l i 0) (length l) (rw (image-in l i 0 h) at (low i h)))
