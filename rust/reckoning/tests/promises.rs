@@ -4,8 +4,9 @@
 mod child;
 
 use std::collections::BTreeSet;
+use std::ffi::OsStr;
 use std::fs;
-use std::path::Path;
+use std::path::{Path, PathBuf};
 
 use child::repository;
 
@@ -26,18 +27,23 @@ fn in_a_crate(name: &str) -> bool {
     matches!(second, Some("specs" | "proofs" | "src" | "must-fail")) && !name.contains(['*', ' '])
 }
 
-/// The names of all must-fail edits.
-fn edits() -> BTreeSet<String> {
+/// The edits `NAME/LABEL` of all crates, where each crate has them in the
+/// folder that `of` names.
+fn edits(of: impl Fn(&Path) -> PathBuf, parent: &str) -> BTreeSet<String> {
     let folder = |path: &Path| {
         let entries = fs::read_dir(path).unwrap_or_else(|e| panic!("{}: {e}", path.display()));
         entries.map(|entry| entry.expect("the folder can be read").path())
     };
-    folder(&repository().join("crates"))
-        .map(|path| path.join("must-fail"))
-        .filter(|path| path.is_dir())
-        .flat_map(|path| folder(&path).collect::<Vec<_>>())
-        .filter(|path| path.extension().is_some_and(|end| end == "edit"))
-        .filter_map(|path| Some(path.file_stem()?.to_str()?.to_string()))
+    let word = |part: Option<&OsStr>| part.and_then(OsStr::to_str).map(str::to_string);
+    folder(&repository().join(parent))
+        .filter(|path| of(path).is_dir())
+        .flat_map(|path| {
+            let name = word(path.file_name()).expect("a name");
+            folder(&of(&path))
+                .filter(|file| file.extension().is_some_and(|end| end == "edit"))
+                .map(|file| format!("{name}/{}", word(file.file_stem()).expect("a label")))
+                .collect::<Vec<_>>()
+        })
         .collect()
 }
 
@@ -53,33 +59,32 @@ fn named_files_are_there() {
     }
 }
 
-/// A name that ends in `…` stands for all edits that begin so.
+/// The table has a row for each crate: the edits that the gate tries, and
+/// those of `mutants/`, each with its label in brackets behind what it does.
 #[test]
 fn wrong_programs_are_there_and_named() {
     let page = promises();
     let (_, table) = page
         .split_once("\n## Wrong programs")
         .expect("the page has that part");
-    // Behind the name of a contract each row has edits in brackets.
-    let named: BTreeSet<&str> = table
-        .lines()
-        .filter_map(|line| line.strip_prefix("| ")?.split_once(" | "))
-        .flat_map(|(_, wrong)| wrong.split('(').skip(1))
-        .filter_map(|part| part.split_once(')'))
-        .flat_map(|(inside, _)| quoted(inside))
-        .collect();
-    let there = edits();
-    assert!(there.len() > 60, "only {} edits", there.len());
-    let stands_for = |name: &str, edit: &str| match name.strip_suffix('…') {
-        Some(start) => edit.starts_with(start),
-        None => edit == name,
+    let named = |column: usize| -> BTreeSet<String> {
+        let rows = table.lines().filter(|line| line.starts_with("| `"));
+        rows.flat_map(|line| {
+            let cells: Vec<&str> = line.trim_matches('|').split(" | ").collect();
+            let name = quoted(cells[0]).next().expect("the name of a crate");
+            let labels = cells[column].split('(').skip(1);
+            labels
+                .filter_map(|part| part.split_once(')'))
+                .flat_map(|(inside, _)| quoted(inside))
+                .map(|label| format!("{name}/{label}"))
+                .collect::<Vec<_>>()
+        })
+        .collect()
     };
-    for name in &named {
-        let found = there.iter().any(|edit| stands_for(name, edit));
-        assert!(found, "there is no edit {name}");
-    }
-    for edit in &there {
-        let found = named.iter().any(|name| stands_for(name, edit));
-        assert!(found, "the edit {edit} is not in the table");
-    }
+    let tried = edits(|path| path.join("must-fail"), "crates");
+    let further = edits(Path::to_path_buf, "mutants");
+    assert!(tried.len() > 40, "only {} edits", tried.len());
+    assert!(further.len() > 40, "only {} further edits", further.len());
+    assert_eq!(named(1), tried);
+    assert_eq!(named(2), further);
 }
