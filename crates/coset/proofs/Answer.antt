@@ -10,7 +10,7 @@ use lib.Dec.{ltb}
 use lib.ListN.{length}
 use lib.IntN.{ℤ}
 use borrow.Author.Tests.{lt-ltb, le-ltb}
-use Rattle.space.specs.Space.{workLength, zeros}
+use Rattle.workspace.specs.Space.{workLength, zeros}
 use Rattle.symbol.specs.Check.{checkOf}
 use Rattle.symbol.specs.Symbol.{IsSymbol}
 use Rattle.pairing.specs.Generator.{workAfter}
@@ -20,7 +20,7 @@ use Rattle.refusal.specs.declared.Checked.{Checked}
 use Rattle.refusal.specs.declared.Checked.the-variants.{Accepted, Refused}
 use Rattle.symbol.proofs.Choice.{pick-true, pick-false}
 use Rattle.polygon.proofs.Polygon.{polygon}
-use Rattle.points.specs.Space.{S-TABLE, R-TABLE, T-TABLE, entries}
+use Rattle.numbering.specs.Space.{S-TABLE, R-TABLE, T-TABLE, entries}
 use Rattle.figures.specs.Cusps.{fixedPoints, widths}
 use Rattle.figures.specs.Figure.{genusSays, levelSays}
 use Rattle.figures.specs.LevelOf.{levelOf}

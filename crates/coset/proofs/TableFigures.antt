@@ -4,10 +4,10 @@
 use mathlib.Core.List.{List}
 use Prim.Native.Nat.{ℕ}
 use lib.ListN.{length, getD, length-map}
-use Rattle.points.specs.Table.{Permutes}
-use Rattle.points.proofs.Find.{getD-in}
-use Rattle.points.proofs.Table.{getD-map}
-use Rattle.points.proofs.Select.{select-low}
+use Rattle.numbering.specs.Table.{Permutes}
+use Rattle.numbering.proofs.Find.{getD-in}
+use Rattle.numbering.proofs.Table.{getD-map}
+use Rattle.numbering.proofs.Select.{select-low}
 use Rattle.figures.specs.Cusps.{fixedPoints, width, smallest, cusps, widths, Cusps}
 use Rattle.figures.proofs.Cycle.{width-is}
 use Rattle.figures.proofs.GenusOf.{genus-is}

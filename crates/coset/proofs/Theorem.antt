@@ -28,16 +28,16 @@ use Rattle.polygon.specs.Cut.{corners, places}
 use Rattle.polygon.specs.Step.{oddAt, real, Real, stepS, turnQ, turned, startOf, originOf}
 use Rattle.polygon.specs.Walk.{goes, ends, arrives}
 use Rattle.polygon.specs.Theorem.{Polygon, SameCoset}
-use Rattle.points.specs.Find.{find, _∈_}
-use Rattle.points.specs.Select.{select}
-use Rattle.points.specs.Order.{orderOf, upTo, Maps, Reached, here, by-σ, by-ρ, Numbering}
-use Rattle.points.specs.Table.{at, Injective, Renaming, Permutations}
-use Rattle.points.proofs.Find.{getD-find, getD-in}
-use Rattle.points.proofs.Order.{numbering}
-use Rattle.points.proofs.Table.{undone, renaming, permutations}
-use Rattle.points.proofs.Select.{select-yes, select-no}
-use Rattle.points.proofs.Filled.{order-count}
-use Rattle.points.proofs.Numbered.{numbered}
+use Rattle.numbering.specs.Find.{find, _∈_}
+use Rattle.numbering.specs.Select.{select}
+use Rattle.numbering.specs.Order.{orderOf, upTo, Maps, Reached, here, by-σ, by-ρ, Numbering}
+use Rattle.numbering.specs.Table.{at, Injective, Renaming, Permutations}
+use Rattle.numbering.proofs.Find.{getD-find, getD-in}
+use Rattle.numbering.proofs.Order.{numbering}
+use Rattle.numbering.proofs.Table.{undone, renaming, permutations}
+use Rattle.numbering.proofs.Select.{select-yes, select-no}
+use Rattle.numbering.proofs.Filled.{order-count}
+use Rattle.numbering.proofs.Numbered.{numbered}
 use Rattle.coset.specs.Tables.{stepR, cosets, tableS, tableR, tableT, indexOf}
 use Rattle.coset.specs.Theorem.{byQ, leads, Led, Cosets}
 

@@ -19,7 +19,7 @@ use borrow.Author.Tests.{lt-ltb, le-ltb, ltb-true}
 use borrow.Author.Count.{below-more}
 use Rattle.matrix.specs.Euclid.{pick}
 use Rattle.matrix.specs.Matrix.{nth}
-use Rattle.space.specs.Space.{workLength}
+use Rattle.workspace.specs.Space.{workLength}
 use Rattle.symbol.specs.Table.{pairing, pairingOf}
 use Rattle.symbol.specs.Symbol.{IsSymbol}
 use Rattle.pairing.specs.Generator.{pairingAt}
@@ -35,8 +35,8 @@ use Rattle.polygon.proofs.Space.{still}
 use Rattle.polygon.proofs.Partners.{tables-set}
 use Rattle.polygon.proofs.Polygon.{polygon}
 use Rattle.polygon.proofs.SymbolFacts.{Kind, even, odd, free, kind}
-use Rattle.points.specs.Space.{SIGMA, RHO}
-use Rattle.points.specs.Marks.{Filled}
+use Rattle.numbering.specs.Space.{SIGMA, RHO}
+use Rattle.numbering.specs.Marks.{Filled}
 use Rattle.coset.specs.Tables.{stepR}
 use Rattle.coset.specs.Work.{Moved, Inside, Turned}
 use Rattle.coset.proofs.Theorem.{maps}

@@ -20,7 +20,7 @@ use lib.Dec.{ltb}
 use lib.ListN.{length, drop}
 use lib.IntN.{ℤ}
 use Rattle.matrix.specs.Euclid.{pick}
-use Rattle.space.specs.Space.{workLength}
+use Rattle.workspace.specs.Space.{workLength}
 use Rattle.refusal.specs.Refusal.{none, tooShort, filledBy}
 use Rattle.refusal.specs.declared.Refusal.{Refusal}
 use Rattle.refusal.specs.declared.Checked.{Checked}
@@ -31,7 +31,7 @@ use Rattle.symbol.specs.Check.{checkOf}
 use Rattle.symbol.specs.Symbol.{IsSymbol}
 use Rattle.pairing.specs.Generator.{byWork}
 use Rattle.polygon.specs.Theorem.{Polygon}
-use Rattle.points.specs.Space.{ROOM, S-TABLE, WIDTHS, R-TABLE, T-TABLE, entries}
+use Rattle.numbering.specs.Space.{ROOM, S-TABLE, WIDTHS, R-TABLE, T-TABLE, entries}
 use Rattle.figures.specs.Cusps.{fixedPoints, widths, Cusps}
 use Rattle.figures.specs.Figure.{Figure, genusSays, levelSays}
 use Rattle.figures.specs.GenusOf.{genusOf}

@@ -10,7 +10,7 @@ use mathlib.Core.Path.{_≡_}
 use mathlib.Core.List.{List}
 use Prim.Native.Nat.{ℕ, _<_}
 use lib.ListN.{length}
-use Rattle.points.specs.Table.{at}
+use Rattle.numbering.specs.Table.{at}
 use Rattle.figures.specs.Cusps.{fixedPoints, cusps, widths, Width}
 use Rattle.figures.specs.GenusOf.{Genus}
 use Rattle.figures.specs.LevelOf.{lcmOf, LeastMultiple}

@@ -13,8 +13,8 @@ use lib.IntN.{ℤ}
 use Rattle.symbol.specs.Count.{count}
 use Rattle.polygon.specs.Cut.{corners, places}
 use Rattle.polygon.specs.Step.{oddAt, stepS, turnQ, originOf}
-use Rattle.points.specs.Order.{orderOf}
-use Rattle.points.specs.Table.{_then_, renamed}
+use Rattle.numbering.specs.Order.{orderOf}
+use Rattle.numbering.specs.Table.{_then_, renamed}
 
 unfoldable pub stepR : ℕ → List ℤ → ℕ → ℕ
 stepR v t p = stepS v t (turnQ v (turnQ v (stepS v t p)))

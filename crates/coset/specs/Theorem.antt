@@ -21,8 +21,8 @@ use Rattle.matrix.specs.Matrix.{Mat, _⊗_, 𝟙, det, matS, matR, matT}
 use Rattle.matrix.specs.Action as action
 use Rattle.pairing.specs.Generator.{generators}
 use Rattle.polygon.specs.Theorem.{SameCoset}
-use Rattle.points.specs.Order.{orderOf, upTo}
-use Rattle.points.specs.Table.{at, _thenTable_, Permutations}
+use Rattle.numbering.specs.Order.{orderOf, upTo}
+use Rattle.numbering.specs.Table.{at, _thenTable_, Permutations}
 use Rattle.coset.specs.Tables.{indexOf}
 
 abbrev pub byQ : (s r : List ℕ) → ℕ → ℕ

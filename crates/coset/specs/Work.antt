@@ -9,12 +9,12 @@ use mathlib.Core.List.{List}
 use Prim.Native.Nat.{ℕ, _+_, _≤_, _<_}
 use lib.ListN.{length, getD}
 use lib.IntN.{ℤ}
-use Rattle.space.specs.Space.{workLength}
+use Rattle.workspace.specs.Space.{workLength}
 use Rattle.polygon.specs.Cut.{places}
 use Rattle.polygon.specs.Step.{stepS, turnQ, originOf}
 use Rattle.polygon.specs.Tables.{Tables}
-use Rattle.points.specs.Space.{SIGMA, RHO}
-use Rattle.points.specs.Marks.{TablesOf}
+use Rattle.numbering.specs.Space.{SIGMA, RHO}
+use Rattle.numbering.specs.Marks.{TablesOf}
 use Rattle.coset.specs.Tables.{stepR}
 
 pub record Moved (t : List ℤ) (v : ℕ) (w : List ℕ) (n : ℕ) : Type 0 where

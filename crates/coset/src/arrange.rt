@@ -1,6 +1,6 @@
 // The tables of S, R and T of an accepted symbol, in the work space.
-use points::RHO;
-use points::SIGMA;
+use numbering::RHO;
+use numbering::SIGMA;
 use polygon::walking::is_turned;
 use polygon::walking::step_s;
 use polygon::walking::turn_q;
@@ -9,7 +9,7 @@ use symbol::read_pairing;
 ghost use mathlib.Core.Path.{_≡_};
 ghost use Prim.Native.Nat.{_≤_, _<_};
 ghost use lib.ListN.{length};
-ghost use Rattle.space.specs.Space.{workLength};
+ghost use Rattle.workspace.specs.Space.{workLength};
 ghost use Rattle.symbol.specs.Symbol.{IsSymbol};
 ghost use Rattle.polygon.specs.Cut.{places};
 ghost use Rattle.polygon.specs.Step.{stepS, startOf, originOf};
@@ -56,7 +56,7 @@ fn fill_r(v: usize, w: &mut [u16])
     let end = 3 * (v - 1) + (v + 1);
     let mut p: usize = 0;
     while p < end {
-        let a = space::index(w[SIGMA + p]);
+        let a = workspace::index(w[SIGMA + p]);
         let b = turn_q(v, a);
         let c = turn_q(v, b);
         w[RHO + p] = w[SIGMA + c];
@@ -84,5 +84,5 @@ pub(crate) fn arrange(v: usize, t: &[i64], w: &mut [u16]) -> usize
     let zero = origin(t, v, w, start);
     fill_s(t, v, w);
     fill_r(v, w);
-    points::tables(w, zero, 3 * (v - 1) + (v + 1))
+    numbering::tables(w, zero, 3 * (v - 1) + (v + 1))
 }

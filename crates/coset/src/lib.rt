@@ -5,11 +5,11 @@ use figures::Genus;
 use figures::Level;
 use figures::cusp_widths;
 use figures::figures_of;
-use points::R_TABLE;
-use points::S_TABLE;
-use points::T_TABLE;
-use points::WIDTHS;
-use points::copy_out;
+use numbering::R_TABLE;
+use numbering::S_TABLE;
+use numbering::T_TABLE;
+use numbering::WIDTHS;
+use numbering::copy_out;
 use refusal::Checked;
 use refusal::Filled;
 use refusal::Refusal;
@@ -18,11 +18,11 @@ use symbol::check;
 ghost use mathlib.Core.Path.{_≡_};
 ghost use Prim.Native.Nat.{_≤_};
 ghost use lib.ListN.{length};
-ghost use Rattle.space.specs.Space.{workLength, zeros};
+ghost use Rattle.workspace.specs.Space.{workLength, zeros};
 ghost use Rattle.symbol.specs.Check.{checkOf};
 ghost use Rattle.symbol.specs.Symbol.{IsSymbol};
 ghost use Rattle.pairing.specs.Generator.{workAfter};
-ghost use Rattle.points.specs.Space.{S-TABLE, R-TABLE, T-TABLE, WIDTHS, entries};
+ghost use Rattle.numbering.specs.Space.{S-TABLE, R-TABLE, T-TABLE, WIDTHS, entries};
 ghost use Rattle.coset.specs.Tables.{indexOf, tableS, tableR, tableT};
 ghost use Rattle.coset.specs.Answer.{roomFor, tabledOf, columnLeft, roomOne, widthsOf, widthedOf, saidBy, figuresOf, figuredOf, TablesMean, FiguresMean, Surveyed};
 
@@ -78,7 +78,7 @@ fn make_tables(
 {
     let n = arrange(v, t, w);
     let made = copy_tables(w, n, s, r, u);
-    space::clear(w);
+    workspace::clear(w);
     made
 }
 
@@ -103,10 +103,10 @@ pub fn tables(
     match checked {
         Checked::Refused(refusal) => Filled::Refused(refusal),
         Checked::Accepted => {
-            if w.len() < space::WORK {
+            if w.len() < workspace::WORK {
                 return Filled::Refused(Refusal {
                     number: TOO_SHORT,
-                    place: space::WORK,
+                    place: workspace::WORK,
                 });
             }
             make_tables(v, t, w, s, r, u)
@@ -140,7 +140,7 @@ fn make_widths(v: usize, t: &[i64], w: &mut [u16], out: &mut [u32]) -> Filled
     let n = arrange(v, t, w);
     let k = cusp_widths(w, n);
     let made = copy_widths(w, k, out);
-    space::clear(w);
+    workspace::clear(w);
     made
 }
 
@@ -155,10 +155,10 @@ pub fn widths(v: usize, t: &[i64], w: &mut [u16], out: &mut [u32]) -> Filled
     match checked {
         Checked::Refused(refusal) => Filled::Refused(refusal),
         Checked::Accepted => {
-            if w.len() < space::WORK {
+            if w.len() < workspace::WORK {
                 return Filled::Refused(Refusal {
                     number: TOO_SHORT,
-                    place: space::WORK,
+                    place: workspace::WORK,
                 });
             }
             make_widths(v, t, w, out)
@@ -212,7 +212,7 @@ fn make_figures(v: usize, t: &[i64], w: &mut [u16]) -> Figured
     ensures { λ a. ⌜ now (w .exit) ≡ zeros (length (now (w .entry))) ⌝ }
 {
     let f = survey(v, t, w);
-    space::clear(w);
+    workspace::clear(w);
     Figured::Made(f)
 }
 
@@ -226,10 +226,10 @@ pub fn figures(v: usize, t: &[i64], w: &mut [u16]) -> Figured
     match checked {
         Checked::Refused(refusal) => Figured::Refused(refusal),
         Checked::Accepted => {
-            if w.len() < space::WORK {
+            if w.len() < workspace::WORK {
                 return Figured::Refused(Refusal {
                     number: TOO_SHORT,
-                    place: space::WORK,
+                    place: workspace::WORK,
                 });
             }
             make_figures(v, t, w)

@@ -10,7 +10,7 @@ use lib.Dec.{ltb, leb, eqb}
 use lib.ListN.{length}
 use lib.IntN.{ℤ}
 use Rattle.matrix.specs.Euclid.{pick}
-use Rattle.space.specs.Space.{workLength}
+use Rattle.workspace.specs.Space.{workLength}
 use Rattle.refusal.specs.Refusal.{_orElse_, tooShort, pointCount, tableEntry, wrongOrder, unreached, filledRefusal, filledBy}
 use Rattle.refusal.specs.declared.Checked.{Checked}
 use Rattle.refusal.specs.declared.Checked.the-variants.{Accepted, Refused}
@@ -23,10 +23,10 @@ use Rattle.symbol.proofs.Accepted.{above-refuse, check-above}
 use Rattle.pairing.specs.Generator.{leaders, roomOf, byWork, generatedOf}
 use Rattle.coset.specs.Tables.{indexOf}
 use Rattle.coset.specs.Answer.{Says, made, refused, roomFor, tabledOf, roomOne, widthsOf, widthedOf, figuresOf, figuredBy, figuredOf}
-use Rattle.growth.specs.Symbol as rule
-use Rattle.writing.specs.Answer.{grownOf}
-use Rattle.passport.specs.Check as passport
-use Rattle.passport.specs.Import.{ruleFor, importOf}
+use Rattle.import_rule.specs.Symbol as rule
+use Rattle.import_table.specs.Answer.{grownOf}
+use Rattle.permutations.specs.Check as passport
+use Rattle.permutations.specs.Import.{ruleFor, importOf}
 use Rattle.engine.specs.Exported.{filledPlace}
 
 -- ---- numbers above 0

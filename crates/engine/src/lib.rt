@@ -22,8 +22,8 @@ ghost use Rattle.pairing.specs.Same.{samenessOf, samenessRefusal, workAfterBoth
 ghost use Rattle.symbol.specs.Symbol.{IsSymbol};
 ghost use Rattle.coset.specs.Tables.{tableS, tableR, tableT};
 ghost use Rattle.coset.specs.Answer.{tabledOf, columnLeft, widthsOf, widthedOf, figuredOf, saysRefusal, Meaning};
-ghost use Rattle.passport.specs.Check as passport;
-ghost use Rattle.passport.specs.Import as import;
+ghost use Rattle.permutations.specs.Check as passport;
+ghost use Rattle.permutations.specs.Import as import;
 ghost use Rattle.word.specs.Answer.{queryOf, queryRefusal, foundWord, wordLeft, workLeft};
 ghost use Rattle.word.specs.Claim.{Claim};
 ghost use Rattle.engine.specs.Exported.{filledPlace, queryPlace, samenessPlace, figureNumber, figureValue, figuresLeft};
@@ -163,7 +163,7 @@ pub extern "C" fn farey_import(
     ensures { λ n. ⌜ now (out .exit) ≡ import.tableLeft (import.ruleFor (now (s .entry)) (now (r .entry))) (import.importOf (now (s .entry)) (now (r .entry)) (length (now (w .entry))) (length (now (out .entry)))) (now (out .entry)) ⌝ }
     ensures { λ n. ⌜ (n ≡ 0 → import.Symbolised (now (s .entry)) (now (r .entry)) (now (place .exit)) (take (3 * now (place .exit) + 1) (now (out .exit)))) ⌝ }
 {
-    let said = of_filled(passport::import(s, r, w, out));
+    let said = of_filled(permutations::import(s, r, w, out));
     *place = said.place;
     said.number
 }

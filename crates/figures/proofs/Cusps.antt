@@ -13,13 +13,13 @@ use native.Mathlib.Decide.{decLt, ℕ-discrete}
 use lib.ListN.{length, getD, length-append, length-map}
 use lib.Dec.{leb}
 use borrow.Author.Tests.{leb-true, leb-false}
-use Rattle.points.specs.Find.{find, _∈_, _∉_, Once}
-use Rattle.points.specs.Table.{at, Permutes}
+use Rattle.numbering.specs.Find.{find, _∈_, _∉_, Once}
+use Rattle.numbering.specs.Table.{at, Permutes}
 use Rattle.figures.specs.Cusps.{width, cycle, noneBelow, smallest, cuspsTo, cusps, cycles, sum, Lies, Cusps}
-use Rattle.points.specs.Select.{select}
-use Rattle.points.proofs.Find.{none-below, true-false, test, getD-find, getD-in, in-left, in-right, in-append, once-none, once-append, once-below, once-below-all}
-use Rattle.points.proofs.Table.{getD-map}
-use Rattle.points.proofs.Select.{select-yes, select-no, select-low}
+use Rattle.numbering.specs.Select.{select}
+use Rattle.numbering.proofs.Find.{none-below, true-false, test, getD-find, getD-in, in-left, in-right, in-append, once-none, once-append, once-below, once-below-all}
+use Rattle.numbering.proofs.Table.{getD-map}
+use Rattle.numbering.proofs.Select.{select-yes, select-no, select-low}
 use Rattle.figures.proofs.Cycle.{cycle-length, cycle-once, cycle-self, cycle-low, cycle-sym, cycle-trans, width-is}
 
 -- ---- noneBelow

@@ -11,10 +11,10 @@ use native.Mathlib.Omega.{arith}
 use native.Mathlib.Decide.{decLt, ℕ-discrete}
 use lib.ListN.{length, getD}
 use borrow.Author.Tests.{eq-eqb, ne-eqb}
-use Rattle.points.specs.Find.{find, _∈_, Once}
-use Rattle.points.specs.Table.{at, Permutes}
+use Rattle.numbering.specs.Find.{find, _∈_, Once}
+use Rattle.numbering.specs.Table.{at, Permutes}
 use Rattle.figures.specs.Cusps.{times, stepsTo, width, run, cycle, Width}
-use Rattle.points.proofs.Find.{none-below, getD-find, getD-in, once-by, pigeonhole}
+use Rattle.numbering.proofs.Find.{none-below, getD-find, getD-in, once-by, pigeonhole}
 
 -- ---- k steps
 module _ (t : List ℕ) where

@@ -6,12 +6,12 @@ use mathlib.Core.Path.{_≡_}
 use mathlib.Core.List.{List}
 use Prim.Native.Nat.{ℕ}
 use native.Mathlib.Omega.{arith}
-use Rattle.points.specs.Order.{orderOf, Maps}
-use Rattle.points.specs.Table.{Injective}
-use Rattle.points.specs.Space.{S-TABLE, WIDTHS, R-TABLE, T-TABLE, entries}
-use Rattle.points.specs.Marks.{TablesOf}
-use Rattle.points.proofs.Space.{entries-same}
-use Rattle.points.proofs.Table.{permutations}
+use Rattle.numbering.specs.Order.{orderOf, Maps}
+use Rattle.numbering.specs.Table.{Injective}
+use Rattle.numbering.specs.Space.{S-TABLE, WIDTHS, R-TABLE, T-TABLE, entries}
+use Rattle.numbering.specs.Marks.{TablesOf}
+use Rattle.numbering.proofs.Space.{entries-same}
+use Rattle.numbering.proofs.Table.{permutations}
 use Rattle.figures.specs.Scan.{Permuted, CuspWidths, PositiveTable}
 use Rattle.figures.proofs.Cusps.{cusps-are}
 

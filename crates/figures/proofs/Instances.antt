@@ -3,7 +3,7 @@
 -- Assumes nothing.
 use mathlib.Core.Path.{_≡_, refl}
 use mathlib.Core.List.{[], _∷_}
-use Rattle.points.specs.Select.{select}
+use Rattle.numbering.specs.Select.{select}
 use Rattle.figures.specs.Cusps.{fixedPoints, stepsTo, width, run, noneBelow, widths}
 use Rattle.refusal.specs.Refusal.{levelTooLarge, noGenus}
 use Rattle.figures.specs.Figure.{value, refused}

@@ -15,7 +15,7 @@ use borrow.Author.Tests.{lt-ltb, le-ltb, ltb-true, ltb-false}
 use Rattle.refusal.specs.Refusal.{levelTooLarge}
 use Rattle.figures.specs.Figure.{value, refused}
 use Rattle.figures.specs.LevelOf.{euclid, gcd, lcm, lcmFrom, lcmOf, TOO-LARGE, fitting, Positive, LeastMultiple}
-use Rattle.points.proofs.Find.{none-below, test}
+use Rattle.numbering.proofs.Find.{none-below, test}
 
 -- ---- the greatest common divisor
 -- more rounds than enough change nothing

@@ -12,24 +12,24 @@ use native.Mathlib.Decide.{decLt, ℕ-discrete}
 use lib.ListN.{length, getD, set, drop, length-set, length-append, length-map, length-drop}
 use lib.Seq.{getD-set-other, drop-cons, getD-drop, drop-length}
 use borrow.Author.Tests.{ltb-true, ltb-false, eq-eqb, ne-eqb}
-use Rattle.points.specs.Find.{find, _∈_, _∉_, isIn}
-use Rattle.points.specs.Table.{at}
+use Rattle.numbering.specs.Find.{find, _∈_, _∉_, isIn}
+use Rattle.numbering.specs.Table.{at}
 use Rattle.figures.specs.Cusps.{isFixed, fixedPoints, times, width, run, cycle, smallest, cuspsTo, cusps, cycles}
-use Rattle.points.specs.Select.{select}
+use Rattle.numbering.specs.Select.{select}
 use Rattle.refusal.specs.Refusal.{levelTooLarge}
 use Rattle.figures.specs.Figure.{value, refused}
 use Rattle.figures.specs.LevelOf.{lcm, lcmFrom, lcmOf, TOO-LARGE, fitting, levelOf, Positive}
-use Rattle.points.specs.Space.{WORK, ROOM, WIDTHS, NUMBER, ORDER, R-TABLE, T-TABLE, entries, Within}
-use Rattle.points.specs.Marks.{listed, Sparse, Marked, Fresh}
+use Rattle.numbering.specs.Space.{WORK, ROOM, WIDTHS, NUMBER, ORDER, R-TABLE, T-TABLE, entries, Within}
+use Rattle.numbering.specs.Marks.{listed, Sparse, Marked, Fresh}
 use Rattle.figures.specs.Scan.{tableT, Permuted, CuspFrame, Scan, NewCycle, Turn, Turned, CuspWidths, PositiveTable}
-use Rattle.points.proofs.Find.{none-below, test, getD-find, getD-in, find-right}
-use Rattle.points.proofs.Table.{map-last}
+use Rattle.numbering.proofs.Find.{none-below, test, getD-find, getD-in, find-right}
+use Rattle.numbering.proofs.Table.{map-last}
 use Rattle.figures.proofs.Cycle.{times-last, times-low, run-length, run-at, run-more, cycle-length, cycle-at, cycle-once, cycle-self, width-is}
-use Rattle.points.proofs.Select.{select-yes, select-no, select-few, select-le}
+use Rattle.numbering.proofs.Select.{select-yes, select-no, select-few, select-le}
 use Rattle.figures.proofs.Cusps.{cycles-last, cusp-new, cusp-old}
 use Rattle.figures.proofs.LevelOf.{lcm-some, lcm-from-le, fitting-yes, fitting-no, value-fits, refused-over}
-use Rattle.points.proofs.Space.{entries-length, entries-at, entries-push, entries-set, within-refl, within-trans, within-entries}
-use Rattle.points.proofs.Marks.{listed-length, sparse-set}
+use Rattle.numbering.proofs.Space.{entries-length, entries-at, entries-push, entries-set, within-refl, within-trans, within-entries}
+use Rattle.numbering.proofs.Marks.{listed-length, sparse-set}
 
 -- ---- `mark_cycle`: so many steps from x have been listed, and the next point is y
 pub record Walk (n x c₀ : ℕ) (w₀ w : List ℕ) (c y : ℕ) : Type 0 where

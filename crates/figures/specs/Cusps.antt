@@ -26,9 +26,9 @@ use mathlib.Core.List.{List, [], _∷_, _++_, map}
 use Prim.Native.Nat.{ℕ, zero, suc, _+_, _≤_, _<_}
 use lib.ListN.{length, getD}
 use lib.Dec.{eqb, leb}
-use Rattle.points.specs.Find.{pick, _∈_}
-use Rattle.points.specs.Select.{select}
-use Rattle.points.specs.Table.{at}
+use Rattle.numbering.specs.Find.{pick, _∈_}
+use Rattle.numbering.specs.Select.{select}
+use Rattle.numbering.specs.Table.{at}
 
 abbrev pub isFixed : List ℕ → ℕ → Bool
 isFixed t x = eqb (at t x) x

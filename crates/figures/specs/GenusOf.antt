@@ -6,7 +6,7 @@
 use mathlib.Core.Path.{_≡_}
 use Prim.Native.Nat.{ℕ, _+_, _-_, _*_, _/_, _%_}
 use lib.Dec.{eqb, leb}
-use Rattle.points.specs.Find.{pick}
+use Rattle.numbering.specs.Find.{pick}
 use Rattle.refusal.specs.Refusal.{noGenus}
 use Rattle.figures.specs.Figure.{Figure, value, refused}
 

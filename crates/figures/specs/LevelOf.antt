@@ -14,7 +14,7 @@ use mathlib.Core.List.{List, [], _∷_}
 use Prim.Native.Nat.{ℕ, zero, suc, _*_, _/_, _%_, _<_, _∣_}
 use lib.ListN.{length, getD}
 use lib.Dec.{ltb}
-use Rattle.points.specs.Find.{pick}
+use Rattle.numbering.specs.Find.{pick}
 use Rattle.refusal.specs.Refusal.{levelTooLarge}
 use Rattle.figures.specs.Figure.{Figure, value, refused}
 

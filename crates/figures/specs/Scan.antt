@@ -14,16 +14,16 @@ use mathlib.Core.Path.{_≡_}
 use mathlib.Core.List.{List, map}
 use Prim.Native.Nat.{ℕ, _+_, _≤_, _<_}
 use lib.ListN.{length, getD}
-use Rattle.points.specs.Find.{_∈_, _∉_}
-use Rattle.points.specs.Table.{Permutes}
+use Rattle.numbering.specs.Find.{_∈_, _∉_}
+use Rattle.numbering.specs.Table.{Permutes}
 use Rattle.figures.specs.Cusps.{fixedPoints, width, cycle, cuspsTo, widths, cycles}
 use Rattle.figures.specs.Figure.{levelSays, genusSays}
 use Rattle.figures.specs.GenusOf.{genusOf}
 use Rattle.figures.specs.LevelOf.{levelOf, Positive}
 use Rattle.figures.specs.declared.Level as level
 use Rattle.figures.specs.declared.Genus as genus
-use Rattle.points.specs.Space.{WORK, ROOM, S-TABLE, WIDTHS, NUMBER, R-TABLE, T-TABLE, entries}
-use Rattle.points.specs.Marks.{listed, Sparse}
+use Rattle.numbering.specs.Space.{WORK, ROOM, S-TABLE, WIDTHS, NUMBER, R-TABLE, T-TABLE, entries}
+use Rattle.numbering.specs.Marks.{listed, Sparse}
 
 pub record Holds (off n : ℕ) (w : List ℕ) : Type 0 where
   pub fits : off + n ≤ length w

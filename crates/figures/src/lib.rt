@@ -1,21 +1,21 @@
-// The figures of document 01, of tables that the crate `points` leaves in the work space: fixed points, cusps and their widths,
+// The figures of document 01, of tables that the crate `numbering` leaves in the work space: fixed points, cusps and their widths,
 // genus and level. The functions have `requires`, for they are called from inside the engine.
 ghost use mathlib.Core.Path.{_≡_};
 ghost use mathlib.Core.List.{_++_};
 ghost use Prim.Native.Nat.{_<_};
-ghost use Rattle.points.specs.Space.{entries};
-ghost use Rattle.points.specs.Marks.{listed, Marked};
+ghost use Rattle.numbering.specs.Space.{entries};
+ghost use Rattle.numbering.specs.Marks.{listed, Marked};
 ghost use Rattle.figures.specs.Cusps.{cycle, fixedPoints};
 ghost use Rattle.figures.specs.Figure.{levelSays, genusSays};
 ghost use Rattle.figures.specs.GenusOf.{genusOf};
 ghost use Rattle.figures.specs.LevelOf.{gcd, lcm, fitting, levelOf};
 ghost use Rattle.figures.specs.Scan.{Holds, tableT, Permuted, NewCycle, Turn, Turned, CuspWidths, FiguresOf, PositiveTable};
-use points::R_TABLE;
-use points::S_TABLE;
-use points::T_TABLE;
-use points::WIDTHS;
-use points::has;
-use points::push;
+use numbering::R_TABLE;
+use numbering::S_TABLE;
+use numbering::T_TABLE;
+use numbering::WIDTHS;
+use numbering::has;
+use numbering::push;
 
 // How many places the table of n entries at `off` fixes.
 fn fixed_points(w: &[u16], off: usize, n: usize) -> usize
@@ -25,7 +25,7 @@ fn fixed_points(w: &[u16], off: usize, n: usize) -> usize
     let mut count: usize = 0;
     let mut i: usize = 0;
     while i < n {
-        let x = space::index(w[off + i]);
+        let x = workspace::index(w[off + i]);
         if x == i {
             count += 1;
         }
@@ -44,7 +44,7 @@ fn mark_cycle(w: &mut [u16], n: usize, x: usize, c0: usize) -> usize
     loop {
         push(w, n, y, c);
         c += 1;
-        y = space::index(w[T_TABLE + y]);
+        y = workspace::index(w[T_TABLE + y]);
         if y == x {
             return c;
         }

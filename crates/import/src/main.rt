@@ -1,7 +1,7 @@
 // The program `import`: the index and the tables of S and R as text on standard input, and on standard output the symbol of the subgroup
 // of the matrices that fix point 0, as text that the program `listing` reads, or the number and the place of a refusal.
 //
-// The crate `imported` makes all that is written; here it is read and written (`stdio`).
+// The crate `import_text` makes all that is written; here it is read and written (`stdio`).
 // Where standard input can't be read to its end, nothing is written to standard output.
 use stdio::Input;
 
@@ -17,7 +17,7 @@ fn main() {
     let mut w = [0u16; 32768];
     let mut table = [0i64; 3070];
     let mut out = [0u8; 65536];
-    let end = imported::answer(
+    let end = import_text::answer(
         &text[..n],
         longer,
         &mut numbers,

@@ -16,12 +16,12 @@ use borrow.Author.Tests.{eqb-true}
 use Rattle.matrix.specs.Matrix.{_⊗_, adj, det, matS, matQ}
 use Rattle.matrix.specs.Action.{at}
 use Rattle.refusal.specs.Refusal.{refusal, noWord}
-use Rattle.space.specs.Space.{workLength}
+use Rattle.workspace.specs.Space.{workLength}
 use Rattle.symbol.specs.Check.{eqZ}
 use Rattle.symbol.proofs.Choice.{clash, and-left, and-right, eqZ-true}
-use Rattle.points.specs.Find.{find}
-use Rattle.points.specs.Order.{add, orderTo}
-use Rattle.points.specs.Table.{renamed}
+use Rattle.numbering.specs.Find.{find}
+use Rattle.numbering.specs.Order.{add, orderTo}
+use Rattle.numbering.specs.Table.{renamed}
 use Rattle.polygon.specs.Cut.{flipOf, underZero}
 use Rattle.polygon.specs.Step.{real, stepS, turnQ, written, startOf, originOf}
 use Rattle.polygon.specs.Walk.{followed}

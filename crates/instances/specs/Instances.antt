@@ -25,7 +25,7 @@ use lib.Dec.{eqb}
 use lib.ListN.{length, getD, replicate}
 use lib.IntN.{ℤ, pos, negsuc}
 use Rattle.matrix.specs.Matrix.{ofList}
-use Rattle.space.specs.Space.{workLength}
+use Rattle.workspace.specs.Space.{workLength}
 use Rattle.symbol.specs.Check as symbol
 use Rattle.symbol.specs.Check.{eqZ}
 use Rattle.pairing.specs.Generator as generator
@@ -40,8 +40,8 @@ use Rattle.coset.specs.Answer.{Says, tabledOf, columnLeft, figuredOf}
 use Rattle.word.specs.Answer.{queryOf, queryRefusal, foundWord, wordLeft, partOf}
 use Rattle.word.specs.declared.Queried.{Queried}
 use Rattle.word.specs.declared.Queried.the-variants as queried
-use Rattle.passport.specs.Import as passport
-use Rattle.passport.specs.Import.{importOf, ruleFor}
+use Rattle.permutations.specs.Import as passport
+use Rattle.permutations.specs.Import.{importOf, ruleFor}
 
 -- ---- what is asked
 

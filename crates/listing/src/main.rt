@@ -1,7 +1,7 @@
 // The program `listing`: a symbol as text on standard input, and on standard output its index, elliptic counts, cusps with widths, genus,
 // level, generators and coset tables, or the number and the place of its refusal (document 01, "Γ0(2), whole").
 //
-// The crate `report` makes all that is written; here it is read and written (`stdio`).
+// The crate `listing_text` makes all that is written; here it is read and written (`stdio`).
 // Where standard input can't be read to its end, nothing is written to standard output.
 use stdio::Input;
 
@@ -15,7 +15,7 @@ fn main() {
     let mut w = [0u16; 32768];
     let mut table = [0i64; 5120];
     let mut out = [0u8; 212992];
-    let end = report::list(
+    let end = listing_text::list(
         &text[..n],
         longer,
         &mut numbers,

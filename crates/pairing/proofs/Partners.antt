@@ -19,8 +19,8 @@ use borrow.Author.Tests.{lt-ltb, le-ltb, eq-eqb, ne-eqb, eqb-true, not-false}
 use lib.IntN.{ℤ, pos, natAbs}
 use Rattle.matrix.specs.Matrix.{nth}
 use Rattle.matrix.specs.Euclid.{pick}
-use Rattle.space.specs.Space.{workLength, zeros}
-use Rattle.space.proofs.Zeros.{length-zeros, getD-zeros}
+use Rattle.workspace.specs.Space.{workLength, zeros}
+use Rattle.workspace.proofs.Zeros.{length-zeros, getD-zeros}
 use Rattle.symbol.specs.Count.{first}
 use Rattle.symbol.specs.Table.{pairingOf}
 use Rattle.symbol.specs.Check.{eqZ, sidesIn, unpairedIn}

@@ -25,7 +25,7 @@ use Rattle.matrix.specs.Matrix.{nth, Mat, _⊗_, 𝟙, det, adj, matS, matQ, to
 use Rattle.matrix.specs.Euclid.{pick}
 use Rattle.symbol.specs.Count.{first, count, those}
 use Rattle.symbol.specs.Table.{pairings, pairing, sideAt, frame, carried, pairingOf}
-use Rattle.space.specs.Space.{workLength, zeros}
+use Rattle.workspace.specs.Space.{workLength, zeros}
 use Rattle.refusal.specs.Refusal.{tooShort, filledBy}
 use Rattle.refusal.specs.declared.Checked.{Checked}
 use Rattle.refusal.specs.declared.Checked.the-variants.{Accepted, Refused}

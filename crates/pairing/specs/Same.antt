@@ -23,7 +23,7 @@ use Rattle.symbol.specs.Table.{pairing, pairingOf}
 use Rattle.symbol.specs.Check.{eqZ, checkOf}
 use Rattle.symbol.specs.Symbol.{IsSymbol}
 use Rattle.pairing.specs.Generator.{partner, pairingAt, workAfter}
-use Rattle.space.specs.Space.{workLength}
+use Rattle.workspace.specs.Space.{workLength}
 use Rattle.refusal.specs.declared.Checked.{Checked}
 use Rattle.refusal.specs.declared.Checked.the-variants.{Accepted, Refused}
 use Rattle.pairing.specs.declared.same.Sameness.{Sameness}

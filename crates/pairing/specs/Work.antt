@@ -19,7 +19,7 @@ use lib.ListN.{length, getD, set, take, drop}
 use lib.IntN.{ℤ, pos}
 use Rattle.matrix.specs.Matrix.{nth}
 use Rattle.matrix.specs.Euclid.{pick}
-use Rattle.space.specs.Space.{workLength}
+use Rattle.workspace.specs.Space.{workLength}
 use Rattle.symbol.specs.Count.{first, count, those}
 use Rattle.symbol.specs.Table.{pairings, pairingOf}
 use Rattle.symbol.specs.Check.{eqZ, unpairedIn}

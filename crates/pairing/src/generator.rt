@@ -16,7 +16,7 @@ ghost use lib.ListN.{length, drop};
 ghost use mathlib.Core.Bool.{true};
 ghost use mathlib.Core.List.{_∷_, _++_};
 ghost use Rattle.matrix.specs.Matrix.{ofList, toList};
-ghost use Rattle.space.specs.Space.{workLength, zeros};
+ghost use Rattle.workspace.specs.Space.{workLength, zeros};
 ghost use Rattle.symbol.specs.Count.{count};
 ghost use Rattle.symbol.specs.Check.{checkOf};
 ghost use Rattle.symbol.specs.Symbol.{IsSymbol};
@@ -32,7 +32,7 @@ fn leads_at(v: usize, p: &[i64], w: &[u16], i: usize) -> bool
     match pairing {
         Pairing::Even => true,
         Pairing::Odd => true,
-        Pairing::Free(_) => i < space::index(w[PARTNER + i]),
+        Pairing::Free(_) => i < workspace::index(w[PARTNER + i]),
         Pairing::Bad => false,
     }
 }
@@ -64,7 +64,7 @@ fn generator_at(v: usize, t: &[i64], p: &[i64], w: &[u16], i: usize) -> [i64; 4]
         Pairing::Even => side.even(),
         Pairing::Odd => side.odd(),
         Pairing::Free(_) => {
-            let other = Side::at(v, t, space::index(w[PARTNER + i]));
+            let other = Side::at(v, t, workspace::index(w[PARTNER + i]));
             side.free(other)
         }
         Pairing::Bad => matrix::identity(),
@@ -143,10 +143,10 @@ fn list_accepted(v: usize, t: &[i64], w: &mut [u16], out: &mut [i64]) -> Filled
     ensures { λ r. ⌜ now (out .exit) ≡ tableLeft r (generatorTable v (now (t .entry))) (now (out .entry)) ⌝ }
 {
     let p = &t[2 * v..];
-    space::clear(w);
+    workspace::clear(w);
     pair_sides(v, p, w);
     let made = list_if_room(v, t, p, w, out);
-    space::clear(w);
+    workspace::clear(w);
     made
 }
 
@@ -161,10 +161,10 @@ pub fn generators(v: usize, t: &[i64], w: &mut [u16], out: &mut [i64]) -> Filled
     match checked {
         Checked::Refused(refusal) => Filled::Refused(refusal),
         Checked::Accepted => {
-            if w.len() < space::WORK {
+            if w.len() < workspace::WORK {
                 return Filled::Refused(Refusal {
                     number: TOO_SHORT,
-                    place: space::WORK,
+                    place: workspace::WORK,
                 });
             }
             list_accepted(v, t, w, out)

@@ -6,7 +6,7 @@ ghost use Prim.Native.Nat.{_+_, _≤_, _<_};
 ghost use lib.ListN.{length, getD};
 ghost use lib.IntN.{pos};
 ghost use Rattle.matrix.specs.Matrix.{nth};
-ghost use Rattle.space.specs.Space.{workLength};
+ghost use Rattle.workspace.specs.Space.{workLength};
 ghost use Rattle.symbol.specs.Table.{pairingOf};
 ghost use Rattle.pairing.specs.Generator.{kindOf};
 ghost use Rattle.pairing.specs.Work.{FIRST, met, metBy, AllPaired, PairedTo, FirstsBounded, Partnered};
@@ -21,7 +21,7 @@ fn meet(l: usize, i: usize, w: &mut [u16])
     requires { ⌜ (l ≤ 1024) × (i ≤ 1023) × (workLength ≤ length (now w)) × (getD (now w) (FIRST + l) 0 ≤ 1024) ⌝ }
     ensures { λ r. ⌜ now (w .exit) ≡ met l i (now (w .entry)) ⌝ }
 {
-    let seen = space::index(w[FIRST + l]);
+    let seen = workspace::index(w[FIRST + l]);
     if seen == 0 {
         w[FIRST + l] = (i + 1) as u16;
         return;

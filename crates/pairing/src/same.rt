@@ -10,7 +10,7 @@ ghost use mathlib.Core.Path.{_≡_};
 ghost use Prim.Native.Nat.{_+_, _*_, _≤_, _<_};
 ghost use lib.ListN.{length};
 ghost use Rattle.matrix.specs.Matrix.{nth};
-ghost use Rattle.space.specs.Space.{workLength, zeros};
+ghost use Rattle.workspace.specs.Space.{workLength, zeros};
 ghost use Rattle.symbol.specs.Table.{pairings};
 ghost use Rattle.symbol.specs.Check.{checkOf};
 ghost use Rattle.symbol.specs.Symbol.{IsSymbol};
@@ -52,7 +52,7 @@ fn alike_at(v: usize, p: &[i64], q: &[i64], w: &[u16], i: usize) -> bool
     if kind != 1 {
         return true;
     }
-    q[space::index(w[PARTNER + i])] == q[i]
+    q[workspace::index(w[PARTNER + i])] == q[i]
 }
 
 // Whether all sides are.
@@ -76,7 +76,7 @@ fn compare(v: usize, t: &[i64], n: usize, u: &[i64], w: &mut [u16]) -> bool
     ensures { λ r. ⌜ r ≡ sameSymbol v (now (t .entry)) n (now (u .entry)) ⌝ }
     ensures { λ r. ⌜ now (w .exit) ≡ zeros (length (now (w .entry))) ⌝ }
 {
-    space::clear(w);
+    workspace::clear(w);
     if v != n {
         return false;
     }
@@ -87,7 +87,7 @@ fn compare(v: usize, t: &[i64], n: usize, u: &[i64], w: &mut [u16]) -> bool
     let q = &u[2 * v..];
     pair_sides(v, p, w);
     let answer = all_alike(v, p, q, w);
-    space::clear(w);
+    workspace::clear(w);
     answer
 }
 
@@ -101,10 +101,10 @@ fn same_second(v: usize, t: &[i64], n: usize, u: &[i64], w: &mut [u16]) -> Samen
     match second {
         Checked::Refused(refusal) => Sameness::Refused(refusal),
         Checked::Accepted => {
-            if w.len() < space::WORK {
+            if w.len() < workspace::WORK {
                 return Sameness::Refused(Refusal {
                     number: TOO_SHORT,
-                    place: space::WORK,
+                    place: workspace::WORK,
                 });
             }
             if compare(v, t, n, u, w) {

@@ -37,7 +37,7 @@ fn top_vertex(w: &[u16], n: usize) -> usize
         return 0;
     }
     let top = n - 1;
-    space::index(w[STACK + top])
+    workspace::index(w[STACK + top])
 }
 
 // Its handle.
@@ -49,7 +49,7 @@ fn top_handle(w: &[u16], n: usize) -> usize
         return 0;
     }
     let top = n - 1;
-    space::index(w[HANDLE + top])
+    workspace::index(w[HANDLE + top])
 }
 
 // Whether the vertex on top of the stack makes a triangle with the one below it and y.
@@ -88,7 +88,7 @@ fn settle(t: &[i64], v: usize, w: &mut [u16], i: usize, n0: usize, m0: usize) ->
     let y = i + 1;
     while ready(t, v, w, y, n) {
         let top = n - 1;
-        let hl = space::index(w[HANDLE + top]);
+        let hl = workspace::index(w[HANDLE + top]);
         link(w, 3 * m + 1, hl);
         link(w, 3 * m + 2, h);
         h = 3 * m;

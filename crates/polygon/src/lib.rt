@@ -31,7 +31,7 @@ pub fn build(t: &[i64], v: usize, w: &mut [u16]) -> usize
     requires { ⌜ IsSymbol v (now t) × (32768 ≤ length (now w)) ⌝ }
     ensures { λ r. ⌜ Built (now (t .entry)) v (now (w .exit)) r × (length (now (w .exit)) ≡ length (now (w .entry))) ⌝ }
 {
-    space::clear(w);
+    workspace::clear(w);
     pair_sides(v, &t[2 * v..], w);
     number_sides(t, v, w);
     let under = cut(t, v, w);

@@ -49,7 +49,7 @@ pub(crate) fn beyond(w: &[u16], p: usize) -> usize
     requires { ⌜ (p < 4096) × (32768 ≤ length (now w)) ⌝ }
     ensures { λ r. ⌜ r ≡ getD (now (w .entry)) (FLIP + p) 0 ⌝ }
 {
-    space::index(w[FLIP + p])
+    workspace::index(w[FLIP + p])
 }
 
 // The partner of side i, by the table.
@@ -57,7 +57,7 @@ pub(crate) fn partner_of(w: &[u16], i: usize) -> usize
     requires { ⌜ (i ≤ 1023) × (32768 ≤ length (now w)) ⌝ }
     ensures { λ r. ⌜ r ≡ getD (now (w .entry)) (PARTNER + i) 0 ⌝ }
 {
-    space::index(w[PARTNER + i])
+    workspace::index(w[PARTNER + i])
 }
 
 // The number of the generator of side i, by the table.
@@ -65,5 +65,5 @@ pub(crate) fn number_of(w: &[u16], i: usize) -> usize
     requires { ⌜ (i ≤ 1023) × (32768 ≤ length (now w)) ⌝ }
     ensures { λ r. ⌜ r ≡ getD (now (w .entry)) (GENERATOR + i) 0 ⌝ }
 {
-    space::index(w[GENERATOR + i])
+    workspace::index(w[GENERATOR + i])
 }

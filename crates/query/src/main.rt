@@ -1,7 +1,7 @@
 // The program `query`: a symbol and two matrices A and B as text on standard input, and on standard output a word in the symbol's
 // generators that takes A to B up to sign, or the number and the place of a refusal (document 01, "Who can cause a refusal").
 //
-// The crate `reply` makes all that is written; here it is read and written (`stdio`).
+// The crate `query_text` makes all that is written; here it is read and written (`stdio`).
 // Where standard input can't be read to its end, nothing is written to standard output.
 use stdio::Input;
 
@@ -15,7 +15,7 @@ fn main() {
     let mut w = [0u16; 32768];
     let mut letters = [0i16; 16384];
     let mut out = [0u8; 131072];
-    let end = reply::reply(
+    let end = query_text::reply(
         &text[..n],
         longer,
         &mut numbers,

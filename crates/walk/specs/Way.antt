@@ -29,7 +29,7 @@ use Rattle.matrix.specs.Euclid.{Form, form, total, pick, tailOf, wordOf}
 use Rattle.polygon.specs.Cut.{places}
 use Rattle.polygon.specs.Step.{Real, written}
 use Rattle.polygon.specs.Walk.{goes, ends, writes}
-use Rattle.steps.specs.Steps.{Prepared}
+use Rattle.walk_steps.specs.Steps.{Prepared}
 use Rattle.walk.specs.declared.Way.{Way}
 
 abbrev pub formOf : Way → Form

@@ -4,9 +4,9 @@
 // is known to fit. specs/Way.antt has the state and what each part leaves.
 use polygon::walking::letter_q;
 use polygon::walking::turn_q;
-use steps::letter;
-use steps::next;
-use steps::turn_back;
+use walk_steps::letter;
+use walk_steps::next;
+use walk_steps::turn_back;
 ghost use mathlib.Core.Path.{_≡_};
 ghost use mathlib.Core.Bool.{true, false};
 ghost use Prim.Native.Nat.{_+_, _-_, _*_, _^_, _≤_, _<_};

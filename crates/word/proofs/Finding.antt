@@ -22,7 +22,7 @@ use Rattle.polygon.specs.Cut.{places}
 use Rattle.polygon.specs.Step.{Real, startOf}
 use Rattle.polygon.specs.Walk.{followed, ends}
 use Rattle.polygon.proofs.Polygon.{polygon}
-use Rattle.steps.specs.Steps.{Prepared}
+use Rattle.walk_steps.specs.Steps.{Prepared}
 use Rattle.walk.specs.Way.{stored, placed, Setting, Walked}
 use Rattle.walk.specs.declared.Way.{Way}
 use Rattle.walk.proofs.Stored.{stored-none, stored-all}

@@ -14,7 +14,7 @@ use borrow.Author.Tests.{lt-ltb, le-ltb}
 use Rattle.matrix.specs.Matrix.{ofList}
 use Rattle.matrix.specs.Euclid.{pick}
 use Rattle.matrix.specs.Bounds.{Small}
-use Rattle.space.specs.Space.{workLength, zeros}
+use Rattle.workspace.specs.Space.{workLength, zeros}
 use Rattle.symbol.specs.Count.{first}
 use Rattle.symbol.specs.Check.{checkOf}
 use Rattle.symbol.specs.Symbol.{IsSymbol}

@@ -14,7 +14,7 @@ use lib.IntN.{ℤ}
 use borrow.Author.Tests.{leb-true}
 use Rattle.matrix.specs.Matrix.{ofList}
 use Rattle.matrix.specs.Euclid.{pick}
-use Rattle.space.specs.Space.{workLength}
+use Rattle.workspace.specs.Space.{workLength}
 use Rattle.symbol.specs.Count.{first}
 use Rattle.symbol.specs.Check.{checkOf}
 use Rattle.refusal.specs.declared.Checked.{Checked}

@@ -22,7 +22,7 @@ use lib.ListN.{length, take, drop}
 use lib.IntN.{ℤ, pos, natAbs}
 use Rattle.matrix.specs.Matrix.{Mat, _⊗_, adj, det, nth, ofList}
 use Rattle.matrix.specs.Euclid.{pick}
-use Rattle.space.specs.Space.{workLength}
+use Rattle.workspace.specs.Space.{workLength}
 use Rattle.refusal.specs.Refusal.{none, matrixEntry, determinant, noWord, tooShort}
 use Rattle.refusal.specs.declared.Refusal.{Refusal}
 use Rattle.symbol.specs.Count.{first}

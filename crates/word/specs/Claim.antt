@@ -28,7 +28,7 @@ use lib.IntN.{ℤ, pos, natAbs}
 use Rattle.matrix.specs.Matrix.{Mat, _⊗_, adj, det, _≈_, ofList}
 use Rattle.matrix.specs.Bounds.{Small}
 use Rattle.matrix.specs.Euclid as euclid
-use Rattle.space.specs.Space.{workLength}
+use Rattle.workspace.specs.Space.{workLength}
 use Rattle.symbol.specs.Symbol.{IsSymbol}
 use Rattle.pairing.specs.Generator.{generators}
 use Rattle.pairing.specs.Subgroup.{IsWord, wordOf}

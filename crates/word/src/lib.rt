@@ -12,7 +12,7 @@ use refusal::MATRIX_ENTRY;
 use refusal::NO_WORD;
 use refusal::Refusal;
 use refusal::TOO_SHORT;
-use steps::prepare;
+use walk_steps::prepare;
 use symbol::check;
 use walk::walk;
 ghost use mathlib.Core.Path.{_≡_};
@@ -22,7 +22,7 @@ ghost use lib.ListN.{length};
 ghost use lib.IntN.{natAbs};
 ghost use Rattle.matrix.specs.Matrix.{ofList, toList, _⊗_, adj};
 ghost use Rattle.matrix.specs.Bounds.{Small};
-ghost use Rattle.space.specs.Space.{zeros};
+ghost use Rattle.workspace.specs.Space.{zeros};
 ghost use Rattle.symbol.specs.Count.{first};
 ghost use Rattle.symbol.specs.Symbol.{IsSymbol};
 ghost use Rattle.polygon.specs.Walk.{followed};
@@ -168,7 +168,7 @@ fn answer(
     prepare(t, v, w);
     let m = matrix_between(t, v, a, b);
     let found = find(t, v, w, m, home, out, start);
-    space::clear(w);
+    workspace::clear(w);
     found
 }
 
@@ -205,10 +205,10 @@ pub fn query(
                     place: judged - 8,
                 });
             }
-            if w.len() < space::WORK {
+            if w.len() < workspace::WORK {
                 return Queried::Refused(Refusal {
                     number: TOO_SHORT,
-                    place: space::WORK,
+                    place: workspace::WORK,
                 });
             }
             answer(v, t, a, b, w, out, start)

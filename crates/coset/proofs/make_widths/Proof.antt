@@ -4,7 +4,7 @@ use mathlib.Core.Path.{_∙_, ap}
 use mathlib.Core.List.{List}
 use Prim.Native.Nat.{ℕ}
 use lib.ListN.{length}
-use Rattle.space.specs.Space.{zeros}
+use Rattle.workspace.specs.Space.{zeros}
 use Rattle.figures.specs.Cusps as cusps
 use Rattle.coset.specs.Answer.{roomOne, columnLeft}
 use Rattle.coset.proofs.Answer.{made}

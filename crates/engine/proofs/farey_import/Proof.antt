@@ -2,7 +2,7 @@
 use mathlib.Core.Path.{_≡_, sym, ap, _∙_, subst}
 use Prim.Native.Nat.{ℕ, _+_, _*_}
 use lib.ListN.{length, take}
-use Rattle.passport.specs.Import.{tableLeft, ruleFor, Symbolised}
+use Rattle.permutations.specs.Import.{tableLeft, ruleFor, Symbolised}
 use Rattle.refusal.specs.Refusal.{filledRefusal}
 use Rattle.refusal.specs.declared.Filled.{Filled}
 use Rattle.refusal.proofs.Numbered.{AboveIn}

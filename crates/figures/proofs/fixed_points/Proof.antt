@@ -7,10 +7,10 @@ use Prim.Native.Nat.{_-_, _≤_}
 use native.Mathlib.Omega.{arith}
 use lib.ListN.{length}
 use Rattle.figures.specs.Cusps.{isFixed}
-use Rattle.points.specs.Select.{select}
-use Rattle.points.specs.Space.{entries}
-use Rattle.points.proofs.Select.{select-few}
-use Rattle.points.proofs.Space.{entries-length, entries-at}
+use Rattle.numbering.specs.Select.{select}
+use Rattle.numbering.specs.Space.{entries}
+use Rattle.numbering.proofs.Select.{select-few}
+use Rattle.numbering.proofs.Space.{entries-length, entries-at}
 use Rattle.figures.proofs.Scan.{fixed-yes, fixed-no}
 use Rattle.figures.proofs.fixed_points.Statement.{statement}
 use Rattle.figures.proofs.fixed_points.Tie as tie

@@ -4,7 +4,7 @@ use mathlib.Core.Path.{_∙_, ap}
 use mathlib.Core.List.{List}
 use lib.IntN.{ℤ}
 use lib.ListN.{length}
-use Rattle.space.specs.Space.{zeros}
+use Rattle.workspace.specs.Space.{zeros}
 use Rattle.word.specs.Answer.{wordLeft}
 use Rattle.word.proofs.Finding.{ready, along-found, end-found}
 use borrow.Author.Needs.{needs}

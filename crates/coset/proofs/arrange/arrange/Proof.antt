@@ -5,9 +5,9 @@ use Rattle.polygon.specs.Cut.{places}
 use Rattle.polygon.specs.Step.{stepS, originOf}
 use Rattle.polygon.proofs.Polygon.{polygon}
 use Rattle.polygon.proofs.Space.{still}
-use Rattle.points.specs.Order.{Maps}
-use Rattle.points.specs.Marks.{Filled}
-use Rattle.points.proofs.Filled.{filled-images, filled-tables}
+use Rattle.numbering.specs.Order.{Maps}
+use Rattle.numbering.specs.Marks.{Filled}
+use Rattle.numbering.proofs.Filled.{filled-images, filled-tables}
 use Rattle.coset.specs.Tables.{stepR}
 use Rattle.coset.proofs.Theorem.{maps}
 use Rattle.coset.proofs.Work.{inside, filled}

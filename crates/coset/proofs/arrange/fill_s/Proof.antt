@@ -6,7 +6,7 @@ use native.Mathlib.Omega.{arith}
 use lib.ListN.{length, length-set}
 use Rattle.polygon.specs.Cut.{places}
 use Rattle.coset.specs.Work.{Moved}
-use Rattle.points.specs.Space.{SIGMA}
+use Rattle.numbering.specs.Space.{SIGMA}
 use Rattle.coset.proofs.Work.{image-low, moved-none, moved-more, moved-all}
 use borrow.Author.Needs.{needs}
 use Rattle.coset.proofs.arrange.fill_s.Statement.{statement}

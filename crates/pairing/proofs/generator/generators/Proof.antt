@@ -4,7 +4,7 @@ use mathlib.Core.Path.{_≡_, refl, sym, _∙_, ap}
 use lib.Dec.{ltb}
 use lib.ListN.{length}
 use borrow.Author.Tests.{lt-ltb, le-ltb}
-use Rattle.space.specs.Space.{zeros}
+use Rattle.workspace.specs.Space.{zeros}
 use Rattle.pairing.specs.Generator.{leaders, roomOf, byWork, workAfter}
 use Rattle.refusal.specs.declared.Checked.{Checked}
 use Rattle.refusal.specs.Refusal.{tooShort, filledBy}

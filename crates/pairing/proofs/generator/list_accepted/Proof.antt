@@ -2,8 +2,8 @@
 -- clears again. Assumes nothing.
 use mathlib.Core.Path.{_≡_, _∙_, ap}
 use lib.ListN.{length}
-use Rattle.space.specs.Space.{zeros}
-use Rattle.space.proofs.Zeros.{length-zeros}
+use Rattle.workspace.specs.Space.{zeros}
+use Rattle.workspace.proofs.Zeros.{length-zeros}
 use Rattle.symbol.specs.Table.{pairings}
 use Rattle.symbol.proofs.Order.{behind}
 use Rattle.pairing.proofs.Partners.{paired-none}

@@ -6,8 +6,8 @@ use Prim.Native.Nat.{_-_, _*_}
 use borrow.Author.Tests.{not-true, not-false}
 use lib.IntN.{ℤ}
 use lib.ListN.{length, take, drop}
-use Rattle.space.specs.Space.{zeros}
-use Rattle.space.proofs.Zeros.{length-zeros}
+use Rattle.workspace.specs.Space.{zeros}
+use Rattle.workspace.proofs.Zeros.{length-zeros}
 use Rattle.symbol.specs.Table.{pairings}
 use Rattle.pairing.specs.Alike.{allAlike}
 use Rattle.symbol.proofs.Order.{behind}

@@ -1,0 +1,396 @@
+-- What every split keeps.
+--
+--   Tops C        each side that was split brought three new points below n: its own, which κ moves, was no earlier corner's
+--   Inv C l       what holds of the sides l when the sides C were split
+--   Ends P l      the sides l are all closed, Inv holds, and so does whatever else each split keeps
+--
+-- In order: corners, turned and compared (`corner-spin`, `corner-free`, `corner-one`); at most n/3 triangles (`triangles`); a split keeps
+-- Inv (`step`); growing ends with all sides closed (`ends`).
+--
+-- Why: if a side's point is some corner's, then the point beyond it is a side's, so that the side is closed. So an open side's point is no
+-- corner's, nor are the two points turned from it.
+-- Assumes nothing.
+use mathlib.Core.Path.{_≡_, refl, sym, _∙_, ap}
+use mathlib.Core.Logic.{_⊎_, inl, inr}
+use mathlib.Core.Bool.{Bool, true, false}
+use mathlib.Core.List.{List, [], _∷_, _++_}
+use Prim.Native.Nat.{ℕ, zero, suc, _+_, _*_, _-_, _<_, _≤_}
+use native.Mathlib.Omega.{arith}
+use native.Mathlib.Decide.{ℕ-discrete}
+use lib.ListN.{length}
+use lib.IntN.{ℤ, pos}
+use Rattle.matrix.specs.Matrix.{Mat, mat, _⊗_, 𝟙, neg, adj, det, matS, matQ, matP, _≈_}
+use Rattle.matrix.specs.Words as word
+use Rattle.matrix.specs.Euclid.{pick}
+use Rattle.matrix.proofs.Matrix.{⊗-assoc, ⊗-idl, ⊗-idr, Q-Q, P-Q, ≈-sym, _∙≈_, ≈-left, ≈-right}
+use Rattle.import_rule.specs.Side.{mediant, fits}
+use Rattle.import_rule.specs.Placed.{Placed, pts, Cut, closed, parted, over, Grew, finished, refused, goOn, lowerAt, upperAt, cutIn, grow}
+use Rattle.import_rule.proofs.Member.{In, in-left, in-right, Apart, at-most}
+use Rattle.import_rule.proofs.Lead.{S-twice, Turning, Leads, leads-one, leads-≈, leads-step}
+use Rattle.import_rule.proofs.Split.{framed, Closed, AllClosed, Shut, Broken, outcome, lower-S, upper-S, lower-det, upper-det, in-pts, Pt, pt-of, of-pt, same-side, split-keep, split-from, beside-in, beside-other, Beside, split-apart, Turn, t0, t1, t2, turnM, turnX, Corner, Edge}
+
+module _ (σ κ : ℕ → ℕ) (n : ℕ) where
+  -- each triangle brings three new points below n
+  abbrev pub Tops : List Placed → Type 0
+  Tops [] = Unit {0}
+  Tops (t ∷ C) = ¬ (κ (t .pt) ≡ t .pt) × (t .pt < n) × ((m : Mat) → Corner σ κ C m (t .pt) → ⊥) × Tops C
+
+  -- C the sides that were split, ss those that are there
+  pub record Inv (C ss : List Placed) : Type 0 where
+    pub apart : Apart (pts ss)
+    pub tops : Tops C
+    pub under : (u : Placed) → In u ss → Corner σ κ C (framed u ⊗ matS) (σ (u .pt))
+    pub beyond : (m : Mat) (x : ℕ) → Corner σ κ C m x → Corner σ κ C (m ⊗ matS) (σ x) ⊎ Edge ss (m ⊗ matS) (σ x)
+    pub meets : (u : Placed) (m : Mat) → In u ss → Corner σ κ C m (u .pt) → In (σ (u .pt)) (pts ss)
+    pub home : Corner σ κ C 𝟙 0 ⊎ ((κ 0 ≡ 0) × Edge ss 𝟙 0)
+    pub dets : (u : Placed) → In u ss → det (framed u) ≡ pos 1
+    pub leads : (u : Placed) → In u ss → Leads σ κ (framed u) (u .pt)
+    pub low : (u : Placed) → In u ss → u .pt < n
+    pub grown : (t : Placed) → In t C → Leads σ κ (framed t) (t .pt)
+
+  module _ (T : Turning σ κ n) where
+    -- ---- corners
+    spinM : (c : Turn) (m : Mat) → Turn
+    spinM t0 m = t1
+    spinM t1 m = t2
+    spinM t2 m = t0
+
+    pub corner-spin : {C : List Placed} {m : Mat} {x : ℕ} → Corner σ κ C m x → Corner σ κ C (m ⊗ matQ) (κ x)
+    corner-spin {C} {m} {x} k = go (k .turn) (k .frame) (k .pt)
+      where
+        f : Mat
+        f = framed (k .tri)
+
+        go : (c : Turn) → m ≈ turnM c (framed (k .tri)) → x ≡ turnX σ κ c (k .tri .pt) → Corner σ κ C (m ⊗ matQ) (κ x)
+        go t0 e p = record { tri = k .tri; among = k .among; turn = t1; frame = ≈-right matQ e; pt = ap κ p }
+        go t1 e p = record { tri = k .tri; among = k .among; turn = t2; frame = ≈-right matQ e ∙≈ inl (⊗-assoc (framed (k .tri)) matQ matQ ∙ ap (λ (y : Mat). framed (k .tri) ⊗ y) Q-Q); pt = ap κ p }
+        go t2 e p = record { tri = k .tri; among = k .among; turn = t0; frame = ≈-right matQ e ∙≈ inl (⊗-assoc (framed (k .tri)) matP matQ ∙ ap (λ (y : Mat). framed (k .tri) ⊗ y) P-Q ∙ ⊗-idr (framed (k .tri))); pt = ap κ p ∙ T .thrice (k .tri .pt) }
+
+    pub corner-pt : {C : List Placed} {m : Mat} {x y : ℕ} → x ≡ y → Corner σ κ C m x → Corner σ κ C m y
+    corner-pt e k = record { tri = k .tri; among = k .among; turn = k .turn; frame = k .frame; pt = sym e ∙ k .pt }
+
+    pub corner-≈ : {C : List Placed} {m l : Mat} {x : ℕ} → l ≈ m → Corner σ κ C m x → Corner σ κ C l x
+    corner-≈ e k = record { tri = k .tri; among = k .among; turn = k .turn; frame = e ∙≈ k .frame; pt = k .pt }
+
+    corner-more : {C : List Placed} {m : Mat} {x : ℕ} (t : Placed) → Corner σ κ C m x → Corner σ κ (t ∷ C) m x
+    corner-more t k = record { tri = k .tri; among = inr (k .among); turn = k .turn; frame = k .frame; pt = k .pt }
+
+    pub corner-new : (C : List Placed) (t : Placed) (c : Turn) → Corner σ κ (t ∷ C) (turnM c (framed t)) (turnX σ κ c (t .pt))
+    corner-new C t c = record { tri = t; among = inl refl; turn = c; frame = inl refl; pt = refl }
+
+    -- where a turned point is a corner's, so is the point
+    none-turned : (C : List Placed) (y : ℕ) → ((m : Mat) → Corner σ κ C m y → ⊥) → (c : Turn) (m : Mat) → Corner σ κ C m (turnX σ κ c y) → ⊥
+    none-turned C y n t0 m k = n m k
+    none-turned C y n t1 m k = n _ (corner-pt (T .thrice y) (corner-spin (corner-spin k)))
+    none-turned C y n t2 m k = n _ (corner-pt (T .thrice y) (corner-spin k))
+
+    -- in a triangle whose point is not fixed the three points differ
+    pub turn-one : (y : ℕ) → ¬ (κ y ≡ y) → (c d : Turn) → turnX σ κ c y ≡ turnX σ κ d y → c ≡ d
+    turn-one y n t0 t0 e = refl
+    turn-one y n t0 t1 e = absurd (n (sym e))
+    turn-one y n t0 t2 e = absurd (n (ap κ e ∙ T .thrice y))
+    turn-one y n t1 t0 e = absurd (n e)
+    turn-one y n t1 t1 e = refl
+    turn-one y n t1 t2 e = absurd (n (sym (ap κ (T .thrice y)) ∙ sym (ap κ (ap κ e)) ∙ T .thrice y))
+    turn-one y n t2 t0 e = absurd (n (ap κ (sym e) ∙ T .thrice y))
+    turn-one y n t2 t1 e = absurd (n (sym (ap κ (T .thrice y)) ∙ ap κ (ap κ e) ∙ T .thrice y))
+    turn-one y n t2 t2 e = refl
+
+    turned-free : (y : ℕ) → ¬ (κ y ≡ y) → (c : Turn) → ¬ (κ (turnX σ κ c y) ≡ turnX σ κ c y)
+    turned-free y n t0 e = n e
+    turned-free y n t1 e = n (sym (T .thrice (κ y)) ∙ ap κ (ap κ e) ∙ T .thrice y)
+    turned-free y n t2 e = n (ap κ (sym (T .thrice y) ∙ e) ∙ T .thrice y)
+
+    top-free : (C : List Placed) (t : Placed) → Tops C → In t C → ¬ (κ (t .pt) ≡ t .pt)
+    top-free [] t a h = absurd h
+    top-free (s ∷ C) t a (inl h) = rw h (a .0)
+    top-free (s ∷ C) t a (inr h) = top-free C t (a .3) h
+
+    pub corner-free : {C : List Placed} {m : Mat} {x : ℕ} → Tops C → Corner σ κ C m x → ¬ (κ x ≡ x)
+    corner-free {C} a k e = turned-free (k .tri .pt) (top-free C (k .tri) a (k .among)) (k .turn) (rw (k .pt) at e)
+
+    corner-of : (C : List Placed) (t : Placed) (c : Turn) → In t C → Corner σ κ C (turnM c (framed t)) (turnX σ κ c (t .pt))
+    corner-of C t c h = record { tri = t; among = h; turn = c; frame = inl refl; pt = refl }
+
+    -- two corners of one point are one
+    one-in : (C : List Placed) → Tops C → (t u : Placed) → In t C → In u C → (c d : Turn) → turnX σ κ c (t .pt) ≡ turnX σ κ d (u .pt) → turnM c (framed t) ≡ turnM d (framed u)
+    one-in [] a t u h k c d e = absurd h
+    one-in (s ∷ C) a t u (inl h) (inl k) c d e =
+        let z : turnX σ κ c (s .pt) ≡ turnX σ κ d (s .pt) = rw (h, k) at e in
+        rw (h, k, turn-one (s .pt) (a .0) c d z) refl
+    one-in (s ∷ C) a t u (inl h) (inr k) c d e = absurd (none-turned C (s .pt) (a .2) c _ (corner-pt (sym e ∙ ap (λ (v : Placed). turnX σ κ c (v .pt)) h) (corner-of C u d k)))
+    one-in (s ∷ C) a t u (inr h) (inl k) c d e = absurd (none-turned C (s .pt) (a .2) d _ (corner-pt (e ∙ ap (λ (v : Placed). turnX σ κ d (v .pt)) k) (corner-of C t c h)))
+    one-in (s ∷ C) a t u (inr h) (inr k) c d e = one-in C (a .3) t u h k c d e
+
+    pub corner-one : {C : List Placed} {m l : Mat} {x : ℕ} → Tops C → Corner σ κ C m x → Corner σ κ C l x → m ≈ l
+    corner-one {C} a k j = k .frame ∙≈ inl (one-in C a (k .tri) (j .tri) (k .among) (j .among) (k .turn) (j .turn) (sym (k .pt) ∙ j .pt)) ∙≈ ≈-sym (j .frame)
+
+    -- ---- at most n / 3 triangles
+    abbrev pub spread : List Placed → List ℕ
+    spread [] = []
+    spread (t ∷ C) = t .pt ∷ κ (t .pt) ∷ κ (κ (t .pt)) ∷ spread C
+
+    pub spread-corner : (C : List Placed) (x : ℕ) → In x (spread C) → (m : Mat) × Corner σ κ C m x
+    spread-corner [] x h = absurd h
+    spread-corner (t ∷ C) x (inl e) = (framed t, corner-pt (sym e) (corner-new C t t0))
+    spread-corner (t ∷ C) x (inr (inl e)) = (framed t ⊗ matQ, corner-pt (sym e) (corner-new C t t1))
+    spread-corner (t ∷ C) x (inr (inr (inl e))) = (framed t ⊗ matP, corner-pt (sym e) (corner-new C t t2))
+    spread-corner (t ∷ C) x (inr (inr (inr h))) = let k = spread-corner C x h in (k .0, corner-more t (k .1))
+
+    pub spread-low : (C : List Placed) → Tops C → (x : ℕ) → In x (spread C) → x < n
+    spread-low [] a x h = absurd h
+    spread-low (t ∷ C) a x (inl e) = rw e (a .1)
+    spread-low (t ∷ C) a x (inr (inl e)) = rw e (T .κ-low _ (a .1))
+    spread-low (t ∷ C) a x (inr (inr (inl e))) = rw e (T .κ-low _ (T .κ-low _ (a .1)))
+    spread-low (t ∷ C) a x (inr (inr (inr h))) = spread-low C (a .3) x h
+
+    pub spread-apart : (C : List Placed) → Tops C → Apart (spread C)
+    spread-apart [] a = tt
+    spread-apart (t ∷ C) a = (out0, (out1, (out2, spread-apart C (a .3))))
+      where
+        y : ℕ
+        y = t .pt
+
+        away : (c : Turn) → In (turnX σ κ c (t .pt)) (spread C) → ⊥
+        away c h = let k = spread-corner C _ h in none-turned C (t .pt) (a .2) c (k .0) (k .1)
+
+        out2 : In (κ (κ (t .pt))) (spread C) → ⊥
+        out2 h = away t2 h
+
+        out1 : In (κ (t .pt)) (κ (κ (t .pt)) ∷ spread C) → ⊥
+        out1 (inl e) = let z : _≡_ {A = Turn} t1 t2 = turn-one (t .pt) (a .0) t1 t2 e in let q : _≡_ {A = ℕ} 0 1 = cc in omega arith
+        out1 (inr h) = away t1 h
+
+        out0 : In (t .pt) (κ (t .pt) ∷ κ (κ (t .pt)) ∷ spread C) → ⊥
+        out0 (inl e) = a .0 (sym e)
+        out0 (inr (inl e)) = a .0 (ap κ e ∙ T .thrice (t .pt))
+        out0 (inr (inr h)) = away t0 h
+
+    pub spread-length : (C : List Placed) → length (spread C) ≡ 3 * length C
+    spread-length [] = omega arith
+    spread-length (t ∷ C) = let k = spread-length C in omega arith
+
+    pub in-spread : (C : List Placed) (t : Placed) (c : Turn) → In t C → In (turnX σ κ c (t .pt)) (spread C)
+    in-spread [] t c h = h
+    in-spread (s ∷ C) t t0 (inl e) = inl (ap (λ (v : Placed). v .pt) e)
+    in-spread (s ∷ C) t t1 (inl e) = inr (inl (ap (λ (v : Placed). κ (v .pt)) e))
+    in-spread (s ∷ C) t t2 (inl e) = inr (inr (inl (ap (λ (v : Placed). κ (κ (v .pt))) e)))
+    in-spread (s ∷ C) t c (inr h) = inr (inr (inr (in-spread C t c h)))
+
+    -- THREE NEW POINTS A TRIANGLE
+    pub triangles : (C : List Placed) → Tops C → 3 * length C ≤ n
+    triangles C a = let k = at-most n (spread C) (spread-apart C a) (spread-low C a) in let z = spread-length C in omega arith
+
+    -- ---- a split
+    module _ (C before : List Placed) (s : Placed) (after : List Placed) (inv : Inv C (before ++ (s ∷ after))) (none : ¬ (Closed σ κ (pts (before ++ (s ∷ after))) (s .pt))) where
+      abbrev pub old : List Placed
+      old = before ++ (s ∷ after)
+
+      abbrev pub new : List Placed
+      new = before ++ (lowerAt σ κ s ∷ upperAt σ κ s ∷ after)
+
+      pub has-s : In s old
+      has-s = in-right s before (s ∷ after) (inl refl)
+
+      pub has-l : In (lowerAt σ κ s) new
+      has-l = in-right _ before (lowerAt σ κ s ∷ upperAt σ κ s ∷ after) (inl refl)
+
+      pub has-r : In (upperAt σ κ s) new
+      has-r = in-right _ before (lowerAt σ κ s ∷ upperAt σ κ s ∷ after) (inr (inl refl))
+
+      -- its points are new
+      fresh : (m : Mat) → Corner σ κ C m (s .pt) → ⊥
+      fresh m k = none (inr (inv .meets s m has-s k))
+
+      fresh-turned : (c : Turn) (m : Mat) → Corner σ κ C m (turnX σ κ c (s .pt)) → ⊥
+      fresh-turned c m k = none-turned C (s .pt) fresh c m k
+
+      pub moved : ¬ (κ (s .pt) ≡ s .pt)
+      moved e = none (inl e)
+
+      -- a point of another old side stays
+      pub stays : (x : ℕ) → In x (pts old) → ¬ (x ≡ s .pt) → In x (pts new)
+      stays x h e =
+          let k = pt-of x old h in
+          of-pt x new (record { side = k .side; among = split-keep s (lowerAt σ κ s) (upperAt σ κ s) after (k .side) before (k .among) (λ z. e (k .pt ∙ ap (λ (v : Placed). v .pt) z)); pt = k .pt })
+
+      -- the point beyond a new corner is no old side's
+      pub not-old : (c : Turn) → In (σ (turnX σ κ c (s .pt))) (pts old) → ⊥
+      not-old c h =
+          let k = pt-of _ old h in
+          fresh-turned c _ (corner-pt (ap σ (sym (k .pt)) ∙ T .twice (turnX σ κ c (s .pt))) (inv .under (k .side) (k .among)))
+
+      pub new-apart : Apart (pts new)
+      new-apart = split-apart s (lowerAt σ κ s) (upperAt σ κ s) after before (inv .apart) (not-old t1) (not-old t2)
+          (λ e. let z : _≡_ {A = Turn} t1 t2 = turn-one (s .pt) moved t1 t2 (sym (T .twice _) ∙ ap σ e ∙ T .twice _) in let q : _≡_ {A = ℕ} 0 1 = cc in omega arith)
+
+      -- what is said of old sides and of the two parts holds of the new ones
+      each : (P : Placed → Type 0) → ((u : Placed) → In u old → ¬ (u .pt ≡ s .pt) → P u) → P (lowerAt σ κ s) → P (upperAt σ κ s) → (u : Placed) → In u new → P u
+      each P o a b u h = go (split-from s (lowerAt σ κ s) (upperAt σ κ s) after u before h)
+        where
+          go : (u ≡ lowerAt σ κ s) ⊎ (u ≡ upperAt σ κ s) ⊎ Beside s (lowerAt σ κ s) (upperAt σ κ s) after u before → P u
+          go (inl e) = rw e a
+          go (inr (inl e)) = rw e b
+          go (inr (inr k)) = o u (beside-in s (lowerAt σ κ s) (upperAt σ κ s) after u before k) (beside-other s (lowerAt σ κ s) (upperAt σ κ s) after u before (inv .apart) k)
+
+      lower-under : framed (lowerAt σ κ s) ⊗ matS ≈ framed s ⊗ matQ
+      lower-under = inl (lower-S s σ κ)
+
+      upper-under : framed (upperAt σ κ s) ⊗ matS ≈ framed s ⊗ matP
+      upper-under = inr (upper-S s σ κ)
+
+      new-under : (u : Placed) → In u new → Corner σ κ (s ∷ C) (framed u ⊗ matS) (σ (u .pt))
+      new-under = each (λ u. Corner σ κ (s ∷ C) (framed u ⊗ matS) (σ (u .pt)))
+          (λ u h e. corner-more s (inv .under u h))
+          (corner-≈ lower-under (corner-pt (sym (T .twice _)) (corner-new C s t1)))
+          (corner-≈ upper-under (corner-pt (sym (T .twice _)) (corner-new C s t2)))
+
+      back : (m n : Mat) → m ⊗ matS ≈ n → n ⊗ matS ≈ m
+      back m n e = ≈-right matS (≈-sym e) ∙≈ S-twice m
+
+      edge-of : (u : Placed) (m : Mat) (x : ℕ) → In u new → m ≈ framed u → x ≡ u .pt → Edge new m x
+      edge-of u m x h e p = record { side = u; among = h; frame = e; pt = p }
+
+      new-beyond : (m : Mat) (x : ℕ) → Corner σ κ (s ∷ C) m x → Corner σ κ (s ∷ C) (m ⊗ matS) (σ x) ⊎ Edge new (m ⊗ matS) (σ x)
+      new-beyond m x k = go (k .among) (k .turn) (k .frame) (k .pt)
+        where
+          Goal : Type 0
+          Goal = Corner σ κ (s ∷ C) (m ⊗ matS) (σ x) ⊎ Edge new (m ⊗ matS) (σ x)
+
+          side-is : (e : Edge old (m ⊗ matS) (σ x)) → Dec (σ x ≡ s .pt) → Corner σ κ (s ∷ C) (m ⊗ matS) (σ x) ⊎ Edge new (m ⊗ matS) (σ x)
+          side-is e (yes p) =
+              let z : e .side ≡ s = same-side (e .side) s old (inv .apart) (e .among) has-s (sym (e .pt) ∙ p) in
+              inl (record { tri = s; among = inl refl; turn = t0; frame = e .frame ∙≈ inl (ap framed z); pt = p })
+          side-is e (no p) = inr (edge-of (e .side) (m ⊗ matS) (σ x) (split-keep s (lowerAt σ κ s) (upperAt σ κ s) after (e .side) before (e .among) (λ z. p (e .pt ∙ ap (λ (v : Placed). v .pt) z))) (e .frame) (e .pt))
+
+          was : Corner σ κ C (m ⊗ matS) (σ x) ⊎ Edge old (m ⊗ matS) (σ x) → Corner σ κ (s ∷ C) (m ⊗ matS) (σ x) ⊎ Edge new (m ⊗ matS) (σ x)
+          was (inl c) = inl (corner-more s c)
+          was (inr e) = side-is e (ℕ-discrete (σ x) (s .pt))
+
+          there : (t : Placed) → t ≡ s → (c : Turn) → m ≈ turnM c (framed t) → x ≡ turnX σ κ c (t .pt) → Corner σ κ (s ∷ C) (m ⊗ matS) (σ x) ⊎ Edge new (m ⊗ matS) (σ x)
+          there t e t0 f p = inl (corner-more s (corner-pt (ap σ (sym (p ∙ ap (λ (v : Placed). v .pt) e))) (corner-≈ (≈-right matS (f ∙≈ inl (ap framed e))) (inv .under s has-s))))
+          there t e t1 f p = inr (edge-of (lowerAt σ κ s) (m ⊗ matS) (σ x) has-l (≈-right matS (f ∙≈ inl (ap (λ (v : Placed). framed v ⊗ matQ) e)) ∙≈ back _ _ lower-under) (ap σ (p ∙ ap (λ (v : Placed). κ (v .pt)) e)))
+          there t e t2 f p = inr (edge-of (upperAt σ κ s) (m ⊗ matS) (σ x) has-r (≈-right matS (f ∙≈ inl (ap (λ (v : Placed). framed v ⊗ matP) e)) ∙≈ back _ _ upper-under) (ap σ (p ∙ ap (λ (v : Placed). κ (κ (v .pt))) e)))
+
+          go : In (k .tri) (s ∷ C) → (c : Turn) → m ≈ turnM c (framed (k .tri)) → x ≡ turnX σ κ c (k .tri .pt) → Corner σ κ (s ∷ C) (m ⊗ matS) (σ x) ⊎ Edge new (m ⊗ matS) (σ x)
+          go (inl e) c f p = there (k .tri) e c f p
+          go (inr h) c f p = was (inv .beyond m x (record { tri = k .tri; among = h; turn = c; frame = f; pt = p }))
+
+      -- a corner's point is an old corner's or one of the three
+      sort : {m : Mat} {x : ℕ} → Corner σ κ (s ∷ C) m x → Corner σ κ C m x ⊎ (x ≡ s .pt) ⊎ (x ≡ κ (s .pt)) ⊎ (x ≡ κ (κ (s .pt)))
+      sort {m} {x} k = go (k .among) (k .turn) (k .frame) (k .pt)
+        where
+          there : (t : Placed) → t ≡ s → (c : Turn) → x ≡ turnX σ κ c (t .pt) → Corner σ κ C m x ⊎ (x ≡ s .pt) ⊎ (x ≡ κ (s .pt)) ⊎ (x ≡ κ (κ (s .pt)))
+          there t e t0 p = inr (inl (p ∙ ap (λ (v : Placed). v .pt) e))
+          there t e t1 p = inr (inr (inl (p ∙ ap (λ (v : Placed). κ (v .pt)) e)))
+          there t e t2 p = inr (inr (inr (p ∙ ap (λ (v : Placed). κ (κ (v .pt))) e)))
+
+          go : In (k .tri) (s ∷ C) → (c : Turn) → m ≈ turnM c (framed (k .tri)) → x ≡ turnX σ κ c (k .tri .pt) → Corner σ κ C m x ⊎ (x ≡ s .pt) ⊎ (x ≡ κ (s .pt)) ⊎ (x ≡ κ (κ (s .pt)))
+          go (inl e) c f p = there (k .tri) e c p
+          go (inr h) c f p = inl (record { tri = k .tri; among = h; turn = c; frame = f; pt = p })
+
+      pt-l : In (σ (κ (s .pt))) (pts new)
+      pt-l = in-pts (lowerAt σ κ s) new has-l
+
+      pt-r : In (σ (κ (κ (s .pt)))) (pts new)
+      pt-r = in-pts (upperAt σ κ s) new has-r
+
+      -- a part, y its point's other face
+      part-meets : (c : Turn) → ¬ (turnX σ κ c (s .pt) ≡ s .pt) → (m : Mat) → In (σ (turnX σ κ c (s .pt))) (pts new) → Corner σ κ (s ∷ C) m (σ (turnX σ κ c (s .pt))) → In (turnX σ κ c (s .pt)) (pts new)
+      part-meets c d m own k = go (sort k)
+        where
+          y : ℕ
+          y = turnX σ κ c (s .pt)
+
+          was : Corner σ κ C (m ⊗ matS) (σ (σ (turnX σ κ c (s .pt)))) ⊎ Edge old (m ⊗ matS) (σ (σ (turnX σ κ c (s .pt)))) → In (turnX σ κ c (s .pt)) (pts new)
+          was (inl k) = absurd (fresh-turned c _ (corner-pt (T .twice _) k))
+          was (inr e) = stays _ (of-pt _ old (record { side = e .side; among = e .among; pt = sym (T .twice _) ∙ e .pt })) d
+
+          turn : (z : ℕ) → σ (turnX σ κ c (s .pt)) ≡ z → In (σ z) (pts new) → In (turnX σ κ c (s .pt)) (pts new)
+          turn z e h = rw (← T .twice (turnX σ κ c (s .pt)), e) h
+
+          go : Corner σ κ C m (σ (turnX σ κ c (s .pt))) ⊎ (σ (turnX σ κ c (s .pt)) ≡ s .pt) ⊎ (σ (turnX σ κ c (s .pt)) ≡ κ (s .pt)) ⊎ (σ (turnX σ κ c (s .pt)) ≡ κ (κ (s .pt))) → In (turnX σ κ c (s .pt)) (pts new)
+          go (inl k) = was (inv .beyond m _ k)
+          go (inr (inl e)) = absurd (fresh-turned c _ (corner-pt (ap σ (sym e) ∙ T .twice _) (inv .under s has-s)))
+          go (inr (inr (inl e))) = turn _ e pt-l
+          go (inr (inr (inr e))) = turn _ e pt-r
+
+      new-meets : (u : Placed) (m : Mat) → In u new → Corner σ κ (s ∷ C) m (u .pt) → In (σ (u .pt)) (pts new)
+      new-meets u m h = each (λ v. Corner σ κ (s ∷ C) m (v .pt) → In (σ (v .pt)) (pts new)) other
+          (λ k. rw (T .twice (κ (s .pt))) (part-meets t1 moved m pt-l k))
+          (λ k. rw (T .twice (κ (κ (s .pt)))) (part-meets t2 (λ e. moved (ap κ (sym e) ∙ T .thrice (s .pt))) m pt-r k))
+          u h
+        where
+          other : (v : Placed) → In v old → ¬ (v .pt ≡ s .pt) → Corner σ κ (s ∷ C) m (v .pt) → In (σ (v .pt)) (pts new)
+          other v i d k = go (sort k)
+            where
+              go : Corner σ κ C m (v .pt) ⊎ (v .pt ≡ s .pt) ⊎ (v .pt ≡ κ (s .pt)) ⊎ (v .pt ≡ κ (κ (s .pt))) → In (σ (v .pt)) (pts new)
+              go (inl k) = stays _ (inv .meets v m i k) (λ e. none (inr (let q : v .pt ≡ σ (s .pt) = sym (T .twice (v .pt)) ∙ ap σ e in rw q at (in-pts v old i))))
+              go (inr (inl e)) = absurd (d e)
+              go (inr (inr (inl e))) = rw e pt-l
+              go (inr (inr (inr e))) = rw e pt-r
+
+      new-home : Corner σ κ (s ∷ C) 𝟙 0 ⊎ ((κ 0 ≡ 0) × Edge new 𝟙 0)
+      new-home = go (inv .home)
+        where
+          go : Corner σ κ C 𝟙 0 ⊎ ((κ 0 ≡ 0) × Edge old 𝟙 0) → Corner σ κ (s ∷ C) 𝟙 0 ⊎ ((κ 0 ≡ 0) × Edge new 𝟙 0)
+          go (inl k) = inl (corner-more s k)
+          go (inr (f, e)) = inr (f, edge-of (e .side) 𝟙 0 (split-keep s (lowerAt σ κ s) (upperAt σ κ s) after (e .side) before (e .among) (λ z. moved (rw (← e .pt ∙ ap (λ (v : Placed). v .pt) z) f))) (e .frame) (e .pt))
+
+      new-tops : Tops (s ∷ C)
+      new-tops = (moved, inv .low s has-s, fresh, inv .tops)
+
+      new-grown : (t : Placed) → In t (s ∷ C) → Leads σ κ (framed t) (t .pt)
+      new-grown t (inl e) = rw e (inv .leads s has-s)
+      new-grown t (inr h) = inv .grown t h
+
+      -- A SPLIT KEEPS IT ALL
+      pub step : Inv (s ∷ C) new
+      step = record {
+        apart = new-apart;
+        tops = new-tops;
+        under = new-under;
+        beyond = new-beyond;
+        meets = new-meets;
+        home = new-home;
+        dets = each (λ u. det (framed u) ≡ pos 1) (λ u h e. inv .dets u h) (lower-det s σ κ ∙ inv .dets s has-s) (upper-det s σ κ ∙ inv .dets s has-s);
+        leads = each (λ u. Leads σ κ (framed u) (u .pt)) (λ u h e. inv .leads u h)
+            (leads-≈ σ κ n T (≈-sym (back _ _ lower-under)) (leads-step σ κ n T word.S (leads-step σ κ n T word.Q (inv .leads s has-s))))
+            (leads-≈ σ κ n T (≈-sym (back _ _ upper-under)) (leads-step σ κ n T word.S (leads-step σ κ n T word.P (inv .leads s has-s))));
+        low = each (λ u. u .pt < n) (λ u h e. inv .low u h) (T .σ-low _ (T .κ-low _ (inv .low s has-s))) (T .σ-low _ (T .κ-low _ (T .κ-low _ (inv .low s has-s))));
+        grown = new-grown;
+      }
+
+    -- ---- growing ends with all sides closed, and with whatever else each split keeps
+
+    pub record Ends (P : List Placed → List Placed → Type 0) (l : List Placed) : Type 0 where
+      pub tris : List Placed
+      pub inv : Inv tris l
+      pub all : AllClosed σ κ (pts l) l
+      pub kept : P tris l
+
+    module _ (P : List Placed → List Placed → Type 0)
+        (keep : (C before : List Placed) (s : Placed) (after : List Placed) → det (framed s) ≡ pos 1 → fits (mediant (s .lo) (s .hi)) ≡ true → P C (before ++ (s ∷ after)) → P (s ∷ C) (before ++ (lowerAt σ κ s ∷ upperAt σ κ s ∷ after))) where
+      pub ends : (f : ℕ) (C l z : List Placed) → Inv C l → P C l → n < 3 * length C + 3 * f → grow σ κ f l ≡ finished z → Ends P z
+      ends zero C l z inv p h g = let k = triangles C (inv .tops) in absurd (omega arith)
+      ends (suc f) C l z inv p h g = go (outcome σ κ (pts l) 0 l) (λ C l i p k. ends f C l z i p k)
+        where
+          go : Shut σ κ (pts l) 0 l ⊎ Broken σ κ (pts l) 0 l → ((C l : List Placed) → Inv C l → P C l → n < 3 * length C + 3 * f → grow σ κ f l ≡ finished z → Ends P z) → Ends P z
+          go (inl r) ih =
+              let e : finished l ≡ finished z = sym (ap (goOn (grow σ κ f) l) (r .is)) ∙ g in
+              let q : l ≡ z = cc in
+              rw (← q) (record { tris = C; inv = inv; all = r .all; kept = p })
+          go (inr r) ih = by-fit (fits (mediant (r .side .lo) (r .side .hi))) refl
+            where
+              by-fit : (b : Bool) → fits (mediant (r .side .lo) (r .side .hi)) ≡ b → Ends P z
+              by-fit false e =
+                  let q : cutIn σ κ (pts l) 0 l ≡ over (0 + length (r .before)) = r .is ∙ ap (λ (x : Bool). pick x (parted (r .before ++ (lowerAt σ κ (r .side) ∷ upperAt σ κ (r .side) ∷ r .after))) (over (0 + length (r .before)))) e in
+                  let y : refused (0 + length (r .before)) ≡ finished z = sym (ap (goOn (grow σ κ f) l) q) ∙ g in
+                  let w : _≡_ {A = ℕ} 0 1 = cc in
+                  absurd (omega arith)
+              by-fit true e =
+                  let q : cutIn σ κ (pts l) 0 l ≡ parted (r .before ++ (lowerAt σ κ (r .side) ∷ upperAt σ κ (r .side) ∷ r .after)) = r .is ∙ ap (λ (x : Bool). pick x (parted (r .before ++ (lowerAt σ κ (r .side) ∷ upperAt σ κ (r .side) ∷ r .after))) (over (0 + length (r .before)))) e in
+                  let y : grow σ κ f (r .before ++ (lowerAt σ κ (r .side) ∷ upperAt σ κ (r .side) ∷ r .after)) ≡ finished z = sym (ap (goOn (grow σ κ f) l) q) ∙ g in
+                  let i : Inv C (r .before ++ (r .side ∷ r .after)) = rw (r .was) at inv in
+                  ih (r .side ∷ C) _ (step C (r .before) (r .side) (r .after) i (rw (r .was) at (r .none)))
+                  (keep C (r .before) (r .side) (r .after) (i .dets (r .side) (in-right (r .side) (r .before) (r .side ∷ r .after) (inl refl))) e (rw (r .was) at p)) (omega arith) y

@@ -1,0 +1,72 @@
+-- The finished symbol, and the two small groups.
+--
+--   labelsFrom l rows    the labels l and those of the rows that are new, in order
+--   labelsOf rows        the labels of the rows, each once, by their leftmost side
+--   entry labels m       the pairing of a side with the mark m: -2, -3, or the number of its label, from 1
+--   verticesOf rows      the entries of the vertices: the right ends of all sides but the last
+--   tableOf rows         the symbol's table, vertex entries before pairings
+--   Ruled                what the rule gives: v and the table, or refusal 16 with its side
+--   ruleOf σ κ n         THE RULE, whole, for n points
+use mathlib.Core.Bool.{Bool, _&&_}
+use mathlib.Core.List.{List, [], _∷_, _++_}
+use Prim.Native.Nat.{ℕ, suc, _-_}
+use lib.ListN.{length}
+use lib.IntN.{ℤ, pos, negsuc}
+use Rattle.matrix.specs.Matrix.{matS, matT, matQ}
+use Rattle.matrix.specs.Euclid.{pick}
+use Rattle.symbol.specs.Table.{carried}
+use Rattle.numbering.specs.Find.{find}
+use Rattle.numbering.specs.Order.{add}
+use Rattle.import_rule.specs.Fixed.{fixes}
+use Rattle.import_rule.specs.Side.{Side}
+use Rattle.import_rule.specs.Rule.{Mark, unpaired, even, odd, free, Row, Grown, finished, refused, rounds, startRows}
+
+abbrev pub noted : List ℕ → Mark → List ℕ
+noted l unpaired = l
+noted l even = l
+noted l odd = l
+noted l (free x) = add l x
+
+abbrev pub labelsFrom : List ℕ → List Row → List ℕ
+labelsFrom l [] = l
+labelsFrom l (r ∷ rows) = labelsFrom (noted l (r .mark)) rows
+
+abbrev pub labelsOf : List Row → List ℕ
+labelsOf rows = labelsFrom [] rows
+
+-- an open side has no pairing; there is none in a finished symbol
+abbrev pub entry : List ℕ → Mark → ℤ
+entry labels unpaired = pos 0
+entry labels even = negsuc 1
+entry labels odd = negsuc 2
+entry labels (free x) = pos (suc (find labels x))
+
+abbrev pub entries : List ℕ → List Row → List ℤ
+entries labels [] = []
+entries labels (r ∷ rows) = entry labels (r .mark) ∷ entries labels rows
+
+abbrev pub verticesOf : List Row → List ℤ
+verticesOf [] = []
+verticesOf (r ∷ []) = []
+verticesOf (r ∷ q ∷ rows) = r .side .hi .num ∷ pos (r .side .hi .den) ∷ verticesOf (q ∷ rows)
+
+abbrev pub tableOf : List Row → List ℤ
+tableOf rows = verticesOf rows ++ entries (labelsOf rows) rows
+
+pub data Ruled : Type 0 where
+  made : ℕ → List ℤ → Ruled
+  over : ℕ → Ruled
+
+abbrev pub symbolFrom : Grown → Ruled
+symbolFrom (finished rows) = made (length rows - 1) (tableOf rows)
+symbolFrom (refused i) = over i
+
+-- the vertex 0/1 with two pairings
+abbrev pub oneVertex : ℤ → ℤ → Ruled
+oneVertex x y = made 1 (pos 0 ∷ pos 1 ∷ x ∷ y ∷ [])
+
+abbrev pub ruleOf : (σ κ : ℕ → ℕ) → ℕ → Ruled
+ruleOf σ κ n =
+    pick (fixes σ κ matS && fixes σ κ matT) (oneVertex (negsuc 1) (negsuc 2))
+    (pick (fixes σ κ matQ && fixes σ κ (carried matS matQ matS)) (oneVertex (negsuc 2) (negsuc 2))
+    (symbolFrom (rounds σ κ n (startRows σ κ))))

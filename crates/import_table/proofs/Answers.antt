@@ -1,0 +1,123 @@
+-- What the answers of the calls come to.
+--
+-- In order: the walk may begin in a cleared space (`ground`); the answers for a large group (`large-over`, `large-short`, `large-made`); the
+-- cases of the rule (`rule-first`, `rule-second`, `rule-large`); the four numbers of a small symbol (`four-stores`, `small-made`).
+-- Assumes nothing.
+use mathlib.Core.Path.{_≡_, refl, sym, _∙_, ap}
+use mathlib.Core.Bool.{Bool, true, false, _&&_}
+use mathlib.Core.List.{List, [], _∷_, _++_}
+use Prim.Native.Nat.{ℕ, zero, suc, _+_, _-_, _*_, _^_, _≤_, _<_}
+use native.Mathlib.Omega.{arith}
+use lib.Dec.{ltb, eqb}
+use lib.ListN.{length, getD, set, drop}
+use lib.IntN.{ℤ, pos, negsuc}
+use borrow.Author.Tests.{lt-ltb, le-ltb, eq-eqb, ne-eqb}
+use Rattle.refusal.specs.Refusal.{tooShort, entryTooLarge}
+use Rattle.refusal.specs.declared.Filled.{Filled}
+use Rattle.refusal.specs.declared.Filled.the-variants.{Made, Refused}
+use Rattle.matrix.specs.Euclid.{pick}
+use Rattle.workspace.specs.Space.{zeros}
+use Rattle.workspace.proofs.Zeros.{length-zeros, getD-zeros}
+use Rattle.symbol.proofs.Choice.{pick-true, pick-false, clash}
+use Rattle.import_rule.specs.Fixed.{image, byQ, Pair}
+use Rattle.import_rule.specs.Symbol.{Ruled, made, over, oneVertex, tableOf, ruleOf}
+use Rattle.import_rule.specs.Placed.{Grew, finished, refused, grow, rowsOf, startPlaced, symbolBy, quickOf}
+use Rattle.import_walk.specs.Work.{Ground, Whole, Walked, halted, whole, doneIn}
+use Rattle.import_table.specs.Writing.{written}
+use Rattle.import_table.specs.Answer.{grownOf, tableIn, leftBy}
+use Rattle.import_rule.proofs.Lead.{Turning, turning}
+use Rattle.import_rule.proofs.Theorem.{rule-is}
+use Rattle.import_walk.proofs.Walking.{length-done}
+
+pub ground : (s r w w' : List ℕ) → Pair s r → 32768 ≤ length w → w' ≡ zeros (length w) → (eqb (byQ (image s) (image r) 0) 0 && eqb (byQ (image s) (image r) (image s 0)) (image s 0)) ≡ false → Ground s r w'
+ground s r w w' p h e l = record { pair = p; long = rw (e, length-zeros (length w)) h; clear = λ j. ap (λ (x : List ℕ). getD x j 0) e ∙ getD-zeros (length w) j; large = l }
+
+module _ (s r : List ℕ) where
+  abbrev σ : ℕ → ℕ
+  σ = image s
+
+  abbrev κ : ℕ → ℕ
+  κ = byQ (image s) (image r)
+
+  abbrev large : Ruled
+  large = symbolBy σ κ (grow σ κ (length s) (startPlaced σ κ))
+
+  pub whole-of : (w : List ℕ) (stop : Bool) (d : ℕ) → Walked s r w stop d → stop ≡ false → Whole s r w d
+  whole-of w stop d (halted e g) f = clash e f
+  whole-of w stop d (whole e g) f = g
+
+  pub large-over : (w : List ℕ) (stop : Bool) (d : ℕ) (o : List ℤ) → Walked s r w stop d → stop ≡ true → (Refused (entryTooLarge d) ≡ grownOf large (length o)) × (o ≡ leftBy large (Refused (entryTooLarge d)) o)
+  large-over w stop d o (halted e g) f = (sym (ap (λ (x : Grew). grownOf (symbolBy σ κ x) (length o)) g), refl)
+  large-over w stop d o (whole e g) f = clash f e
+
+  made-is : (w : List ℕ) (d : ℕ) → Whole s r w d → large ≡ made (d - 1) (tableOf (rowsOf σ κ (doneIn w d)))
+  made-is w d g = ap (symbolBy σ κ) (g .is) ∙ ap (λ (k : ℕ). made (k - 1) (tableOf (rowsOf σ κ (doneIn w d)))) (length-done w d)
+
+  pub large-short : (w : List ℕ) (d : ℕ) (o : List ℤ) → Whole s r w d → length o < 3 * (d - 1) + 1 → (Refused (tooShort (3 * (d - 1) + 1)) ≡ grownOf large (length o)) × (o ≡ leftBy large (Refused (tooShort (3 * (d - 1) + 1))) o)
+  large-short w d o g h = (sym (ap (λ (x : Ruled). grownOf x (length o)) (made-is w d g) ∙ pick-true (ltb (length o) (3 * (d - 1) + 1)) _ _ (lt-ltb (length o) (3 * (d - 1) + 1) h)), refl)
+
+  pub large-made : (w : List ℕ) (d : ℕ) (o y : List ℤ) → Whole s r w d → 3 * (d - 1) + 1 ≤ length o → y ≡ written σ κ w d o → (Made (d - 1) ≡ grownOf large (length o)) × (y ≡ leftBy large (Made (d - 1)) o)
+  large-made w d o y g h e = (
+    sym (ap (λ (x : Ruled). grownOf x (length o)) (made-is w d g) ∙ pick-false (ltb (length o) (3 * (d - 1) + 1)) _ _ (le-ltb (length o) (3 * (d - 1) + 1) h)),
+    e ∙ sym (ap (λ (x : Ruled). leftBy x (Made (d - 1)) o) (made-is w d g)),
+  )
+
+  -- ---- the cases of the rule
+
+  module _ (p : Pair s r) where
+    by-points : ruleOf σ κ (length s) ≡ quickOf σ κ (length s)
+    by-points = rule-is σ κ (length s) (turning (image s) (image r) (length s) (p .permuting))
+
+    pub rule-first : κ 0 ≡ 0 → (o : ℕ) → o ≡ σ 0 → o ≡ 0 → ruleOf σ κ (length s) ≡ oneVertex (negsuc 1) (negsuc 2)
+    rule-first q o e z = by-points ∙ pick-true (eqb (σ 0) 0 && eqb (κ 0) 0) _ _ (ap (λ (b : Bool). b && eqb (κ 0) 0) (eq-eqb (σ 0) 0 (sym e ∙ z)) ∙ eq-eqb (κ 0) 0 q)
+
+    not-first : ¬ (σ 0 ≡ 0) → (eqb (σ 0) 0 && eqb (κ 0) 0) ≡ false
+    not-first n = ap (λ (b : Bool). b && eqb (κ 0) 0) (ne-eqb (σ 0) 0 n)
+
+    pub rule-second : κ 0 ≡ 0 → (o x : ℕ) → o ≡ σ 0 → (o ≡ 0 → ⊥) → x ≡ κ o → x ≡ o → ruleOf σ κ (length s) ≡ oneVertex (negsuc 2) (negsuc 2)
+    rule-second q o x e n f g =
+        by-points ∙ pick-false (eqb (σ 0) 0 && eqb (κ 0) 0) _ _ (not-first (λ z. n (e ∙ z)))
+        ∙ pick-true (eqb (κ 0) 0 && eqb (κ (σ 0)) (σ 0)) _ _ (ap (λ (b : Bool). b && eqb (κ (σ 0)) (σ 0)) (eq-eqb (κ 0) 0 q) ∙ eq-eqb (κ (σ 0)) (σ 0) (ap κ (sym e) ∙ sym f ∙ g ∙ e))
+
+    -- none of the small groups
+    pub neither : (o x : ℕ) → o ≡ σ 0 → x ≡ κ o → (x ≡ o → ⊥) → (eqb (κ 0) 0 && eqb (κ (σ 0)) (σ 0)) ≡ false
+    neither o x e f n = and-false (eqb (κ 0) 0) (eqb (κ (σ 0)) (σ 0)) (ne-eqb (κ (σ 0)) (σ 0) (λ z. n (f ∙ ap κ e ∙ z ∙ sym e)))
+      where
+        and-false : (a b : Bool) → b ≡ false → (a && b) ≡ false
+        and-false true b q = q
+        and-false false b q = refl
+
+    pub moved-by-Q : (q : ℕ) → q ≡ κ 0 → (q ≡ 0 → ⊥) → (eqb (κ 0) 0 && eqb (κ (σ 0)) (σ 0)) ≡ false
+    moved-by-Q q e n = ap (λ (b : Bool). b && eqb (κ (σ 0)) (σ 0)) (ne-eqb (κ 0) 0 (λ z. n (e ∙ z)))
+
+    pub rule-large : (eqb (κ 0) 0 && eqb (κ (σ 0)) (σ 0)) ≡ false → (eqb (σ 0) 0 && eqb (κ 0) 0) ≡ false → ruleOf σ κ (length s) ≡ large
+    rule-large b a = by-points ∙ pick-false (eqb (σ 0) 0 && eqb (κ 0) 0) _ _ a ∙ pick-false (eqb (κ 0) 0 && eqb (κ (σ 0)) (σ 0)) _ _ b
+
+    pub first-no : (o : ℕ) → o ≡ σ 0 → (o ≡ 0 → ⊥) → (eqb (σ 0) 0 && eqb (κ 0) 0) ≡ false
+    first-no o e n = not-first (λ z. n (e ∙ z))
+
+    pub first-moved : (q : ℕ) → q ≡ κ 0 → (q ≡ 0 → ⊥) → (eqb (σ 0) 0 && eqb (κ 0) 0) ≡ false
+    first-moved q e n = and-false (eqb (σ 0) 0) (eqb (κ 0) 0) (ne-eqb (κ 0) 0 (λ z. n (e ∙ z)))
+      where
+        and-false : (a b : Bool) → b ≡ false → (a && b) ≡ false
+        and-false true b t = t
+        and-false false b t = refl
+
+-- an answer for what the rule gives
+pub answers : (g g' : Ruled) (a : Filled) (o y : List ℤ) → g ≡ g' → (a ≡ grownOf g' (length o)) → (y ≡ leftBy g' a o) → (a ≡ grownOf g (length o)) × (y ≡ leftBy g a o)
+answers g g' a o y e p q = (p ∙ ap (λ (x : Ruled). grownOf x (length o)) (sym e), q ∙ ap (λ (x : Ruled). leftBy x a o) (sym e))
+
+-- ---- a small symbol
+
+pub small-short : (x : ℤ) (o : List ℤ) → length o < 4 → (Refused (tooShort 4) ≡ grownOf (oneVertex x (negsuc 2)) (length o)) × (o ≡ leftBy (oneVertex x (negsuc 2)) (Refused (tooShort 4)) o)
+small-short x o h = (sym (pick-true (ltb (length o) 4) (Refused (tooShort 4)) (Made 1) (lt-ltb (length o) 4 h)), refl)
+
+pub small-made : (x : ℤ) (o y : List ℤ) → 4 ≤ length o → y ≡ (pos 0 ∷ pos 1 ∷ x ∷ negsuc 2 ∷ []) ++ drop 4 o → (Made 1 ≡ grownOf (oneVertex x (negsuc 2)) (length o)) × (y ≡ leftBy (oneVertex x (negsuc 2)) (Made 1) o)
+small-made x o y h e = (sym (pick-false (ltb (length o) 4) (Refused (tooShort 4)) (Made 1) (le-ltb (length o) 4 h)), e)
+
+pub four-stores : (o : List ℤ) (x : ℤ) → 4 ≤ length o → set (set (set (set o 0 (pos 0)) 1 (pos 1)) 2 x) 3 (negsuc 2) ≡ (pos 0 ∷ pos 1 ∷ x ∷ negsuc 2 ∷ []) ++ drop 4 o
+four-stores [] x h = absurd (omega arith)
+four-stores (a ∷ []) x h = absurd (omega arith)
+four-stores (a ∷ b ∷ []) x h = absurd (omega arith)
+four-stores (a ∷ b ∷ c ∷ []) x h = absurd (omega arith)
+four-stores (a ∷ b ∷ c ∷ d ∷ o) x h = refl

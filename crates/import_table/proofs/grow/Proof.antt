@@ -1,0 +1,61 @@
+-- `grow` looks where Q leads from point 0: if Q moves it, the group is neither of the small ones (`moved-by-Q`, `first-moved`) and its
+-- symbol is grown; if Q fixes it, `grow_fixed` looks further. Assumes nothing.
+use mathlib.Core.Path.{_≡_, refl, sym, _∙_, ap}
+use native.Mathlib.Omega.{arith}
+use Rattle.import_table.proofs.Answers.{answers, rule-large, moved-by-Q, first-moved}
+use borrow.Author.Needs.{needs}
+use Rattle.import_table.proofs.grow.Statement.{statement}
+use Rattle.import_table.proofs.grow.Tie as tie
+
+turned-requires : tie.Need-turned-requires
+turned-requires c κs = search needs
+
+grow-fixed-requires : tie.Need-grow-fixed-requires
+grow-fixed-requires c κs = search needs
+
+same-length : tie.Need-same-length
+same-length c = search needs
+
+same-length-2 : tie.Need-same-length-2
+same-length-2 c = search needs
+
+returns : tie.Need-returns
+returns c = search needs
+
+grow-large-requires : tie.Need-grow-large-requires
+grow-large-requires c κs =
+    let s = c .before .before .before .before .before .before .before in
+    let S = s .args .s .now in
+    let R = s .args .r .now in
+    let O = s .args .out .now in
+    let z = s .pre in
+    (z .0, z .1, moved-by-Q S R (z .0) _ (c .before .before .before .turned .ensures) (c .before .before .if1 .left))
+
+same-length-3 : tie.Need-same-length-3
+same-length-3 c = search needs
+
+same-length-4 : tie.Need-same-length-4
+same-length-4 c = search needs
+
+returns-2 : tie.Need-returns-2
+returns-2 c =
+    let s = c .before .before .before .before .before .before .before .before .before .before .before in
+    let S = s .args .s .now in
+    let R = s .args .r .now in
+    let O = s .args .out .now in
+    let z = s .pre in
+    answers _ _ _ O _ (rule-large S R (z .0) (moved-by-Q S R (z .0) _ (c .before .before .before .before .before .before .before .turned .ensures) (c .before .before .before .before .before .before .if1 .left)) (first-moved S R (z .0) _ (c .before .before .before .before .before .before .before .turned .ensures) (c .before .before .before .before .before .before .if1 .left))) (c .before .before .before .grow-large .ensures .0) (c .before .before .before .grow-large .ensures .1)
+
+pub grow-spec : {M : Type 1} → statement M
+grow-spec =
+    tie.close
+    (tie.spec
+    turned-requires
+    grow-fixed-requires
+    same-length
+    same-length-2
+    returns
+    grow-large-requires
+    same-length-3
+    same-length-4
+    returns-2)

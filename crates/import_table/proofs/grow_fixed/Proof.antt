@@ -1,0 +1,85 @@
+-- `grow_fixed`, where Q fixes point 0, has three cases: S fixes it too, pairings -2 -3 (`rule-first`); Q also fixes its S image, pairings
+-- -3 -3 (`rule-second`); any other group is grown (`rule-large`). Assumes nothing.
+use mathlib.Core.Path.{_≡_, refl, sym, _∙_, ap}
+use native.Mathlib.Omega.{arith}
+use Rattle.import_table.proofs.Answers.{answers, rule-first, rule-second, rule-large, neither, first-no}
+use borrow.Author.Needs.{needs}
+use Rattle.import_table.proofs.grow_fixed.Statement.{statement}
+use Rattle.import_table.proofs.grow_fixed.Tie as tie
+
+image-requires : tie.Need-image-requires
+image-requires c κs = search needs
+
+grow-small-requires : tie.Need-grow-small-requires
+grow-small-requires c κs = search needs
+
+same-length : tie.Need-same-length
+same-length c = search needs
+
+returns : tie.Need-returns
+returns c =
+    let s = c .before .before .before .before .before .before .before .before in
+    let S = s .args .s .now in
+    let R = s .args .r .now in
+    let O = s .args .out .now in
+    let z = s .pre in
+    answers _ _ _ O _ (rule-first S R (z .0) (z .2) _ (c .before .before .before .before .image .ensures) (c .before .before .before .if1 .taken)) (c .before .grow-small .ensures .0) (c .before .grow-small .ensures .1)
+
+turned-requires : tie.Need-turned-requires
+turned-requires c κs = search needs
+
+grow-small-requires-2 : tie.Need-grow-small-requires-2
+grow-small-requires-2 c κs = search needs
+
+same-length-2 : tie.Need-same-length-2
+same-length-2 c = search needs
+
+returns-2 : tie.Need-returns-2
+returns-2 c =
+    let s = c .before .before .before .before .before .before .before .before .before .before in
+    let S = s .args .s .now in
+    let R = s .args .r .now in
+    let O = s .args .out .now in
+    let z = s .pre in
+    answers _ _ _ O _ (rule-second S R (z .0) (z .2) _ _ (c .before .before .before .before .before .before .image .ensures) (c .before .before .before .before .before .if1 .left) (c .before .before .before .before .turned .ensures) (c .before .before .before .if2 .taken)) (c .before .grow-small2 .ensures .0) (c .before .grow-small2 .ensures .1)
+
+grow-large-requires : tie.Need-grow-large-requires
+grow-large-requires c κs =
+    let s = c .before .before .before .before .before .before .before .before .before in
+    let S = s .args .s .now in
+    let R = s .args .r .now in
+    let O = s .args .out .now in
+    let z = s .pre in
+    (z .0, z .1, neither S R (z .0) _ _ (c .before .before .before .before .before .image .ensures) (c .before .before .before .turned .ensures) (c .before .before .if2 .left))
+
+same-length-3 : tie.Need-same-length-3
+same-length-3 c = search needs
+
+same-length-4 : tie.Need-same-length-4
+same-length-4 c = search needs
+
+returns-3 : tie.Need-returns-3
+returns-3 c =
+    let s = c .before .before .before .before .before .before .before .before .before .before .before .before .before in
+    let S = s .args .s .now in
+    let R = s .args .r .now in
+    let O = s .args .out .now in
+    let z = s .pre in
+    answers _ _ _ O _ (rule-large S R (z .0) (neither S R (z .0) _ _ (c .before .before .before .before .before .before .before .before .before .image .ensures) (c .before .before .before .before .before .before .before .turned .ensures) (c .before .before .before .before .before .before .if2 .left)) (first-no S R (z .0) _ (c .before .before .before .before .before .before .before .before .before .image .ensures) (c .before .before .before .before .before .before .before .before .if1 .left))) (c .before .before .before .grow-large .ensures .0) (c .before .before .before .grow-large .ensures .1)
+
+pub grow-fixed-spec : {M : Type 1} → statement M
+grow-fixed-spec =
+    tie.close
+    (tie.spec
+    image-requires
+    grow-small-requires
+    same-length
+    returns
+    turned-requires
+    grow-small-requires-2
+    same-length-2
+    returns-2
+    grow-large-requires
+    same-length-3
+    same-length-4
+    returns-3)

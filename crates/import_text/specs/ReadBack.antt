@@ -1,0 +1,50 @@
+-- WHAT `import` PRINTS IS READ AS THE SYMBOL THAT IT MADE.
+--
+--   symbolFormat           the form of a symbol as text, which the listing program reads: v from 1 to 1,023, and then 3v + 1 numbers
+--   ReadBack v t bytes     read by the rule of 19, `bytes` is no refusal: it is short enough, its numbers are v and then the table t, and all of
+--                          them are handed on to any space that has room for them
+--   LinesReadBack          the lines of v and t are, where v is in range, the numbers fit 64 signed bits and the lines are short enough
+--   SymbolReadBack         the lines of a symbol always are
+--   Printed s r v bytes    for the tables s and r a symbol of v vertices is made, as `import` promises, and `bytes` is read back as it
+--   PrintMeans a bytes     that holds of `bytes` wherever what is asked makes a symbol
+--
+-- proofs/ReadBack.antt proves the two laws, `lines-read-back` and `symbol-read-back`; `answer` promises the last of the bytes that it writes.
+use mathlib.Core.Path.{_≡_}
+use mathlib.Core.List.{List, _∷_}
+use Prim.Native.Nat.{ℕ, _+_, _*_, _≤_, _<_}
+use lib.IntN.{ℤ}
+use lib.ListN.{length}
+use Rattle.refusal.specs.declared.Filled.the-variants as filled
+use Rattle.matrix.specs.Matrix.{nth}
+use Rattle.text.specs.Piece.{pieces, numbers}
+use Rattle.text.specs.Laws.{Inside64}
+use Rattle.text.specs.Reading.{textMost, readingOf}
+use Rattle.text.specs.declared.Format.{Format}
+use Rattle.text.specs.declared.Reading.the-variants as reading
+use Rattle.text_line.specs.Line.{natural}
+use Rattle.symbol.specs.Symbol.{IsSymbol}
+use Rattle.import_table.specs.Answer.{tableIn}
+use Rattle.permutations.specs.Import.{ruleFor, Symbolised}
+use Rattle.import_text.specs.Answer.{Asked, tables, symbolLines, madeOf}
+
+abbrev pub symbolFormat : Format
+symbolFormat = record { most = 1023; each = 3; more = 2 }
+
+pub record ReadBack (v : ℕ) (t : List ℤ) (bytes : List ℕ) : Type 0 where
+  pub short : length bytes ≤ textMost
+  pub says : numbers (pieces bytes) ≡ natural v ∷ t
+  pub handed : (room : ℕ) → 3 * v + 2 ≤ room → readingOf symbolFormat bytes room ≡ reading.Numbers (3 * v + 2)
+
+abbrev pub LinesReadBack : Type 0
+LinesReadBack = (v : ℕ) (t : List ℤ) → 1 ≤ v → v ≤ 1023 → length t ≡ 3 * v + 1 → ((i : ℕ) → i < length t → Inside64 (nth t i))
+    → length (symbolLines v t) ≤ textMost → ReadBack v t (symbolLines v t)
+
+abbrev pub SymbolReadBack : Type 0
+SymbolReadBack = (v : ℕ) (t : List ℤ) → IsSymbol v t → ReadBack v t (symbolLines v t)
+
+pub record Printed (s r : List ℕ) (v : ℕ) (bytes : List ℕ) : Type 0 where
+  pub symbol : Symbolised s r v (tableIn (ruleFor s r))
+  pub read-back : ReadBack v (tableIn (ruleFor s r)) bytes
+
+abbrev pub PrintMeans : Asked → (bytes : List ℕ) → Type 0
+PrintMeans a bytes = (s r : List ℕ) (v : ℕ) → a ≡ tables s r → madeOf s r ≡ filled.Made v → Printed s r v bytes

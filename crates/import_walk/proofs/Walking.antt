@@ -1,0 +1,488 @@
+-- The walk in the work space follows the quick way.
+--
+--   HeldIn n w l             HELD is not 0 exactly at the points of the sides l
+--   Walking s r start w d k  the tables hold the sides done and to do, HELD their points, and LABEL nothing
+--
+-- In order: what is read where nothing was written (`done-same`, `todo-same`); the first side to do (`walk-top`); a side moved on
+-- (`walk-move`); a side split (`walk-split`); a side that can't be split (`walk-over`); the end (`walk-end`).
+-- Assumes nothing.
+use mathlib.Core.Path.{_≡_, refl, sym, _∙_, ap}
+use mathlib.Core.Logic.{_⊎_, inl, inr}
+use mathlib.Core.Bool.{Bool, true, false, not, _||_}
+use mathlib.Core.List.{List, [], _∷_, _++_}
+use Prim.Native.Nat.{ℕ, zero, suc, _+_, _-_, _*_, _≤_, _<_}
+use native.Mathlib.Omega.{arith}
+use native.Mathlib.Decide.{ℕ-discrete, decLt}
+use lib.Dec.{eqb, leb}
+use lib.ListN.{length, getD, set, length-set, length-append}
+use lib.Seq.{getD-set-same, getD-set-other}
+use lib.IntN.{ℤ, pos, _-ℤ_, _+ℤ_}
+use borrow.Author.Tests.{eq-eqb, ne-eqb, eqb-true}
+use Rattle.matrix.specs.Euclid.{pick}
+use Rattle.symbol.proofs.Choice.{either, clash, and-left, and-right}
+use Rattle.import_rule.specs.Fixed.{image, byQ, Pair}
+use Rattle.import_rule.specs.Side.{Vertex, vertex, minusInfinity, mediant, fits, limit}
+use Rattle.import_rule.specs.Placed.{Placed, placed, pts, finished, refused, lowerAt, upperAt, grow}
+use Rattle.import_walk.specs.Work.{LABEL, HELD, DONE, TODO, cell, numberAt, endAt, pointAt, lastIn, doneIn, todoIn, cellSet, leftNum, leftDen, sumNum, sumDen, fitsIn, topPoint, movedIn, heldSet, closedIn, splitBy, splitIn, Turned, moved, over, parted, Top}
+use Rattle.import_rule.proofs.Member.{In, in-left, in-right, in-is}
+use Rattle.import_rule.proofs.Lead.{Turning, turning}
+use Rattle.import_rule.proofs.Split.{Closed, in-pts, Pt, pt-of, split-from, beside-in, beside-other, Beside, t1, t2}
+use Rattle.import_rule.proofs.Kept.{Inv, has-s, has-l, has-r, stays, not-old}
+use Rattle.import_rule.proofs.Going.{Going, going-size, going-move, going-split, going-over, going-end}
+use Rattle.import_walk.proofs.Cells.{number-same, cell-length, cell-other, cell-num, cell-den, cell-pt}
+use Rattle.import_walk.proofs.Turn.{held-length, within-tells}
+use Rattle.import_walk.proofs.Decode.{sum-code, last-code, fits-in}
+
+-- ---- what is read where nothing was written
+
+-- w' is as w from a up to b
+pub record Same (a b : ℕ) (w w' : List ℕ) : Type 0 where
+  pub each : (j : ℕ) → a ≤ j → j < b → getD w' j 0 ≡ getD w j 0
+
+pub vertex-eq : {a a' : ℤ} {b b' : ℕ} → a ≡ a' → b ≡ b' → vertex a b ≡ vertex a' b'
+vertex-eq p q = λ i. vertex (p i) (q i)
+
+pub end-same : (a b at : ℕ) (w w' : List ℕ) → Same a b w w' → a ≤ at → at + 5 ≤ b → endAt w' at ≡ endAt w at
+end-same a b at w w' s h k =
+    vertex-eq (ap (λ (x : ℕ). pos x -ℤ pos limit) (number-same w w' at (s .each at h (omega arith)) (s .each (at + 1) (omega arith) (omega arith))))
+    (number-same w w' (at + 2) (s .each (at + 2) (omega arith) (omega arith)) (s .each (at + 2 + 1) (omega arith) (omega arith)))
+
+pub point-same : (a b at : ℕ) (w w' : List ℕ) → Same a b w w' → a ≤ at → at + 5 ≤ b → pointAt w' at ≡ pointAt w at
+point-same a b at w w' s h k = s .each (at + 4) (omega arith) (omega arith)
+
+last-same : (w w' : List ℕ) (d e : ℕ) → d ≤ e → Same DONE (cell DONE e) w w' → lastIn w' d ≡ lastIn w d
+last-same w w' zero e h s = refl
+last-same w w' (suc d) e h s = end-same DONE (cell DONE e) (cell DONE d) w w' s (omega arith) (omega arith)
+
+pub placed-eq : {x x' y y' : Vertex} {m m' : ℕ} → x ≡ x' → y ≡ y' → m ≡ m' → placed x y m ≡ placed x' y' m'
+placed-eq p q r = λ i. placed (p i) (q i) (r i)
+
+done-same : (w w' : List ℕ) (d e : ℕ) → d ≤ e → Same DONE (cell DONE e) w w' → doneIn w' d ≡ doneIn w d
+done-same w w' zero e h s = refl
+done-same w w' (suc d) e h s =
+    let a = done-same w w' d e (omega arith) s in
+    let b = placed-eq (last-same w w' d e (omega arith) s) (end-same DONE (cell DONE e) (cell DONE d) w w' s (omega arith) (omega arith)) (point-same DONE (cell DONE e) (cell DONE d) w w' s (omega arith) (omega arith)) in
+    λ i. a i ++ (b i ∷ [])
+
+todo-same : (w w' : List ℕ) (k e : ℕ) (x : Vertex) → k ≤ e → Same TODO (cell TODO e) w w' → todoIn x w' k ≡ todoIn x w k
+todo-same w w' zero e x h s = refl
+todo-same w w' (suc k) e x h s =
+    let p = end-same TODO (cell TODO e) (cell TODO k) w w' s (omega arith) (omega arith) in
+    let q = point-same TODO (cell TODO e) (cell TODO k) w w' s (omega arith) (omega arith) in
+    let a = placed-eq {x = x} refl p q in
+    let b = ap (λ (y : Vertex). todoIn y w' k) p ∙ todo-same w w' k e (endAt w (cell TODO k)) (omega arith) s in
+    λ i. a i ∷ b i
+
+pub length-done : (w : List ℕ) (d : ℕ) → length (doneIn w d) ≡ d
+length-done w zero = refl
+length-done w (suc d) = length-append (doneIn w d) (placed (lastIn w d) (endAt w (cell DONE d)) (pointAt w (cell DONE d)) ∷ []) ∙ omega (arith, length-done w d)
+
+pub length-todo : (x : Vertex) (w : List ℕ) (k : ℕ) → length (todoIn x w k) ≡ k
+length-todo x w zero = refl
+length-todo x w (suc k) = ap suc (length-todo (endAt w (cell TODO k)) w k)
+
+-- ---- HELD
+
+pub record HeldIn (n : ℕ) (w : List ℕ) (l : List Placed) : Type 0 where
+  pub yes : (x : ℕ) → In x (pts l) → ¬ (getD w (HELD + x) 0 ≡ 0)
+  pub no : (x : ℕ) → x < n → ¬ (getD w (HELD + x) 0 ≡ 0) → In x (pts l)
+
+or-true : (a b : Bool) → (a || b) ≡ true → (a ≡ true) ⊎ (b ≡ true)
+or-true true b e = inl refl
+or-true false b e = inr e
+
+-- what the code asks is what the definition asks
+held-closed : (σ κ : ℕ → ℕ) (n : ℕ) (w : List ℕ) (l : List Placed) (m : ℕ) → HeldIn n w l → σ m < n → closedIn σ κ w m ≡ true → Closed σ κ (pts l) m
+held-closed σ κ n w l m h low e = elim (or-true (eqb (κ m) m) (not (eqb (getD w (HELD + σ m) 0) 0)) e) [
+  | inl a ↦ inl (eqb-true (κ m) m a)
+  | inr a ↦ inr (h .no (σ m) low (λ z. clash a (ap not (eq-eqb (getD w (HELD + σ m) 0) 0 z))))
+]
+
+held-open : (σ κ : ℕ → ℕ) (n : ℕ) (w : List ℕ) (l : List Placed) (m : ℕ) → HeldIn n w l → closedIn σ κ w m ≡ false → ¬ (Closed σ κ (pts l) m)
+held-open σ κ n w l m h e (inl o) = clash (ap (λ (b : Bool). b || not (eqb (getD w (HELD + σ m) 0) 0)) (eq-eqb (κ m) m o)) e
+held-open σ κ n w l m h e (inr i) = clash (or-right (eqb (κ m) m) (not (eqb (getD w (HELD + σ m) 0) 0)) (ap not (ne-eqb (getD w (HELD + σ m) 0) 0 (h .yes (σ m) i)))) e
+  where
+    or-right : (a b : Bool) → b ≡ true → (a || b) ≡ true
+    or-right true b q = refl
+    or-right false b q = q
+
+held-same : (n : ℕ) (w w' : List ℕ) (l : List Placed) → n ≤ 4096 → Same HELD DONE w w' → HeldIn n w l → ((x : ℕ) → In x (pts l) → x < n) → HeldIn n w' l
+held-same n w w' l top s h low = record {
+  yes = λ x i z. let k = low x i in h .yes x i (sym (s .each (HELD + x) (omega arith) (omega arith)) ∙ z);
+  no = λ x k z. h .no x k (λ q. z (s .each (HELD + x) (omega arith) (omega arith) ∙ q));
+}
+
+-- after a split: m is gone, a and b are there
+module _ (σ κ : ℕ → ℕ) (n : ℕ) (T : Turning σ κ n) (top : n ≤ 4096) (C before : List Placed) (s : Placed) (after : List Placed) (inv : Inv σ κ n C (before ++ (s ∷ after)))
+    (none : ¬ (Closed σ κ (pts (before ++ (s ∷ after))) (s .pt))) (w w' : List ℕ) (long : 12288 ≤ length w) (held : HeldIn n w (before ++ (s ∷ after)))
+    (is : (x : ℕ) → x < n → getD w' (HELD + x) 0 ≡ getD (heldSet w 0 (s .pt) (σ (κ (s .pt))) (σ (κ (κ (s .pt))))) (HELD + x) 0) where
+  abbrev m : ℕ
+  m = s .pt
+
+  abbrev a : ℕ
+  a = σ (κ (s .pt))
+
+  abbrev b : ℕ
+  b = σ (κ (κ (s .pt)))
+
+  abbrev old : List Placed
+  old = before ++ (s ∷ after)
+
+  abbrev new : List Placed
+  new = before ++ (lowerAt σ κ s ∷ upperAt σ κ s ∷ after)
+
+  m-low : m < n
+  m-low = inv .low s (has-s σ κ n T C before s after inv none)
+
+  a-low : a < n
+  a-low = T .σ-low _ (T .κ-low _ m-low)
+
+  b-low : b < n
+  b-low = T .σ-low _ (T .κ-low _ (T .κ-low _ m-low))
+
+  at-b : (x : ℕ) → x ≡ b → getD (heldSet w 0 m a b) (HELD + x) 0 ≡ 1
+  at-b x e =
+      ap (λ (y : ℕ). getD (heldSet w 0 m a b) (HELD + y) 0) e
+      ∙ getD-set-same (set (set w (HELD + m) 0) (HELD + a) 1) (HELD + b) 1 0 (rw (length-set (set w (HELD + m) 0) (HELD + a) 1, length-set w (HELD + m) 0) (omega (arith, b-low)))
+
+  at-a : (x : ℕ) → ¬ (x ≡ b) → x ≡ a → getD (heldSet w 0 m a b) (HELD + x) 0 ≡ 1
+  at-a x nb e =
+      getD-set-other (set (set w (HELD + m) 0) (HELD + a) 1) (HELD + b) (HELD + x) 1 0 (λ q. nb (omega arith))
+      ∙ ap (λ (y : ℕ). getD (set (set w (HELD + m) 0) (HELD + a) 1) (HELD + y) 0) e
+      ∙ getD-set-same (set w (HELD + m) 0) (HELD + a) 1 0 (rw (length-set w (HELD + m) 0) (omega (arith, a-low)))
+
+  at-m : (x : ℕ) → ¬ (x ≡ b) → ¬ (x ≡ a) → x ≡ m → getD (heldSet w 0 m a b) (HELD + x) 0 ≡ 0
+  at-m x nb na e =
+      getD-set-other (set (set w (HELD + m) 0) (HELD + a) 1) (HELD + b) (HELD + x) 1 0 (λ q. nb (omega arith))
+      ∙ getD-set-other (set w (HELD + m) 0) (HELD + a) (HELD + x) 1 0 (λ q. na (omega arith))
+      ∙ ap (λ (y : ℕ). getD (set w (HELD + m) 0) (HELD + y) 0) e
+      ∙ getD-set-same w (HELD + m) 0 0 (omega (arith, m-low))
+
+  at-other : (x : ℕ) → ¬ (x ≡ b) → ¬ (x ≡ a) → ¬ (x ≡ m) → getD (heldSet w 0 m a b) (HELD + x) 0 ≡ getD w (HELD + x) 0
+  at-other x nb na nm =
+      getD-set-other (set (set w (HELD + m) 0) (HELD + a) 1) (HELD + b) (HELD + x) 1 0 (λ q. nb (omega arith))
+      ∙ getD-set-other (set w (HELD + m) 0) (HELD + a) (HELD + x) 1 0 (λ q. na (omega arith))
+      ∙ getD-set-other w (HELD + m) (HELD + x) 0 0 (λ q. nm (omega arith))
+
+  one-not-zero : (x y : ℕ) → x ≡ y → y ≡ 1 → ¬ (x ≡ 0)
+  one-not-zero x y e f z = omega arith
+
+  in-a : In a (pts new)
+  in-a = in-pts (lowerAt σ κ s) new (has-l σ κ n T C before s after inv none)
+
+  in-b : In b (pts new)
+  in-b = in-pts (upperAt σ κ s) new (has-r σ κ n T C before s after inv none)
+
+  in-m : In m (pts old)
+  in-m = in-pts s old (has-s σ κ n T C before s after inv none)
+
+  -- a new side's point is new, or an old one's other than the split one's
+  was : (x : ℕ) → In x (pts new) → (x ≡ a) ⊎ (x ≡ b) ⊎ (In x (pts old) × ¬ (x ≡ m))
+  was x i = let k = pt-of x new i in go (k .side) (k .pt) (split-from s (lowerAt σ κ s) (upperAt σ κ s) after (k .side) before (k .among))
+    where
+      go : (v : Placed) → x ≡ v .pt → (v ≡ lowerAt σ κ s) ⊎ (v ≡ upperAt σ κ s) ⊎ Beside s (lowerAt σ κ s) (upperAt σ κ s) after v before → (x ≡ a) ⊎ (x ≡ b) ⊎ (In x (pts old) × ¬ (x ≡ m))
+      go v p (inl e) = inl (p ∙ ap (λ (y : Placed). y .pt) e)
+      go v p (inr (inl e)) = inr (inl (p ∙ ap (λ (y : Placed). y .pt) e))
+      go v p (inr (inr h)) = inr (inr (in-is _ _ (pts old) (sym p) (in-pts v old (beside-in s (lowerAt σ κ s) (upperAt σ κ s) after v before h)), (λ e. beside-other s (lowerAt σ κ s) (upperAt σ κ s) after v before (inv .apart) h (sym p ∙ e))))
+
+  pub held-split : HeldIn n w' new
+  held-split = record { yes = yes'; no = no' }
+    where
+      yes' : (x : ℕ) → In x (pts new) → ¬ (getD w' (HELD + x) 0 ≡ 0)
+      yes' x i = go (ℕ-discrete x b) (ℕ-discrete x a) (was x i)
+        where
+          go : Dec (x ≡ b) → Dec (x ≡ a) → (x ≡ a) ⊎ (x ≡ b) ⊎ (In x (pts old) × ¬ (x ≡ m)) → ¬ (getD w' (HELD + x) 0 ≡ 0)
+          go (yes e) d q = one-not-zero _ _ (is x (rw e b-low)) (at-b x e)
+          go (no e) (yes d) q = one-not-zero _ _ (is x (rw d a-low)) (at-a x e d)
+          go (no e) (no d) (inl q) = absurd (d q)
+          go (no e) (no d) (inr (inl q)) = absurd (e q)
+          go (no e) (no d) (inr (inr q)) = λ z. held .yes x (q .0) (sym (at-other x e d (q .1)) ∙ sym (is x (low-old x (q .0))) ∙ z)
+            where
+              low-old : (x : ℕ) → In x (pts old) → x < n
+              low-old x i = let k = pt-of x old i in rw (k .pt) (inv .low (k .side) (k .among))
+
+      no' : (x : ℕ) → x < n → ¬ (getD w' (HELD + x) 0 ≡ 0) → In x (pts new)
+      no' x low z = go (ℕ-discrete x b) (ℕ-discrete x a) (ℕ-discrete x m)
+        where
+          go : Dec (x ≡ b) → Dec (x ≡ a) → Dec (x ≡ m) → In x (pts new)
+          go (yes e) d f = rw e in-b
+          go (no e) (yes d) f = rw d in-a
+          go (no e) (no d) (yes f) = absurd (z (is x low ∙ at-m x e d f))
+          go (no e) (no d) (no f) = stays σ κ n T C before s after inv none x (held .no x low (λ q. z (is x low ∙ at-other x e d f ∙ q))) f
+
+-- ---- the walk
+
+pub record Walking (s r : List ℕ) (start : List Placed) (w : List ℕ) (d k : ℕ) : Type 0 where
+  pub pair : Pair s r
+  pub long : 32768 ≤ length w
+  pub going : Going (image s) (byQ (image s) (image r)) (length s) start (doneIn w d) (todoIn (lastIn w d) w k)
+  pub held : HeldIn (length s) w (doneIn w d ++ todoIn (lastIn w d) w k)
+  pub labels : (x : ℕ) → x < 4096 → getD w (LABEL + x) 0 ≡ 0
+
+pred : (k : ℕ) → suc k - 1 ≡ k
+pred k = omega arith
+
+more : (k : ℕ) → k + 1 ≡ suc k
+more k = omega arith
+
+snoc : (l : List Placed) (s : Placed) (r : List Placed) → (l ++ (s ∷ [])) ++ r ≡ l ++ (s ∷ r)
+snoc [] s r = refl
+snoc (x ∷ l) s r = ap (λ (y : List Placed). x ∷ y) (snoc l s r)
+
+module _ (s r : List ℕ) (start : List Placed) where
+  abbrev σ : ℕ → ℕ
+  σ = image s
+
+  abbrev κ : ℕ → ℕ
+  κ = byQ (image s) (image r)
+
+  abbrev n : ℕ
+  n = length s
+
+  pub turn-of : Pair s r → Turning σ κ n
+  turn-of p = turning (image s) (image r) n (p .permuting)
+
+  pub walk-size : (w : List ℕ) (d k : ℕ) → Walking s r start w d k → d + k ≤ 1024
+  walk-size w d k g =
+      let a = going-size σ κ n start (turn-of (g .pair)) (doneIn w d) (todoIn (lastIn w d) w k) (g .going) in
+      omega (arith, length-append (doneIn w d) (todoIn (lastIn w d) w k), length-done w d, length-todo (lastIn w d) w k, g .pair .most)
+
+  points-low : (w : List ℕ) (d k : ℕ) → Walking s r start w d k → (x : ℕ) → In x (pts (doneIn w d ++ todoIn (lastIn w d) w k)) → x < n
+  points-low w d k g x i = let j = pt-of x (doneIn w d ++ todoIn (lastIn w d) w k) i in rw (j .pt) (g .going .inv .low (j .side) (j .among))
+
+  -- the first side to do
+  abbrev first : List ℕ → (d k : ℕ) → Placed
+  first w d k = placed (lastIn w d) (endAt w (cell TODO k)) (pointAt w (cell TODO k))
+
+  abbrev rest : List ℕ → (k : ℕ) → List Placed
+  rest w k = todoIn (endAt w (cell TODO k)) w k
+
+  first-low : (w : List ℕ) (d k : ℕ) → Walking s r start w d (suc k) → pointAt w (cell TODO k) < n
+  first-low w d k g = g .going .inv .low (first w d k) (in-right (first w d k) (doneIn w d) (first w d k ∷ rest w k) (inl refl))
+
+  pub walk-top : (w : List ℕ) (d k : ℕ) → Walking s r start w d k → 1 ≤ k → Top s r w d k
+  walk-top w d zero g h = absurd (omega arith)
+  walk-top w d (suc k) g h =
+      let z = walk-size w d (suc k) g in
+      record { pair = g .pair; long = g .long; done = omega arith; some = h; todo = omega arith; point = rw (pred k) (first-low w d k g) }
+
+  -- ---- a side moved on
+
+  module _ (w : List ℕ) (d k : ℕ) (g : Walking s r start w d (suc k)) where
+    abbrev at : ℕ
+    at = cell DONE d
+
+    abbrev w' : List ℕ
+    w' = cellSet w (cell DONE d) (numberAt w (cell TODO k)) (numberAt w (cell TODO k + 2)) (pointAt w (cell TODO k))
+
+    size : d + suc k ≤ 1024
+    size = walk-size w d (suc k) g
+
+    room : at + 5 ≤ length w
+    room = omega (arith, size, g .long)
+
+    same : (a b : ℕ) → (b ≤ at) ⊎ (at + 5 ≤ a) → Same a b w w'
+    same a b o = record { each = λ j x y. cell-other w at (numberAt w (cell TODO k)) (numberAt w (cell TODO k + 2)) (pointAt w (cell TODO k)) j (side j x y o) }
+      where
+        side : (j : ℕ) → a ≤ j → j < b → (b ≤ at) ⊎ (at + 5 ≤ a) → (j < at) ⊎ (at + 5 ≤ j)
+        side j x y (inl h) = inl (omega arith)
+        side j x y (inr h) = inr (omega arith)
+
+    end-is : endAt w' at ≡ endAt w (cell TODO k)
+    end-is = vertex-eq
+        (ap (λ (x : ℕ). pos x -ℤ pos limit) (cell-num w at (numberAt w (cell TODO k)) (numberAt w (cell TODO k + 2)) (pointAt w (cell TODO k)) room))
+        (cell-den w at (numberAt w (cell TODO k)) (numberAt w (cell TODO k + 2)) (pointAt w (cell TODO k)) room)
+
+    done-is : doneIn w' (suc d) ≡ doneIn w d ++ (first w d k ∷ [])
+    done-is =
+        let a = done-same w w' d d (omega arith) (same DONE (cell DONE d) (inl (omega arith))) in
+        let b = placed-eq (last-same w w' d d (omega arith) (same DONE (cell DONE d) (inl (omega arith)))) end-is (cell-pt w at (numberAt w (cell TODO k)) (numberAt w (cell TODO k + 2)) (pointAt w (cell TODO k)) room) in
+        λ i. a i ++ (b i ∷ [])
+
+    todo-is : todoIn (lastIn w' (suc d)) w' k ≡ rest w k
+    todo-is = ap (λ (x : Vertex). todoIn x w' k) end-is ∙ todo-same w w' k k (endAt w (cell TODO k)) (omega arith) (same TODO (cell TODO k) (inr (omega (arith, size))))
+
+    both-is : doneIn w' (suc d) ++ todoIn (lastIn w' (suc d)) w' k ≡ doneIn w d ++ (first w d k ∷ rest w k)
+    both-is = (λ i. done-is i ++ todo-is i) ∙ snoc (doneIn w d) (first w d k) (rest w k)
+
+    pub walk-move : closedIn σ κ w (pointAt w (cell TODO k)) ≡ true → Walking s r start w' (suc d) k
+    walk-move e =
+        let T = turn-of (g .pair) in
+        let low = T .σ-low _ (first-low w d k g) in
+        let c = held-closed σ κ n w (doneIn w d ++ (first w d k ∷ rest w k)) (pointAt w (cell TODO k)) (g .held) low e in
+        record {
+          pair = g .pair;
+          long = rw (cell-length w at (numberAt w (cell TODO k)) (numberAt w (cell TODO k + 2)) (pointAt w (cell TODO k))) (g .long);
+          going = rw (done-is, todo-is) (going-move σ κ n start T (doneIn w d) (first w d k) (rest w k) (g .going) c);
+          held = rw both-is (held-same n w w' (doneIn w d ++ (first w d k ∷ rest w k)) (omega (arith, g .pair .most)) (same HELD DONE (inl (omega arith))) (g .held) (points-low w d (suc k) g));
+          labels = λ x h. same LABEL HELD (inl (omega arith)) .each (LABEL + x) (omega arith) (omega arith) ∙ g .labels x h;
+        }
+
+  -- ---- a side split
+
+  module _ (w : List ℕ) (d k : ℕ) (g : Walking s r start w d (suc k)) (e : closedIn σ κ w (pointAt w (cell TODO k)) ≡ false) where
+    abbrev pm : ℕ
+    pm = pointAt w (cell TODO k)
+
+    abbrev pa : ℕ
+    pa = σ (κ (pointAt w (cell TODO k)))
+
+    abbrev pb : ℕ
+    pb = σ (κ (κ (pointAt w (cell TODO k))))
+
+    abbrev num : ℕ
+    num = leftNum w d + numberAt w (cell TODO k)
+
+    abbrev den : ℕ
+    den = leftDen w d + numberAt w (cell TODO k + 2)
+
+    abbrev w1 : List ℕ
+    w1 = heldSet w 0 pm pa pb
+
+    abbrev w2 : List ℕ
+    w2 = set (heldSet w 0 pm pa pb) (cell TODO k + 4) pb
+
+    abbrev w3 : List ℕ
+    w3 = cellSet (set (heldSet w 0 pm pa pb) (cell TODO k + 4) pb) (cell TODO (suc k)) (num - 1000000000) den pa
+
+    sized : d + suc k ≤ 1024
+    sized = walk-size w d (suc k) g
+
+    none : ¬ (Closed σ κ (pts (doneIn w d ++ (first w d k ∷ rest w k))) pm)
+    none = held-open σ κ n w (doneIn w d ++ (first w d k ∷ rest w k)) pm (g .held) e
+
+    pub walk-over : fits (mediant (lastIn w d) (endAt w (cell TODO k))) ≡ false → grow σ κ n start ≡ refused d
+    walk-over f = going-over σ κ n start (turn-of (g .pair)) (doneIn w d) (first w d k) (rest w k) (g .going) none f ∙ ap refused (length-done w d)
+
+    lows : (pm < 4096) × (pa < 4096) × (pb < 4096)
+    lows =
+        let T = turn-of (g .pair) in
+        let x = first-low w d k g in
+        let y = T .σ-low _ (T .κ-low _ x) in
+        let z = T .σ-low _ (T .κ-low _ (T .κ-low _ x)) in
+        let t = g .pair .most in
+        (omega arith, omega arith, omega arith)
+
+    long1 : length w1 ≡ length w
+    long1 = held-length w 0 pm pa pb
+
+    long2 : length w2 ≡ length w
+    long2 = length-set (heldSet w 0 pm pa pb) (cell TODO k + 4) pb ∙ long1
+
+    -- outside HELD nothing changed but the point and the new cell
+    read1 : (j : ℕ) → (j < HELD) ⊎ (DONE ≤ j) → getD w1 j 0 ≡ getD w j 0
+    read1 j o =
+        let l = lows in
+        getD-set-other (set (set w (HELD + pm) 0) (HELD + pa) 1) (HELD + pb) j 1 0 (away pb (l .2))
+        ∙ getD-set-other (set w (HELD + pm) 0) (HELD + pa) j 1 0 (away pa (l .1))
+        ∙ getD-set-other w (HELD + pm) j 0 0 (away pm (l .0))
+      where
+        away : (x : ℕ) → x < 4096 → j ≡ HELD + x → ⊥
+        away x h q = elim o [ inl y ↦ omega arith | inr y ↦ omega arith ]
+
+    read3 : (j : ℕ) → ¬ (j ≡ cell TODO k + 4) → j < cell TODO (suc k) → getD w3 j 0 ≡ getD w1 j 0
+    read3 j h l = cell-other w2 (cell TODO (suc k)) (num - 1000000000) den pa j (inl l) ∙ getD-set-other (heldSet w 0 pm pa pb) (cell TODO k + 4) j pb 0 h
+
+    kept-same : (x y : ℕ) → (y ≤ HELD) ⊎ (DONE ≤ x) → y ≤ cell TODO k + 4 → Same x y w w3
+    kept-same x y o h = record { each = λ j p q. read3 j (λ z. omega arith) (omega arith) ∙ read1 j (side j p q o) }
+      where
+        side : (j : ℕ) → x ≤ j → j < y → (y ≤ HELD) ⊎ (DONE ≤ x) → (j < HELD) ⊎ (DONE ≤ j)
+        side j p q (inl z) = inl (omega arith)
+        side j p q (inr z) = inr (omega arith)
+
+    room2 : cell TODO (suc k) + 5 ≤ length w2
+    room2 = rw long2 (omega (arith, sized, g .long))
+
+    new-end : 1000000000 ≤ num → endAt w3 (cell TODO (suc k)) ≡ mediant (lastIn w d) (endAt w (cell TODO k))
+    new-end h =
+        vertex-eq
+        (ap (λ (x : ℕ). pos x -ℤ pos limit) (cell-num w2 (cell TODO (suc k)) (num - 1000000000) den pa room2) ∙ sum-code limit (leftNum w d) (numberAt w (cell TODO k)) h)
+        (cell-den w2 (cell TODO (suc k)) (num - 1000000000) den pa room2)
+        ∙ ap (λ (x : Vertex). mediant x (endAt w (cell TODO k))) (sym (last-code w d))
+
+    new-point : pointAt w3 (cell TODO (suc k)) ≡ pa
+    new-point = cell-pt w2 (cell TODO (suc k)) (num - 1000000000) den pa room2
+
+    old-end : endAt w3 (cell TODO k) ≡ endAt w (cell TODO k)
+    old-end =
+        let s' = kept-same (cell TODO k) (cell TODO k + 4) (inr (omega arith)) (omega arith) in
+        vertex-eq
+        (ap (λ (x : ℕ). pos x -ℤ pos limit) (number-same w w3 (cell TODO k) (s' .each (cell TODO k) (omega arith) (omega arith)) (s' .each (cell TODO k + 1) (omega arith) (omega arith))))
+        (number-same w w3 (cell TODO k + 2) (s' .each (cell TODO k + 2) (omega arith) (omega arith)) (s' .each (cell TODO k + 2 + 1) (omega arith) (omega arith)))
+
+    old-point : pointAt w3 (cell TODO k) ≡ pb
+    old-point = cell-other w2 (cell TODO (suc k)) (num - 1000000000) den pa (cell TODO k + 4) (inl (omega arith)) ∙ getD-set-same (heldSet w 0 pm pa pb) (cell TODO k + 4) pb 0 (rw long1 (omega (arith, sized, g .long)))
+
+    done-kept : Same DONE (cell DONE d) w w3
+    done-kept = kept-same DONE (cell DONE d) (inr (omega arith)) (omega (arith, sized))
+
+    parted-is : 1000000000 ≤ num → todoIn (lastIn w3 d) w3 (suc (suc k)) ≡ lowerAt σ κ (first w d k) ∷ upperAt σ κ (first w d k) ∷ rest w k
+    parted-is h =
+        let p = placed-eq (last-same w w3 d d (omega arith) done-kept) (new-end h) new-point in
+        let q = placed-eq (new-end h) old-end old-point in
+        let t = ap (λ (x : Vertex). todoIn x w3 k) old-end ∙ todo-same w w3 k k (endAt w (cell TODO k)) (omega arith) (kept-same TODO (cell TODO k) (inr (omega arith)) (omega arith)) in
+        λ i. p i ∷ q i ∷ t i
+
+    done-parted : doneIn w3 d ≡ doneIn w d
+    done-parted = done-same w w3 d d (omega arith) done-kept
+
+    pub walk-split : fitsIn w d (suc k) ≡ true → fits (mediant (lastIn w d) (endAt w (cell TODO k))) ≡ true → Walking s r start w3 d (suc (suc k))
+    walk-split t f =
+        let T = turn-of (g .pair) in
+        let wide = within-tells num den (rw (pred k) at t) .0 in
+        let long3 = cell-length w2 (cell TODO (suc k)) (num - 1000000000) den pa ∙ long2 in
+        let i = g .going .inv in
+        let hs = held-split σ κ n T (omega (arith, g .pair .most)) (g .going .tris) (doneIn w d) (first w d k) (rest w k) i none w w3 (omega (arith, g .long)) (g .held)
+        (λ x h. let z = g .pair .most in read3 (HELD + x) (λ q. omega arith) (omega arith)) in
+        record {
+          pair = g .pair;
+          long = rw long3 (g .long);
+          going = rw (done-parted, parted-is wide) (going-split σ κ n start T (doneIn w d) (first w d k) (rest w k) (g .going) none f);
+          held = rw (done-parted, parted-is wide) hs;
+          labels = λ x h. kept-same LABEL HELD (inl (omega arith)) (omega arith) .each (LABEL + x) (omega arith) (omega arith) ∙ g .labels x h;
+        }
+
+  -- ---- one turn, and the end
+
+  pub walk-turn : (w w' : List ℕ) (d k d' k' : ℕ) (stop : Bool) → Walking s r start w d k → 1 ≤ k → Turned σ κ w d k w' stop d' k' → stop ≡ false → Walking s r start w' d' k'
+  walk-turn w w' d zero d' k' stop g h t e = absurd (omega arith)
+  walk-turn w w' d (suc k) d' k' stop g h (moved c p q u v) e =
+      let dd : d' ≡ suc d = u ∙ more d in
+      let kk : k' ≡ k = v ∙ pred k in
+      let ww : w' ≡ cellSet w (cell DONE d) (numberAt w (cell TODO k)) (numberAt w (cell TODO k + 2)) (pointAt w (cell TODO k)) = rw (pred k) at p in
+      rw (dd, kk, ww) (walk-move w d k g (rw (pred k) at c))
+  walk-turn w w' d (suc k) d' k' stop g h (over c f p q u) e = clash q e
+  walk-turn w w' d (suc k) d' k' stop g h (parted c f p q u v) e =
+      let dd : d' ≡ d = u in
+      let kk : k' ≡ suc (suc k) = v ∙ more (suc k) in
+      let c' : closedIn σ κ w (pointAt w (cell TODO k)) ≡ false = rw (pred k) at c in
+      let ww = rw (pred k) at p in
+      let f' : fits (mediant (lastIn w d) (endAt w (cell TODO k))) ≡ true = rw (pred k) at (sym (fits-in w d (suc k)) ∙ f) in
+      rw (dd, kk, ww) (walk-split w d k g c' f f')
+
+  pub walk-stop : (w w' : List ℕ) (d k d' k' : ℕ) (stop : Bool) → Walking s r start w d k → 1 ≤ k → Turned σ κ w d k w' stop d' k' → stop ≡ true → grow σ κ n start ≡ refused d'
+  walk-stop w w' d zero d' k' stop g h t e = absurd (omega arith)
+  walk-stop w w' d (suc k) d' k' stop g h (moved c p q u v) e = clash e q
+  walk-stop w w' d (suc k) d' k' stop g h (over c f p q u) e =
+      let c' : closedIn σ κ w (pointAt w (cell TODO k)) ≡ false = rw (pred k) at c in
+      let f' : fits (mediant (lastIn w d) (endAt w (cell TODO k))) ≡ false = rw (pred k) at (sym (fits-in w d (suc k)) ∙ f) in
+      walk-over w d k g c' f' ∙ ap refused (sym u)
+  walk-stop w w' d (suc k) d' k' stop g h (parted c f p q u v) e = clash e q
+
+  -- the measure falls
+  pub walk-less : (w w' : List ℕ) (d k d' k' : ℕ) (stop : Bool) → d + k ≤ 1024 → d' + k' ≤ 1024 → 1 ≤ k → Turned σ κ w d k w' stop d' k' → stop ≡ false → 2 * (1024 - (d' + k')) + k' < 2 * (1024 - (d + k)) + k
+  walk-less w w' d k d' k' stop a b h (moved c p q u v) e = omega arith
+  walk-less w w' d k d' k' stop a b h (over c f p q u) e = clash q e
+  walk-less w w' d k d' k' stop a b h (parted c f p q u v) e = omega arith
+
+  pub turned-length : (w w' : List ℕ) (d k d' k' : ℕ) (stop : Bool) → Turned σ κ w d k w' stop d' k' → length w' ≡ length w
+  turned-length w w' d k d' k' stop (moved c p q u v) = ap length p ∙ cell-length w (cell DONE d) _ _ _
+  turned-length w w' d k d' k' stop (over c f p q u) = ap length p
+  turned-length w w' d k d' k' stop (parted c f p q u v) =
+      let t = topPoint w k in
+      ap length p ∙ cell-length (set (heldSet w 0 t (σ (κ t)) (σ (κ (κ t)))) (cell TODO (k - 1) + 4) (σ (κ (κ t)))) (cell TODO k) _ _ _ ∙ length-set (heldSet w 0 t (σ (κ t)) (σ (κ (κ t)))) (cell TODO (k - 1) + 4) (σ (κ (κ t))) ∙ held-length w 0 t (σ (κ t)) (σ (κ (κ t)))
+
+  pub walk-end : (w : List ℕ) (d k : ℕ) → Walking s r start w d k → k ≡ 0 → grow σ κ n start ≡ finished (doneIn w d)
+  walk-end w d k g e =
+      let g' : Walking s r start w d 0 = rw e at g in
+      going-end σ κ n start (turn-of (g .pair)) (doneIn w d) (g' .going)

@@ -1,0 +1,96 @@
+-- Laws of the listing's definitions.
+--     first-kind, second-kind, third-kind     the word of a kind, by the tests that the code makes
+--     row-put                                 a generator's line, from its number and the rest
+--     lines-more                              one generator more
+--     listed-refused, listed-accepted         what is listed by the answer of the checks
+--     parts-listed                            the parts in the slices of a symbol that was surveyed are its listing
+--     listing-by                              what is listed for an answer of `read_input`, and `leaves-by` what is left
+-- Assumes nothing.
+use mathlib.Core.Path.{_≡_, refl, sym, ap, _∙_}
+use mathlib.Core.Bool.{Bool, true, false}
+use mathlib.Core.Logic.{_⊎_, inl, inr}
+use mathlib.Core.List.{List, [], _∷_, _++_}
+use Prim.Native.Nat.{ℕ, suc, _+_, _*_, _-_, _≤_}
+use native.Mathlib.Numerals.{add-one}
+use native.Mathlib.Omega.{arith}
+use lib.IntN.{ℤ, pos}
+use lib.ListN.{length, getD, take, drop, length-drop}
+use lib.Seq.{take-all}
+use mir.Syntax.{w64}
+use mir.Val.{SFits, ofZ}
+use Rattle.matrix.specs.Euclid.{pick}
+use Rattle.symbol.specs.Check.{eqZ}
+use Rattle.symbol.proofs.Choice.{either, eqZ-true}
+use Rattle.symbol.proofs.Signed.{bits-positive}
+use Rattle.text.specs.Decimal.{digits}
+use Rattle.text_line.specs.Line.{line, refusalLine, Puts}
+use Rattle.text_line.proofs.Placing.{puts-as, puts-then}
+use Rattle.workspace.specs.Space.{workLength}
+use Rattle.text.specs.Piece.{pieces, numbers}
+use Rattle.text.specs.Reading.{inputOf, leftBy}
+use Rattle.text.specs.declared.Reading.{Reading}
+use Rattle.symbol.specs.Check.{checkOf}
+use Rattle.pairing.specs.Generator.{leaders, generatorTable}
+use Rattle.refusal.specs.declared.Refusal.{Refusal}
+use Rattle.refusal.specs.declared.Checked.the-variants.{Accepted, Refused}
+use Rattle.coset.specs.Answer.{saidBy, figuresOf, Surveyed}
+use Rattle.coset.specs.declared.FigureRecord.{FigureRecord}
+use Rattle.coset.specs.declared.Figured.the-variants as figured
+use Rattle.coset.proofs.Answer.{figures-refused, figures-long}
+use Rattle.listing_text.specs.Listing.{listedBy, listed, listingFormat, readBy, listingOf, workBy, tableBy, Leaves, freeWord, evenWord, oddWord, kindWord, generatorLine, generatorLines}
+use Rattle.listing_text.specs.Parts.{partsOf}
+
+module _ (z : ℤ) where
+  pub first-kind : SFits w64 z → ofZ w64 z ≡ 1 → kindWord z ≡ freeWord
+  first-kind f e = ap kindWord (bits-positive z 1 f (omega arith) e)
+
+  pub second-kind : SFits w64 z → ofZ w64 z ≡ 2 → kindWord z ≡ evenWord
+  second-kind f e = ap kindWord (bits-positive z 2 f (omega arith) e)
+
+  apart : (k : ℕ) → (ofZ w64 z ≡ ofZ w64 (pos k) → ⊥) → eqZ z (pos k) ≡ false
+  apart k n = elim (either (eqZ z (pos k))) [ inl e ↦ absurd (n (ap (ofZ w64) (eqZ-true z (pos k) e))) | inr e ↦ e ]
+
+  pub third-kind : (ofZ w64 z ≡ 1 → ⊥) → (ofZ w64 z ≡ 2 → ⊥) → kindWord z ≡ oddWord
+  third-kind m n = rw (apart 1 m, apart 2 n)
+
+pub lines-more : (n k : ℕ) (table : List ℤ) → k ≡ 5 → generatorLines n table ++ generatorLine (n + 1) (take k (drop (5 * n) table)) ≡ generatorLines (n + 1) table
+unfolding generatorLines
+lines-more n k table e = rw (e, add-one n) refl
+
+pub row-put : (j : ℕ) (row : List ℤ) {word : List ℕ} {at m e : ℕ} {out out1 out2 : List ℕ} → kindWord (getD row 0 (pos 0)) ≡ word → Puts (digits j) at m out out1
+    → Puts (line word (take (length row - 1) (drop 1 row))) m e out1 out2 → at ≤ length out → Puts (generatorLine j row) at e out out2
+unfolding generatorLine
+row-put j row {word} k f g h =
+    let all : take (length row - 1) (drop 1 row) ≡ drop 1 row = take-all (length row - 1) (drop 1 row) (omega (arith, length-drop 1 row)) in
+    let same : line word (take (length row - 1) (drop 1 row)) ≡ line (kindWord (getD row 0 (pos 0))) (drop 1 row) = ap (line word) all ∙ ap (λ (l : List ℕ). line l (drop 1 row)) (sym k) in
+    puts-then f (puts-as same g) h
+
+module _ (v : ℕ) (t : List ℤ) where
+  pub listed-refused : (f : Refusal) → checkOf v t ≡ Refused f → refusalLine f ≡ listed v t
+  unfolding listed
+  listed-refused f q = ap (listedBy v t) (figures-refused v t workLength f q)
+
+  pub listed-accepted : checkOf v t ≡ Accepted → listedBy v t (figuresOf v t) ≡ listed v t
+  unfolding listed
+  listed-accepted q = ap (listedBy v t) (figures-long v t workLength q (omega arith))
+
+-- the parts in the slices are those of the symbol
+pub parts-listed : {v : ℕ} {t : List ℤ} {w w' : List ℕ} {f : FigureRecord} (g : ℕ) (rows : List ℤ) → Surveyed v t w w' f → g ≡ length (leaders v t) → rows ≡ generatorTable v t
+    → partsOf f g rows w' ≡ listedBy v t (figuresOf v t)
+parts-listed {v} {t} {w} {w'} {f} g rows s n r =
+    let same : partsOf f g rows w' ≡ listedBy v t (saidBy (figured.Made f)) = cc (s .widths-are, s .S-is, s .R-is, s .T-is, n, r) in
+    same ∙ ap (listedBy v t) (s .figures)
+
+pub listing-by : (longer : Bool) (text : List ℕ) (r : Reading) → r ≡ inputOf longer listingFormat text 3071 → readBy r (numbers (pieces text)) ≡ listingOf longer text
+unfolding listingOf
+listing-by longer text r e = ap (λ (x : Reading). readBy x (numbers (pieces text))) e
+
+-- what is left, by the answer of `read_input`
+pub leaves-by : {longer : Bool} {text : List ℕ} {ns table : List ℤ} {w : List ℕ} {ns' table' : List ℤ} {w' : List ℕ} (r : Reading) → r ≡ inputOf longer listingFormat text 3071
+    → ns' ≡ leftBy r (numbers (pieces text)) ns → w' ≡ workBy r (numbers (pieces text)) w → table' ≡ tableBy r (numbers (pieces text)) (length w) table
+    → Leaves longer text ns table w ns' table' w'
+leaves-by {longer} {text} {ns} {table} {w} r e a b d = record {
+  numbers-left = a ∙ ap (λ (x : Reading). leftBy x (numbers (pieces text)) ns) e;
+  work-left = b ∙ ap (λ (x : Reading). workBy x (numbers (pieces text)) w) e;
+  table-left = d ∙ ap (λ (x : Reading). tableBy x (numbers (pieces text)) (length w) table) e;
+}

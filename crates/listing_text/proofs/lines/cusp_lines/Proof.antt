@@ -1,0 +1,42 @@
+-- `lines::cusp_lines` meets its contract: three lines, one after another. Assumes nothing.
+use native.Mathlib.Omega.{arith}
+use Rattle.text_line.proofs.Placing.{puts-then}
+use Rattle.listing_text.specs.Listing.{cuspLines}
+use borrow.Author.Needs.{needs}
+use Rattle.listing_text.proofs.lines.cusp_lines.Statement.{statement}
+use Rattle.listing_text.proofs.lines.cusp_lines.Tie as tie
+
+slice-aggregate-table-line : tie.Need-slice-aggregate-table-line
+slice-aggregate-table-line c = search needs
+
+table-line-requires : tie.Need-table-line-requires
+table-line-requires c κs = search needs
+
+genus-line-requires : tie.Need-genus-line-requires
+genus-line-requires c κs = search needs
+
+level-line-requires : tie.Need-level-line-requires
+level-line-requires c κs = search needs
+
+same-length : tie.Need-same-length
+same-length c = search needs
+
+returns : tie.Need-returns
+unfolding cuspLines
+returns c =
+    let third = (c .before .before) .level-line .ensures in
+    let second = (c .before .before .before .before .before .before) .genus-line .ensures in
+    let first = (c .before .before .before .before .before .before .before .before .before .before) .table-line .ensures in
+    let s = c .before .before .before .before .before .before .before .before .before .before .before .before .before .before .before in
+    (puts-then (puts-then (first .0) (second .0) (omega (arith, s .pre .1))) (third .0) (omega (arith, s .pre .1)), omega (arith, first .1, second .1, third .1))
+
+pub cusp-lines-spec : {M : Type 1} → statement M
+cusp-lines-spec =
+    tie.close
+    (tie.spec
+    slice-aggregate-table-line
+    table-line-requires
+    genus-line-requires
+    level-line-requires
+    same-length
+    returns)

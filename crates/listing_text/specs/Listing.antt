@@ -1,0 +1,135 @@
+-- WHAT THE PROGRAM `listing` WRITES, byte for byte (document 01, "Γ0(2), whole").
+--
+--   indexWord .. oddWord            the words of a listing as bytes; a kind has a space in front
+--   figureLine name f               the line of a figure: its number, or `refused` with number and place
+--   kindWord k                      free, even or odd, for the kinds 1, 2 and 3 of the generator table
+--   generatorLine j row             generator j: its number, its kind, its four entries
+--   generatorLines n table          those of the first n generators, in order
+--   countLines n e2 e3 k            index, elliptic counts (e2 before e3), cusps
+--   cuspLines widths genus level    widths, genus, level
+--   figureLines ..                  both
+--   generatorPart v t               how many generators, and their lines
+--   tableLines s r u                the tables of S, R and T
+--   listed v t                      all of it for the symbol in t, or its refusal
+--   listingFormat                   the form of the text: v from 1 to 1,023, and then 3v + 1 numbers
+--   listingOf longer text           the bytes for a text, or for one with more than the 65,536 bytes that fit into the buffer
+--   workBy, tableBy                 what the call leaves in the work space and in the space for generators, by the answer of `read_input`
+--   Leaves ..                       what it leaves in every lent space but that of the bytes
+use mathlib.Core.Path.{_≡_}
+use mathlib.Core.Bool.{Bool}
+use mathlib.Core.List.{List, [], _∷_, _++_, map}
+use Prim.Native.Nat.{ℕ, zero, suc, _*_}
+use lib.IntN.{ℤ, pos}
+use lib.ListN.{length, take, drop, getD}
+use Rattle.matrix.specs.Matrix.{nth}
+use Rattle.matrix.specs.Euclid.{pick}
+use Rattle.workspace.specs.Space.{workLength}
+use Rattle.text.specs.Decimal.{digits}
+use Rattle.text.specs.Piece.{pieces, numbers}
+use Rattle.text.specs.Reading.{inputOf, leftBy, vertexCount}
+use Rattle.text.specs.declared.Format.{Format}
+use Rattle.text.specs.declared.Reading.{Reading}
+use Rattle.text.specs.declared.Reading.the-variants as reading
+use Rattle.text_line.specs.Line.{natural, line, refusedWord, refusalLine}
+use Rattle.symbol.specs.Check.{eqZ, checkOf}
+use Rattle.pairing.specs.Generator.{leaders, generatorTable, generatedOf, workAfter, tableLeft}
+use Rattle.figures.specs.Figure as figure
+use Rattle.coset.specs.Tables.{tableS, tableR, tableT}
+use Rattle.coset.specs.Answer.{Says, made, refused, widthsOf, figuredOf}
+
+abbrev pub indexWord : List ℕ
+indexWord = 105 ∷ 110 ∷ 100 ∷ 101 ∷ 120 ∷ []
+
+abbrev pub ellipticWord : List ℕ
+ellipticWord = 101 ∷ 108 ∷ 108 ∷ 105 ∷ 112 ∷ 116 ∷ 105 ∷ 99 ∷ []
+
+abbrev pub cuspsWord : List ℕ
+cuspsWord = 99 ∷ 117 ∷ 115 ∷ 112 ∷ 115 ∷ []
+
+abbrev pub widthsWord : List ℕ
+widthsWord = 119 ∷ 105 ∷ 100 ∷ 116 ∷ 104 ∷ 115 ∷ []
+
+abbrev pub genusWord : List ℕ
+genusWord = 103 ∷ 101 ∷ 110 ∷ 117 ∷ 115 ∷ []
+
+abbrev pub levelWord : List ℕ
+levelWord = 108 ∷ 101 ∷ 118 ∷ 101 ∷ 108 ∷ []
+
+abbrev pub generatorsWord : List ℕ
+generatorsWord = 103 ∷ 101 ∷ 110 ∷ 101 ∷ 114 ∷ 97 ∷ 116 ∷ 111 ∷ 114 ∷ 115 ∷ []
+
+abbrev pub freeWord : List ℕ
+freeWord = 32 ∷ 102 ∷ 114 ∷ 101 ∷ 101 ∷ []
+
+abbrev pub evenWord : List ℕ
+evenWord = 32 ∷ 101 ∷ 118 ∷ 101 ∷ 110 ∷ []
+
+abbrev pub oddWord : List ℕ
+oddWord = 32 ∷ 111 ∷ 100 ∷ 100 ∷ []
+
+unfoldable pub figureLine : List ℕ → figure.Figure → List ℕ
+figureLine name (figure.value x) = line name (natural x ∷ [])
+figureLine name (figure.refused f) = line (name ++ (32 ∷ refusedWord)) (natural (f .number) ∷ natural (f .place) ∷ [])
+
+abbrev pub kindWord : ℤ → List ℕ
+kindWord z = pick (eqZ z (pos 1)) freeWord (pick (eqZ z (pos 2)) evenWord oddWord)
+
+unfoldable pub generatorLine : ℕ → List ℤ → List ℕ
+generatorLine j row = digits j ++ line (kindWord (getD row 0 (pos 0))) (drop 1 row)
+
+unfoldable pub generatorLines : ℕ → List ℤ → List ℕ
+generatorLines zero table = []
+generatorLines (suc n) table = generatorLines n table ++ generatorLine (suc n) (take 5 (drop (5 * n) table))
+
+unfoldable pub countLines : (n e2 e3 k : ℕ) → List ℕ
+countLines n e2 e3 k = line indexWord (natural n ∷ []) ++ line ellipticWord (natural e2 ∷ natural e3 ∷ []) ++ line cuspsWord (natural k ∷ [])
+
+unfoldable pub cuspLines : (widths : List ℕ) → (genus level : figure.Figure) → List ℕ
+cuspLines widths genus level = line widthsWord (map natural widths) ++ figureLine genusWord genus ++ figureLine levelWord level
+
+unfoldable pub figureLines : (n e2 e3 k : ℕ) → (genus level : figure.Figure) → (widths : List ℕ) → List ℕ
+figureLines n e2 e3 k genus level widths = countLines n e2 e3 k ++ cuspLines widths genus level
+
+unfoldable pub generatorPart : ℕ → List ℤ → List ℕ
+generatorPart n table = line generatorsWord (natural n ∷ []) ++ generatorLines n table
+
+unfoldable pub tableLines : (s r u : List ℕ) → List ℕ
+tableLines s r u = line (83 ∷ []) (map natural s) ++ line (82 ∷ []) (map natural r) ++ line (84 ∷ []) (map natural u)
+
+abbrev pub listedBy : ℕ → List ℤ → Says → List ℕ
+listedBy v t (made n e2 e3 k genus level) =
+    figureLines n e2 e3 k genus level (widthsOf v t)
+    ++ generatorPart (length (leaders v t)) (generatorTable v t)
+    ++ tableLines (tableS v t) (tableR v t) (tableT v t)
+listedBy v t (refused f) = refusalLine f
+
+unfoldable pub listed : ℕ → List ℤ → List ℕ
+listed v t = listedBy v t (figuredOf v t workLength)
+
+abbrev pub listingFormat : Format
+listingFormat = record { most = 1023; each = 3; more = 2 }
+
+abbrev pub readBy : Reading → List ℤ → List ℕ
+readBy (reading.Numbers k) ns = listed (vertexCount (nth ns 0)) (drop 1 (take k ns))
+readBy (reading.Refused f) ns = refusalLine f
+
+unfoldable pub listingOf : Bool → List ℕ → List ℕ
+listingOf longer text = readBy (inputOf longer listingFormat text 3071) (numbers (pieces text))
+
+-- ---- what it leaves
+
+abbrev pub workBy : Reading → List ℤ → List ℕ → List ℕ
+workBy (reading.Numbers k) ns w = workAfter (checkOf (vertexCount (nth ns 0)) (drop 1 (take k ns))) w
+workBy (reading.Refused f) ns w = w
+
+abbrev pub tableIn : ℕ → List ℤ → (work : ℕ) → List ℤ → List ℤ
+tableIn v t work table = tableLeft (generatedOf v t work (length table)) (generatorTable v t) table
+
+abbrev pub tableBy : Reading → List ℤ → (work : ℕ) → List ℤ → List ℤ
+tableBy (reading.Numbers k) ns work table = tableIn (vertexCount (nth ns 0)) (drop 1 (take k ns)) work table
+tableBy (reading.Refused f) ns work table = table
+
+pub record Leaves (longer : Bool) (text : List ℕ) (ns table : List ℤ) (w : List ℕ) (ns' table' : List ℤ) (w' : List ℕ) : Type 0 where
+  pub numbers-left : ns' ≡ leftBy (inputOf longer listingFormat text 3071) (numbers (pieces text)) ns
+  pub work-left : w' ≡ workBy (inputOf longer listingFormat text 3071) (numbers (pieces text)) w
+  pub table-left : table' ≡ tableBy (inputOf longer listingFormat text 3071) (numbers (pieces text)) (length w) table

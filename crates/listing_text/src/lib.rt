@@ -1,0 +1,120 @@
+// What the program `listing` writes for a text: all of it, byte for byte, as specs/Listing.antt says (document 01, "Γ0(2), whole").
+use coset::FigureRecord;
+use coset::survey;
+use text_line::refusal_line;
+use lines::figure_lines;
+use lines::generator_part;
+use lines::table_lines;
+use pairing::generator::generators;
+use refusal::Filled;
+use text::Format;
+use text::Reading;
+use text::read_input;
+use text::vertex_count;
+ghost use mathlib.Core.Path.{_≡_};
+ghost use Prim.Native.Nat.{_*_, _≤_};
+ghost use lib.ListN.{length};
+ghost use Rattle.workspace.specs.Space.{workLength, zeros};
+ghost use Rattle.text_line.specs.Line.{Puts};
+ghost use Rattle.symbol.specs.Check.{checkOf};
+ghost use Rattle.symbol.specs.Symbol.{IsSymbol};
+ghost use Rattle.pairing.specs.Generator.{leaders, generatorTable, workAfter};
+ghost use Rattle.coset.specs.Answer.{figuresOf};
+ghost use Rattle.listing_text.specs.Listing.{listedBy, listed, listingOf, tableIn, Leaves};
+ghost use Rattle.listing_text.specs.Parts.{Spaces, partsOf};
+
+mod lines;
+
+// The listing of a symbol with the figures f: its g generators are in the rows, its widths and tables in the work space.
+fn list_parts(f: FigureRecord, rows: &[i64], g: usize, w: &[u16], out: &mut [u8]) -> usize
+    requires { ⌜ (f .index ≤ 4096) × (f .cusps ≤ 4096) × (g ≤ 1024) × (5 * g ≤ length (now rows)) × (workLength ≤ length (now w)) × (212992 ≤ length (now out)) ⌝ }
+    ensures { λ e. ⌜ Puts (partsOf f g (now (rows .entry)) (now (w .entry))) 0 e (now (out .entry)) (now (out .exit)) ⌝ }
+{
+    let first = figure_lines(f, w, out);
+    let second = generator_part(rows, g, out, first);
+    table_lines(w, f.index, out, second)
+}
+
+// The listing of an accepted symbol, whose g generators are in the rows; the work space is cleared after.
+fn list_accepted(
+    v: usize,
+    t: &[i64],
+    rows: &[i64],
+    g: usize,
+    w: &mut [u16],
+    out: &mut [u8],
+) -> usize
+    requires { ⌜ IsSymbol v (now t) × (g ≡ length (leaders v (now t))) × (now rows ≡ generatorTable v (now t)) × (workLength ≤ length (now w)) × (212992 ≤ length (now out)) ⌝ }
+    ensures { λ e. ⌜ Puts (listedBy v (now (t .entry)) (figuresOf v (now (t .entry)))) 0 e (now (out .entry)) (now (out .exit)) ⌝ }
+    ensures { λ e. ⌜ now (w .exit) ≡ zeros (length (now (w .entry))) ⌝ }
+{
+    let f = survey(v, t, w);
+    let end = list_parts(f, rows, g, w, out);
+    workspace::clear(w);
+    end
+}
+
+// The listing of the symbol in t, or its refusal.
+fn list_symbol(v: usize, t: &[i64], w: &mut [u16], table: &mut [i64], out: &mut [u8]) -> usize
+    requires { ⌜ Spaces (now w) (now table) (now out) ⌝ }
+    ensures { λ e. ⌜ Puts (listed v (now (t .entry))) 0 e (now (out .entry)) (now (out .exit)) ⌝ }
+    ensures { λ e. ⌜ now (w .exit) ≡ workAfter (checkOf v (now (t .entry))) (now (w .entry)) ⌝ }
+    ensures { λ e. ⌜ now (table .exit) ≡ tableIn v (now (t .entry)) (length (now (w .entry))) (now (table .entry)) ⌝ }
+{
+    let made = generators(v, t, w, table);
+    match made {
+        Filled::Refused(refusal) => refusal_line(refusal, out),
+        Filled::Made(g) => {
+            let end = 5 * g;
+            list_accepted(v, t, &table[..end], g, w, out)
+        }
+    }
+}
+
+// What a text gets, where the slices are long enough.
+fn list_text(
+    text: &[u8],
+    longer: bool,
+    numbers: &mut [i64],
+    w: &mut [u16],
+    table: &mut [i64],
+    out: &mut [u8],
+) -> usize
+    requires { ⌜ (length (now numbers) ≡ 3071) × Spaces (now w) (now table) (now out) ⌝ }
+    ensures { λ e. ⌜ Puts (listingOf longer (now (text .entry))) 0 e (now (out .entry)) (now (out .exit)) ⌝ }
+    ensures { λ e. ⌜ Leaves longer (now (text .entry)) (now (numbers .entry)) (now (table .entry)) (now (w .entry)) (now (numbers .exit)) (now (table .exit)) (now (w .exit)) ⌝ }
+{
+    let read = read_input(
+        text,
+        longer,
+        Format {
+            most: 1023,
+            each: 3,
+            more: 2,
+        },
+        numbers,
+    );
+    match read {
+        Reading::Refused(refusal) => refusal_line(refusal, out),
+        Reading::Numbers(k) => {
+            let v = vertex_count(numbers[0]);
+            list_symbol(v, &numbers[1..k], w, table, out)
+        }
+    }
+}
+
+// What the program writes for the text, or for one that is longer than its buffer, from the front of `out`; where it ends. The arrays are
+// the program's own, and what stands in them at the start is free.
+pub fn list(
+    text: &[u8],
+    longer: bool,
+    numbers: &mut [i64; 3071],
+    w: &mut [u16; 32768],
+    table: &mut [i64; 5120],
+    out: &mut [u8; 212992],
+) -> usize
+    ensures { λ e. ⌜ Puts (listingOf longer (now (text .entry))) 0 e (now (out .entry)) (now (out .exit)) × (e ≤ length (now (out .exit))) ⌝ }
+    ensures { λ e. ⌜ Leaves longer (now (text .entry)) (now (numbers .entry)) (now (table .entry)) (now (w .entry)) (now (numbers .exit)) (now (table .exit)) (now (w .exit)) ⌝ }
+{
+    list_text(text, longer, numbers, w, table, out)
+}

@@ -1,5 +1,0 @@
--- What a reader of the crate `passport` must believe, in reading order.
-pub mod Check
-pub mod Seen
-pub mod Reach
-pub mod Import

@@ -1,0 +1,71 @@
+-- `import` meets its contract: 12 to 15 leave both spaces as they were (`refused`), and so does a short work space (`short`); an accepted
+-- pair is what the rule asks for (`pair-of`), and `import_accepted` has its answer with what that means (`long`). Assumes nothing.
+use mathlib.Core.Path.{_≡_, sym, _∙_}
+use Rattle.permutations.proofs.Answering.{refused, short, long, pair-of}
+use borrow.Author.Needs.{needs}
+use Rattle.permutations.proofs.import.Statement.{statement}
+use Rattle.permutations.proofs.import.Tie as tie
+
+check-requires : tie.Need-check-requires
+check-requires c κs = search needs
+
+enum-known-checked : tie.Need-enum-known-checked
+enum-known-checked c = search needs
+
+enum-told : tie.Need-enum-told
+enum-told c = search needs
+
+returns : tie.Need-returns
+returns c =
+    let k = c .before in
+    let d = k .before .before in
+    let s = d .before .before .before .before in
+    let b = short (s .args .s .now) (s .args .r .now) (s .args .w .now) (s .args .out .now) (sym (d .check .ensures .returned) ∙ k .enum-told .given .1) (c .if1 .taken) in
+    (b .returned, (b .work, (b .result, b .means)))
+
+import-accepted-requires : tie.Need-import-accepted-requires
+import-accepted-requires c κs =
+    let f = c .before .before in
+    let k = f .before in
+    let d = k .before .before in
+    let s = d .before .before .before .before in
+    (pair-of (s .args .s .now) (s .args .r .now) (sym (d .check .ensures .returned) ∙ k .enum-told .given .1), f .if1 .left)
+
+returns-2 : tie.Need-returns-2
+returns-2 c =
+    let k = c .before in
+    let d = k .before .before in
+    let s = d .before .before .before .before in
+    let b = refused (s .args .s .now) (s .args .r .now) (s .args .w .now) (s .args .out .now) _ (sym (d .check .ensures .returned) ∙ k .checked .given .1) in
+    (b .returned, (b .work, (b .result, b .means)))
+
+same-length : tie.Need-same-length
+same-length c = search needs
+
+same-length-2 : tie.Need-same-length-2
+same-length-2 c = search needs
+
+returns-3 : tie.Need-returns-3
+returns-3 c =
+    let g = c .before .before .before in
+    let f = g .before .before .before in
+    let k = f .before in
+    let d = k .before .before in
+    let s = d .before .before .before .before in
+    let a = g .import-accepted .ensures in
+    let b = long (s .args .s .now) (s .args .r .now) (s .args .w .now) (s .args .out .now) (sym (d .check .ensures .returned) ∙ k .enum-told .given .1) (f .if1 .left) _ _ _ (a .0) (a .1 .0) (a .1 .1) in
+    (b .returned, (b .work, (b .result, b .means)))
+
+pub import-spec : {M : Type 1} → statement M
+import-spec =
+    tie.close
+    (tie.spec
+    check-requires
+    enum-known-checked
+    enum-told
+    returns
+    import-accepted-requires
+    returns-2
+    same-length
+    same-length-2
+    returns-3)

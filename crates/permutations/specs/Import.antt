@@ -1,0 +1,57 @@
+-- The answer of `import`, and what the call leaves.
+--
+--   importOf s r work room            the refusals 12 to 15, then the work space, then 16, then the result space, or the number of vertices
+--   ruleFor s r          what the rule gives for the tables of S and R
+--   tableLeft g a out    what the call leaves in the result space: the symbol's table at its front, or all as it was
+--   workLeft c w         what it leaves in the work space: zeros where it got past the length check, else all as it was
+--   ImportMeans s r a t  an answer that is no refusal means this: the pair is a passport, and the 3v + 1 numbers at the front of the result
+--                        space are a symbol that generates precisely the matrices that fix point 0, of at most index/3 + 1 vertices; its
+--                        index is the number of points, and its own coset tables are the given permutations, renumbered by the listing's rule
+use mathlib.Core.Path.{_≡_}
+use mathlib.Core.List.{List}
+use Prim.Native.Nat.{ℕ, _+_, _*_}
+use lib.Dec.{ltb}
+use lib.ListN.{length, take}
+use lib.IntN.{ℤ}
+use Rattle.refusal.specs.Refusal.{tooShort, filledBy}
+use Rattle.refusal.specs.declared.Checked.{Checked}
+use Rattle.refusal.specs.declared.Checked.the-variants as checked
+use Rattle.refusal.specs.declared.Filled.{Filled}
+use Rattle.refusal.specs.declared.Filled.the-variants.{Made, Refused}
+use Rattle.matrix.specs.Euclid.{pick}
+use Rattle.workspace.specs.Space.{workLength, zeros}
+use Rattle.numbering.specs.Order.{orderOf}
+use Rattle.numbering.specs.Table.{renamed}
+use Rattle.coset.specs.Tables.{indexOf, tableS, tableR}
+use Rattle.import_rule.specs.Fixed.{image, byQ}
+use Rattle.import_rule.specs.Symbol.{Ruled, ruleOf}
+use Rattle.import_rule.specs.Theorem.{Precisely}
+use Rattle.import_table.specs.Answer.{grownOf, leftBy}
+use Rattle.permutations.specs.Check.{checkOf, Passport}
+
+abbrev pub ruleFor : (s r : List ℕ) → Ruled
+ruleFor s r = ruleOf (image s) (byQ (image s) (image r)) (length s)
+
+abbrev pub importOf : (s r : List ℕ) (work room : ℕ) → Filled
+importOf s r work room = filledBy (checkOf s r) (pick (ltb work workLength) (Refused (tooShort workLength)) (grownOf (ruleFor s r) room))
+
+abbrev pub tableLeft : Ruled → Filled → List ℤ → List ℤ
+tableLeft g a out = leftBy g a out
+
+abbrev pub workLeft : Checked → List ℕ → List ℕ
+workLeft checked.Accepted w = pick (ltb (length w) workLength) w (zeros (length w))
+workLeft (checked.Refused f) w = w
+
+-- the points, by the number that the listing's rule gives them
+abbrev pub numbering : (s r : List ℕ) → List ℕ
+numbering s r = orderOf (image s) (image r) 0 (length s)
+
+pub record Symbolised (s r : List ℕ) (v : ℕ) (t : List ℤ) : Type 0 where
+  pub passport : Passport s r
+  pub precisely : Precisely (image s) (byQ (image s) (image r)) (length s) v t
+  pub index : length s ≡ indexOf v t
+  pub S-table : tableS v t ≡ renamed (numbering s r) (image s)
+  pub R-table : tableR v t ≡ renamed (numbering s r) (image r)
+
+abbrev pub ImportMeans : (s r : List ℕ) → Filled → List ℤ → Type 0
+ImportMeans s r a out = (v : ℕ) → a ≡ Made v → Symbolised s r v (take (3 * v + 1) out)

@@ -1,0 +1,138 @@
+// A pair of permutations in two lent tables, the passport of a subgroup: the checks 12 to 15, and the symbol of the subgroup of the
+// matrices that fix point 0. specs/Check.antt and specs/Import.antt say what the calls answer and leave.
+use entries::first_bad;
+use entries::first_moved;
+use reach::first_unreached;
+use refusal::Checked;
+use refusal::Filled;
+use refusal::POINT_COUNT;
+use refusal::Refusal;
+use refusal::TABLE_ENTRY;
+use refusal::TOO_SHORT;
+use refusal::UNREACHED;
+use refusal::WRONG_ORDER;
+ghost use mathlib.Core.Path.{_≡_};
+ghost use Prim.Native.Nat.{_≤_, _<_};
+ghost use lib.ListN.{length};
+ghost use Rattle.workspace.specs.Space.{zeros};
+ghost use Rattle.refusal.specs.Refusal.{_orElse_};
+ghost use Rattle.import_rule.specs.Fixed.{Pair};
+ghost use Rattle.import_table.specs.Answer.{grownOf};
+ghost use Rattle.permutations.specs.Check.{check13, check14, check15, twiceMoved, thriceMoved, checkOf, Verdict};
+ghost use Rattle.permutations.specs.Reach.{Two};
+ghost use Rattle.permutations.specs.Import.{ruleFor, importOf, tableLeft, workLeft, ImportMeans};
+
+mod entries;
+mod reach;
+
+// The checks 14 and 15, on tables of points.
+fn check_moves(s: &[u32], r: &[u32]) -> Checked
+    requires { ⌜ Two (now s) (now r) ⌝ }
+    ensures { λ c. ⌜ c ≡ (check14 twiceMoved (now (s .entry)) orElse check14 thriceMoved (now (r .entry)) orElse check15 (now (s .entry)) (now (r .entry))) ⌝ }
+{
+    let a = first_moved(s, false);
+    if a < s.len() {
+        return Checked::Refused(Refusal {
+            number: WRONG_ORDER,
+            place: a,
+        });
+    }
+    let b = first_moved(r, true);
+    if b < r.len() {
+        return Checked::Refused(Refusal {
+            number: WRONG_ORDER,
+            place: b,
+        });
+    }
+    let x = first_unreached(s, r);
+    if x < s.len() {
+        return Checked::Refused(Refusal {
+            number: UNREACHED,
+            place: x,
+        });
+    }
+    Checked::Accepted
+}
+
+// The checks 13 to 15, on tables of one length in range.
+fn check_entries(s: &[u32], r: &[u32]) -> Checked
+    requires { ⌜ (1 ≤ length (now s)) × (length (now s) ≤ 3066) × (length (now r) ≡ length (now s)) ⌝ }
+    ensures { λ c. ⌜ c ≡ (check13 (now (s .entry)) orElse check13 (now (r .entry)) orElse check14 twiceMoved (now (s .entry)) orElse check14 thriceMoved (now (r .entry)) orElse check15 (now (s .entry)) (now (r .entry))) ⌝ }
+{
+    let a = first_bad(s);
+    if a < s.len() {
+        return Checked::Refused(Refusal {
+            number: TABLE_ENTRY,
+            place: a,
+        });
+    }
+    let b = first_bad(r);
+    if b < r.len() {
+        return Checked::Refused(Refusal {
+            number: TABLE_ENTRY,
+            place: b,
+        });
+    }
+    check_moves(s, r)
+}
+
+// Whether two tables are permutations that generate a transitive group, S of order two and R of order three: the checks 12 to 15, in memory
+// of their own.
+pub fn check(s: &[u32], r: &[u32]) -> Checked
+    ensures { λ c. ⌜ Verdict (now (s .entry)) (now (r .entry)) c ⌝ }
+{
+    if s.len() < 1 {
+        return Checked::Refused(Refusal {
+            number: POINT_COUNT,
+            place: 0,
+        });
+    }
+    if 3066 < s.len() {
+        return Checked::Refused(Refusal {
+            number: POINT_COUNT,
+            place: 0,
+        });
+    }
+    if r.len() != s.len() {
+        return Checked::Refused(Refusal {
+            number: POINT_COUNT,
+            place: 0,
+        });
+    }
+    check_entries(s, r)
+}
+
+// The symbol of an accepted pair; the work space is cleared after.
+fn import_accepted(s: &[u32], r: &[u32], w: &mut [u16], out: &mut [i64]) -> Filled
+    requires { ⌜ Pair (now s) (now r) × (32768 ≤ length (now w)) ⌝ }
+    ensures { λ a. ⌜ a ≡ grownOf (ruleFor (now (s .entry)) (now (r .entry))) (length (now (out .entry))) ⌝ }
+    ensures { λ a. ⌜ now (w .exit) ≡ zeros (length (now (w .entry))) ⌝ }
+    ensures { λ a. ⌜ now (out .exit) ≡ tableLeft (ruleFor (now (s .entry)) (now (r .entry))) a (now (out .entry)) ⌝ }
+{
+    let grown = import_table::grow(s, r, w, out);
+    workspace::clear(w);
+    grown
+}
+
+// The symbol of the matrices that fix point 0, from the tables of S and R: the number of its vertices, its table at the front of the result
+// space; or 12 to 15, then the work space, then 16, then the result space.
+pub fn import(s: &[u32], r: &[u32], w: &mut [u16], out: &mut [i64]) -> Filled
+    ensures { λ a. ⌜ a ≡ importOf (now (s .entry)) (now (r .entry)) (length (now (w .entry))) (length (now (out .entry))) ⌝ }
+    ensures { λ a. ⌜ now (w .exit) ≡ workLeft (checkOf (now (s .entry)) (now (r .entry))) (now (w .entry)) ⌝ }
+    ensures { λ a. ⌜ now (out .exit) ≡ tableLeft (ruleFor (now (s .entry)) (now (r .entry))) a (now (out .entry)) ⌝ }
+    ensures { λ a. ⌜ ImportMeans (now (s .entry)) (now (r .entry)) a (now (out .exit)) ⌝ }
+{
+    let checked = check(s, r);
+    match checked {
+        Checked::Refused(refusal) => Filled::Refused(refusal),
+        Checked::Accepted => {
+            if w.len() < workspace::WORK {
+                return Filled::Refused(Refusal {
+                    number: TOO_SHORT,
+                    place: workspace::WORK,
+                });
+            }
+            import_accepted(s, r, w, out)
+        }
+    }
+}

@@ -1,0 +1,90 @@
+-- Laws of the reply's definitions.
+--     said-other                 the line for an answer that is no word
+--     replied-as, letters-as     the line for an answer of `query`, and what it leaves in the word space
+--     few-.., enough-..          the line for the numbers of a text and what is left, by the test that the code makes
+--     reply-by, leaves-by        the same for an answer of `read_input`
+-- Assumes nothing.
+use mathlib.Core.Path.{_≡_, refl, sym, ap, _∙_}
+use mathlib.Core.Bool.{Bool, true, false}
+use mathlib.Core.List.{List}
+use Prim.Native.Nat.{ℕ, _≤_, _<_}
+use lib.Dec.{ltb}
+use lib.IntN.{ℤ}
+use lib.ListN.{length}
+use borrow.Author.Tests.{lt-ltb, le-ltb}
+use Rattle.matrix.specs.Matrix.{ofList}
+use Rattle.refusal.specs.Refusal.{vertexCount}
+use Rattle.workspace.specs.Space.{workLength}
+use Rattle.symbol.proofs.Choice.{pick-true, pick-false}
+use Rattle.text.specs.Piece.{pieces, numbers}
+use Rattle.text.specs.Reading.{inputOf, leftBy}
+use Rattle.text.specs.declared.Reading.{Reading}
+use Rattle.text_line.specs.Line.{refusalLine}
+use Rattle.word.specs.Answer.{queryRefusal, foundWord, queryOf, wordLeft, workLeft}
+use Rattle.word.specs.declared.Queried.{Queried}
+use Rattle.word.specs.declared.Queried.the-variants as queried
+use Rattle.query_text.specs.Reply.{lettersLent, said, replied, lettersLeft, countIn, tableIn, firstIn, secondIn, byCount, repliedTo, workTo, lettersTo, queryFormat, replyBy, workBy, lettersBy, replyOf, Leaves}
+
+-- an answer that is no word is its refusal
+pub said-other : (r : Queried) (l : List ℤ) → ((s n : ℕ) → r ≡ queried.Word s n → ⊥) → refusalLine (queryRefusal r) ≡ said r l
+said-other (queried.Word s n) l never = absurd (never s n refl)
+said-other (queried.Refused f) l never = refl
+
+module _ (v : ℕ) (t a b : List ℤ) (r : Queried) (work room : ℕ) (g : work ≡ workLength) (h : room ≡ lettersLent) (e : r ≡ queryOf v t a b work room 0) where
+  as-lent : r ≡ queryOf v t a b workLength lettersLent 0
+  as-lent = e ∙ ap (λ (n : ℕ). queryOf v t a b n room 0) g ∙ ap (λ (n : ℕ). queryOf v t a b workLength n 0) h
+
+  pub replied-as : said r (foundWord v t (ofList a) (ofList b)) ≡ replied v t a b
+  unfolding replied
+  replied-as = ap (λ (x : Queried). said x (foundWord v t (ofList a) (ofList b))) as-lent
+
+  pub letters-as : (letters : List ℤ) → wordLeft r (foundWord v t (ofList a) (ofList b)) letters ≡ lettersLeft v t a b letters
+  letters-as letters = ap (λ (x : Queried). wordLeft x (foundWord v t (ofList a) (ofList b)) letters) as-lent
+
+-- what is asked, by equals
+pub asked-as : {X : Type 0} {v v' : ℕ} {t t' a a' b b' : List ℤ} (f : ℕ → List ℤ → List ℤ → List ℤ → X) → v ≡ v' → t ≡ t' → a ≡ a' → b ≡ b' → f v t a b ≡ f v' t' a' b'
+asked-as f e g h k = cc
+
+module _ (ns : List ℤ) where
+  few : {X : Type 0} (x y : X) → length ns < 10 → x ≡ byCount ns x y
+  few x y h = sym (pick-true (ltb (length ns) 10) x y (lt-ltb (length ns) 10 h))
+
+  enough : {X : Type 0} (x y : X) → 10 ≤ length ns → y ≡ byCount ns x y
+  enough x y h = sym (pick-false (ltb (length ns) 10) x y (le-ltb (length ns) 10 h))
+
+  pub few-line : length ns < 10 → refusalLine vertexCount ≡ repliedTo ns
+  unfolding repliedTo
+  few-line h = few _ _ h
+
+  pub few-work : (w : List ℕ) → length ns < 10 → w ≡ workTo ns w
+  unfolding workTo
+  few-work w h = few _ _ h
+
+  pub few-letters : (letters : List ℤ) → length ns < 10 → letters ≡ lettersTo ns letters
+  unfolding lettersTo
+  few-letters letters h = few _ _ h
+
+  pub enough-line : 10 ≤ length ns → replied (countIn ns) (tableIn ns) (firstIn ns) (secondIn ns) ≡ repliedTo ns
+  unfolding repliedTo
+  enough-line h = enough _ _ h
+
+  pub enough-work : (w : List ℕ) → 10 ≤ length ns → workLeft (countIn ns) (tableIn ns) (firstIn ns) (secondIn ns) w ≡ workTo ns w
+  unfolding workTo
+  enough-work w h = enough _ _ h
+
+  pub enough-letters : (letters : List ℤ) → 10 ≤ length ns → lettersLeft (countIn ns) (tableIn ns) (firstIn ns) (secondIn ns) letters ≡ lettersTo ns letters
+  unfolding lettersTo
+  enough-letters letters h = enough _ _ h
+
+pub reply-by : (longer : Bool) (text : List ℕ) (r : Reading) → r ≡ inputOf longer queryFormat text 3079 → replyBy r (numbers (pieces text)) ≡ replyOf longer text
+unfolding replyOf
+reply-by longer text r e = ap (λ (x : Reading). replyBy x (numbers (pieces text))) e
+
+pub leaves-by : {longer : Bool} {text : List ℕ} {ns letters : List ℤ} {w : List ℕ} {ns' letters' : List ℤ} {w' : List ℕ} (r : Reading) → r ≡ inputOf longer queryFormat text 3079
+    → ns' ≡ leftBy r (numbers (pieces text)) ns → w' ≡ workBy r (numbers (pieces text)) w → letters' ≡ lettersBy r (numbers (pieces text)) letters
+    → Leaves longer text ns letters w ns' letters' w'
+leaves-by {longer} {text} {ns} {letters} {w} r e a b d = record {
+  numbers-left = a ∙ ap (λ (x : Reading). leftBy x (numbers (pieces text)) ns) e;
+  work-left = b ∙ ap (λ (x : Reading). workBy x (numbers (pieces text)) w) e;
+  letters-left = d ∙ ap (λ (x : Reading). lettersBy x (numbers (pieces text)) letters) e;
+}

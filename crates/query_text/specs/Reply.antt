@@ -1,0 +1,108 @@
+-- WHAT THE PROGRAM `query` WRITES, byte for byte (document 01, "Who can cause a refusal"), and what the call leaves in the lent spaces.
+--
+--   wordWord                        `word` as bytes
+--   lettersLent                     the letters that the program lends
+--   said r l                        the line for an answer r of a query whose walk writes the letters l: `word` and the letters, or
+--                                   `refused`, the number and the place
+--   replied v t a b                 the line for the symbol in t and the pair A, B; the word starts at the place 0 of the lent space
+--   four ns i                       the four numbers of ns from the number i on: a matrix, row by row
+--   countIn, tableIn, firstIn, secondIn     v, the symbol's table, A and B in the numbers ns of a text, of which A and B are the last eight
+--   repliedTo ns                    the line for the numbers ns of a text. Where v is out of range a text hands on v alone (refusal 1);
+--                                   else there are 3v + 10 numbers
+--   workTo ns w, lettersTo ns l     what the call then leaves in the work space w and in the word space l
+--   queryFormat                     the form of the text: v from 1 to 1,023, and then 3v + 1 numbers and two matrices of four
+--   replyBy, workBy, lettersBy      the same by the answer of `read_input`, where the text's numbers are ns
+--   replyOf longer text             the bytes for a text, or for one with more than the 65,536 bytes that fit into the buffer
+--   Leaves ..                       what the call leaves in every lent space but that of the bytes
+use mathlib.Core.Path.{_≡_}
+use mathlib.Core.Bool.{Bool}
+use mathlib.Core.List.{List, [], _∷_}
+use Prim.Native.Nat.{ℕ, _+_, _-_}
+use lib.Dec.{ltb}
+use lib.IntN.{ℤ}
+use lib.ListN.{length, take, drop}
+use Rattle.matrix.specs.Matrix.{nth, ofList}
+use Rattle.matrix.specs.Euclid.{pick}
+use Rattle.refusal.specs.Refusal.{vertexCount}
+use Rattle.workspace.specs.Space.{workLength}
+use Rattle.text.specs.Piece.{pieces, numbers}
+use Rattle.text.specs.Reading as reading
+use Rattle.text.specs.Reading.{inputOf, leftBy}
+use Rattle.text.specs.declared.Format.{Format}
+use Rattle.text.specs.declared.Reading.{Reading}
+use Rattle.text.specs.declared.Reading.the-variants.{Numbers, Refused}
+use Rattle.text_line.specs.Line.{line, refusalLine}
+use Rattle.word.specs.Answer.{foundWord, queryOf, workLeft, wordLeft}
+use Rattle.word.specs.declared.Queried.{Queried}
+use Rattle.word.specs.declared.Queried.the-variants as queried
+
+abbrev pub wordWord : List ℕ
+wordWord = 119 ∷ 111 ∷ 114 ∷ 100 ∷ []
+
+abbrev pub lettersLent : ℕ
+lettersLent = 16384
+
+abbrev pub said : Queried → List ℤ → List ℕ
+said (queried.Word start n) l = line wordWord l
+said (queried.Refused f) l = refusalLine f
+
+unfoldable pub replied : (v : ℕ) (t a b : List ℤ) → List ℕ
+replied v t a b = said (queryOf v t a b workLength lettersLent 0) (foundWord v t (ofList a) (ofList b))
+
+abbrev pub lettersLeft : (v : ℕ) (t a b : List ℤ) → List ℤ → List ℤ
+lettersLeft v t a b letters = wordLeft (queryOf v t a b workLength lettersLent 0) (foundWord v t (ofList a) (ofList b)) letters
+
+-- ---- the numbers of a text
+
+unfoldable pub four : List ℤ → ℕ → List ℤ
+four ns i = nth ns i ∷ nth ns (i + 1) ∷ nth ns (i + 2) ∷ nth ns (i + 3) ∷ []
+
+abbrev pub countIn : List ℤ → ℕ
+countIn ns = reading.vertexCount (nth ns 0)
+
+abbrev pub tableIn : List ℤ → List ℤ
+tableIn ns = take (length ns - 9) (drop 1 ns)
+
+abbrev pub firstIn : List ℤ → List ℤ
+firstIn ns = four ns (length ns - 8)
+
+abbrev pub secondIn : List ℤ → List ℤ
+secondIn ns = four ns (length ns - 4)
+
+-- x where a text hands on v alone, and else y
+abbrev pub byCount : {X : Type 0} → List ℤ → X → X → X
+byCount ns x y = pick (ltb (length ns) 10) x y
+
+unfoldable pub repliedTo : List ℤ → List ℕ
+repliedTo ns = byCount ns (refusalLine vertexCount) (replied (countIn ns) (tableIn ns) (firstIn ns) (secondIn ns))
+
+unfoldable pub workTo : List ℤ → List ℕ → List ℕ
+workTo ns w = byCount ns w (workLeft (countIn ns) (tableIn ns) (firstIn ns) (secondIn ns) w)
+
+unfoldable pub lettersTo : (ns letters : List ℤ) → List ℤ
+lettersTo ns letters = byCount ns letters (lettersLeft (countIn ns) (tableIn ns) (firstIn ns) (secondIn ns) letters)
+
+-- ---- the text
+
+abbrev pub queryFormat : Format
+queryFormat = record { most = 1023; each = 3; more = 10 }
+
+abbrev pub replyBy : Reading → List ℤ → List ℕ
+replyBy (Numbers k) ns = repliedTo (take k ns)
+replyBy (Refused f) ns = refusalLine f
+
+abbrev pub workBy : Reading → List ℤ → List ℕ → List ℕ
+workBy (Numbers k) ns w = workTo (take k ns) w
+workBy (Refused f) ns w = w
+
+abbrev pub lettersBy : Reading → (ns letters : List ℤ) → List ℤ
+lettersBy (Numbers k) ns letters = lettersTo (take k ns) letters
+lettersBy (Refused f) ns letters = letters
+
+unfoldable pub replyOf : Bool → List ℕ → List ℕ
+replyOf longer text = replyBy (inputOf longer queryFormat text 3079) (numbers (pieces text))
+
+pub record Leaves (longer : Bool) (text : List ℕ) (ns letters : List ℤ) (w : List ℕ) (ns' letters' : List ℤ) (w' : List ℕ) : Type 0 where
+  pub numbers-left : ns' ≡ leftBy (inputOf longer queryFormat text 3079) (numbers (pieces text)) ns
+  pub work-left : w' ≡ workBy (inputOf longer queryFormat text 3079) (numbers (pieces text)) w
+  pub letters-left : letters' ≡ lettersBy (inputOf longer queryFormat text 3079) (numbers (pieces text)) letters

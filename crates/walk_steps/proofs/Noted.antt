@@ -1,0 +1,152 @@
+-- The tables of steps by S.
+--
+-- In order: which places are positions (`real-low`, `real-high`); codes of letters (`coded-…`, `decoded-fits`, `letter-most`); one step
+-- noted (`prepared-none`, `prepared-more`, `prepared-skip`, `prepared-all`); where S leads is a position (`step-low`); Q twice (`back-…`).
+-- Assumes nothing.
+use mathlib.Core.Path.{_≡_, refl, sym, _∙_, ap}
+use mathlib.Core.Bool.{Bool, true, false, _||_}
+use mathlib.Core.List.{List}
+use Prim.Native.Nat.{ℕ, zero, suc, _+_, _*_, _-_, _%_, _≤_, _<_}
+use native.Mathlib.Omega.{arith}
+use lib.Dec.{ltb}
+use lib.ListN.{length, getD, set, length-set}
+use lib.Seq.{getD-set-same, getD-set-other, getD-drop}
+use lib.IntN.{ℤ, pos, negsuc, natAbs, _+ℤ_, _-ℤ_, +ℤ-negℤ-cancel}
+use mir.Syntax.{w16}
+use mir.Val.{SFits, toZ, ofZ}
+use mir.Facts.{toZ-ofZ}
+use borrow.Author.Tests.{lt-ltb, le-ltb, ltb-true, ltb-false}
+use borrow.Author.Count.{below-more}
+use Rattle.matrix.specs.Matrix.{nth}
+use Rattle.matrix.specs.Words.{S}
+use Rattle.symbol.specs.Table.{pairing}
+use Rattle.symbol.specs.Symbol.{IsSymbol}
+use Rattle.pairing.specs.Generator.{generators, leads}
+use Rattle.pairing.specs.Subgroup.{IsWord}
+use Rattle.symbol.proofs.Choice.{clash}
+use Rattle.polygon.specs.Cut.{corners, places}
+use Rattle.polygon.specs.Step.{oddAt, real, Real, stepS, turnQ, written}
+use Rattle.polygon.specs.Tables.{Tables, lettersOf}
+use Rattle.polygon.proofs.Flip.{real-in, turn-face, turn-last, turn-next}
+use Rattle.polygon.proofs.Polygon.{polygon}
+use Rattle.polygon.proofs.Partners.{tables-set}
+use Rattle.polygon.proofs.SymbolFacts.{length-generators, count-most}
+use Rattle.walk_steps.specs.Steps.{NEXT, LETTER, Prepared}
+
+-- ---- which places are positions
+
+module _ (v : ℕ) (t : List ℤ) (p : ℕ) where
+  pub real-low : p < corners v → true ≡ real v t p
+  unfolding real
+  real-low h = sym (ap (λ (b : Bool). b || oddAt v t (p - corners v)) (lt-ltb p (corners v) h))
+
+  pub real-high : corners v ≤ p → oddAt v t (p - corners v) ≡ real v t p
+  unfolding real
+  real-high h = sym (ap (λ (b : Bool). b || oddAt v t (p - corners v)) (le-ltb p (corners v) h))
+
+  -- the entry that the code reads there
+  pub face-entry : nth t (2 * v + (p - corners v)) ≡ pairing v t (p - corners v)
+  face-entry = sym (getD-drop (2 * v) t (p - corners v) (pos 0))
+
+-- ---- codes
+
+code-is : (z : ℤ) → natAbs z ≤ 1024 → z +ℤ pos 1024 ≡ pos (natAbs (z +ℤ pos 1024))
+code-is (pos n) h = refl
+code-is (negsuc n) h = rw (le-ltb 1024 (suc n) h)
+
+code-low : (z : ℤ) → natAbs z ≤ 1024 → natAbs (z +ℤ pos 1024) ≤ 2048
+code-low (pos n) h = omega arith
+code-low (negsuc n) h = rw (le-ltb 1024 (suc n) h) (omega arith)
+
+code-fits : (z : ℤ) → natAbs z ≤ 1024 → SFits w16 (z +ℤ pos 1024)
+code-fits z h = rw (code-is z h) (record { sfits = omega (arith, code-low z h) })
+
+module _ {z : ℤ} (fit : SFits w16 z) (h : natAbs z ≤ 1024) where
+  pub coded-fits : SFits w16 (toZ w16 (ofZ w16 z) +ℤ pos 1024)
+  coded-fits = rw (toZ-ofZ fit) (code-fits z h)
+
+  pub coded-is : toZ w16 (ofZ w16 (toZ w16 (ofZ w16 z) +ℤ pos 1024)) ≡ pos (natAbs (z +ℤ pos 1024))
+  coded-is = toZ-ofZ coded-fits ∙ rw (toZ-ofZ fit) (code-is z h)
+
+  pub coded-low : natAbs (z +ℤ pos 1024) ≤ 2048
+  coded-low = code-low z h
+
+  pub coded-back : pos (natAbs (z +ℤ pos 1024)) -ℤ pos 1024 ≡ z
+  coded-back = ap (λ (y : ℤ). y -ℤ pos 1024) (sym (code-is z h)) ∙ +ℤ-negℤ-cancel z (pos 1024)
+
+-- a code below 2,048 as a letter
+pub decoded-fits : (n : ℕ) → n ≤ 2048 → SFits w16 (pos n -ℤ pos 1024)
+decoded-fits n h = go (ltb n 1024) refl
+  where
+    go : (b : Bool) → ltb n 1024 ≡ b → SFits w16 (pos n -ℤ pos 1024)
+    go true e = rw e (record { sfits = omega arith })
+    go false e = rw e (record { sfits = omega arith })
+
+-- ---- letters are at most 1,024 in size
+
+word-most : (n : ℕ) (z : ℤ) → IsWord n (lettersOf z) → natAbs z ≤ n
+word-most n (pos zero) w = omega arith
+word-most n (pos (suc k)) w = w .0 .1
+word-most n (negsuc k) w = w .0 .1
+
+pub letter-most : (v : ℕ) (t : List ℤ) → IsSymbol v t → (p : ℕ) (z : ℤ) → Real v t p → lettersOf z ≡ written v t S p → natAbs z ≤ 1024
+letter-most v t ok p z r e =
+    let w : IsWord (length (generators v t)) (lettersOf z) = rw e (polygon v t ok .letters S p r) in
+    omega (arith, word-most (length (generators v t)) z w, length-generators v t, count-most (leads v t) (v + 1), ok .most)
+
+-- ---- one step noted
+
+pub prepared-none : {t : List ℤ} {v : ℕ} {w : List ℕ} → Tables t v w → Prepared t v w 0
+prepared-none g = record { tables = g; steps = λ p h. absurd (omega arith); codes = λ p h. absurd (omega arith); letters = λ p h. absurd (omega arith) }
+
+module _ {t : List ℤ} {v : ℕ} {w : List ℕ} {p : ℕ} (g : Prepared t v w p) (h : p < places v) where
+  pub prepared-skip : real v t p ≡ false → Prepared t v w (p + 1)
+  prepared-skip e = record {
+    tables = g .tables;
+    steps = below-more _ p (g .steps) (λ r. clash r e);
+    codes = below-more _ p (g .codes) (λ r. clash r e);
+    letters = below-more _ p (g .letters) (λ r. clash r e);
+  }
+
+  pub prepared-more : (to code : ℕ) (z : ℤ) → to ≡ stepS v t p → code ≤ 2048 → pos code -ℤ pos 1024 ≡ z → lettersOf z ≡ written v t S p
+      → Prepared t v (set (set w (NEXT + p) to) (LETTER + p) code) (p + 1)
+  prepared-more to code z e f k l =
+      let most = g .tables .symbol .most in
+      let long = g .tables .long in
+      let w1 = set w (NEXT + p) to in
+      let long1 = length-set w (NEXT + p) to in
+      let other : (j : ℕ) → j < p → getD (set w1 (LETTER + p) code) (LETTER + j) 0 ≡ getD w (LETTER + j) 0 =
+      λ j b. getD-set-other w1 (LETTER + p) (LETTER + j) code 0 (λ y. omega arith) ∙ getD-set-other w (NEXT + p) (LETTER + j) to 0 (λ y. omega arith) in
+      let here : getD (set w1 (LETTER + p) code) (LETTER + p) 0 ≡ code = getD-set-same w1 (LETTER + p) code 0 (omega arith) in
+      record {
+        tables = tables-set (LETTER + p) code (tables-set (NEXT + p) to (g .tables) (omega arith) (omega arith)) (omega arith) (omega arith);
+        steps = below-more _ p
+            (λ j b r. getD-set-other w1 (LETTER + p) (NEXT + j) code 0 (λ y. omega arith) ∙ getD-set-other w (NEXT + p) (NEXT + j) to 0 (λ y. omega arith) ∙ g .steps j b r)
+            (λ r. getD-set-other w1 (LETTER + p) (NEXT + p) code 0 (λ y. omega arith) ∙ getD-set-same w (NEXT + p) to 0 (omega arith) ∙ e);
+        codes = below-more _ p (λ j b r. rw (other j b) (g .codes j b r)) (λ r. rw here f);
+        letters = below-more _ p (λ j b r. ap (λ (n : ℕ). lettersOf (pos n -ℤ pos 1024)) (other j b) ∙ g .letters j b r)
+            (λ r. ap (λ (n : ℕ). lettersOf (pos n -ℤ pos 1024)) here ∙ ap lettersOf k ∙ l);
+      }
+
+pub prepared-all : {t : List ℤ} {v : ℕ} {w : List ℕ} (p : ℕ) → Prepared t v w p → p ≡ places v → Prepared t v w (places v)
+prepared-all p g e = rw (sym e) g
+
+-- where S leads is a position
+pub step-low : (v : ℕ) (t : List ℤ) → IsSymbol v t → (p to : ℕ) → Real v t p → to ≡ stepS v t p → to < places v
+step-low v t ok p to r e = rw e (real-in v t ok (stepS v t p) (polygon v t ok .closed S p r))
+
+-- ---- Q twice
+
+module _ (v p : ℕ) where
+  pub back-face : corners v ≤ p → p ≡ turnQ v (turnQ v p)
+  back-face h = let e = turn-face v p h in sym (ap (turnQ v) e ∙ e)
+
+  pub back-first : p < corners v → p % 3 ≡ 0 → p + 2 ≡ turnQ v (turnQ v p)
+  back-first h e = sym (ap (turnQ v) (turn-next v p h (λ z. omega arith)) ∙ turn-next v (p + 1) (omega arith) (λ z. omega arith) ∙ omega arith)
+
+  pub back-other : p < corners v → (p % 3 ≡ 0 → ⊥) → p - 1 ≡ turnQ v (turnQ v p)
+  back-other h e = go (ltb (p % 3) 2) refl
+    where
+      go : (b : Bool) → ltb (p % 3) 2 ≡ b → p - 1 ≡ turnQ v (turnQ v p)
+      go true f = let k = ltb-true (p % 3) 2 f in let m : p % 3 ≡ 1 = omega arith in sym (ap (turnQ v) (turn-next v p h (λ z. omega arith)) ∙ turn-last v (p + 1) (omega arith) (omega arith) ∙ omega arith)
+      go false f = let k = ltb-false (p % 3) 2 f in let m : p % 3 ≡ 2 = omega arith in sym (ap (turnQ v) (turn-last v p h m) ∙ turn-next v (p - 2) (omega arith) (λ z. omega arith) ∙ omega arith)

@@ -1,0 +1,112 @@
+// The steps of a symbol's polygon by S, looked up: a table of where S leads and one of the letters that it writes.
+use polygon::walking::letter_s;
+use polygon::walking::step_s;
+ghost use mathlib.Core.Path.{_≡_};
+ghost use Prim.Native.Nat.{_+_, _≤_, _<_};
+ghost use lib.ListN.{length};
+ghost use lib.IntN.{pos, natAbs, _-ℤ_};
+ghost use Rattle.matrix.specs.Words.{S};
+ghost use Rattle.symbol.specs.Symbol.{IsSymbol};
+ghost use Rattle.polygon.specs.Cut.{places};
+ghost use Rattle.polygon.specs.Step.{real, Real, stepS, turnQ, written};
+ghost use Rattle.polygon.specs.Tables.{Tables, lettersOf};
+ghost use Rattle.walk_steps.specs.Steps.{Prepared};
+
+pub const NEXT: usize = 8192;
+
+pub const LETTER: usize = 12288;
+
+// Whether the place p is a position: a corner, or the outer face of an odd side.
+fn is_real(t: &[i64], v: usize, p: usize) -> bool
+    requires { ⌜ IsSymbol v (now t) × (p < places v) ⌝ }
+    ensures { λ r. ⌜ r ≡ real v (now (t .entry)) p ⌝ }
+{
+    let b = 3 * (v - 1);
+    if p < b {
+        return true;
+    }
+    let x = t[2 * v + (p - b)];
+    x == -3
+}
+
+// A letter, 1024 higher, so that it is no negative number.
+fn coded(letter: i16) -> u16
+    requires { ⌜ natAbs letter ≤ 1024 ⌝ }
+    ensures { λ r. ⌜ (r ≤ 2048) × (pos r -ℤ pos 1024 ≡ letter) ⌝ }
+{
+    (letter + 1024) as u16
+}
+
+// The step from the real position p is noted.
+fn note_step(t: &[i64], v: usize, w: &mut [u16], p: usize)
+    requires { ⌜ Prepared (now t) v (now w) p × (p < places v) × Real v (now t) p ⌝ }
+    ensures { λ _. ⌜ Prepared (now (t .entry)) v (now (w .exit)) (p + 1) × (length (now (w .exit)) ≡ length (now (w .entry))) ⌝ }
+{
+    let to = step_s(t, v, w, p);
+    let letter = letter_s(t, v, w, p);
+    let code = coded(letter);
+    w[NEXT + p] = to as u16;
+    w[LETTER + p] = code;
+}
+
+// The same for any place p, where nothing is noted if it is no position.
+fn note_place(t: &[i64], v: usize, w: &mut [u16], p: usize)
+    requires { ⌜ Prepared (now t) v (now w) p × (p < places v) ⌝ }
+    ensures { λ _. ⌜ Prepared (now (t .entry)) v (now (w .exit)) (p + 1) × (length (now (w .exit)) ≡ length (now (w .entry))) ⌝ }
+{
+    if is_real(t, v, p) {
+        note_step(t, v, w, p);
+        return;
+    }
+}
+
+// The steps from all positions are noted.
+pub fn prepare(t: &[i64], v: usize, w: &mut [u16])
+    requires { ⌜ Tables (now t) v (now w) ⌝ }
+    ensures { λ _. ⌜ Prepared (now (t .entry)) v (now (w .exit)) (places v) × (length (now (w .exit)) ≡ length (now (w .entry))) ⌝ }
+{
+    let end = 3 * (v - 1) + (v + 1);
+    let mut p: usize = 0;
+    while p < end {
+        note_place(t, v, w, p);
+        p += 1;
+    }
+}
+
+// S at the real position p of the symbol t.
+pub fn next(t: &[i64], v: usize, w: &[u16], p: usize) -> usize
+    requires { ⌜ Prepared (now t) v (now w) (places v) × Real v (now t) p ⌝ }
+    ensures { λ r. ⌜ r ≡ stepS v (now (t .entry)) p ⌝ }
+{
+    workspace::index(w[NEXT + p])
+}
+
+// A code as the letter.
+fn decoded(code: u16) -> i16
+    requires { ⌜ code ≤ 2048 ⌝ }
+    ensures { λ r. ⌜ r ≡ pos code -ℤ pos 1024 ⌝ }
+{
+    code as i16 - 1024
+}
+
+// The letter that S writes there, 0 for none.
+pub fn letter(t: &[i64], v: usize, w: &[u16], p: usize) -> i16
+    requires { ⌜ Prepared (now t) v (now w) (places v) × Real v (now t) p ⌝ }
+    ensures { λ r. ⌜ lettersOf r ≡ written v (now (t .entry)) S p ⌝ }
+{
+    decoded(w[LETTER + p])
+}
+
+// Q⁻¹ at p, which is Q twice.
+pub fn turn_back(v: usize, p: usize) -> usize
+    requires { ⌜ (1 ≤ v) × (v ≤ 1023) ⌝ }
+    ensures { λ r. ⌜ r ≡ turnQ v (turnQ v p) ⌝ }
+{
+    if 3 * (v - 1) <= p {
+        return p;
+    }
+    if p % 3 == 0 {
+        return p + 2;
+    }
+    p - 1
+}
