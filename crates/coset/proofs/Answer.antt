@@ -20,18 +20,19 @@ use Rattle.refusal.specs.declared.Checked.{Checked}
 use Rattle.refusal.specs.declared.Checked.the-variants.{Accepted, Refused}
 use Rattle.symbol.proofs.Choice.{pick-true, pick-false}
 use Rattle.polygon.proofs.Polygon.{polygon}
-use Rattle.numbering.specs.Space.{S-TABLE, R-TABLE, T-TABLE, entries}
+use Rattle.numbering.specs.Inner.Space.{S-TABLE, R-TABLE, T-TABLE, entries}
 use Rattle.figures.specs.Cusps.{fixedPoints, widths}
 use Rattle.figures.specs.Figure.{genusSays, levelSays}
 use Rattle.figures.specs.LevelOf.{levelOf}
-use Rattle.figures.specs.Scan.{Permuted, FiguresOf}
+use Rattle.figures.specs.Inner.Scan.{Permuted, FiguresOf}
 use Rattle.figures.specs.declared.Level as level
 use Rattle.figures.specs.declared.Genus as genus
 use Rattle.figures.proofs.Filled.{filled-permuted, S-stays, R-stays, T-stays}
 use Rattle.figures.proofs.Cusps.{cusps-are}
 use Rattle.coset.specs.Tables.{cosets, tableS, tableR, tableT, indexOf}
-use Rattle.coset.specs.Work.{Arranged}
-use Rattle.coset.specs.Answer.{roomFor, roomOne, tabledBy, figuresOf, figuredBy, figuredOf, Surveyed, Meaning, TablesMean, FiguresMean}
+use Rattle.coset.specs.Inner.Work.{Arranged}
+use Rattle.coset.specs.Answer.{roomFor, roomOne, tabledBy, figuresOf, figuredBy, figuredOf, Meaning, TablesMean, FiguresMean}
+use Rattle.coset.specs.Inner.Survey.{Surveyed}
 use Rattle.coset.specs.Answer as answer
 use Rattle.refusal.specs.declared.Filled.{Filled}
 use Rattle.refusal.specs.declared.Filled.the-variants as filled

@@ -29,16 +29,16 @@ use Rattle.symbol.proofs.Choice.{either}
 use Rattle.polygon.specs.Cut.{corners, places, flipOf}
 use Rattle.polygon.specs.Step.{oddAt, real, Real, stepS, turnQ, turned, startOf, originOf}
 use Rattle.polygon.specs.Theorem.{Polygon}
-use Rattle.polygon.specs.Partners.{Partnered, Numbered}
-use Rattle.polygon.specs.Tables.{Tables}
+use Rattle.polygon.specs.Inner.Partners.{Partnered, Numbered}
+use Rattle.polygon.specs.Inner.Tables.{Tables}
 use Rattle.polygon.proofs.Space.{still}
 use Rattle.polygon.proofs.Partners.{tables-set}
 use Rattle.polygon.proofs.Polygon.{polygon}
 use Rattle.polygon.proofs.SymbolFacts.{Kind, even, odd, free, kind}
-use Rattle.numbering.specs.Space.{SIGMA, RHO}
-use Rattle.numbering.specs.Marks.{Filled}
+use Rattle.numbering.specs.Inner.Space.{SIGMA, RHO}
+use Rattle.numbering.specs.Inner.Marks.{Filled}
 use Rattle.coset.specs.Tables.{stepR}
-use Rattle.coset.specs.Work.{Moved, Inside, Turned}
+use Rattle.coset.specs.Inner.Work.{Moved, Inside, Turned}
 use Rattle.coset.proofs.Theorem.{maps}
 
 -- ---- which places are positions

@@ -9,7 +9,6 @@
 --   saysRefusal a           the refusal that the answer is
 --   figuresOf v t           the figures of the symbol's tables: index, e2, e3, cusps, genus (18 for itself), level (17 for itself)
 --   figuredOf v t work      the refusals 1 to 7, then the work space, or the figures
---   Surveyed v t w w' f     what `survey` answers and leaves: the figures f, and in the work space the tables of S, R and T and the widths
 --   Meaning v t             the symbol is one; its polygon is cut into Farey triangles, and the steps over these keep their promise; its tables are
 --                           those of the right cosets of H; its cusps are the cycles of T, and its widths, genus and level what document 01 says
 --   TablesMean, FiguresMean an answer that is no refusal means this
@@ -31,7 +30,6 @@ use Rattle.symbol.specs.Check.{checkOf}
 use Rattle.symbol.specs.Symbol.{IsSymbol}
 use Rattle.pairing.specs.Generator.{byWork}
 use Rattle.polygon.specs.Theorem.{Polygon}
-use Rattle.numbering.specs.Space.{ROOM, S-TABLE, WIDTHS, R-TABLE, T-TABLE, entries}
 use Rattle.figures.specs.Cusps.{fixedPoints, widths, Cusps}
 use Rattle.figures.specs.Figure.{Figure, genusSays, levelSays}
 use Rattle.figures.specs.GenusOf.{genusOf}
@@ -96,18 +94,6 @@ figuredBy Accepted work r = pick (ltb work workLength) (refused (tooShort workLe
 
 abbrev pub figuredOf : (v : ℕ) → List ℤ → (work : ℕ) → Says
 figuredOf v t work = figuredBy (checkOf v t) work (figuresOf v t)
-
--- ---- what stays in the work space
-
-pub record Surveyed (v : ℕ) (t : List ℤ) (w w' : List ℕ) (f : FigureRecord) : Type 0 where
-  pub figures : saidBy (figured.Made f) ≡ figuresOf v t
-  pub same : length w' ≡ length w
-  pub few : f .index ≤ ROOM
-  pub few-cusps : f .cusps ≤ ROOM
-  pub S-is : entries S-TABLE (f .index) w' ≡ tableS v t
-  pub R-is : entries R-TABLE (f .index) w' ≡ tableR v t
-  pub T-is : entries T-TABLE (f .index) w' ≡ tableT v t
-  pub widths-are : entries WIDTHS (f .cusps) w' ≡ widthsOf v t
 
 -- ---- what an answer means
 

@@ -4,4 +4,4 @@ pub mod Tables
 pub mod Theorem
 pub mod TableFigures
 pub mod Answer
-pub mod Work
+pub mod Inner

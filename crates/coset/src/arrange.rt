@@ -13,8 +13,8 @@ ghost use Rattle.workspace.specs.Space.{workLength};
 ghost use Rattle.symbol.specs.Symbol.{IsSymbol};
 ghost use Rattle.polygon.specs.Cut.{places};
 ghost use Rattle.polygon.specs.Step.{stepS, startOf, originOf};
-ghost use Rattle.polygon.specs.Tables.{Tables};
-ghost use Rattle.coset.specs.Work.{Moved, Inside, Turned, Arranged};
+ghost use Rattle.polygon.specs.Inner.Tables.{Tables};
+ghost use Rattle.coset.specs.Inner.Work.{Moved, Inside, Turned, Arranged};
 
 // The S image of the place p; the outer face of a side that isn't odd stays.
 fn image_s(t: &[i64], v: usize, w: &[u16], p: usize) -> usize

@@ -22,9 +22,10 @@ ghost use Rattle.workspace.specs.Space.{workLength, zeros};
 ghost use Rattle.symbol.specs.Check.{checkOf};
 ghost use Rattle.symbol.specs.Symbol.{IsSymbol};
 ghost use Rattle.pairing.specs.Generator.{workAfter};
-ghost use Rattle.numbering.specs.Space.{S-TABLE, R-TABLE, T-TABLE, WIDTHS, entries};
+ghost use Rattle.numbering.specs.Inner.Space.{S-TABLE, R-TABLE, T-TABLE, WIDTHS, entries};
 ghost use Rattle.coset.specs.Tables.{indexOf, tableS, tableR, tableT};
-ghost use Rattle.coset.specs.Answer.{roomFor, tabledOf, columnLeft, roomOne, widthsOf, widthedOf, saidBy, figuresOf, figuredOf, TablesMean, FiguresMean, Surveyed};
+ghost use Rattle.coset.specs.Answer.{roomFor, tabledOf, columnLeft, roomOne, widthsOf, widthedOf, saidBy, figuresOf, figuredOf, TablesMean, FiguresMean};
+ghost use Rattle.coset.specs.Inner.Survey.{Surveyed};
 
 mod arrange;
 

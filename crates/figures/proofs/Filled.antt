@@ -8,11 +8,11 @@ use Prim.Native.Nat.{ℕ}
 use native.Mathlib.Omega.{arith}
 use Rattle.numbering.specs.Order.{orderOf, Maps}
 use Rattle.numbering.specs.Table.{Injective}
-use Rattle.numbering.specs.Space.{S-TABLE, WIDTHS, R-TABLE, T-TABLE, entries}
-use Rattle.numbering.specs.Marks.{TablesOf}
+use Rattle.numbering.specs.Inner.Space.{S-TABLE, WIDTHS, R-TABLE, T-TABLE, entries}
+use Rattle.numbering.specs.Inner.Marks.{TablesOf}
 use Rattle.numbering.proofs.Space.{entries-same}
 use Rattle.numbering.proofs.Table.{permutations}
-use Rattle.figures.specs.Scan.{Permuted, CuspWidths, PositiveTable}
+use Rattle.figures.specs.Inner.Scan.{Permuted, CuspWidths, PositiveTable}
 use Rattle.figures.proofs.Cusps.{cusps-are}
 
 pub filled-permuted : {f g : ℕ → ℕ} {start size n : ℕ} {w : List ℕ} → Maps f g start size → TablesOf f g start size n w

@@ -19,9 +19,9 @@ use Rattle.numbering.specs.Select.{select}
 use Rattle.refusal.specs.Refusal.{levelTooLarge}
 use Rattle.figures.specs.Figure.{value, refused}
 use Rattle.figures.specs.LevelOf.{lcm, lcmFrom, lcmOf, TOO-LARGE, fitting, levelOf, Positive}
-use Rattle.numbering.specs.Space.{WORK, ROOM, WIDTHS, NUMBER, ORDER, R-TABLE, T-TABLE, entries, Within}
-use Rattle.numbering.specs.Marks.{listed, Sparse, Marked, Fresh}
-use Rattle.figures.specs.Scan.{tableT, Permuted, CuspFrame, Scan, NewCycle, Turn, Turned, CuspWidths, PositiveTable}
+use Rattle.numbering.specs.Inner.Space.{WORK, ROOM, WIDTHS, NUMBER, ORDER, R-TABLE, T-TABLE, entries, Within}
+use Rattle.numbering.specs.Inner.Marks.{listed, Sparse, Marked, Fresh}
+use Rattle.figures.specs.Inner.Scan.{tableT, Permuted, CuspFrame, Scan, NewCycle, Turn, Turned, CuspWidths, PositiveTable}
 use Rattle.numbering.proofs.Find.{none-below, test, getD-find, getD-in, find-right}
 use Rattle.numbering.proofs.Table.{map-last}
 use Rattle.figures.proofs.Cycle.{times-last, times-low, run-length, run-at, run-more, cycle-length, cycle-at, cycle-once, cycle-self, width-is}

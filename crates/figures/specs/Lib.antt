@@ -4,4 +4,4 @@ pub mod Cusps
 pub mod Figure
 pub mod GenusOf
 pub mod LevelOf
-pub mod Scan
+pub mod Inner

@@ -3,13 +3,13 @@
 ghost use mathlib.Core.Path.{_≡_};
 ghost use mathlib.Core.List.{_++_};
 ghost use Prim.Native.Nat.{_<_};
-ghost use Rattle.numbering.specs.Space.{entries};
-ghost use Rattle.numbering.specs.Marks.{listed, Marked};
+ghost use Rattle.numbering.specs.Inner.Space.{entries};
+ghost use Rattle.numbering.specs.Inner.Marks.{listed, Marked};
 ghost use Rattle.figures.specs.Cusps.{cycle, fixedPoints};
 ghost use Rattle.figures.specs.Figure.{levelSays, genusSays};
 ghost use Rattle.figures.specs.GenusOf.{genusOf};
 ghost use Rattle.figures.specs.LevelOf.{gcd, lcm, fitting, levelOf};
-ghost use Rattle.figures.specs.Scan.{Holds, tableT, Permuted, NewCycle, Turn, Turned, CuspWidths, FiguresOf, PositiveTable};
+ghost use Rattle.figures.specs.Inner.Scan.{Holds, tableT, Permuted, NewCycle, Turn, Turned, CuspWidths, FiguresOf, PositiveTable};
 use numbering::R_TABLE;
 use numbering::S_TABLE;
 use numbering::T_TABLE;

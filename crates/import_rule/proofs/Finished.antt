@@ -42,7 +42,7 @@ use Rattle.numbering.proofs.Find as places
 use Rattle.import_rule.specs.Side.{Vertex, vertex, minusInfinity, infinity, limit}
 use Rattle.import_rule.specs.Rule.{least, free}
 use Rattle.import_rule.specs.Symbol.{labelsOf, tableOf}
-use Rattle.import_rule.specs.Placed.{Placed, pts, rowsOf}
+use Rattle.import_rule.specs.Inner.Placed.{Placed, pts, rowsOf}
 use Rattle.import_rule.specs.Theorem.{Precisely}
 use Rattle.import_rule.proofs.Member.{In, Apart}
 use Rattle.import_rule.proofs.Lead.{S-twice, Q-Q-right, Q-P-right, Turning, Leads, leads-≈, leads-to, leads-𝟙, leads-step, leads-back}

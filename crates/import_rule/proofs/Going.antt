@@ -16,7 +16,7 @@ use lib.IntN.{pos}
 use Rattle.matrix.specs.Euclid.{pick}
 use Rattle.symbol.proofs.Choice.{pick-true, pick-false}
 use Rattle.import_rule.specs.Side.{mediant, fits}
-use Rattle.import_rule.specs.Placed.{Placed, pts, Cut, closed, parted, over, next, Grew, finished, refused, goOn, lowerAt, upperAt, isClosed, cutIn, grow}
+use Rattle.import_rule.specs.Inner.Placed.{Placed, pts, Cut, closed, parted, over, next, Grew, finished, refused, goOn, lowerAt, upperAt, isClosed, cutIn, grow}
 use Rattle.import_rule.proofs.Member.{In, in-left, in-right, in-either, in-is}
 use Rattle.import_rule.proofs.Lead.{Turning}
 use Rattle.import_rule.proofs.Split.{Closed, AllClosed, true-closed, false-closed, in-pts}

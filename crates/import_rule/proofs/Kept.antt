@@ -24,7 +24,7 @@ use Rattle.matrix.specs.Words as word
 use Rattle.matrix.specs.Euclid.{pick}
 use Rattle.matrix.proofs.Matrix.{⊗-assoc, ⊗-idl, ⊗-idr, Q-Q, P-Q, ≈-sym, _∙≈_, ≈-left, ≈-right}
 use Rattle.import_rule.specs.Side.{mediant, fits}
-use Rattle.import_rule.specs.Placed.{Placed, pts, Cut, closed, parted, over, Grew, finished, refused, goOn, lowerAt, upperAt, cutIn, grow}
+use Rattle.import_rule.specs.Inner.Placed.{Placed, pts, Cut, closed, parted, over, Grew, finished, refused, goOn, lowerAt, upperAt, cutIn, grow}
 use Rattle.import_rule.proofs.Member.{In, in-left, in-right, Apart, at-most}
 use Rattle.import_rule.proofs.Lead.{S-twice, Turning, Leads, leads-one, leads-≈, leads-step}
 use Rattle.import_rule.proofs.Split.{framed, Closed, AllClosed, Shut, Broken, outcome, lower-S, upper-S, lower-det, upper-det, in-pts, Pt, pt-of, of-pt, same-side, split-keep, split-from, beside-in, beside-other, Beside, split-apart, Turn, t0, t1, t2, turnM, turnX, Corner, Edge}

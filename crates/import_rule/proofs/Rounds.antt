@@ -21,8 +21,8 @@ use Rattle.matrix.specs.Euclid.{pick}
 use Rattle.symbol.proofs.Choice.{pick-true, pick-false, either, clash}
 use Rattle.import_rule.specs.Side.{Side, frame, mediant, lower, upper, fits}
 use Rattle.import_rule.specs.Rule.{Mark, unpaired, even, odd, free, Row, row, isOpen, Parted, closed, parted, over, after, Grown, finished, refused, goOn, least, pointOf, visitAll, splitFirst, rounds}
-use Rattle.import_rule.specs.Placed as model
-use Rattle.import_rule.specs.Placed.{Placed, bare, pts, Grew, grow, cutIn, lowerAt, upperAt, isClosed, markOf, rowsOf}
+use Rattle.import_rule.specs.Inner.Placed as model
+use Rattle.import_rule.specs.Inner.Placed.{Placed, bare, pts, Grew, grow, cutIn, lowerAt, upperAt, isClosed, markOf, rowsOf}
 use Rattle.import_rule.proofs.Member.{In, in-left, in-right, in-either, Apart, in-is}
 use Rattle.import_rule.proofs.Lead.{Turning, Leads}
 use Rattle.import_rule.proofs.Split.{framed, Closed, AllClosed, closed-true, closed-false, true-closed, false-closed, Shut, Broken, outcome, in-pts, Pt, pt-of, of-pt, split-from, beside-in, Beside, Turn, t0, t1, t2, turnX}

@@ -25,7 +25,7 @@ use Rattle.matrix.specs.Euclid.{pick}
 use Rattle.matrix.proofs.Ring.{Exp, con, var, _⊕_, _⊙_, ⊖_, val, ring, MExp, lit, const, _⊛_, ∼_, valM, ringM, detᵉ, det-val}
 use Rattle.numbering.specs.Find.{find, isIn}
 use Rattle.import_rule.specs.Side.{Vertex, Side, side, frame, mediant, fits}
-use Rattle.import_rule.specs.Placed.{Placed, bare, pts, Cut, closed, parted, over, next, lowerAt, upperAt, isClosed, cutIn}
+use Rattle.import_rule.specs.Inner.Placed.{Placed, bare, pts, Cut, closed, parted, over, next, lowerAt, upperAt, isClosed, cutIn}
 use Rattle.import_rule.proofs.Member.{In, in-left, in-right, in-either, Apart, in-is}
 
 abbrev pub framed : Placed → Mat

@@ -25,7 +25,7 @@ use Rattle.matrix.proofs.Ring.{con, var, ring, lit, detᵉ}
 use Rattle.matrix.proofs.Matrix.{⊗-idl, det-𝟙, det-letter, S-S, ≈-sym, _∙≈_, ≈-right}
 use Rattle.symbol.proofs.Choice.{and-left, and-right}
 use Rattle.import_rule.specs.Side.{Vertex, vertex, minusInfinity, infinity, mediant, limit, fits}
-use Rattle.import_rule.specs.Placed.{Placed, pts, finished, lowerAt, upperAt, grow}
+use Rattle.import_rule.specs.Inner.Placed.{Placed, pts, finished, lowerAt, upperAt, grow}
 use Rattle.import_rule.proofs.Member.{In, in-right, Apart}
 use Rattle.import_rule.proofs.Lead.{S-twice, Turning, Leads, leads-≈, leads-𝟙, leads-step}
 use Rattle.import_rule.proofs.Split.{framed, lower-S, upper-S, lower-det, upper-det, Pt, of-pt, split-from, beside-in, Beside, Turn, t0, t1, t2, turnM, turnX, Corner, Edge}

@@ -33,7 +33,7 @@ use Rattle.numbering.proofs.Order.{add-old, add-new}
 use Rattle.import_rule.specs.Side.{Vertex, vertex, minusInfinity, infinity}
 use Rattle.import_rule.specs.Rule.{Mark, unpaired, even, odd, free, Row, row, least}
 use Rattle.import_rule.specs.Symbol.{noted, labelsFrom, labelsOf, entry, entries, verticesOf, tableOf}
-use Rattle.import_rule.specs.Placed.{Placed, bare, pts, markOf, rowOf, rowsOf}
+use Rattle.import_rule.specs.Inner.Placed.{Placed, bare, pts, markOf, rowOf, rowsOf}
 use Rattle.import_rule.proofs.Member.{In, Apart, in-is}
 use Rattle.import_rule.proofs.Split.{framed, in-pts}
 

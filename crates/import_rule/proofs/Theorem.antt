@@ -21,8 +21,8 @@ use Rattle.symbol.proofs.Choice.{pick-true, pick-false, either, clash, and-left
 use Rattle.import_rule.specs.Fixed.{byQ, fixes, Permuting}
 use Rattle.import_rule.specs.Rule.{Row, Grown, finished, refused, rounds, startRows}
 use Rattle.import_rule.specs.Symbol.{tableOf, Ruled, made, over, oneVertex, symbolFrom, ruleOf}
-use Rattle.import_rule.specs.Placed as model
-use Rattle.import_rule.specs.Placed.{Placed, pts, Grew, grow, rowsOf, startPlaced, symbolBy, quickOf}
+use Rattle.import_rule.specs.Inner.Placed as model
+use Rattle.import_rule.specs.Inner.Placed.{Placed, pts, Grew, grow, rowsOf, startPlaced, symbolBy, quickOf}
 use Rattle.import_rule.specs.Theorem.{Precisely}
 use Rattle.import_rule.proofs.Lead.{Turning, turning}
 use Rattle.import_rule.proofs.Kept.{Inv, Ends}

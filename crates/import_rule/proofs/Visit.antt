@@ -29,7 +29,7 @@ use Rattle.symbol.specs.Table.{carried}
 use Rattle.import_rule.specs.Fixed.{fixes}
 use Rattle.import_rule.specs.Side.{Side, frame}
 use Rattle.import_rule.specs.Rule.{Mark, unpaired, even, odd, free, Row, row, isOpen, Sought, nobody, found, behind, Visited, visited, least, pointOf, isEven, isOdd, mates, label, seek, visitBy, visit, visitTo, visitAll}
-use Rattle.import_rule.specs.Placed.{isClosed, markOf}
+use Rattle.import_rule.specs.Inner.Placed.{isClosed, markOf}
 use Rattle.import_rule.proofs.Member.{In, in-right, Apart, in-is}
 use Rattle.import_rule.proofs.Lead.{Turning, Leads, leads-one, leads-≈, leads-step, leads-back, leads-fix}
 use Rattle.import_rule.proofs.Split.{Closed, closed-true, true-closed, closed-false, false-closed}

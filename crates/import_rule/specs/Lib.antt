@@ -3,5 +3,5 @@ pub mod Fixed
 pub mod Side
 pub mod Rule
 pub mod Symbol
-pub mod Placed
 pub mod Theorem
+pub mod Inner

@@ -21,9 +21,9 @@ use Rattle.workspace.proofs.Zeros.{length-zeros, getD-zeros}
 use Rattle.symbol.proofs.Choice.{pick-true, pick-false, clash}
 use Rattle.import_rule.specs.Fixed.{image, byQ, Pair}
 use Rattle.import_rule.specs.Symbol.{Ruled, made, over, oneVertex, tableOf, ruleOf}
-use Rattle.import_rule.specs.Placed.{Grew, finished, refused, grow, rowsOf, startPlaced, symbolBy, quickOf}
-use Rattle.import_walk.specs.Work.{Ground, Whole, Walked, halted, whole, doneIn}
-use Rattle.import_table.specs.Writing.{written}
+use Rattle.import_rule.specs.Inner.Placed.{Grew, finished, refused, grow, rowsOf, startPlaced, symbolBy, quickOf}
+use Rattle.import_walk.specs.Inner.Work.{Ground, Whole, Walked, halted, whole, doneIn}
+use Rattle.import_table.specs.Inner.Writing.{written}
 use Rattle.import_table.specs.Answer.{grownOf, tableIn, leftBy}
 use Rattle.import_rule.proofs.Lead.{Turning, turning}
 use Rattle.import_rule.proofs.Theorem.{rule-is}

@@ -29,9 +29,9 @@ use Rattle.numbering.proofs.Order.{add-old, add-new}
 use Rattle.import_rule.specs.Fixed.{image, byQ}
 use Rattle.import_rule.specs.Rule.{Mark, unpaired, even, odd, free, Row, least}
 use Rattle.import_rule.specs.Symbol.{noted, labelsFrom, labelsOf, entry, entries, verticesOf, tableOf}
-use Rattle.import_rule.specs.Placed.{Placed, placed, markOf, rowOf, rowsOf}
-use Rattle.import_walk.specs.Work.{LABEL, DONE, TODO, cell, numberAt, endAt, pointAt, lastIn, doneIn, Whole}
-use Rattle.import_table.specs.Writing.{verticesTo, Paired, is-even, is-odd, is-new, is-old, pairingsIn, paired, written, Side}
+use Rattle.import_rule.specs.Inner.Placed.{Placed, placed, markOf, rowOf, rowsOf}
+use Rattle.import_walk.specs.Inner.Work.{LABEL, DONE, TODO, cell, numberAt, endAt, pointAt, lastIn, doneIn, Whole}
+use Rattle.import_table.specs.Inner.Writing.{verticesTo, Paired, is-even, is-odd, is-new, is-old, pairingsIn, paired, written, Side}
 use Rattle.import_rule.proofs.Member.{In}
 use Rattle.import_walk.proofs.Decode.{abs-diff}
 use Rattle.import_rule.proofs.Table.{length-rows, length-entries, labels-in, labels-few, mark-even, mark-odd, mark-free}

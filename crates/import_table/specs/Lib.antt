@@ -1,3 +1,3 @@
 -- What a reader of the crate `import_table` must believe, in reading order.
-pub mod Writing
 pub mod Answer
+pub mod Inner

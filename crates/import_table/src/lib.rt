@@ -2,11 +2,11 @@
 // (specs/Writing.antt). specs/Answer.antt says what `grow` answers and leaves.
 use import_rule::image;
 use import_rule::turned;
+use import_walk::walk::walk;
 use refusal::ENTRY_TOO_LARGE;
 use refusal::Filled;
 use refusal::Refusal;
 use refusal::TOO_SHORT;
-use import_walk::walk::walk;
 use write::write_four;
 use write::write_table;
 ghost use mathlib.Core.Path.{_≡_};
@@ -17,7 +17,7 @@ ghost use lib.IntN.{negsuc};
 ghost use lib.ListN.{length};
 ghost use Rattle.import_rule.specs.Fixed.{image, byQ, Pair};
 ghost use Rattle.import_rule.specs.Symbol.{oneVertex, ruleOf};
-ghost use Rattle.import_rule.specs.Placed.{grow, startPlaced, symbolBy};
+ghost use Rattle.import_rule.specs.Inner.Placed.{grow, startPlaced, symbolBy};
 ghost use Rattle.import_table.specs.Answer.{grownOf, leftBy};
 
 mod write;

@@ -13,8 +13,8 @@ ghost use lib.ListN.{length, getD, set, drop};
 ghost use lib.IntN.{pos, negsuc, _-ℤ_};
 ghost use Rattle.import_rule.specs.Fixed.{image, byQ};
 ghost use Rattle.import_rule.specs.Rule.{least};
-ghost use Rattle.import_walk.specs.Work.{LABEL, DONE, Whole, cell, endAt, pointAt};
-ghost use Rattle.import_table.specs.Writing.{verticesTo, Paired, paired, written, Side};
+ghost use Rattle.import_walk.specs.Inner.Work.{LABEL, DONE, Whole, cell, endAt, pointAt};
+ghost use Rattle.import_table.specs.Inner.Writing.{verticesTo, Paired, paired, written, Side};
 
 // Puts x at j.
 fn put(out: &mut [i64], j: usize, x: i64)

@@ -1,8 +1,4 @@
 // What the program `import` writes for a text: all of it, byte for byte, as specs/Answer.antt says.
-use text_line::put;
-use text_line::put_decimal;
-use text_line::put_integers;
-use text_line::refusal_line;
 use permutations::import;
 use refusal::Filled;
 use refusal::POINT_COUNT;
@@ -10,6 +6,10 @@ use refusal::Refusal;
 use text::Format;
 use text::Reading;
 use text::read_input;
+use text_line::put;
+use text_line::put_decimal;
+use text_line::put_integers;
+use text_line::refusal_line;
 ghost use mathlib.Core.Path.{_≡_};
 ghost use mathlib.Core.List.{[], _∷_, map};
 ghost use Prim.Native.Nat.{_+_, _*_, _≤_};

@@ -16,8 +16,8 @@ use Rattle.matrix.specs.Euclid.{pick}
 use Rattle.symbol.proofs.Choice.{pick-true, pick-false}
 use Rattle.import_rule.specs.Fixed.{image, byQ, Pair}
 use Rattle.import_rule.specs.Side.{Vertex, vertex, minusInfinity, infinity, limit}
-use Rattle.import_rule.specs.Placed.{Placed, placed, pts, startPlaced}
-use Rattle.import_walk.specs.Work.{LABEL, HELD, DONE, TODO, cell, endAt, pointAt, lastIn, doneIn, todoIn, cellSet, heldSet, startBy, startIn, Ground, Whole}
+use Rattle.import_rule.specs.Inner.Placed.{Placed, placed, pts, startPlaced}
+use Rattle.import_walk.specs.Inner.Work.{LABEL, HELD, DONE, TODO, cell, endAt, pointAt, lastIn, doneIn, todoIn, cellSet, heldSet, startBy, startIn, Ground, Whole}
 use Rattle.import_rule.proofs.Member.{In, in-left, in-right}
 use Rattle.import_rule.proofs.Kept.{Inv}
 use Rattle.import_rule.proofs.Theorem.{Started, started}

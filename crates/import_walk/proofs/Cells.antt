@@ -17,7 +17,7 @@ use borrow.Author.Tests.{eq-eqb, ne-eqb}
 use Rattle.matrix.specs.Euclid.{pick}
 use Rattle.symbol.proofs.Choice.{pick-true, pick-false}
 use Rattle.import_rule.specs.Fixed.{image, byQ}
-use Rattle.import_walk.specs.Work.{HELD, DONE, TODO, cell, numberAt, pointAt, cellSet, leftNum, leftDen, closedIn}
+use Rattle.import_walk.specs.Inner.Work.{HELD, DONE, TODO, cell, numberAt, pointAt, cellSet, leftNum, leftDen, closedIn}
 
 -- ---- numbers in two cells
 

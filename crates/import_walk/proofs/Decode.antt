@@ -13,7 +13,7 @@ use Rattle.matrix.proofs.Integer.{abs-neg}
 use Rattle.matrix.proofs.Ring.{Exp, con, var, _⊕_, _⊙_, ⊖_, ring}
 use Rattle.symbol.proofs.Choice.{and-left, and-right}
 use Rattle.import_rule.specs.Side.{Vertex, vertex, mediant, fits, limit, minusInfinity}
-use Rattle.import_walk.specs.Work.{numberAt, endAt, lastIn, leftNum, leftDen, sumNum, sumDen, fitsIn, cell, DONE, TODO}
+use Rattle.import_walk.specs.Inner.Work.{numberAt, endAt, lastIn, leftNum, leftDen, sumNum, sumDen, fitsIn, cell, DONE, TODO}
 use Rattle.import_walk.proofs.Cells.{left-none, left-some}
 use Rattle.import_rule.proofs.Theorem.{same-test}
 

@@ -13,7 +13,7 @@ use lib.ListN.{length, set, length-set}
 use borrow.Author.Tests.{le-leb, lt-leb, leb-true, eq-eqb, ne-eqb}
 use Rattle.matrix.specs.Euclid.{pick}
 use Rattle.symbol.proofs.Choice.{and-left, and-right, pick-true, pick-false}
-use Rattle.import_walk.specs.Work.{heldSet, cellSet, topPoint, splitBy, startBy, startIn}
+use Rattle.import_walk.specs.Inner.Work.{heldSet, cellSet, topPoint, splitBy, startBy, startIn}
 use Rattle.import_walk.proofs.Cells.{cell-length}
 
 and-false : (a b : Bool) → b ≡ false → (a && b) ≡ false

@@ -22,8 +22,8 @@ use Rattle.matrix.specs.Euclid.{pick}
 use Rattle.symbol.proofs.Choice.{either, clash, and-left, and-right}
 use Rattle.import_rule.specs.Fixed.{image, byQ, Pair}
 use Rattle.import_rule.specs.Side.{Vertex, vertex, minusInfinity, mediant, fits, limit}
-use Rattle.import_rule.specs.Placed.{Placed, placed, pts, finished, refused, lowerAt, upperAt, grow}
-use Rattle.import_walk.specs.Work.{LABEL, HELD, DONE, TODO, cell, numberAt, endAt, pointAt, lastIn, doneIn, todoIn, cellSet, leftNum, leftDen, sumNum, sumDen, fitsIn, topPoint, movedIn, heldSet, closedIn, splitBy, splitIn, Turned, moved, over, parted, Top}
+use Rattle.import_rule.specs.Inner.Placed.{Placed, placed, pts, finished, refused, lowerAt, upperAt, grow}
+use Rattle.import_walk.specs.Inner.Work.{LABEL, HELD, DONE, TODO, cell, numberAt, endAt, pointAt, lastIn, doneIn, todoIn, cellSet, leftNum, leftDen, sumNum, sumDen, fitsIn, topPoint, movedIn, heldSet, closedIn, splitBy, splitIn, Turned, moved, over, parted, Top}
 use Rattle.import_rule.proofs.Member.{In, in-left, in-right, in-is}
 use Rattle.import_rule.proofs.Lead.{Turning, turning}
 use Rattle.import_rule.proofs.Split.{Closed, in-pts, Pt, pt-of, split-from, beside-in, beside-other, Beside, t1, t2}

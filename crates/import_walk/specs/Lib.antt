@@ -1,2 +1,2 @@
--- What a reader of the crate `import_walk` must believe, in reading order.
-pub mod Work
+-- A reader need believe nothing of the crate `import_walk`: the crates above it say what comes of it.
+pub mod Inner

@@ -2,7 +2,7 @@
 ghost use mathlib.Core.Path.{_≡_};
 ghost use Prim.Native.Nat.{_+_, _≤_, _<_, _/_, _%_};
 ghost use lib.ListN.{length, set};
-ghost use Rattle.import_walk.specs.Work.{numberAt, pointAt, cellSet};
+ghost use Rattle.import_walk.specs.Inner.Work.{numberAt, pointAt, cellSet};
 
 // A 16-bit number among those of 64 bits.
 pub fn long(x: u16) -> u64

@@ -13,7 +13,7 @@ ghost use mathlib.Core.Bool.{_&&_};
 ghost use lib.Dec.{leb};
 ghost use lib.ListN.{length};
 ghost use Rattle.import_rule.specs.Fixed.{image, byQ, Pair};
-ghost use Rattle.import_walk.specs.Work.{Top, leftNum, leftDen, closedIn, fitsIn, sumNum, sumDen, topPoint, movedIn, splitBy, heldSet, Turned, startBy, startIn, Ground, Walked};
+ghost use Rattle.import_walk.specs.Inner.Work.{Top, leftNum, leftDen, closedIn, fitsIn, sumNum, sumDen, topPoint, movedIn, splitBy, heldSet, Turned, startBy, startIn, Ground, Walked};
 
 // How one turn of the walk ends: whether it stops, and how many sides are done and to do.
 pub struct Progress {

@@ -33,12 +33,13 @@ use Rattle.symbol.specs.Check.{checkOf}
 use Rattle.pairing.specs.Generator.{leaders, generatorTable}
 use Rattle.refusal.specs.declared.Refusal.{Refusal}
 use Rattle.refusal.specs.declared.Checked.the-variants.{Accepted, Refused}
-use Rattle.coset.specs.Answer.{saidBy, figuresOf, Surveyed}
+use Rattle.coset.specs.Answer.{saidBy, figuresOf}
+use Rattle.coset.specs.Inner.Survey.{Surveyed}
 use Rattle.coset.specs.declared.FigureRecord.{FigureRecord}
 use Rattle.coset.specs.declared.Figured.the-variants as figured
 use Rattle.coset.proofs.Answer.{figures-refused, figures-long}
 use Rattle.listing_text.specs.Listing.{listedBy, listed, listingFormat, readBy, listingOf, workBy, tableBy, Leaves, freeWord, evenWord, oddWord, kindWord, generatorLine, generatorLines}
-use Rattle.listing_text.specs.Parts.{partsOf}
+use Rattle.listing_text.specs.Inner.Parts.{partsOf}
 
 module _ (z : ℤ) where
   pub first-kind : SFits w64 z → ofZ w64 z ≡ 1 → kindWord z ≡ freeWord

@@ -1,3 +1,3 @@
 -- What the program `listing` writes, and the slices that it holds.
 pub mod Listing
-pub mod Parts
+pub mod Inner

@@ -1,7 +1,6 @@
 // What the program `listing` writes for a text: all of it, byte for byte, as specs/Listing.antt says (document 01, "Γ0(2), whole").
 use coset::FigureRecord;
 use coset::survey;
-use text_line::refusal_line;
 use lines::figure_lines;
 use lines::generator_part;
 use lines::table_lines;
@@ -11,6 +10,7 @@ use text::Format;
 use text::Reading;
 use text::read_input;
 use text::vertex_count;
+use text_line::refusal_line;
 ghost use mathlib.Core.Path.{_≡_};
 ghost use Prim.Native.Nat.{_*_, _≤_};
 ghost use lib.ListN.{length};
@@ -21,7 +21,7 @@ ghost use Rattle.symbol.specs.Symbol.{IsSymbol};
 ghost use Rattle.pairing.specs.Generator.{leaders, generatorTable, workAfter};
 ghost use Rattle.coset.specs.Answer.{figuresOf};
 ghost use Rattle.listing_text.specs.Listing.{listedBy, listed, listingOf, tableIn, Leaves};
-ghost use Rattle.listing_text.specs.Parts.{Spaces, partsOf};
+ghost use Rattle.listing_text.specs.Inner.Parts.{Spaces, partsOf};
 
 mod lines;
 

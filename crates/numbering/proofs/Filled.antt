@@ -11,8 +11,8 @@ use lib.ListN.{length}
 use Rattle.numbering.specs.Order.{orderOf, Maps, Reached}
 use Rattle.numbering.specs.Table.{at, _then_}
 use Rattle.numbering.specs.Select.{select}
-use Rattle.numbering.specs.Space.{SIGMA, RHO, entries}
-use Rattle.numbering.specs.Marks.{Images, orderIn, Tables, Filled, TablesOf}
+use Rattle.numbering.specs.Inner.Space.{SIGMA, RHO, entries}
+use Rattle.numbering.specs.Inner.Marks.{Images, orderIn, Tables, Filled, TablesOf}
 use Rattle.numbering.proofs.Find.{once-le}
 use Rattle.numbering.proofs.Order.{numbering, order-ext}
 use Rattle.numbering.proofs.Table.{renamed-ext}

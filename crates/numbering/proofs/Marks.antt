@@ -17,8 +17,8 @@ use borrow.Author.Count.{below-more}
 use Rattle.numbering.specs.Find.{find, _∈_, _∉_, isIn, Once}
 use Rattle.numbering.specs.Order.{add, visit, orderTo}
 use Rattle.numbering.specs.Table.{at, _then_, renamed, _thenTable_}
-use Rattle.numbering.specs.Space.{WORK, ROOM, S-TABLE, SIGMA, RHO, NUMBER, ORDER, R-TABLE, T-TABLE, entries, putTo, Apart, Within}
-use Rattle.numbering.specs.Marks.{listed, Sparse, Marked, Fresh, Visit, Images, orderIn, Renames, Composes, Tables}
+use Rattle.numbering.specs.Inner.Space.{WORK, ROOM, S-TABLE, SIGMA, RHO, NUMBER, ORDER, R-TABLE, T-TABLE, entries, putTo, Apart, Within}
+use Rattle.numbering.specs.Inner.Marks.{listed, Sparse, Marked, Fresh, Visit, Images, orderIn, Renames, Composes, Tables}
 use Rattle.numbering.proofs.Find.{none-below, getD-find, getD-in, in-all, once-last, once-below, all-last}
 use Rattle.numbering.proofs.Order.{add-old, add-new, visit-grows, to-more, numbering, order-stop}
 use Rattle.numbering.proofs.Table.{renamed-length, renamed-at, then-length, then-at, renaming}

@@ -10,7 +10,7 @@ use native.Mathlib.Numerals.{add-one}
 use native.Mathlib.Omega.{arith}
 use lib.ListN.{length, getD, set, take, drop, length-set, length-drop, List·getD-append}
 use lib.Seq.{paste-zero, paste-suc, length-paste, length-paste-head, getD-append-add, getD-set-other, drop-set-add, take-suc-set, take-suc, drop-cons, set-at, getD-take, getD-drop, length-take-le, ext-getD}
-use Rattle.numbering.specs.Space.{entries, putTo, Apart, Within}
+use Rattle.numbering.specs.Inner.Space.{entries, putTo, Apart, Within}
 
 -- ---- entries
 pub entries-length : (off n : ℕ) (w : List ℕ) → off + n ≤ length w → length (entries off n w) ≡ n

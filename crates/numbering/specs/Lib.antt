@@ -4,5 +4,4 @@ pub mod Find
 pub mod Order
 pub mod Table
 pub mod Select
-pub mod Space
-pub mod Marks
+pub mod Inner

@@ -8,8 +8,8 @@ ghost use lib.ListN.{length, drop};
 ghost use Rattle.numbering.specs.Find.{isIn};
 ghost use Rattle.numbering.specs.Order.{add, visit};
 ghost use Rattle.numbering.specs.Table.{at, renamed, _thenTable_};
-ghost use Rattle.numbering.specs.Space.{SIGMA, RHO, entries, putTo};
-ghost use Rattle.numbering.specs.Marks.{listed, Sparse, Marked, Fresh, Visit, Images, orderIn, Renames, Composes, Tables, Copies};
+ghost use Rattle.numbering.specs.Inner.Space.{SIGMA, RHO, entries, putTo};
+ghost use Rattle.numbering.specs.Inner.Marks.{listed, Sparse, Marked, Fresh, Visit, Images, orderIn, Renames, Composes, Tables, Copies};
 
 // The places of the tables in the work space (specs/Space.antt says what each holds).
 pub const S_TABLE: usize = 4096;

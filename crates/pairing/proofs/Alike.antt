@@ -20,9 +20,9 @@ use Rattle.symbol.specs.Table.{pairings, pairingOf}
 use Rattle.symbol.specs.Check.{eqZ}
 use Rattle.symbol.specs.Symbol.{IsSymbol}
 use Rattle.pairing.specs.Generator.{kindOf}
-use Rattle.pairing.specs.Work.{AllPaired}
+use Rattle.pairing.specs.Inner.Work.{AllPaired}
 use Rattle.pairing.specs.Same.{relabelled, agreeBelow, sameSymbol}
-use Rattle.pairing.specs.Alike.{alikeBy, allAlike}
+use Rattle.pairing.specs.Inner.Alike.{alikeBy, allAlike}
 use Rattle.symbol.specs.declared.Pairing.{Pairing}
 use Rattle.symbol.specs.declared.Pairing.the-variants.{Even, Odd, Free, Bad}
 use Rattle.symbol.proofs.Choice.{clash, eqZ-true, eq-eqZ}

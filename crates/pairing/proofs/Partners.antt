@@ -25,7 +25,7 @@ use Rattle.symbol.specs.Count.{first}
 use Rattle.symbol.specs.Table.{pairingOf}
 use Rattle.symbol.specs.Check.{eqZ, sidesIn, unpairedIn}
 use Rattle.pairing.specs.Generator.{partnerIn}
-use Rattle.pairing.specs.Work.{FIRST, PARTNER, met, metBy, labelled, seen, AllPaired, PairedTo, Partnered}
+use Rattle.pairing.specs.Inner.Work.{FIRST, PARTNER, met, metBy, labelled, seen, AllPaired, PairedTo, Partnered}
 use Rattle.symbol.specs.declared.Pairing.{Pairing}
 use Rattle.symbol.specs.declared.Pairing.the-variants.{Even, Odd, Free, Bad}
 use Rattle.symbol.proofs.Choice.{pick-true, pick-false, clash, either, eqZ-true, eq-eqZ, eqZ-refl}

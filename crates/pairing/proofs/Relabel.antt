@@ -24,7 +24,7 @@ use Rattle.symbol.specs.Table.{pairing, pairingOf}
 use Rattle.symbol.specs.Check.{eqZ}
 use Rattle.symbol.specs.Symbol.{FreeLabel, IsSymbol}
 use Rattle.pairing.specs.Generator.{partner, pairingAt}
-use Rattle.pairing.specs.Alike.{alikeBy}
+use Rattle.pairing.specs.Inner.Alike.{alikeBy}
 use Rattle.pairing.specs.Same.{firstBy, firstOfLabel, labelNumber, relabelledBy, relabelled, agreeBelow}
 use Rattle.symbol.specs.declared.Pairing.{Pairing}
 use Rattle.symbol.specs.declared.Pairing.the-variants.{Even, Odd, Free, Bad}

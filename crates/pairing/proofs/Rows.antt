@@ -19,10 +19,10 @@ use Rattle.matrix.specs.Euclid.{pick}
 use Rattle.symbol.specs.Count.{count, those}
 use Rattle.symbol.specs.Table.{pairings, pairing, pairingOf, sideAt}
 use Rattle.symbol.specs.Check.{unpairedIn, unpairedBy, sidesIn, checkOf}
-use Rattle.symbol.specs.Ready.{SmallSide}
+use Rattle.symbol.specs.Inner.Ready.{SmallSide}
 use Rattle.symbol.specs.Symbol.{IsSymbol, FreeLabel}
 use Rattle.pairing.specs.Generator.{partner, pairingAt, leadsIn, kindOf, leads, leaders, frameAt, generatorBy, generator, row, rows, generatorTable}
-use Rattle.pairing.specs.Work.{AllPaired, Partnered, Prepared, putRow, RowsTo}
+use Rattle.pairing.specs.Inner.Work.{AllPaired, Partnered, Prepared, putRow, RowsTo}
 use Rattle.symbol.specs.declared.Pairing.{Pairing}
 use Rattle.refusal.specs.Refusal.{badPairing}
 use Rattle.symbol.proofs.Choice.{pick-true, pick-false, either}

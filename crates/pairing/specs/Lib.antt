@@ -1,6 +1,5 @@
 -- What a reader of the crate `pairing` must believe, in reading order.
 pub mod Generator
-pub mod Work
 pub mod Subgroup
 pub mod Same
-pub mod Alike
+pub mod Inner

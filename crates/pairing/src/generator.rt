@@ -21,7 +21,7 @@ ghost use Rattle.symbol.specs.Count.{count};
 ghost use Rattle.symbol.specs.Check.{checkOf};
 ghost use Rattle.symbol.specs.Symbol.{IsSymbol};
 ghost use Rattle.pairing.specs.Generator.{leadsIn, leads, generator, generatorTable, leaders, roomOf, generatedOf, workAfter, tableLeft, GeneratorsMean};
-ghost use Rattle.pairing.specs.Work.{Partnered, Prepared, putRow, RowsTo, Listed};
+ghost use Rattle.pairing.specs.Inner.Work.{Partnered, Prepared, putRow, RowsTo, Listed};
 
 // Whether side i is the leftmost side of its generator.
 fn leads_at(v: usize, p: &[i64], w: &[u16], i: usize) -> bool

@@ -9,7 +9,7 @@ ghost use Rattle.matrix.specs.Matrix.{nth};
 ghost use Rattle.workspace.specs.Space.{workLength};
 ghost use Rattle.symbol.specs.Table.{pairingOf};
 ghost use Rattle.pairing.specs.Generator.{kindOf};
-ghost use Rattle.pairing.specs.Work.{FIRST, met, metBy, AllPaired, PairedTo, FirstsBounded, Partnered};
+ghost use Rattle.pairing.specs.Inner.Work.{FIRST, met, metBy, AllPaired, PairedTo, FirstsBounded, Partnered};
 
 // The places of the tables in the work space (specs/Work.antt).
 const FIRST: usize = 4096;

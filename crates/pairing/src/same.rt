@@ -15,7 +15,7 @@ ghost use Rattle.symbol.specs.Table.{pairings};
 ghost use Rattle.symbol.specs.Check.{checkOf};
 ghost use Rattle.symbol.specs.Symbol.{IsSymbol};
 ghost use Rattle.pairing.specs.Same.{agreeBelow, sameSymbol, samenessOf, workAfterBoth, SameMeans};
-ghost use Rattle.pairing.specs.Alike.{alike, allAlike, BothPrepared};
+ghost use Rattle.pairing.specs.Inner.Alike.{alike, allAlike, BothPrepared};
 
 // The answer of `same`.
 pub enum Sameness {

@@ -25,7 +25,7 @@ use Rattle.import_rule.proofs.Images.{image-in}
 use Rattle.symbol.specs.Check.{refuseAt}
 use Rattle.permutations.specs.Check.{badEntry, earlier, twiceMoved, thriceMoved}
 use Rattle.permutations.proofs.Accepted.{entry-low}
-use Rattle.permutations.specs.Seen.{earlierIn, SeenTo, Entries}
+use Rattle.permutations.specs.Inner.Seen.{earlierIn, SeenTo, Entries}
 
 -- ---- a loop that looks for the first place
 

@@ -21,8 +21,8 @@ use Rattle.numbering.proofs.Find as places
 use Rattle.numbering.proofs.Order.{add-old, add-new, Grows, visit-grows, to-more, order-stop}
 use Rattle.import_rule.specs.Fixed.{image}
 use Rattle.permutations.specs.Check.{notReached}
-use Rattle.permutations.specs.Seen.{Entries}
-use Rattle.permutations.specs.Reach.{Listed, Entered, VisitedAt, Two, Blank, AllReached}
+use Rattle.permutations.specs.Inner.Seen.{Entries}
+use Rattle.permutations.specs.Inner.Reach.{Listed, Entered, VisitedAt, Two, Blank, AllReached}
 
 take-set : (q : List ℕ) (n x : ℕ) → n < length q → take (suc n) (set q n x) ≡ take n q ++ (x ∷ [])
 take-set [] n x h = absurd (omega arith)

@@ -9,7 +9,7 @@ ghost use lib.ListN.{length, getD, set};
 ghost use Rattle.symbol.specs.Count.{first};
 ghost use Rattle.import_rule.specs.Fixed.{image};
 ghost use Rattle.permutations.specs.Check.{badEntry, twiceMoved, thriceMoved, movedBy};
-ghost use Rattle.permutations.specs.Seen.{SeenTo, Entries};
+ghost use Rattle.permutations.specs.Inner.Seen.{SeenTo, Entries};
 
 // Whether the entry at i is no point, or was seen before.
 fn is_bad(t: &[u32], seen: &[u8; 3072], i: usize) -> bool

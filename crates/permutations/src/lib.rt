@@ -19,7 +19,7 @@ ghost use Rattle.refusal.specs.Refusal.{_orElse_};
 ghost use Rattle.import_rule.specs.Fixed.{Pair};
 ghost use Rattle.import_table.specs.Answer.{grownOf};
 ghost use Rattle.permutations.specs.Check.{check13, check14, check15, twiceMoved, thriceMoved, checkOf, Verdict};
-ghost use Rattle.permutations.specs.Reach.{Two};
+ghost use Rattle.permutations.specs.Inner.Reach.{Two};
 ghost use Rattle.permutations.specs.Import.{ruleFor, importOf, tableLeft, workLeft, ImportMeans};
 
 mod entries;

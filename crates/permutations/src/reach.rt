@@ -6,7 +6,7 @@ ghost use lib.ListN.{length};
 ghost use Rattle.symbol.specs.Count.{first};
 ghost use Rattle.import_rule.specs.Fixed.{image};
 ghost use Rattle.permutations.specs.Check.{notReached};
-ghost use Rattle.permutations.specs.Reach.{Listed, Entered, VisitedAt, Two, Blank, AllReached};
+ghost use Rattle.permutations.specs.Inner.Reach.{Listed, Entered, VisitedAt, Two, Blank, AllReached};
 
 // The point x comes to the end of the queue of n points, if it is new; how many there are then.
 fn enter(seen: &mut [u8; 3072], queue: &mut [u16; 3072], size: usize, x: usize, n: usize) -> usize

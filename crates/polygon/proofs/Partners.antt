@@ -20,17 +20,17 @@ use borrow.Author.Count.{below-more}
 use Rattle.matrix.specs.Euclid.{pick}
 use Rattle.symbol.specs.Count.{count}
 use Rattle.symbol.specs.Table.{pairings}
-use Rattle.pairing.specs.Work as pairing
+use Rattle.pairing.specs.Inner.Work as pairing
 use Rattle.symbol.specs.Symbol.{IsSymbol}
 use Rattle.pairing.specs.Generator.{partner, pairingAt, leads, leadsBy, numberAt}
 use Rattle.symbol.specs.declared.Pairing.{Pairing}
 use Rattle.symbol.specs.declared.Pairing.the-variants.{Even, Odd, Free, Bad}
 use Rattle.polygon.specs.Cut.{places}
 use Rattle.polygon.specs.Step.{startOf}
-use Rattle.polygon.specs.Space.{PARTNER, GENERATOR, Above}
-use Rattle.polygon.specs.Scanning.{CutLeft}
-use Rattle.polygon.specs.Partners.{Partnered, NumberedTo, Numbered}
-use Rattle.polygon.specs.Tables.{Tables}
+use Rattle.polygon.specs.Inner.Space.{PARTNER, GENERATOR, Above}
+use Rattle.polygon.specs.Inner.Scanning.{CutLeft}
+use Rattle.polygon.specs.Inner.Partners.{Partnered, NumberedTo, Numbered}
+use Rattle.polygon.specs.Inner.Tables.{Tables}
 use Rattle.polygon.proofs.Space.{table-above, still}
 use Rattle.symbol.proofs.Choice.{either, clash}
 use Rattle.polygon.proofs.SymbolFacts.{count-most, Kind, even, odd, free, kind, Mate, free-mate, free-label, label-mates, number-mate}

@@ -23,8 +23,8 @@ use Rattle.symbol.specs.Count.{first}
 use Rattle.symbol.specs.Check.{isZero}
 use Rattle.symbol.specs.Symbol.{IsSymbol}
 use Rattle.polygon.specs.Cut.{outer, places, den, Cell, cell, below, handle, Scan, scan, attach, push, pushed, scanned, flipOf, underZero}
-use Rattle.polygon.specs.Space.{FLIP, STACK, HANDLE, table, joined, Frame}
-use Rattle.polygon.specs.Scanning.{cellsIn, scanIn, readyOf, Cells, Room, Settled, Cleared, Scanned, CutLeft}
+use Rattle.polygon.specs.Inner.Space.{FLIP, STACK, HANDLE, table, joined, Frame}
+use Rattle.polygon.specs.Inner.Scanning.{cellsIn, scanIn, readyOf, Cells, Room, Settled, Cleared, Scanned, CutLeft}
 use Rattle.polygon.proofs.Space.{table-set, table-above, table-at, table-length, cells-below, cells-push, cells-pop, cells-none, frame-refl, frame-trans, frame-flip, frame-stack, still}
 
 -- ---- denominators

@@ -11,8 +11,8 @@ use native.Mathlib.Omega.{arith}
 use lib.ListN.{length, getD, set, take, drop, length-set, length-take, length-drop}
 use lib.Seq.{getD-set-same, getD-set-other, drop-set-add, drop-set-lt, take-set-lt, take-set-le, getD-take, getD-drop}
 use Rattle.polygon.specs.Cut.{cell}
-use Rattle.polygon.specs.Space.{FLIP, STACK, HANDLE, table, Frame}
-use Rattle.polygon.specs.Scanning.{cellsIn}
+use Rattle.polygon.specs.Inner.Space.{FLIP, STACK, HANDLE, table, Frame}
+use Rattle.polygon.specs.Inner.Scanning.{cellsIn}
 
 -- ---- a table
 

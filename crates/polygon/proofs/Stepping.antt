@@ -24,8 +24,8 @@ use Rattle.symbol.specs.declared.Pairing.{Pairing}
 use Rattle.symbol.specs.declared.Pairing.the-variants.{Even, Odd, Free, Bad}
 use Rattle.polygon.specs.Cut.{corners, outer, places, flip, underZero}
 use Rattle.polygon.specs.Step.{oddAt, Real, crossBy, crossed, stepS, written, forth, back, turned, startOf}
-use Rattle.polygon.specs.Space.{FLIP, PARTNER, GENERATOR}
-use Rattle.polygon.specs.Tables.{Tables, lettersOf}
+use Rattle.polygon.specs.Inner.Space.{FLIP, PARTNER, GENERATOR}
+use Rattle.polygon.specs.Inner.Tables.{Tables, lettersOf}
 use Rattle.symbol.proofs.Choice.{either}
 use Rattle.polygon.proofs.SymbolFacts.{count-most, Kind, even, odd, free, kind, Mate, free-mate, Number, number-even, number-odd, number-first, number-second, length-generators}
 use Rattle.polygon.proofs.Flip.{Cutting, cutting, real-in}

@@ -13,8 +13,8 @@ ghost use Rattle.symbol.specs.Count.{first};
 ghost use Rattle.symbol.specs.Check.{isZero};
 ghost use Rattle.symbol.specs.Symbol.{IsSymbol};
 ghost use Rattle.polygon.specs.Cut.{places, below, handle};
-ghost use Rattle.polygon.specs.Space.{FLIP, joined};
-ghost use Rattle.polygon.specs.Scanning.{cellsIn, readyOf, Cells, Room, Settled, Cleared, Scanned, CutLeft};
+ghost use Rattle.polygon.specs.Inner.Space.{FLIP, joined};
+ghost use Rattle.polygon.specs.Inner.Scanning.{cellsIn, readyOf, Cells, Room, Settled, Cleared, Scanned, CutLeft};
 
 // How many cells the scan has on its stack, and how many triangles it has cut.
 pub struct Progress {

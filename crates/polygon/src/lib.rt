@@ -10,7 +10,7 @@ ghost use mathlib.Core.Path.{_≡_};
 ghost use Prim.Native.Nat.{_≤_};
 ghost use lib.ListN.{length};
 ghost use Rattle.symbol.specs.Symbol.{IsSymbol};
-ghost use Rattle.polygon.specs.Tables.{Built};
+ghost use Rattle.polygon.specs.Inner.Tables.{Built};
 
 mod cutting;
 mod pairs;

@@ -8,8 +8,8 @@ ghost use Prim.Native.Nat.{_+_, _≤_};
 ghost use lib.ListN.{length};
 ghost use Rattle.symbol.specs.Symbol.{IsSymbol};
 ghost use Rattle.pairing.specs.Generator.{leads};
-ghost use Rattle.polygon.specs.Space.{Above};
-ghost use Rattle.polygon.specs.Partners.{Partnered, NumberedTo, Numbered};
+ghost use Rattle.polygon.specs.Inner.Space.{Above};
+ghost use Rattle.polygon.specs.Inner.Partners.{Partnered, NumberedTo, Numbered};
 
 // Whether side i is the leftmost side of its generator.
 fn is_leading(t: &[i64], v: usize, w: &[u16], i: usize) -> bool

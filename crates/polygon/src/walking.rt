@@ -13,7 +13,7 @@ ghost use Rattle.symbol.specs.Symbol.{IsSymbol};
 ghost use Rattle.matrix.specs.Words.{S, Q, P};
 ghost use Rattle.polygon.specs.Step.{Real, stepS, turnQ, written, turned, startOf};
 ghost use Rattle.polygon.specs.Cut.{underZero};
-ghost use Rattle.polygon.specs.Tables.{Tables, lettersOf};
+ghost use Rattle.polygon.specs.Inner.Tables.{Tables, lettersOf};
 
 // Q at p: the next corner of the triangle, or p itself where p is an outer face.
 pub fn turn_q(v: usize, p: usize) -> usize

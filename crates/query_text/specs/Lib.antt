@@ -1,3 +1,3 @@
 -- What the program `query` writes, and the slices that it holds.
 pub mod Reply
-pub mod Spaces
+pub mod Inner

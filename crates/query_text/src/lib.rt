@@ -1,12 +1,12 @@
 // What the program `query` writes for a text: all of it, byte for byte, as specs/Reply.antt says (document 01, "Who can cause a refusal").
-use text_line::line_of_letters;
-use text_line::refusal_line;
 use refusal::Refusal;
 use refusal::VERTEX_COUNT;
 use text::Format;
 use text::Reading;
 use text::read_input;
 use text::vertex_count;
+use text_line::line_of_letters;
+use text_line::refusal_line;
 use word::Queried;
 use word::query;
 use word::query_refusal;
@@ -17,7 +17,7 @@ ghost use lib.ListN.{length};
 ghost use Rattle.text_line.specs.Line.{Puts};
 ghost use Rattle.word.specs.Answer.{workLeft};
 ghost use Rattle.query_text.specs.Reply.{replied, lettersLeft, four, repliedTo, workTo, lettersTo, replyOf, Leaves};
-ghost use Rattle.query_text.specs.Spaces.{Spaces};
+ghost use Rattle.query_text.specs.Inner.Spaces.{Spaces};
 
 // The matrix in the four numbers from the number i on.
 fn four_at(ns: &[i64], i: usize) -> [i64; 4]

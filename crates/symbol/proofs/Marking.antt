@@ -20,7 +20,7 @@ use Rattle.matrix.specs.Euclid.{pick}
 use Rattle.symbol.specs.Count.{count}
 use Rattle.symbol.specs.Table.{pairingOf}
 use Rattle.symbol.specs.Check.{eqZ, sidesIn, unpairedBy, unpairedIn}
-use Rattle.symbol.specs.Marks.{digit, capped, more, Marked, Noted, Tallied}
+use Rattle.symbol.specs.Inner.Marks.{digit, capped, more, Marked, Noted, Tallied}
 use Rattle.symbol.specs.declared.Pairing.{Pairing}
 use Rattle.symbol.specs.declared.Pairing.the-variants.{Even, Odd, Free, Bad}
 use Rattle.symbol.proofs.Choice.{pick-true, pick-false, clash, either, eqZ-true, eq-eqZ, eqZ-refl}

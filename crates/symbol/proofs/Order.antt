@@ -20,8 +20,8 @@ use Rattle.matrix.specs.Euclid.{pick}
 use Rattle.symbol.specs.Count.{first}
 use Rattle.symbol.specs.Table.{pairings}
 use Rattle.symbol.specs.Check.{refuse, refuseAt, eqZ, outOfRange, isOdd, lacksOdd, check1, check2, check3, check4, check5, check6, check7, checkOf}
-use Rattle.symbol.specs.Marks.{digit, Tallied}
-use Rattle.symbol.specs.Ready.{Ready}
+use Rattle.symbol.specs.Inner.Marks.{digit, Tallied}
+use Rattle.symbol.specs.Inner.Ready.{Ready}
 use Rattle.refusal.specs.declared.Refusal.{Refusal}
 use Rattle.refusal.specs.Refusal.{_orElse_, vertexCount, tableLength}
 use Rattle.refusal.specs.declared.Checked.{Checked}

@@ -16,7 +16,7 @@ use Rattle.matrix.specs.Bounds.{Small}
 use Rattle.matrix.specs.Euclid.{pick, positive}
 use Rattle.symbol.specs.Table.{numer, denom, leftNum, leftDen, rightNum, rightDen, sideAt}
 use Rattle.symbol.specs.Check.{eqZ, outOfRange, apart, isZero, unpairedIn}
-use Rattle.symbol.specs.Ready.{SmallSide, failsOf, placesOf, Ready}
+use Rattle.symbol.specs.Inner.Ready.{SmallSide, failsOf, placesOf, Ready}
 use Rattle.symbol.proofs.Choice.{pick-true, pick-false, clash, eqZ-true, eq-eqZ}
 use Rattle.symbol.proofs.Accepted.{in-range}
 use Rattle.symbol.proofs.Sides.{left-first, left-later, right-inside, right-last}

@@ -16,7 +16,7 @@ use Rattle.matrix.specs.Bounds.{Small, Roomy}
 use Rattle.matrix.proofs.Bounds.{roomy}
 use Rattle.symbol.specs.Table.{numer, denom, leftNum, leftDen, rightNum, rightDen, frame, gap}
 use Rattle.symbol.specs.Check.{eqZ}
-use Rattle.symbol.specs.Ready.{SmallSide}
+use Rattle.symbol.specs.Inner.Ready.{SmallSide}
 use Rattle.symbol.specs.declared.Side.{Side}
 use Rattle.symbol.proofs.Choice.{pick-true, pick-false, clash, eqZ-true, eq-eqZ}
 use Rattle.symbol.proofs.Signed.{bits-positive}

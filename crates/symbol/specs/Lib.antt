@@ -2,6 +2,5 @@
 pub mod Count
 pub mod Table
 pub mod Check
-pub mod Marks
-pub mod Ready
 pub mod Symbol
+pub mod Inner

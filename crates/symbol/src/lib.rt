@@ -22,9 +22,9 @@ ghost use Rattle.refusal.specs.Refusal.{_orElse_};
 ghost use Rattle.symbol.specs.Count.{first};
 ghost use Rattle.symbol.specs.Table.{leftNum, leftDen, rightNum, rightDen, sideAt, frame, gap, carried, pairingOf};
 ghost use Rattle.symbol.specs.Check.{eqZ, outOfRange, apart, isZero, unpairedIn, check3, check4, check5, lacksOdd, check6, check7};
-ghost use Rattle.symbol.specs.Marks.{digit, Marked, Noted, Tallied};
+ghost use Rattle.symbol.specs.Inner.Marks.{digit, Marked, Noted, Tallied};
 ghost use Rattle.symbol.specs.Symbol.{Verdict};
-ghost use Rattle.symbol.specs.Ready.{SmallSide, failsOf, placesOf, Ready};
+ghost use Rattle.symbol.specs.Inner.Ready.{SmallSide, failsOf, placesOf, Ready};
 
 // A side of the polygon, from a/b on the left to c/d on the right.
 pub struct Side {

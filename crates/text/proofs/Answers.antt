@@ -18,7 +18,7 @@ use Rattle.refusal.specs.Refusal.{badText}
 use Rattle.text.specs.Piece.{Piece, pieces, firstBad, numbers, placeAt}
 use Rattle.text.specs.Reading.{wanted, wantedOr1, handed, countPlace, firstPlace, orElse, place19, answer, readingOf}
 use Rattle.text.specs.Laws.{Nineteen, Eleven}
-use Rattle.text.specs.Inside.{left, Stepped, wantedOf, surveyOf, badOrCount, countedOf}
+use Rattle.text.specs.Inner.Inside.{left, Stepped, wantedOf, surveyOf, badOrCount, countedOf}
 use Rattle.text.specs.declared.Format.{Format}
 use Rattle.text.specs.declared.Wanted.the-variants as wants
 use Rattle.text.specs.declared.Survey.the-variants as survey

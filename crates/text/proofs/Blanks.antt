@@ -15,7 +15,7 @@ use native.Mathlib.Omega.{arith}
 use lib.ListN.{length, getD, drop, take}
 use lib.Seq.{drop-cons, drop-length}
 use Rattle.text.specs.Blank.{isBlank, run}
-use Rattle.text.specs.Inside.{stretch}
+use Rattle.text.specs.Inner.Inside.{stretch}
 
 -- the test of a byte's kind, where it is known whether it is blank
 pub as-kind : (kind : Bool) {x y : Bool} → x ≡ y → Bool·beq x kind ≡ Bool·beq y kind

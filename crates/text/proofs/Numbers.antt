@@ -23,7 +23,7 @@ use lib.ListN.{length, getD, drop, take}
 use lib.Seq.{drop-cons, drop-length, take-all}
 use borrow.Author.Tests.{le-leb, lt-leb, leb-true, leb-false, eq-eqb, ne-eqb}
 use Rattle.text.specs.Number.{isDigit, onward, natural, within, mapped, numberOf}
-use Rattle.text.specs.Inside.{naturalOf, integerOf, pushed}
+use Rattle.text.specs.Inner.Inside.{naturalOf, integerOf, pushed}
 use Rattle.text.specs.declared.Natural.the-variants as natural
 use Rattle.text.specs.declared.Integer.the-variants as integer
 use Rattle.text.proofs.Clash.{clash}

@@ -20,7 +20,7 @@ use lib.ListN.{length, getD, drop, take, length-drop, drop-of-length-le}
 use lib.Seq.{drop-cons, drop-drop, getD-drop}
 use Rattle.text.specs.Blank.{isBlank, run, unbroken}
 use Rattle.text.specs.Piece.{pieceAt, piecesFrom, pieces}
-use Rattle.text.specs.Inside.{integerOf, stretch, left, Stuck, Stepped}
+use Rattle.text.specs.Inner.Inside.{integerOf, stretch, left, Stuck, Stepped}
 use Rattle.text.specs.declared.Integer.the-variants as integer
 use Rattle.text.specs.Number.{numberOf}
 use Rattle.text.proofs.Blanks.{as-kind, stretch-yes, stretch-no, stretch-le, after-stretch, take-stretch}

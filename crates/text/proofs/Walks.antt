@@ -18,7 +18,7 @@ use lib.IntN.{ℤ}
 use lib.ListN.{length, drop, take, set, length-drop, drop-of-length-le}
 use lib.Seq.{drop-drop}
 use Rattle.text.specs.Piece.{Piece, piecesFrom, pieces, firstBad, numbers, placeAt}
-use Rattle.text.specs.Inside.{left, Steps, Stepped, Stuck, surveyOf}
+use Rattle.text.specs.Inner.Inside.{left, Steps, Stepped, Stuck, surveyOf}
 use Rattle.text.specs.declared.Step.{Step}
 use Rattle.text.specs.declared.Step.the-variants as step
 use Rattle.text.specs.declared.Survey.the-variants as survey

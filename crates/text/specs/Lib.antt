@@ -10,4 +10,4 @@ pub mod Decimal
 pub mod Writing
 pub mod Refusal
 pub mod Laws
-pub mod Inside
+pub mod Inner

@@ -15,7 +15,7 @@ ghost use Rattle.text.specs.Piece.{pieces, numbers, firstBad, placeAt};
 ghost use Rattle.text.specs.Reading.{readingOf, inputOf, answer, leftBy, wanted, vertexCount};
 ghost use Rattle.text.specs.Decimal.{digits, decimalOf};
 ghost use Rattle.text.specs.Writing.{roomMost, writtenOf, placed, standing};
-ghost use Rattle.text.specs.Inside.{naturalOf, integerOf, pushed, wantedOf, stretch, Steps, surveyOf, countedOf};
+ghost use Rattle.text.specs.Inner.Inside.{naturalOf, integerOf, pushed, wantedOf, stretch, Steps, surveyOf, countedOf};
 
 // The most bytes that a text may have.
 const TEXT_MOST: usize = 65536;

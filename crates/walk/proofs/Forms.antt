@@ -22,7 +22,7 @@ use Rattle.matrix.proofs.Matrix.{det-≈}
 use Rattle.matrix.proofs.Form.{Unimodular, unimodular-swap, unimodular-whole, Proper, rows, down, unimodular-down, tail-stop, tail-last, tail-more, tail-fuel}
 use Rattle.matrix.proofs.Existence.{shape, unimodular}
 use Rattle.symbol.proofs.Choice.{either, clash, and-left, and-right}
-use Rattle.walk.specs.Way.{properOf, byQ, turnLetter, turnForm}
+use Rattle.walk.specs.Inner.Way.{properOf, byQ, turnLetter, turnForm}
 
 -- ---- proper forms
 

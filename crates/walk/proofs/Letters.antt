@@ -24,8 +24,8 @@ use Rattle.matrix.proofs.Bounds.{minus, fits}
 use Rattle.symbol.proofs.Choice.{clash}
 use Rattle.polygon.specs.Step.{written}
 use Rattle.polygon.specs.Walk.{goes}
-use Rattle.polygon.specs.Tables.{lettersOf}
-use Rattle.walk.specs.Way.{stored, Stepped}
+use Rattle.polygon.specs.Inner.Tables.{lettersOf}
+use Rattle.walk.specs.Inner.Way.{stored, Stepped}
 use Rattle.walk.specs.declared.Way.{Way}
 use Rattle.walk.proofs.Stored.{stored-in, stored-out}
 

@@ -21,7 +21,7 @@ use Rattle.symbol.proofs.Choice.{pick-true, pick-false}
 use Rattle.polygon.specs.Step.{Real, written}
 use Rattle.polygon.specs.Walk.{goes, ends, writes}
 use Rattle.polygon.specs.Theorem.{Polygon}
-use Rattle.walk.specs.Way.{formOf, restOf, properOf, byQ, turnLetter, turnForm, stored, Stepped, Onward, OneApart, Sound, Begun, Going, Ended, Walked}
+use Rattle.walk.specs.Inner.Way.{formOf, restOf, properOf, byQ, turnLetter, turnForm, stored, Stepped, Onward, OneApart, Sound, Begun, Going, Ended, Walked}
 use Rattle.walk.specs.declared.Way.{Way}
 use Rattle.walk.proofs.Stored.{stored-++, length-stored}
 use Rattle.walk.proofs.Forms.{properly, proper-yes, turn-apart, turn-less, tail-two, tail-one, tail-none, apart-of, proper-of, word-head, word-tail}

@@ -15,7 +15,7 @@ use lib.IntN.{ℤ}
 use borrow.Author.Tests.{lt-ltb, le-ltb}
 use Rattle.matrix.specs.Euclid.{pick}
 use Rattle.symbol.proofs.Choice.{pick-true, pick-false}
-use Rattle.walk.specs.Way.{stored, placed}
+use Rattle.walk.specs.Inner.Way.{stored, putFrom}
 
 module _ (start limit : ℕ) where
   pub stored-++ : (l m : List ℤ) (n : ℕ) (out : List ℤ) → stored start limit n (l ++ m) out ≡ stored start limit (n + length l) m (stored start limit n l out)
@@ -53,6 +53,6 @@ stored-none start [] n out = refl
 stored-none start (z ∷ l) n out =
     ap (stored start 0 (suc n) l) (pick-false (ltb n 0) (set out (start + n) z) out (le-ltb n 0 (omega arith))) ∙ stored-none start l (suc n) out
 
-pub stored-all : (start : ℕ) (l out : List ℤ) → start ≤ length out → length l ≤ length out - start → stored start (length l) 0 l out ≡ placed start l out
+pub stored-all : (start : ℕ) (l out : List ℤ) → start ≤ length out → length l ≤ length out - start → stored start (length l) 0 l out ≡ putFrom start l out
 stored-all start l out h k =
     stored-sets start (length l) l 0 out (omega arith) ∙ ap (λ (i : ℕ). sets out i l) (add-zero start) ∙ sets-eq l out start (omega arith)

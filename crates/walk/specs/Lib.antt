@@ -1,2 +1,2 @@
--- What a reader of the crate `walk` must believe: the state of a walk, and what each part of it leaves.
-pub mod Way
+-- A reader need believe nothing of the crate `walk`: the crates above it say what comes of it.
+pub mod Inner

@@ -17,8 +17,8 @@ ghost use Rattle.matrix.specs.Words.{S};
 ghost use Rattle.matrix.specs.Euclid.{total, swap, positive, agree, sizes};
 ghost use Rattle.matrix.specs.Bounds.{Small};
 ghost use Rattle.polygon.specs.Step.{Real};
-ghost use Rattle.polygon.specs.Tables.{lettersOf};
-ghost use Rattle.walk.specs.Way.{formOf, properOf, turnLetter, turnForm, stored, Setting, Stepped, Sound, Begun, Going, Ended, Walked};
+ghost use Rattle.polygon.specs.Inner.Tables.{lettersOf};
+ghost use Rattle.walk.specs.Inner.Way.{formOf, properOf, turnLetter, turnForm, stored, Setting, Stepped, Sound, Begun, Going, Ended, Walked};
 
 // What is left of the matrix, (p q; r s) in size, the position, and how many letters are written so far.
 pub struct Way {

@@ -26,12 +26,12 @@ use Rattle.pairing.specs.Subgroup.{IsWord}
 use Rattle.symbol.proofs.Choice.{clash}
 use Rattle.polygon.specs.Cut.{corners, places}
 use Rattle.polygon.specs.Step.{oddAt, real, Real, stepS, turnQ, written}
-use Rattle.polygon.specs.Tables.{Tables, lettersOf}
+use Rattle.polygon.specs.Inner.Tables.{Tables, lettersOf}
 use Rattle.polygon.proofs.Flip.{real-in, turn-face, turn-last, turn-next}
 use Rattle.polygon.proofs.Polygon.{polygon}
 use Rattle.polygon.proofs.Partners.{tables-set}
 use Rattle.polygon.proofs.SymbolFacts.{length-generators, count-most}
-use Rattle.walk_steps.specs.Steps.{NEXT, LETTER, Prepared}
+use Rattle.walk_steps.specs.Inner.Steps.{NEXT, LETTER, Prepared}
 
 -- ---- which places are positions
 

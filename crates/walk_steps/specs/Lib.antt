@@ -1,2 +1,2 @@
--- What a reader of the crate `walk_steps` must believe: where the two tables of steps lie, and what they hold.
-pub mod Steps
+-- A reader need believe nothing of the crate `walk_steps`: the crates above it say what comes of it.
+pub mod Inner

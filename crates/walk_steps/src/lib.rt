@@ -9,8 +9,8 @@ ghost use Rattle.matrix.specs.Words.{S};
 ghost use Rattle.symbol.specs.Symbol.{IsSymbol};
 ghost use Rattle.polygon.specs.Cut.{places};
 ghost use Rattle.polygon.specs.Step.{real, Real, stepS, turnQ, written};
-ghost use Rattle.polygon.specs.Tables.{Tables, lettersOf};
-ghost use Rattle.walk_steps.specs.Steps.{Prepared};
+ghost use Rattle.polygon.specs.Inner.Tables.{Tables, lettersOf};
+ghost use Rattle.walk_steps.specs.Inner.Steps.{Prepared};
 
 pub const NEXT: usize = 8192;
 

@@ -32,9 +32,8 @@ use Rattle.polygon.proofs.SymbolFacts.{length-generators, count-most}
 use Rattle.coset.specs.Tables.{tableS, tableR}
 use Rattle.coset.specs.Theorem.{leads}
 use Rattle.coset.proofs.Answer.{meaning}
-use Rattle.walk.specs.Way.{placed}
 use Rattle.refusal.specs.Refusal.{noWord, tooShort}
-use Rattle.word.specs.Answer.{home, foundWord, fits, roomOf, foundOf, wordLeft, partOf}
+use Rattle.word.specs.Answer.{placed, home, foundWord, fits, roomOf, foundOf, wordLeft, partOf}
 use Rattle.word.specs.Claim.{Joined, Fits, Answered}
 use Rattle.word.specs.declared.Queried.{Queried}
 use Rattle.word.specs.declared.Queried.the-variants as queried

@@ -22,14 +22,14 @@ use Rattle.polygon.specs.Cut.{places}
 use Rattle.polygon.specs.Step.{Real, startOf}
 use Rattle.polygon.specs.Walk.{followed, ends}
 use Rattle.polygon.proofs.Polygon.{polygon}
-use Rattle.walk_steps.specs.Steps.{Prepared}
-use Rattle.walk.specs.Way.{stored, placed, Setting, Walked}
+use Rattle.walk_steps.specs.Inner.Steps.{Prepared}
+use Rattle.walk.specs.Inner.Way.{stored, Setting, Walked}
 use Rattle.walk.specs.declared.Way.{Way}
 use Rattle.walk.proofs.Stored.{stored-none, stored-all}
 use Rattle.refusal.specs.Refusal.{noWord, tooShort}
-use Rattle.word.specs.Answer.{home, foundWord, fits, roomOf, foundOf}
+use Rattle.word.specs.Answer.{placed, home, foundWord, fits, roomOf, foundOf}
 use Rattle.word.specs.Claim.{Asked}
-use Rattle.word.specs.Ready.{lettersAlong, endOf, Ready}
+use Rattle.word.specs.Inner.Ready.{lettersAlong, endOf, Ready}
 use Rattle.word.specs.declared.Queried.the-variants as queried
 use Rattle.word.proofs.Turned.{followed-unit, followed-small}
 

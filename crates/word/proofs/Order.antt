@@ -28,7 +28,7 @@ use Rattle.symbol.proofs.Count.{first-clear, clear-first, first-le}
 use Rattle.refusal.specs.Refusal.{matrixEntry, determinant, tooShort}
 use Rattle.word.specs.Answer.{large, unit, passes, foundWord, foundOf, byWork, byDeterminants, byEntries, byCheck, queryOf, workLeft, wordLeft}
 use Rattle.word.specs.Claim.{Asked, Answered, Claim}
-use Rattle.word.specs.Ready.{judgedOf}
+use Rattle.word.specs.Inner.Ready.{judgedOf}
 use Rattle.word.specs.declared.Queried.{Queried}
 use Rattle.word.specs.declared.Queried.the-variants as queried
 use Rattle.word.proofs.Pair.{small-clear, clear-small, unit-is, is-unit}

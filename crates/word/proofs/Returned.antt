@@ -20,9 +20,8 @@ use Rattle.symbol.specs.Check.{checkOf}
 use Rattle.refusal.specs.declared.Checked.{Checked}
 use Rattle.refusal.specs.declared.Checked.the-variants.{Accepted, Refused}
 use Rattle.symbol.proofs.Choice.{and-left, and-right}
-use Rattle.walk.specs.Way.{placed}
 use Rattle.refusal.specs.Refusal.{matrixEntry, determinant, noWord, tooShort}
-use Rattle.word.specs.Answer.{large, unit, home, foundWord, fits, roomOf, foundOf, byWork, byDeterminants, byEntries, byCheck, queryOf, partOf}
+use Rattle.word.specs.Answer.{placed, large, unit, home, foundWord, fits, roomOf, foundOf, byWork, byDeterminants, byEntries, byCheck, queryOf, partOf}
 use Rattle.word.specs.declared.Queried.{Queried}
 use Rattle.word.specs.declared.Queried.the-variants as queried
 use Rattle.word.proofs.Claim.{part-placed}

@@ -12,11 +12,12 @@
 --   roomOf, foundOf             the word, or 11 with its length; the same, or 10 where the walk doesn't come home
 --   queryOf v t a b work room start     the refusals in document 01's order, or the word
 --   workLeft v t a b w          what the call leaves in the work space: zeros where it got past the length check, else all as it was
+--   placed start l out          the letters l in place of those that stood from `start` on
 --   wordLeft r l out            what the call leaves in the word space: the letters l from the start place on, or all as it was
 --   partOf out start n          the part of n letters from `start` on, empty where it doesn't fit
 use mathlib.Core.Bool.{Bool, not, _&&_}
-use mathlib.Core.List.{List, []}
-use Prim.Native.Nat.{ℕ, _-_}
+use mathlib.Core.List.{List, [], _++_}
+use Prim.Native.Nat.{ℕ, _+_, _-_}
 use lib.Dec.{leb, ltb, eqb}
 use lib.ListN.{length, take, drop}
 use lib.IntN.{ℤ, pos, natAbs}
@@ -32,7 +33,6 @@ use Rattle.refusal.specs.declared.Checked.{Checked}
 use Rattle.refusal.specs.declared.Checked.the-variants.{Accepted, Refused}
 use Rattle.polygon.specs.Step.{startOf}
 use Rattle.polygon.specs.Walk.{walkEnds, walkWrites}
-use Rattle.walk.specs.Way.{placed}
 use Rattle.word.specs.declared.Queried.{Queried}
 use Rattle.word.specs.declared.Queried.the-variants as queried
 
@@ -95,6 +95,9 @@ queryOf v t a b work room start = byCheck (checkOf v t) (byEntries a b (byDeterm
 
 abbrev pub workLeft : (v : ℕ) (t a b : List ℤ) → List ℕ → List ℕ
 workLeft v t a b w = pick (passes a b) (workAfter (checkOf v t) w) w
+
+abbrev pub placed : ℕ → (l out : List ℤ) → List ℤ
+placed start l out = take start out ++ l ++ drop (start + length l) out
 
 abbrev pub wordLeft : Queried → (l out : List ℤ) → List ℤ
 wordLeft (queried.Word start n) l out = placed start l out

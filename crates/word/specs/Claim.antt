@@ -35,8 +35,7 @@ use Rattle.pairing.specs.Subgroup.{IsWord, wordOf}
 use Rattle.polygon.specs.Theorem.{SameCoset}
 use Rattle.coset.specs.Tables.{tableS, tableR}
 use Rattle.coset.specs.Theorem.{leads}
-use Rattle.walk.specs.Way.{placed}
-use Rattle.word.specs.Answer.{queryRefusal, foundWord, partOf}
+use Rattle.word.specs.Answer.{placed, queryRefusal, foundWord, partOf}
 use Rattle.word.specs.declared.Queried.{Queried}
 use Rattle.word.specs.declared.Queried.the-variants as queried
 

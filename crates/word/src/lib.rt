@@ -12,9 +12,9 @@ use refusal::MATRIX_ENTRY;
 use refusal::NO_WORD;
 use refusal::Refusal;
 use refusal::TOO_SHORT;
-use walk_steps::prepare;
 use symbol::check;
 use walk::walk;
+use walk_steps::prepare;
 ghost use mathlib.Core.Path.{_≡_};
 ghost use Prim.Native.Nat.{_+_, _-_, _<_};
 ghost use lib.Dec.{leb};
@@ -28,7 +28,7 @@ ghost use Rattle.symbol.specs.Symbol.{IsSymbol};
 ghost use Rattle.polygon.specs.Walk.{followed};
 ghost use Rattle.word.specs.Answer.{queryRefusal, entryAt, large, unit, foundWord, foundOf, queryOf, workLeft, wordLeft, partOf};
 ghost use Rattle.word.specs.Claim.{Asked, Claim};
-ghost use Rattle.word.specs.Ready.{judgedOf, lettersAlong, endOf, Ready};
+ghost use Rattle.word.specs.Inner.Ready.{judgedOf, lettersAlong, endOf, Ready};
 
 // The answer of `query`.
 pub enum Queried {

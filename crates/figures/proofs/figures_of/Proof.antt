@@ -2,7 +2,7 @@
 -- Assumes nothing.
 use borrow.Author.Needs.{needs}
 use native.Mathlib.Omega.{arith}
-use Rattle.numbering.specs.Space.{S-TABLE, R-TABLE}
+use Rattle.numbering.specs.Inner.Space.{S-TABLE, R-TABLE}
 use Rattle.figures.proofs.Scan.{fixed-few}
 use Rattle.figures.proofs.Filled.{widths-table}
 use Rattle.figures.proofs.figures_of.Statement.{statement}

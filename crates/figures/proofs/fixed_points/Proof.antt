@@ -8,7 +8,7 @@ use native.Mathlib.Omega.{arith}
 use lib.ListN.{length}
 use Rattle.figures.specs.Cusps.{isFixed}
 use Rattle.numbering.specs.Select.{select}
-use Rattle.numbering.specs.Space.{entries}
+use Rattle.numbering.specs.Inner.Space.{entries}
 use Rattle.numbering.proofs.Select.{select-few}
 use Rattle.numbering.proofs.Space.{entries-length, entries-at}
 use Rattle.figures.proofs.Scan.{fixed-yes, fixed-no}

@@ -6,7 +6,7 @@ use native.Mathlib.Omega.{arith}
 use Prim.Native.Nat.{_-_, _≤_}
 use lib.ListN.{length, length-set}
 use Rattle.numbering.specs.Table.{_thenTable_}
-use Rattle.numbering.specs.Space.{entries, putTo}
+use Rattle.numbering.specs.Inner.Space.{entries, putTo}
 use Rattle.numbering.proofs.Space.{put-none}
 use Rattle.numbering.proofs.Marks.{compose-low, compose-more}
 use Rattle.numbering.proofs.compose.Statement.{statement}

@@ -6,8 +6,8 @@ use native.Mathlib.Omega.{arith}
 use Prim.Native.Nat.{_-_, _≤_}
 use lib.ListN.{length, length-set}
 use Rattle.numbering.specs.Table.{at, renamed}
-use Rattle.numbering.specs.Space.{entries, putTo}
-use Rattle.numbering.specs.Marks.{listed}
+use Rattle.numbering.specs.Inner.Space.{entries, putTo}
+use Rattle.numbering.specs.Inner.Marks.{listed}
 use Rattle.numbering.proofs.Space.{put-none}
 use Rattle.numbering.proofs.Marks.{rename-low, rename-image-low, rename-more}
 use Rattle.numbering.proofs.rename.Statement.{statement}

@@ -8,8 +8,8 @@ use Rattle.symbol.specs.Table.{pairings}
 use Rattle.symbol.proofs.Order.{behind}
 use Rattle.pairing.proofs.Partners.{paired-none}
 use Rattle.pairing.proofs.Rows.{symbol-paired}
-use Rattle.polygon.specs.Partners.{Partnered}
-use Rattle.polygon.specs.Tables.{Tables}
+use Rattle.polygon.specs.Inner.Partners.{Partnered}
+use Rattle.polygon.specs.Inner.Tables.{Tables}
 use Rattle.polygon.proofs.Space.{still}
 use Rattle.polygon.proofs.Partners.{partnered-in, tables-built}
 use borrow.Author.Needs.{needs}

@@ -4,7 +4,7 @@ use Prim.Native.Nat.{_-_, _≤_}
 use native.Mathlib.Omega.{arith}
 use native.Mathlib.Numerals.{add-one}
 use borrow.Author.Needs.{needs}
-use Rattle.symbol.specs.Ready.{failsOf}
+use Rattle.symbol.specs.Inner.Ready.{failsOf}
 use Rattle.symbol.proofs.Count.{Clear, clear-zero, clear-more, clear-less, first-clear, first-hit}
 use Rattle.symbol.proofs.first_place.Statement.{statement}
 use Rattle.symbol.proofs.first_place.Tie as tie

@@ -6,7 +6,7 @@ use native.Mathlib.Numerals.{add-one}
 use borrow.Author.Needs.{needs}
 use Rattle.matrix.specs.Matrix.{nth}
 use Rattle.matrix.proofs.Bounds.{kept}
-use Rattle.symbol.specs.Marks.{Tallied}
+use Rattle.symbol.specs.Inner.Marks.{Tallied}
 use Rattle.symbol.proofs.Marking.{tallied-more}
 use Rattle.symbol.proofs.tally.Statement.{statement}
 use Rattle.symbol.proofs.tally.Tie as tie

@@ -9,7 +9,7 @@ use mir.Syntax.{w64}
 use mir.Facts.{toZ-ofZ}
 use Rattle.refusal.specs.Refusal.{badText}
 use Rattle.text.specs.Reading.{wanted, leftBy}
-use Rattle.text.specs.Inside.{wantedOf, Stepped}
+use Rattle.text.specs.Inner.Inside.{wantedOf, Stepped}
 use Rattle.text.specs.declared.Reading.the-variants as reading
 use Rattle.text.proofs.Walks.{walked-start, sound-clash, at-end, at-bad, at-number}
 use Rattle.text.proofs.Answers.{first-none, some-piece, first-any, first-few, first-many, first-just}

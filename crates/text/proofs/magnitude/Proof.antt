@@ -4,7 +4,7 @@ use Prim.Native.Nat.{_≤_, _-_}
 use native.Mathlib.Omega.{arith}
 use lib.ListN.{length, getD, drop}
 use Rattle.text.specs.Number.{natural, onward, within}
-use Rattle.text.specs.Inside.{naturalOf}
+use Rattle.text.specs.Inner.Inside.{naturalOf}
 use Rattle.text.proofs.Numbers.{digits-bad, digits-more, digits-end, natural-onward, push-within, as-some, natural-empty}
 use borrow.Author.Needs.{needs}
 use Rattle.text.proofs.magnitude.Statement.{statement}

@@ -4,7 +4,7 @@ use mathlib.Core.Path.{sym, ap, _∙_}
 use native.Mathlib.Omega.{arith}
 use mir.Syntax.{w64}
 use mir.Facts.{toZ-ofZ, toZ-pos}
-use Rattle.text.specs.Inside.{integerOf}
+use Rattle.text.specs.Inner.Inside.{integerOf}
 use Rattle.text.specs.declared.Integer.the-variants as integer
 use Rattle.text.proofs.Numbers.{within-le, number-empty, minus-bad, minus-is, plain-bad, plain-is}
 use Rattle.text.specs.Number.{natural}

@@ -4,7 +4,7 @@ use mathlib.Core.Path.{_≡_}
 use Prim.Native.Nat.{_≤_, _-_, _+_}
 use native.Mathlib.Omega.{arith}
 use lib.ListN.{length, drop}
-use Rattle.text.specs.Inside.{stretch}
+use Rattle.text.specs.Inner.Inside.{stretch}
 use Rattle.text.proofs.Blanks.{stretch-more, stretch-here, stretch-end}
 use borrow.Author.Needs.{needs}
 use Rattle.text.proofs.stretch_end.Statement.{statement}

@@ -3,7 +3,7 @@ use native.Mathlib.Omega.{arith}
 use Prim.Native.Nat.{_≤_, _-_}
 use lib.ListN.{length}
 use Rattle.text.proofs.Walks.{Walked, walked-start, walked-more, walked-past, walked-count, walked-bad, at-end, at-bad, at-number}
-use Rattle.text.specs.Inside.{Stepped}
+use Rattle.text.specs.Inner.Inside.{Stepped}
 use borrow.Author.Needs.{needs}
 use Rattle.text.proofs.survey_of.Statement.{statement}
 use Rattle.text.proofs.survey_of.Tie as tie

@@ -2,7 +2,7 @@
 -- `wanted`. Assumes nothing.
 use mathlib.Core.Path.{sym, ap, _∙_}
 use native.Mathlib.Omega.{arith}
-use Rattle.text.specs.Inside.{wantedOf}
+use Rattle.text.specs.Inner.Inside.{wantedOf}
 use Rattle.text.specs.Reading.{wanted}
 use Rattle.text.proofs.Wants.{natOf, want-low, from-one, cast-fits, want-high, want-these, count-fits}
 use Prim.Native.Nat.{_<_, _≤_}

@@ -3,7 +3,7 @@ use mathlib.Core.Path.{refl, _∙_, ap}
 use mir.Facts.{toZ-ofZ}
 use mir.Syntax.{w16}
 use mir.Val.{toZ, ofZ}
-use Rattle.polygon.specs.Tables.{lettersOf}
+use Rattle.polygon.specs.Inner.Tables.{lettersOf}
 use Rattle.walk.proofs.Letters.{stepped}
 use borrow.Author.Needs.{needs}
 use Rattle.walk.proofs.cross.Statement.{statement}

@@ -1,6 +1,6 @@
 -- `finish` has two cases, for a form that isn't proper is that of the identity, and the word is over (`ended-none`), or that of S, and S is
 -- its last letter (`ended-S`). Assumes nothing.
-use Rattle.walk.specs.Way.{formOf}
+use Rattle.walk.specs.Inner.Way.{formOf}
 use native.Mathlib.Omega.{arith}
 use Rattle.polygon.proofs.Polygon.{polygon}
 use Rattle.walk.proofs.Forms.{improper}

@@ -4,8 +4,8 @@ use mathlib.Core.Path.{refl, _∙_, ap}
 use mir.Facts.{toZ-ofZ}
 use mir.Syntax.{w16}
 use mir.Val.{toZ, ofZ}
-use Rattle.polygon.specs.Tables.{lettersOf}
-use Rattle.walk.specs.Way.{formOf}
+use Rattle.polygon.specs.Inner.Tables.{lettersOf}
+use Rattle.walk.specs.Inner.Way.{formOf}
 use Rattle.walk.proofs.Letters.{stepped}
 use Rattle.walk.proofs.Forms.{properly, rows-Q, rows-P}
 use Rattle.walk.proofs.Onward.{powered-Q, powered-P}

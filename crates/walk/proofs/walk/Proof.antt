@@ -4,7 +4,7 @@ use native.Mathlib.Omega.{arith}
 use mathlib.Core.Path.{_≡_, refl, sym, _∙_}
 use lib.ListN.{length}
 use Rattle.matrix.specs.Euclid.{total}
-use Rattle.walk.specs.Way.{formOf, Going}
+use Rattle.walk.specs.Inner.Way.{formOf, Going}
 use Rattle.walk.proofs.Onward.{going-none, going-more, walked}
 use borrow.Author.Needs.{needs}
 use Rattle.walk.proofs.walk.Statement.{statement}

@@ -2,7 +2,7 @@
 -- which letter it stands for. Assumes nothing.
 use native.Mathlib.Omega.{arith}
 use mathlib.Core.Path.{_∙_, ap}
-use Rattle.polygon.specs.Tables.{lettersOf}
+use Rattle.polygon.specs.Inner.Tables.{lettersOf}
 use Rattle.polygon.proofs.Flip.{real-in}
 use mir.Facts.{toZ-ofZ}
 use mir.Syntax.{w16}

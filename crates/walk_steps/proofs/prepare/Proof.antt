@@ -4,7 +4,7 @@ use native.Mathlib.Omega.{arith}
 use mathlib.Core.Path.{_≡_, refl, _∙_}
 use Prim.Native.Nat.{_-_, _≤_}
 use lib.ListN.{length}
-use Rattle.walk_steps.specs.Steps.{Prepared}
+use Rattle.walk_steps.specs.Inner.Steps.{Prepared}
 use Rattle.walk_steps.proofs.Noted.{prepared-none, prepared-all}
 use borrow.Author.Needs.{needs}
 use Rattle.walk_steps.proofs.prepare.Statement.{statement}

@@ -6,7 +6,7 @@ use Rattle.polygon.specs.Step.{stepS, originOf}
 use Rattle.polygon.proofs.Polygon.{polygon}
 use Rattle.polygon.proofs.Space.{still}
 use Rattle.numbering.specs.Order.{Maps}
-use Rattle.numbering.specs.Marks.{Filled}
+use Rattle.numbering.specs.Inner.Marks.{Filled}
 use Rattle.numbering.proofs.Filled.{filled-images, filled-tables}
 use Rattle.coset.specs.Tables.{stepR}
 use Rattle.coset.proofs.Theorem.{maps}

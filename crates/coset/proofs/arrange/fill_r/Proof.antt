@@ -5,7 +5,7 @@ use Prim.Native.Nat.{_+_, _-_, _≤_, _<_}
 use native.Mathlib.Omega.{arith}
 use lib.ListN.{length}
 use Rattle.polygon.specs.Cut.{places}
-use Rattle.coset.specs.Work.{Turned}
+use Rattle.coset.specs.Inner.Work.{Turned}
 use Rattle.coset.proofs.Work.{turned-none, c-low, turned-more, turned-all}
 use borrow.Author.Needs.{needs}
 use Rattle.coset.proofs.arrange.fill_r.Statement.{statement}

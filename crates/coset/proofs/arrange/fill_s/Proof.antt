@@ -5,8 +5,8 @@ use Prim.Native.Nat.{_+_, _-_, _≤_, _<_}
 use native.Mathlib.Omega.{arith}
 use lib.ListN.{length, length-set}
 use Rattle.polygon.specs.Cut.{places}
-use Rattle.coset.specs.Work.{Moved}
-use Rattle.numbering.specs.Space.{SIGMA}
+use Rattle.coset.specs.Inner.Work.{Moved}
+use Rattle.numbering.specs.Inner.Space.{SIGMA}
 use Rattle.coset.proofs.Work.{image-low, moved-none, moved-more, moved-all}
 use borrow.Author.Needs.{needs}
 use Rattle.coset.proofs.arrange.fill_s.Statement.{statement}

@@ -6,7 +6,7 @@ use native.Mathlib.Omega.{arith}
 use Rattle.import_walk.proofs.Turn.{low-is}
 use Rattle.import_rule.proofs.Images.{low-S}
 use Rattle.import_rule.specs.Fixed.{image, byQ}
-use Rattle.import_table.specs.Writing.{is-even, is-odd, is-new, is-old}
+use Rattle.import_table.specs.Inner.Writing.{is-even, is-odd, is-new, is-old}
 use borrow.Author.Needs.{needs}
 use Rattle.import_table.proofs.write.write_pairing.Statement.{statement}
 use Rattle.import_table.proofs.write.write_pairing.Tie as tie

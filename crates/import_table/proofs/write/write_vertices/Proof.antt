@@ -7,7 +7,7 @@ use native.Mathlib.Numerals.{add-one}
 use mathlib.Core.List.{_++_}
 use lib.ListN.{drop, length}
 use Prim.Native.Nat.{_+_, _-_, _*_, _≤_}
-use Rattle.import_table.specs.Writing.{verticesTo}
+use Rattle.import_table.specs.Inner.Writing.{verticesTo}
 use borrow.Author.Needs.{needs}
 use Rattle.import_table.proofs.write.write_vertices.Statement.{statement}
 use Rattle.import_table.proofs.write.write_vertices.Tie as tie

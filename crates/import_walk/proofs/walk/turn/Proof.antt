@@ -4,7 +4,7 @@ use Rattle.import_walk.proofs.Turn.{within-tells, sums, split-eq, fits-
 use Prim.Native.Nat.{_+_}
 use mathlib.Core.Path.{_≡_, refl, sym, _∙_, ap}
 use native.Mathlib.Omega.{arith}
-use Rattle.import_walk.specs.Work.{closedIn, moved, over, parted}
+use Rattle.import_walk.specs.Inner.Work.{closedIn, moved, over, parted}
 use Rattle.import_rule.specs.Fixed.{image, byQ}
 use borrow.Author.Needs.{needs}
 use Rattle.import_walk.proofs.walk.turn.Statement.{statement}

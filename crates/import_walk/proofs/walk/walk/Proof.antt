@@ -5,8 +5,8 @@ use Rattle.import_walk.proofs.Begin.{walk-start, walk-whole}
 use mathlib.Core.Path.{_≡_, refl, sym, _∙_, ap}
 use native.Mathlib.Omega.{arith}
 use Rattle.import_walk.proofs.Walking.{Walking, walk-size, walk-top, walk-turn, walk-stop, walk-less, turned-length}
-use Rattle.import_rule.specs.Placed.{startPlaced}
-use Rattle.import_walk.specs.Work.{halted, whole}
+use Rattle.import_rule.specs.Inner.Placed.{startPlaced}
+use Rattle.import_walk.specs.Inner.Work.{halted, whole}
 use Rattle.import_rule.specs.Fixed.{image, byQ}
 use Prim.Native.Nat.{_+_, _-_, _*_}
 use lib.ListN.{length}

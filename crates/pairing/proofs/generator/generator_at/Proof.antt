@@ -9,7 +9,7 @@ use lib.ListN.{length, length-drop}
 use Rattle.matrix.specs.Matrix.{nth, toList, matS, matQ}
 use Rattle.matrix.proofs.Bounds.{kept}
 use Rattle.symbol.specs.Table.{pairings, pairingOf, sideAt, frame, carried}
-use Rattle.symbol.specs.Ready.{SmallSide}
+use Rattle.symbol.specs.Inner.Ready.{SmallSide}
 use Rattle.pairing.specs.Generator.{partnerIn, partner, pairingAt, frameAt, generatorBy, generator}
 use Rattle.symbol.specs.declared.Side.{Side}
 use Rattle.symbol.specs.declared.Pairing.{Pairing}

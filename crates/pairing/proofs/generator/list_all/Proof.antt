@@ -6,7 +6,7 @@ use native.Mathlib.Omega.{arith}
 use lib.ListN.{length, drop}
 use Rattle.symbol.specs.Count.{count}
 use Rattle.pairing.specs.Generator.{leads, generatorTable}
-use Rattle.pairing.specs.Work.{RowsTo}
+use Rattle.pairing.specs.Inner.Work.{RowsTo}
 use Rattle.symbol.proofs.Count.{count-le, count-yes, count-mono}
 use Rattle.pairing.proofs.Rows.{rows-none, rows-all}
 use borrow.Author.Needs.{needs}

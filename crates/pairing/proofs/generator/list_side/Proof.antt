@@ -10,7 +10,7 @@ use Rattle.matrix.specs.Matrix.{nth, ofList, toList}
 use Rattle.matrix.proofs.Bounds.{kept}
 use Rattle.symbol.specs.Table.{pairingOf}
 use Rattle.pairing.specs.Generator.{leads, row, kindOf}
-use Rattle.pairing.specs.Work.{putRow}
+use Rattle.pairing.specs.Inner.Work.{putRow}
 use Rattle.pairing.proofs.Rows.{length-putRow, rows-yes, rows-no, prepared-long, prepared-leads, prepared-row}
 use borrow.Author.Needs.{needs}
 use Rattle.pairing.proofs.generator.list_side.Statement.{statement}

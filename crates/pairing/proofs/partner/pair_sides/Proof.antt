@@ -6,7 +6,7 @@ use native.Mathlib.Numerals.{add-one}
 use lib.ListN.{length}
 use Rattle.matrix.specs.Matrix.{nth}
 use Rattle.matrix.proofs.Bounds.{kept}
-use Rattle.pairing.specs.Work.{PairedTo}
+use Rattle.pairing.specs.Inner.Work.{PairedTo}
 use Rattle.symbol.specs.Table.{pairingOf}
 use Rattle.pairing.proofs.Partners.{length-metBy, met-more, paired-all, first-bound, all-paired}
 use borrow.Author.Needs.{needs}

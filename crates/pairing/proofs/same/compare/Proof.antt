@@ -9,7 +9,7 @@ use lib.ListN.{length, take, drop}
 use Rattle.workspace.specs.Space.{zeros}
 use Rattle.workspace.proofs.Zeros.{length-zeros}
 use Rattle.symbol.specs.Table.{pairings}
-use Rattle.pairing.specs.Alike.{allAlike}
+use Rattle.pairing.specs.Inner.Alike.{allAlike}
 use Rattle.symbol.proofs.Order.{behind}
 use Rattle.pairing.proofs.Partners.{paired-none}
 use Rattle.pairing.proofs.Rows.{symbol-paired}

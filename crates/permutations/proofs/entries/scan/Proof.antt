@@ -8,7 +8,7 @@ use Prim.Native.Nat.{_+_, _-_, _≤_}
 use lib.ListN.{length}
 use Rattle.permutations.proofs.Marks.{at-first, past-all, good-low, seen-more}
 use Rattle.permutations.specs.Check.{badEntry}
-use Rattle.permutations.specs.Seen.{SeenTo}
+use Rattle.permutations.specs.Inner.Seen.{SeenTo}
 use borrow.Author.Needs.{needs}
 use Rattle.permutations.proofs.entries.scan.Statement.{statement}
 use Rattle.permutations.proofs.entries.scan.Tie as tie

@@ -6,7 +6,7 @@ use Prim.Native.Nat.{_-_, _+_, _≤_}
 use native.Mathlib.Omega.{arith}
 use lib.ListN.{length, length-set}
 use borrow.Author.Needs.{needs}
-use Rattle.polygon.specs.Scanning.{cellsIn, readyOf}
+use Rattle.polygon.specs.Inner.Scanning.{cellsIn, readyOf}
 use Rattle.polygon.proofs.Space.{still}
 use Rattle.polygon.proofs.Scanning.{mid-turn, Mid, mid-start, mid-end, ready-some, length-joined}
 use Rattle.polygon.proofs.cutting.settle.Statement.{statement}

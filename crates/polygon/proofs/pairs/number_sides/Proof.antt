@@ -3,8 +3,8 @@
 use Prim.Native.Nat.{_-_, _+_, _≤_}
 use native.Mathlib.Omega.{arith}
 use borrow.Author.Needs.{needs}
-use Rattle.polygon.specs.Space.{Above}
-use Rattle.polygon.specs.Partners.{NumberedTo}
+use Rattle.polygon.specs.Inner.Space.{Above}
+use Rattle.polygon.specs.Inner.Partners.{NumberedTo}
 use Rattle.polygon.proofs.Partners.{above-refl, above-trans, numbered-none, numbered-all}
 use Rattle.polygon.proofs.pairs.number_sides.Statement.{statement}
 use Rattle.polygon.proofs.pairs.number_sides.Tie as tie

@@ -6,7 +6,7 @@ use native.Mathlib.Omega.{arith}
 use mir.Facts.{toZ-ofZ}
 use mir.Syntax.{w16}
 use borrow.Author.Needs.{needs}
-use Rattle.polygon.specs.Tables.{lettersOf}
+use Rattle.polygon.specs.Inner.Tables.{lettersOf}
 use Rattle.polygon.proofs.Flip.{real-in}
 use Rattle.polygon.proofs.Stepping.{turn-silent, turn-writes, number-read}
 use Rattle.polygon.proofs.walking.letter_q.Statement.{statement}

@@ -5,7 +5,7 @@ use native.Mathlib.Omega.{arith}
 use mir.Facts.{toZ-ofZ}
 use mir.Syntax.{w16}
 use borrow.Author.Needs.{needs}
-use Rattle.polygon.specs.Tables.{lettersOf}
+use Rattle.polygon.specs.Inner.Tables.{lettersOf}
 use Rattle.polygon.proofs.Flip.{real-in}
 use Rattle.polygon.proofs.Stepping.{low, silent-is, writes-even, writes-odd, writes-bad, writes-free, number-here}
 use Rattle.polygon.proofs.walking.letter_s.Statement.{statement}

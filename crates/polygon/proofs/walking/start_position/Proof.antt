@@ -6,7 +6,7 @@ use native.Mathlib.Omega.{arith}
 use lib.ListN.{getD}
 use borrow.Author.Needs.{needs}
 use Rattle.polygon.specs.Cut.{underZero}
-use Rattle.polygon.specs.Space.{FLIP}
+use Rattle.polygon.specs.Inner.Space.{FLIP}
 use Rattle.polygon.proofs.Stepping.{start-turned, start-upright, under-low, flip-read}
 use Rattle.polygon.proofs.walking.start_position.Statement.{statement}
 use Rattle.polygon.proofs.walking.start_position.Tie as tie

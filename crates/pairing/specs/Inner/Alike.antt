@@ -15,7 +15,7 @@ use Rattle.symbol.specs.Count.{first}
 use Rattle.symbol.specs.Table.{pairingOf}
 use Rattle.symbol.specs.Check.{eqZ}
 use Rattle.pairing.specs.Generator.{partnerIn}
-use Rattle.pairing.specs.Work.{AllPaired, Partnered}
+use Rattle.pairing.specs.Inner.Work.{AllPaired, Partnered}
 use Rattle.symbol.specs.declared.Pairing.{Pairing}
 use Rattle.symbol.specs.declared.Pairing.the-variants.{Even, Odd, Free, Bad}
 

@@ -12,9 +12,9 @@ use lib.IntN.{ℤ}
 use Rattle.workspace.specs.Space.{workLength}
 use Rattle.polygon.specs.Cut.{places}
 use Rattle.polygon.specs.Step.{stepS, turnQ, originOf}
-use Rattle.polygon.specs.Tables.{Tables}
-use Rattle.numbering.specs.Space.{SIGMA, RHO}
-use Rattle.numbering.specs.Marks.{TablesOf}
+use Rattle.polygon.specs.Inner.Tables.{Tables}
+use Rattle.numbering.specs.Inner.Space.{SIGMA, RHO}
+use Rattle.numbering.specs.Inner.Marks.{TablesOf}
 use Rattle.coset.specs.Tables.{stepR}
 
 pub record Moved (t : List ℤ) (v : ℕ) (w : List ℕ) (n : ℕ) : Type 0 where

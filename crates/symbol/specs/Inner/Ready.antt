@@ -17,7 +17,7 @@ use Rattle.matrix.specs.Bounds.{Small}
 use Rattle.matrix.specs.Euclid.{pick}
 use Rattle.symbol.specs.Table.{frame}
 use Rattle.symbol.specs.Check.{outOfRange, apart, isZero, unpairedIn}
-use Rattle.symbol.specs.Marks.{Tallied}
+use Rattle.symbol.specs.Inner.Marks.{Tallied}
 use Rattle.symbol.specs.declared.Side.{Side}
 
 abbrev pub SmallSide : Side → Type 0

@@ -10,7 +10,7 @@ use lib.ListN.{getD}
 use lib.IntN.{ℤ, pos, _-ℤ_}
 use Rattle.matrix.specs.Words.{S}
 use Rattle.polygon.specs.Step.{Real, stepS, written}
-use Rattle.polygon.specs.Tables.{Tables, lettersOf}
+use Rattle.polygon.specs.Inner.Tables.{Tables, lettersOf}
 
 abbrev pub NEXT : ℕ
 NEXT = 8192

@@ -18,7 +18,7 @@ use lib.ListN.{length, getD}
 use lib.IntN.{ℤ}
 use Rattle.symbol.specs.Symbol.{IsSymbol}
 use Rattle.polygon.specs.Cut.{outer, places, den, Cell, cell, below, handle, Scan, scan, pushed, scanned, flipOf, underZero}
-use Rattle.polygon.specs.Space.{FLIP, STACK, HANDLE, table, Frame}
+use Rattle.polygon.specs.Inner.Space.{FLIP, STACK, HANDLE, table, Frame}
 
 unfoldable pub cellsIn : List ℕ → ℕ → List Cell
 cellsIn w zero = []

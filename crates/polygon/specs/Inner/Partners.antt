@@ -11,7 +11,7 @@ use lib.IntN.{ℤ}
 use Rattle.symbol.specs.Count.{count}
 use Rattle.pairing.specs.Generator.{partner, pairingAt, leads, numberAt}
 use Rattle.symbol.specs.declared.Pairing.the-variants.{Free}
-use Rattle.polygon.specs.Space.{PARTNER, GENERATOR}
+use Rattle.polygon.specs.Inner.Space.{PARTNER, GENERATOR}
 
 pub record Partnered (t : List ℤ) (v : ℕ) (w : List ℕ) : Type 0 where
   pub partners : (i l : ℕ) → i ≤ v → pairingAt v t i ≡ Free l → getD w (PARTNER + i) 0 ≡ partner v t i

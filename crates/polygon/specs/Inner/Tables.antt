@@ -11,8 +11,8 @@ use lib.IntN.{ℤ, pos, negsuc}
 use Rattle.symbol.specs.Symbol.{IsSymbol}
 use Rattle.polygon.specs.Cut.{places, flipOf}
 use Rattle.polygon.specs.Step.{startOf}
-use Rattle.polygon.specs.Space.{FLIP, table}
-use Rattle.polygon.specs.Partners.{Partnered, Numbered}
+use Rattle.polygon.specs.Inner.Space.{FLIP, table}
+use Rattle.polygon.specs.Inner.Partners.{Partnered, Numbered}
 
 pub record Tables (t : List ℤ) (v : ℕ) (w : List ℕ) : Type 0 where
   pub symbol : IsSymbol v t

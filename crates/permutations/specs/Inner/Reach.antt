@@ -14,7 +14,7 @@ use Rattle.matrix.specs.Euclid.{pick}
 use Rattle.numbering.specs.Find.{isIn, _∈_, Once}
 use Rattle.numbering.specs.Order.{add, visit, orderOf}
 use Rattle.import_rule.specs.Fixed.{image}
-use Rattle.permutations.specs.Seen.{Entries}
+use Rattle.permutations.specs.Inner.Seen.{Entries}
 
 pub record Listed (n size : ℕ) (seen queue : List ℕ) : Type 0 where
   pub seen-long : length seen ≡ 3072

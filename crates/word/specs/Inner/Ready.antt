@@ -18,7 +18,7 @@ use Rattle.symbol.specs.Count.{first}
 use Rattle.polygon.specs.Cut.{places}
 use Rattle.polygon.specs.Step.{startOf}
 use Rattle.polygon.specs.Walk.{ends, writes}
-use Rattle.walk_steps.specs.Steps.{Prepared}
+use Rattle.walk_steps.specs.Inner.Steps.{Prepared}
 use Rattle.refusal.specs.Refusal.{noWord}
 use Rattle.word.specs.Answer.{large, unit, roomOf}
 use Rattle.word.specs.declared.Queried.{Queried}

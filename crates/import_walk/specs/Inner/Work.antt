@@ -29,7 +29,7 @@ use lib.IntN.{ℤ, pos, _-ℤ_}
 use Rattle.matrix.specs.Euclid.{pick}
 use Rattle.import_rule.specs.Fixed.{image, byQ, Permuting, Pair}
 use Rattle.import_rule.specs.Side.{Vertex, vertex, minusInfinity, limit}
-use Rattle.import_rule.specs.Placed.{Placed, placed, finished, refused, grow, startPlaced}
+use Rattle.import_rule.specs.Inner.Placed.{Placed, placed, finished, refused, grow, startPlaced}
 
 abbrev pub LABEL : ℕ
 LABEL = 4096

@@ -24,7 +24,7 @@ use lib.ListN.{length, getD}
 use Rattle.numbering.specs.Find.{_∈_, _∉_}
 use Rattle.numbering.specs.Order.{orderOf, Maps}
 use Rattle.numbering.specs.Table.{at, _then_, renamed}
-use Rattle.numbering.specs.Space.{WORK, ROOM, S-TABLE, SIGMA, RHO, NUMBER, ORDER, R-TABLE, T-TABLE, entries, Apart, Within}
+use Rattle.numbering.specs.Inner.Space.{WORK, ROOM, S-TABLE, SIGMA, RHO, NUMBER, ORDER, R-TABLE, T-TABLE, entries, Apart, Within}
 
 abbrev pub listed : ℕ → List ℕ → List ℕ
 listed n w = entries ORDER n w

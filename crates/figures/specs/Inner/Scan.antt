@@ -22,8 +22,8 @@ use Rattle.figures.specs.GenusOf.{genusOf}
 use Rattle.figures.specs.LevelOf.{levelOf, Positive}
 use Rattle.figures.specs.declared.Level as level
 use Rattle.figures.specs.declared.Genus as genus
-use Rattle.numbering.specs.Space.{WORK, ROOM, S-TABLE, WIDTHS, NUMBER, R-TABLE, T-TABLE, entries}
-use Rattle.numbering.specs.Marks.{listed, Sparse}
+use Rattle.numbering.specs.Inner.Space.{WORK, ROOM, S-TABLE, WIDTHS, NUMBER, R-TABLE, T-TABLE, entries}
+use Rattle.numbering.specs.Inner.Marks.{listed, Sparse}
 
 pub record Holds (off n : ℕ) (w : List ℕ) : Type 0 where
   pub fits : off + n ≤ length w

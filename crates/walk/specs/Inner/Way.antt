@@ -7,7 +7,7 @@
 --   turnLetter f, turnForm f     the power of Q that a word with the form f begins with, and the form that is left
 --   stored start limit n l out   the letters l, of which the first is number n of the word, stored from the place start on in `out`,
 --                           each where its number is below the limit
---   placed start l out      the letters l in place of those that stood from `start` on
+--   putFrom start l out     the letters l in place of those that stood from `start` on
 --   Setting                 the tables of steps are there, and `limit` letters fit from the start place on
 --   Stepped x a out b out'  the letter x leads from the state a to b, and what it writes is counted, and stored
 --   Onward                  from l at x with n letters it is the same way as from m at y with k letters
@@ -29,7 +29,7 @@ use Rattle.matrix.specs.Euclid.{Form, form, total, pick, tailOf, wordOf}
 use Rattle.polygon.specs.Cut.{places}
 use Rattle.polygon.specs.Step.{Real, written}
 use Rattle.polygon.specs.Walk.{goes, ends, writes}
-use Rattle.walk_steps.specs.Steps.{Prepared}
+use Rattle.walk_steps.specs.Inner.Steps.{Prepared}
 use Rattle.walk.specs.declared.Way.{Way}
 
 abbrev pub formOf : Way → Form
@@ -54,8 +54,8 @@ abbrev pub stored : (start limit n : ℕ) → List ℤ → List ℤ → List ℤ
 stored start limit n [] out = out
 stored start limit n (z ∷ l) out = stored start limit (suc n) l (pick (ltb n limit) (set out (start + n) z) out)
 
-abbrev pub placed : ℕ → (l out : List ℤ) → List ℤ
-placed start l out = take start out ++ l ++ drop (start + length l) out
+abbrev pub putFrom : ℕ → (l out : List ℤ) → List ℤ
+putFrom start l out = take start out ++ l ++ drop (start + length l) out
 
 pub record Setting (t : List ℤ) (v : ℕ) (w : List ℕ) (out : List ℤ) (start limit : ℕ) : Type 0 where
   pub prepared : Prepared t v w (places v)

@@ -15,8 +15,8 @@ use lib.IntN.{ℤ, pos, negsuc}
 use Rattle.import_rule.specs.Fixed.{image, byQ, Pair}
 use Rattle.import_rule.specs.Rule.{Mark, even, odd, free, least}
 use Rattle.import_rule.specs.Symbol.{labelsOf, entries, tableOf}
-use Rattle.import_rule.specs.Placed.{rowsOf, markOf}
-use Rattle.import_walk.specs.Work.{LABEL, DONE, Whole, cell, endAt, pointAt, doneIn}
+use Rattle.import_rule.specs.Inner.Placed.{rowsOf, markOf}
+use Rattle.import_walk.specs.Inner.Work.{LABEL, DONE, Whole, cell, endAt, pointAt, doneIn}
 
 abbrev pub verticesTo : List ℕ → ℕ → List ℤ
 verticesTo w zero = []

@@ -7,7 +7,7 @@ use Prim.Native.Nat.{ℕ, _≤_}
 use lib.IntN.{ℤ}
 use lib.ListN.{length}
 use Rattle.workspace.specs.Space.{workLength}
-use Rattle.numbering.specs.Space.{S-TABLE, WIDTHS, R-TABLE, T-TABLE, entries}
+use Rattle.numbering.specs.Inner.Space.{S-TABLE, WIDTHS, R-TABLE, T-TABLE, entries}
 use Rattle.figures.specs.Figure.{genusSays, levelSays}
 use Rattle.coset.specs.declared.FigureRecord.{FigureRecord}
 use Rattle.listing_text.specs.Listing.{figureLines, generatorPart, tableLines}
