@@ -29,7 +29,7 @@ use Rattle.symbol.specs.Count.{first, count, those}
 use Rattle.symbol.specs.Table.{numer, denom, pairing, pairingOf, carried}
 use Rattle.symbol.specs.Check.{eqZ, sides}
 use Rattle.symbol.specs.Symbol.{ZeroAt, FreeLabel, IsSymbol}
-use Rattle.pairing.specs.Generator.{partner, pairingAt, leadsBy, leads, leaders, frameAt, generatorBy, generator, generators}
+use Rattle.pairing.specs.Generator.{partner, pairingAt, isLeaderBy, isLeader, leaders, frameAt, generatorBy, generator, generators}
 use Rattle.pairing.specs.Subgroup.{InH}
 use Rattle.symbol.specs.declared.Pairing.{Pairing}
 use Rattle.symbol.specs.declared.Pairing.the-variants.{Even, Odd, Free, Bad}
@@ -353,13 +353,13 @@ module _ (σ κ : ℕ → ℕ) (n : ℕ) (T : Turning σ κ n) (top : n ≤ 3066
       go (is-odd u h e p) = by-two _ _ _ _ (leads-step σ κ n T word.Q (inv .leads u h)) (inv .leads u h) e p
       go (is-free u w h k e p) = by-two _ _ _ _ (leads-step σ κ n T word.S (inv .leads w k)) (inv .leads u h) (ap σ e ∙ T .twice (u .pt)) p
 
-  gens-long : length gens ≡ count (leads v t) (v + 1)
-  gens-long = length-map (leaders v t) (generator v t) ∙ length-those (leads v t) (v + 1)
+  gens-long : length gens ≡ count (isLeader v t) (v + 1)
+  gens-long = length-map (leaders v t) (generator v t) ∙ length-those (isLeader v t) (v + 1)
 
   fix : (j : ℕ) → j < length gens → Leads σ κ (getD gens j 𝟙) 0
   fix j h =
-      let low : j < length (leaders v t) = omega (arith, gens-long, length-those (leads v t) (v + 1)) in
-      let p = those-pass (leads v t) (v + 1) j low in
+      let low : j < length (leaders v t) = omega (arith, gens-long, length-those (isLeader v t) (v + 1)) in
+      let p = those-pass (isLeader v t) (v + 1) j low in
       let k = p .low in
       leads-≈ σ κ n T (inl (map-at (generator v t) (leaders v t) j 0 𝟙 low)) (fixes-0 _ (generator-is (getD (leaders v t) j 0) (omega arith)))
 
@@ -368,11 +368,11 @@ module _ (σ κ : ℕ → ℕ) (n : ℕ) (T : Turning σ κ n) (top : n ≤ 3066
     pub there : InH gens g
     pub inverse : InH gens (adj g)
 
-  leading : (i : ℕ) → i ≤ v → leads v t i ≡ true → Member (generator v t i)
+  leading : (i : ℕ) → i ≤ v → isLeader v t i ≡ true → Member (generator v t i)
   leading i h e =
-      let j = count (leads v t) i in
-      let a = count-yes (leads v t) i e in
-      let b = count-mono (leads v t) (suc i) (v + 1) (omega arith) in
+      let j = count (isLeader v t) i in
+      let a = count-yes (isLeader v t) i e in
+      let b = count-mono (isLeader v t) (suc i) (v + 1) (omega arith) in
       let low : j < length gens = omega (arith, gens-long) in
       let is = generator-at v t i h e in
       record { there = rw is at (in-gen gens j low); inverse = rw is at (in-inv gens j low) }
@@ -384,19 +384,19 @@ module _ (σ κ : ℕ → ℕ) (n : ℕ) (T : Turning σ κ n) (top : n ≤ 3066
   in-even u h e =
       let a = in-at u l h in
       let i = a .number in
-      let lead : leads v t i ≡ true = ap (λ (q : Pairing). leadsBy q i (partner v t i)) (even-at i u (a .is) e) in
+      let lead : isLeader v t i ≡ true = ap (λ (q : Pairing). isLeaderBy q i (partner v t i)) (even-at i u (a .is) e) in
       rw (generator-even i u (a .is) e) at (leading i (at-most-v i u (a .is)) lead)
 
   in-odd : (u : Placed) → In u l → κ (u .pt) ≡ u .pt → Member (carried (framed u) matQ (framed u))
   in-odd u h e =
       let a = in-at u l h in
       let i = a .number in
-      let lead : leads v t i ≡ true = ap (λ (q : Pairing). leadsBy q i (partner v t i)) (odd-at i u (a .is) e) in
+      let lead : isLeader v t i ≡ true = ap (λ (q : Pairing). isLeaderBy q i (partner v t i)) (odd-at i u (a .is) e) in
       rw (generator-odd i u (a .is) e) at (leading i (at-most-v i u (a .is)) lead)
 
   in-first : (i k : ℕ) (u w : Placed) → At i u l → At k w l → Mates u w → i < k → Member (carried (framed w) matS (framed u))
   in-first i k u w a b m h =
-      let lead : leads v t i ≡ true = ap (λ (q : Pairing). leadsBy q i (partner v t i)) (free-at i u w a (at-in k w l b) m) ∙ ap (ltb i) (partner-is i k u w a b m) ∙ lt-ltb i k h in
+      let lead : isLeader v t i ≡ true = ap (λ (q : Pairing). isLeaderBy q i (partner v t i)) (free-at i u w a (at-in k w l b) m) ∙ ap (ltb i) (partner-is i k u w a b m) ∙ lt-ltb i k h in
       rw (generator-free i k u w a b m) at (leading i (at-most-v i u a) lead)
 
   -- ---- the known frames: the corners', and the odd sides'

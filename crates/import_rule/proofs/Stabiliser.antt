@@ -17,7 +17,7 @@ use Rattle.matrix.specs.Action.{at}
 use Rattle.matrix.specs.Euclid as euclid
 use Rattle.matrix.proofs.Matrix.{⊗-assoc, ⊗-idl, ⊗-idr, ≈-sym, _∙≈_, ≈-left, ≈-right}
 use Rattle.matrix.proofs.Existence.{existence}
-use Rattle.pairing.specs.Subgroup.{IsLetter, IsWord, letterOf, wordOf, InH}
+use Rattle.pairing.specs.Subgroup.{IsLetter, IsWord, letterOf, valueOf, InH}
 use Rattle.import_rule.proofs.Lead.{Turning, Leads, leads-one, leads-≈, leads-𝟙, leads-back, leads-fix}
 
 -- ---- members of H
@@ -32,9 +32,9 @@ module _ (gens : List Mat) where
   pub in-inv : (j : ℕ) → j < length gens → InH gens (adj (getD gens j 𝟙))
   in-inv j h = record { word = negsuc j ∷ []; letters = ((omega arith, omega arith), tt); is = inl (sym (⊗-idr (adj (getD gens j 𝟙)))) }
 
-  word-++ : (u w : List ℤ) → wordOf gens (u ++ w) ≡ wordOf gens u ⊗ wordOf gens w
-  word-++ [] w = sym (⊗-idl (wordOf gens w))
-  word-++ (z ∷ u) w = ap (λ (m : Mat). letterOf gens z ⊗ m) (word-++ u w) ∙ sym (⊗-assoc (letterOf gens z) (wordOf gens u) (wordOf gens w))
+  word-++ : (u w : List ℤ) → valueOf gens (u ++ w) ≡ valueOf gens u ⊗ valueOf gens w
+  word-++ [] w = sym (⊗-idl (valueOf gens w))
+  word-++ (z ∷ u) w = ap (λ (m : Mat). letterOf gens z ⊗ m) (word-++ u w) ∙ sym (⊗-assoc (letterOf gens z) (valueOf gens u) (valueOf gens w))
 
   letters-++ : (n : ℕ) (u w : List ℤ) → IsWord n u → IsWord n w → IsWord n (u ++ w)
   letters-++ n [] w a b = b
@@ -44,7 +44,7 @@ module _ (gens : List Mat) where
   in-mul {g} {h} p q = record {
     word = p .word ++ q .word;
     letters = letters-++ (length gens) (p .word) (q .word) (p .letters) (q .letters);
-    is = ≈-right h (p .is) ∙≈ ≈-left (wordOf gens (p .word)) (q .is) ∙≈ inl (sym (word-++ (p .word) (q .word)));
+    is = ≈-right h (p .is) ∙≈ ≈-left (valueOf gens (p .word)) (q .is) ∙≈ inl (sym (word-++ (p .word) (q .word)));
   }
 
   pub in-≈ : {g h : Mat} → h ≈ g → InH gens g → InH gens h
@@ -67,7 +67,7 @@ module _ (gens : List Mat) where
     letter-leads (pos (suc j)) h = fix j (let k = h .1 in omega arith)
     letter-leads (negsuc j) h = leads-≈ σ κ n T (inl (sym (⊗-idl (adj (getD gens j 𝟙))))) (leads-back σ κ n T (leads-𝟙 σ κ n T) (fix j (let k = h .1 in omega arith)))
 
-    word-leads : (w : List ℤ) → IsWord (length gens) w → Leads σ κ (wordOf gens w) 0
+    word-leads : (w : List ℤ) → IsWord (length gens) w → Leads σ κ (valueOf gens w) 0
     word-leads [] a = leads-𝟙 σ κ n T
     word-leads (z ∷ w) a = leads-fix σ κ n T (letter-leads z (a .0)) (word-leads w (a .1))
 

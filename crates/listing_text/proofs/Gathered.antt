@@ -17,7 +17,7 @@ use borrow.Author.Tests.{le-ltb}
 use Rattle.workspace.specs.Space.{workLength}
 use Rattle.symbol.specs.Check.{checkOf}
 use Rattle.symbol.specs.Symbol.{IsSymbol}
-use Rattle.pairing.specs.Generator.{leads, leaders, generatorTable, roomOf, byWork, generatedOf, tableLeft}
+use Rattle.pairing.specs.Generator.{isLeader, leaders, generatorTable, roomOf, byWork, generatedOf, tableLeft}
 use Rattle.refusal.specs.Refusal.{tooShort, filledBy}
 use Rattle.refusal.specs.declared.Refusal.{Refusal}
 use Rattle.refusal.specs.declared.Checked.{Checked}
@@ -31,7 +31,7 @@ use Rattle.pairing.proofs.Rows.{length-rows}
 use Rattle.polygon.proofs.SymbolFacts.{count-most}
 
 pub leaders-most : (v : ℕ) (t : List ℤ) → IsSymbol v t → length (leaders v t) ≤ 1024
-leaders-most v t ok = omega (arith, length-those (leads v t) (v + 1), count-most (leads v t) (v + 1), ok .most)
+leaders-most v t ok = omega (arith, length-those (isLeader v t) (v + 1), count-most (isLeader v t) (v + 1), ok .most)
 
 pub rows-long : (v : ℕ) (t : List ℤ) → length (generatorTable v t) ≡ 5 * length (leaders v t)
 rows-long v t = length-rows v t (leaders v t)

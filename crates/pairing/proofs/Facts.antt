@@ -24,7 +24,7 @@ use Rattle.symbol.specs.Count.{first, count, those}
 use Rattle.symbol.specs.Table.{numer, denom, pairing, sideAt, frame, pairingOf, carried}
 use Rattle.symbol.specs.Check.{eqZ, sides}
 use Rattle.symbol.specs.Symbol.{FreeLabel, IsSymbol}
-use Rattle.pairing.specs.Generator.{partner, pairingAt, leadsBy, leads, leaders, frameAt, generatorBy, generator, generators}
+use Rattle.pairing.specs.Generator.{partner, pairingAt, isLeaderBy, isLeader, leaders, frameAt, generatorBy, generator, generators}
 use Rattle.symbol.specs.declared.Pairing.{Pairing}
 use Rattle.symbol.specs.declared.Pairing.the-variants.{Even, Odd, Free, Bad}
 use Rattle.symbol.proofs.Choice.{pick-true, pick-false, eqZ-true, eq-eqZ, eqZ-refl, clash}
@@ -128,9 +128,9 @@ map-at f (x ∷ l) zero d e h = refl
 map-at f (x ∷ l) (suc n) d e h = map-at f l n d e (omega arith)
 
 -- generator j + 1 is that of the side before which j sides lead
-pub generator-at : (v : ℕ) (t : List ℤ) (i : ℕ) → i ≤ v → leads v t i ≡ true → getD (generators v t) (count (leads v t) i) 𝟙 ≡ generator v t i
+pub generator-at : (v : ℕ) (t : List ℤ) (i : ℕ) → i ≤ v → isLeader v t i ≡ true → getD (generators v t) (count (isLeader v t) i) 𝟙 ≡ generator v t i
 generator-at v t i h e =
-    let a = count-yes (leads v t) i e in
-    let b = count-mono (leads v t) (suc i) (v + 1) (omega arith) in
-    map-at (generator v t) (leaders v t) (count (leads v t) i) 0 𝟙 (omega (arith, length-those (leads v t) (v + 1)))
-    ∙ ap (generator v t) (those-at (leads v t) i (v + 1) 0 (omega arith) e)
+    let a = count-yes (isLeader v t) i e in
+    let b = count-mono (isLeader v t) (suc i) (v + 1) (omega arith) in
+    map-at (generator v t) (leaders v t) (count (isLeader v t) i) 0 𝟙 (omega (arith, length-those (isLeader v t) (v + 1)))
+    ∙ ap (generator v t) (those-at (isLeader v t) i (v + 1) 0 (omega arith) e)

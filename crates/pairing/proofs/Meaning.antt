@@ -23,7 +23,7 @@ use Rattle.symbol.specs.Symbol.{IsSymbol}
 use Rattle.symbol.proofs.Choice.{pick-true, pick-false, either, clash, and-left, and-right, eqZ-true, eq-eqZ}
 use Rattle.symbol.proofs.Count.{Clear, Found, search-first, first-clear, length-those, count-yes, count-no}
 use Rattle.symbol.proofs.Accepted.{accepted}
-use Rattle.pairing.specs.Generator.{leads, leaders, generator, generators, Generates}
+use Rattle.pairing.specs.Generator.{isLeader, leaders, generator, generators, Generates}
 use Rattle.pairing.specs.Same.{relabelled, agreeBelow, sameSymbol, samenessBy, answered, samenessOf, Equal, SameMeans}
 use Rattle.pairing.specs.declared.same.Sameness.{Sameness}
 use Rattle.pairing.specs.declared.same.Sameness.the-variants as sameness
@@ -52,8 +52,8 @@ before-of test (suc n) j h = elim (decLt j (count test n)) [
     last (inr e) l = let k = count-no test n e in absurd (l (omega arith))
 
 module _ (v : ℕ) (t : List ℤ) (s : IsSymbol v t) where
-  leader-of : (j : ℕ) → j < length (generators v t) → Before (leads v t) (v + 1) j
-  leader-of j h = before-of (leads v t) (v + 1) j (omega (arith, length-map (leaders v t) (generator v t), length-those (leads v t) (v + 1)))
+  leader-of : (j : ℕ) → j < length (generators v t) → Before (isLeader v t) (v + 1) j
+  leader-of j h = before-of (isLeader v t) (v + 1) j (omega (arith, length-map (leaders v t) (generator v t), length-those (isLeader v t) (v + 1)))
 
   unit : (j : ℕ) → j < length (generators v t) → det (getD (generators v t) j 𝟙) ≡ pos 1
   unit j h =

@@ -21,7 +21,7 @@ use Rattle.symbol.specs.Table.{pairings, pairing, pairingOf, sideAt}
 use Rattle.symbol.specs.Check.{unpairedIn, unpairedBy, sidesIn, checkOf}
 use Rattle.symbol.specs.Inner.Ready.{SmallSide}
 use Rattle.symbol.specs.Symbol.{IsSymbol, FreeLabel}
-use Rattle.pairing.specs.Generator.{partner, pairingAt, leadsIn, kindOf, leads, leaders, frameAt, generatorBy, generator, row, rows, generatorTable}
+use Rattle.pairing.specs.Generator.{partner, pairingAt, isLeaderIn, kindOf, isLeader, leaders, frameAt, generatorBy, generator, row, rows, generatorTable}
 use Rattle.pairing.specs.Inner.Work.{AllPaired, Partnered, Prepared, putRow, RowsTo}
 use Rattle.symbol.specs.declared.Pairing.{Pairing}
 use Rattle.refusal.specs.Refusal.{badPairing}
@@ -62,18 +62,18 @@ module _ (v : ℕ) (t : List ℤ) where
 
   module _ (i n : ℕ) (out out' : List ℤ) (r : RowsTo v t i n out out') where
     front : List ℤ
-    front = rows v t (those (leads v t) i)
+    front = rows v t (those (isLeader v t) i)
 
     front-length : length front ≡ 5 * n
     unfolding front
-    front-length = length-rows (those (leads v t) i) ∙ ap (λ (k : ℕ). 5 * k) (length-those (leads v t) i ∙ sym (r .number))
+    front-length = length-rows (those (isLeader v t) i) ∙ ap (λ (k : ℕ). 5 * k) (length-those (isLeader v t) i ∙ sym (r .number))
 
     is-front : out' ≡ front ++ drop (5 * n) out
     unfolding front
     is-front = r .table
 
     -- side i leads: its row comes next
-    pub rows-yes : leads v t i ≡ true → RowsTo v t (suc i) (n + 1) out (putRow n (row v t i) out')
+    pub rows-yes : isLeader v t i ≡ true → RowsTo v t (suc i) (n + 1) out (putRow n (row v t i) out')
     unfolding front
     rows-yes e =
         let count : 5 * n + 5 ≡ 5 * (n + 1) = omega arith in
@@ -84,18 +84,18 @@ module _ (v : ℕ) (t : List ℤ) where
         ∙ drop-drop 5 (5 * n) out
         ∙ ap (λ (k : ℕ). drop k out) count in
         let before : take (5 * n) out' ≡ front = ap (take (5 * n)) is-front ∙ take-at front (drop (5 * n) out) (5 * n) front-length in
-        let those-more : those (leads v t) (suc i) ≡ those (leads v t) i ++ (i ∷ []) = ap (λ (b : Bool). those (leads v t) i ++ pick b (i ∷ []) []) e in
-        let rows-are : rows v t (those (leads v t) (suc i)) ≡ front ++ row v t i = ap (rows v t) those-more ∙ rows-++ (those (leads v t) i) (i ∷ []) ∙ ap (λ (x : List ℤ). front ++ x) (append-nil (row v t i)) in
+        let those-more : those (isLeader v t) (suc i) ≡ those (isLeader v t) i ++ (i ∷ []) = ap (λ (b : Bool). those (isLeader v t) i ++ pick b (i ∷ []) []) e in
+        let rows-are : rows v t (those (isLeader v t) (suc i)) ≡ front ++ row v t i = ap (rows v t) those-more ∙ rows-++ (those (isLeader v t) i) (i ∷ []) ∙ ap (λ (x : List ℤ). front ++ x) (append-nil (row v t i)) in
         record {
-          number = ap (λ (k : ℕ). k + 1) (r .number) ∙ sym (count-yes (leads v t) i e);
+          number = ap (λ (k : ℕ). k + 1) (r .number) ∙ sym (count-yes (isLeader v t) i e);
           table = ap (λ (x : List ℤ). x ++ row v t i ++ drop (5 * n + 5) out') before ∙ ap (λ (x : List ℤ). front ++ row v t i ++ x) behind ∙ ap (λ (x : List ℤ). x ++ drop (5 * (n + 1)) out) (sym rows-are);
         }
 
     -- side i doesn't lead
-    pub rows-no : leads v t i ≡ false → RowsTo v t (suc i) n out out'
+    pub rows-no : isLeader v t i ≡ false → RowsTo v t (suc i) n out out'
     rows-no e = record {
-      number = r .number ∙ sym (count-no (leads v t) i e);
-      table = r .table ∙ ap (λ (l : List ℕ). rows v t l ++ drop (5 * n) out) (sym (ap (λ (b : Bool). those (leads v t) i ++ pick b (i ∷ []) []) e ∙ append-nil (those (leads v t) i)));
+      number = r .number ∙ sym (count-no (isLeader v t) i e);
+      table = r .table ∙ ap (λ (l : List ℕ). rows v t l ++ drop (5 * n) out) (sym (ap (λ (b : Bool). those (isLeader v t) i ++ pick b (i ∷ []) []) e ∙ append-nil (those (isLeader v t) i)));
     }
 
   -- all sides: the whole table
@@ -118,11 +118,11 @@ module _ (v : ℕ) (t p : List ℤ) (w : List ℕ) (r : Prepared v t p w) where
   pub prepared-long : v + 1 ≤ length p
   prepared-long = omega (arith, ap length (r .part), length-drop (2 * v) t, r .symbol .long)
 
-  pub prepared-leads : (i : ℕ) → leadsIn v p i ≡ leads v t i
-  prepared-leads i = ap (λ (l : List ℤ). leadsIn v l i) (r .part)
+  pub prepared-leads : (i : ℕ) → isLeaderIn v p i ≡ isLeader v t i
+  prepared-leads i = ap (λ (l : List ℤ). isLeaderIn v l i) (r .part)
 
-  pub prepared-count : count (leadsIn v p) (v + 1) ≡ length (leaders v t)
-  prepared-count = ap (λ (l : List ℤ). count (leadsIn v l) (v + 1)) (r .part) ∙ sym (length-those (leads v t) (v + 1))
+  pub prepared-count : count (isLeaderIn v p) (v + 1) ≡ length (leaders v t)
+  prepared-count = ap (λ (l : List ℤ). count (isLeaderIn v l) (v + 1)) (r .part) ∙ sym (length-those (isLeader v t) (v + 1))
 
   pub prepared-row : (i : ℕ) → pos (kindOf (pairingOf v (nth p i))) ∷ toList (generator v t i) ≡ row v t i
   prepared-row i = ap (λ (l : List ℤ). pos (kindOf (pairingOf v (nth l i))) ∷ toList (generator v t i)) (r .part)

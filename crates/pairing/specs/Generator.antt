@@ -1,7 +1,7 @@
 -- The generators of a symbol.
 --
 --   partner v t i         the other side with the free label of side i
---   leads v t i           whether side i is the leftmost side of its generator
+--   isLeader v t i        whether side i is the leftmost side of its generator
 --   leaders v t           those sides, from the left
 --   numberAt v t i        the number, from 1, of the generator that side i belongs to
 --   generator v t i       the generator that side i leads: even M S M⁻¹, odd M Q M⁻¹, free N S M⁻¹ with N the partner's frame
@@ -46,23 +46,23 @@ partner v t i = partnerIn v (pairings v t) i
 abbrev pub pairingAt : ℕ → List ℤ → ℕ → Pairing
 pairingAt v t i = pairingOf v (pairing v t i)
 
-abbrev pub leadsBy : Pairing → ℕ → ℕ → Bool
-leadsBy Even i k = true
-leadsBy Odd i k = true
-leadsBy (Free l) i k = ltb i k
-leadsBy Bad i k = false
+abbrev pub isLeaderBy : Pairing → ℕ → ℕ → Bool
+isLeaderBy Even i k = true
+isLeaderBy Odd i k = true
+isLeaderBy (Free l) i k = ltb i k
+isLeaderBy Bad i k = false
 
-abbrev pub leadsIn : ℕ → List ℤ → ℕ → Bool
-leadsIn v p i = leadsBy (pairingOf v (nth p i)) i (partnerIn v p i)
+abbrev pub isLeaderIn : ℕ → List ℤ → ℕ → Bool
+isLeaderIn v p i = isLeaderBy (pairingOf v (nth p i)) i (partnerIn v p i)
 
-abbrev pub leads : ℕ → List ℤ → ℕ → Bool
-leads v t i = leadsIn v (pairings v t) i
+abbrev pub isLeader : ℕ → List ℤ → ℕ → Bool
+isLeader v t i = isLeaderIn v (pairings v t) i
 
 abbrev pub leaders : ℕ → List ℤ → List ℕ
-leaders v t = those (leads v t) (v + 1)
+leaders v t = those (isLeader v t) (v + 1)
 
 abbrev pub numberAt : ℕ → List ℤ → ℕ → ℕ
-numberAt v t i = count (leads v t) (pick (leads v t i) i (partner v t i)) + 1
+numberAt v t i = count (isLeader v t) (pick (isLeader v t i) i (partner v t i)) + 1
 
 abbrev pub frameAt : ℕ → List ℤ → ℕ → Mat
 frameAt v t i = frame (sideAt v t i)

@@ -3,7 +3,7 @@
 --   IsLetter n z       z is a letter over n generators: j or -j, for some j from 1 to n
 --   IsWord n w         each letter of w is one
 --   letterOf gens z    the matrix of a letter: j stands for generator j, -j for its inverse
---   wordOf gens w      the product of the letters' matrices from left to right; the empty word is the identity
+--   valueOf gens w     the product of the letters' matrices from left to right; the empty word is the identity
 --   InH gens m         m is in H: up to sign it is the value of some word, of whatever length
 use mathlib.Core.List.{List, [], _∷_}
 use Prim.Native.Nat.{ℕ, zero, suc, _≤_}
@@ -24,11 +24,11 @@ letterOf gens (pos zero) = 𝟙
 letterOf gens (pos (suc j)) = getD gens j 𝟙
 letterOf gens (negsuc j) = adj (getD gens j 𝟙)
 
-abbrev pub wordOf : List Mat → List ℤ → Mat
-wordOf gens [] = 𝟙
-wordOf gens (z ∷ w) = letterOf gens z ⊗ wordOf gens w
+abbrev pub valueOf : List Mat → List ℤ → Mat
+valueOf gens [] = 𝟙
+valueOf gens (z ∷ w) = letterOf gens z ⊗ valueOf gens w
 
 pub record InH (gens : List Mat) (m : Mat) : Type 0 where
   pub word : List ℤ
   pub letters : IsWord (length gens) word
-  pub is : m ≈ wordOf gens word
+  pub is : m ≈ valueOf gens word

@@ -20,13 +20,13 @@ ghost use Rattle.workspace.specs.Space.{workLength, zeros};
 ghost use Rattle.symbol.specs.Count.{count};
 ghost use Rattle.symbol.specs.Check.{checkOf};
 ghost use Rattle.symbol.specs.Symbol.{IsSymbol};
-ghost use Rattle.pairing.specs.Generator.{leadsIn, leads, generator, generatorTable, leaders, roomOf, generatedOf, workAfter, tableLeft, GeneratorsMean};
+ghost use Rattle.pairing.specs.Generator.{isLeaderIn, isLeader, generator, generatorTable, leaders, roomOf, generatedOf, workAfter, tableLeft, GeneratorsMean};
 ghost use Rattle.pairing.specs.Inner.Work.{Partnered, Prepared, putRow, RowsTo, Listed};
 
 // Whether side i is the leftmost side of its generator.
 fn leads_at(v: usize, p: &[i64], w: &[u16], i: usize) -> bool
     requires { ⌜ (v ≤ 1023) × (i ≤ v) × (v + 1 ≤ length (now p)) × Partnered v (now p) (now w) ⌝ }
-    ensures { λ r. ⌜ r ≡ leadsIn v (now (p .entry)) i ⌝ }
+    ensures { λ r. ⌜ r ≡ isLeaderIn v (now (p .entry)) i ⌝ }
 {
     let pairing = read_pairing(v, p[i]);
     match pairing {
@@ -40,7 +40,7 @@ fn leads_at(v: usize, p: &[i64], w: &[u16], i: usize) -> bool
 // How many generators there are.
 fn count_leaders(v: usize, p: &[i64], w: &[u16]) -> usize
     requires { ⌜ (v ≤ 1023) × (v + 1 ≤ length (now p)) × Partnered v (now p) (now w) ⌝ }
-    ensures { λ r. ⌜ r ≡ count (leadsIn v (now (p .entry))) (v + 1) ⌝ }
+    ensures { λ r. ⌜ r ≡ count (isLeaderIn v (now (p .entry))) (v + 1) ⌝ }
 {
     let mut n = 0;
     let mut i = 0;
@@ -94,7 +94,7 @@ fn list_side(
     n: usize,
     out: &mut [i64],
 ) -> usize
-    requires { ⌜ Prepared v (now t) (now p) (now w) × (i ≤ v) × (n ≤ i) × (leads v (now t) i ≡ true → 5 * n + 5 ≤ length (now out)) ⌝ }
+    requires { ⌜ Prepared v (now t) (now p) (now w) × (i ≤ v) × (n ≤ i) × (isLeader v (now t) i ≡ true → 5 * n + 5 ≤ length (now out)) ⌝ }
     ensures { λ r. ⌜ Listed v (now (t .entry)) i n r (now (out .entry)) (now (out .exit)) ⌝ }
 {
     if leads_at(v, p, w, i) {
@@ -106,8 +106,8 @@ fn list_side(
 
 // Lists all generators from the front of out, which has room for them.
 fn list_all(v: usize, t: &[i64], p: &[i64], w: &[u16], out: &mut [i64])
-    requires { ⌜ Prepared v (now t) (now p) (now w) × (5 * count (leads v (now t)) (v + 1) ≤ length (now out)) ⌝ }
-    ensures { λ r. ⌜ now (out .exit) ≡ generatorTable v (now (t .entry)) ++ drop (5 * count (leads v (now (t .entry))) (v + 1)) (now (out .entry)) ⌝ }
+    requires { ⌜ Prepared v (now t) (now p) (now w) × (5 * count (isLeader v (now t)) (v + 1) ≤ length (now out)) ⌝ }
+    ensures { λ r. ⌜ now (out .exit) ≡ generatorTable v (now (t .entry)) ++ drop (5 * count (isLeader v (now (t .entry))) (v + 1)) (now (out .entry)) ⌝ }
 {
     let mut n = 0;
     let mut i = 0;

@@ -23,7 +23,7 @@ use Rattle.matrix.specs.Action.{Involution, OrderThree}
 use Rattle.matrix.specs.Theorems.{Acts}
 use Rattle.matrix.proofs.Matrix.{⊗-assoc, ⊗-idr, ⊗-adj, adj-⊗, det-one, det-adj, det-𝟙, R-is, ≈-refl, ≈-sym, _∙≈_, ≈-right, det-letter}
 use Rattle.matrix.proofs.Action.{acts}
-use Rattle.pairing.specs.Subgroup.{InH, wordOf}
+use Rattle.pairing.specs.Subgroup.{InH, valueOf}
 use Rattle.pairing.specs.Generator.{generators}
 use Rattle.polygon.specs.Theorem.{SameCoset}
 use Rattle.numbering.specs.Find.{find, _∈_, Once}
@@ -44,7 +44,7 @@ module _ (gens : List Mat) (m n : Mat) (dm : det m ≡ pos 1) where
 
   from-coset : SameCoset gens m n → InH gens (n ⊗ adj m)
   from-coset c =
-      let h = wordOf gens (c .word) in
+      let h = valueOf gens (c .word) in
       let e : h ⊗ m ⊗ adj m ≡ h = ⊗-assoc h m (adj m) ∙ ap (λ (x : Mat). h ⊗ x) (⊗-adj m dm) ∙ ⊗-idr h in
       record { word = c .word; letters = c .letters; is = ≈-sym (rw e at (≈-right (adj m) (c .is))) }
 

@@ -23,7 +23,7 @@ use Rattle.matrix.specs.Action.{step, run, at, Involution, OrderThree}
 use Rattle.matrix.proofs.Matrix.{⊗-assoc, ⊗-idl, ⊗-idr, det-𝟙, det-adj, det-letter, det-one, ⊗-adj, adj-⊗, undo, redo, ≈-sym, _∙≈_, ≈-left, ≈-right}
 use Rattle.matrix.proofs.Existence.{existence}
 use Rattle.matrix.proofs.Action.{at-word, at-≈, at-⊗, at-𝟙}
-use Rattle.pairing.specs.Subgroup.{IsLetter, IsWord, letterOf, wordOf, InH}
+use Rattle.pairing.specs.Subgroup.{IsLetter, IsWord, letterOf, valueOf, InH}
 use Rattle.polygon.specs.Walk.{wrote}
 use Rattle.polygon.specs.Theorem.{SameCoset}
 
@@ -33,9 +33,9 @@ pub isWord-++ : (n : ℕ) (u w : List ℤ) → IsWord n u → IsWord n w → IsW
 isWord-++ n [] w a b = b
 isWord-++ n (z ∷ u) w a b = (a .0, isWord-++ n u w (a .1) b)
 
-pub wordOf-++ : (gens : List Mat) (u w : List ℤ) → wordOf gens (u ++ w) ≡ wordOf gens u ⊗ wordOf gens w
-wordOf-++ gens [] w = sym (⊗-idl (wordOf gens w))
-wordOf-++ gens (z ∷ u) w = ap (λ (m : Mat). letterOf gens z ⊗ m) (wordOf-++ gens u w) ∙ sym (⊗-assoc (letterOf gens z) (wordOf gens u) (wordOf gens w))
+pub wordOf-++ : (gens : List Mat) (u w : List ℤ) → valueOf gens (u ++ w) ≡ valueOf gens u ⊗ valueOf gens w
+wordOf-++ gens [] w = sym (⊗-idl (valueOf gens w))
+wordOf-++ gens (z ∷ u) w = ap (λ (m : Mat). letterOf gens z ⊗ m) (wordOf-++ gens u w) ∙ sym (⊗-assoc (letterOf gens z) (valueOf gens u) (valueOf gens w))
 
 -- ---- elements that their frames join, wherever σ and κ act
 
@@ -88,7 +88,7 @@ module _ {X : Type 0} (σ κ : X → X) (F : X → Mat) (Real : X → Type 0) (g
     pub units : (j : ℕ) → det (getD gens j 𝟙) ≡ pos 1
     pub letters : (l : Letter) (x : X) → Real x → IsWord (length gens) (w l x)
     pub short : (l : Letter) (x : X) → length (w l x) ≤ 1
-    pub promise : (l : Letter) (x : X) → Real x → F x ⊗ letter l ≈ wordOf gens (w l x) ⊗ F (step σ κ l x)
+    pub promise : (l : Letter) (x : X) → Real x → F x ⊗ letter l ≈ valueOf gens (w l x) ⊗ F (step σ κ l x)
     pub made : (j : ℕ) → j < length gens → Made j
     pub root : X
     pub root-real : Real root
@@ -115,12 +115,12 @@ module _ {X : Type 0} (σ κ : X → X) (F : X → Mat) (Real : X → Type 0) (g
   run-real [] x r = r
   run-real (l ∷ u) x r = run-real u (step σ κ l x) (A .closed l x r)
 
-  pub walk : (u : List Letter) (x : X) → Real x → F x ⊗ value u ≈ wordOf gens (wrote σ κ w x u) ⊗ F (run σ κ x u)
+  pub walk : (u : List Letter) (x : X) → Real x → F x ⊗ value u ≈ valueOf gens (wrote σ κ w x u) ⊗ F (run σ κ x u)
   walk [] x r = inl (⊗-idr (F x) ∙ sym (⊗-idl (F x)))
   walk (l ∷ u) x r =
       let y = step σ κ l x in
-      let p = wordOf gens (w l x) in
-      let q = wordOf gens (wrote σ κ w y u) in
+      let p = valueOf gens (w l x) in
+      let q = valueOf gens (wrote σ κ w y u) in
       let z = F (run σ κ y u) in
       inl (sym (⊗-assoc (F x) (letter l) (value u)))
       ∙≈ ≈-right (value u) (A .promise l x r)
@@ -135,9 +135,9 @@ module _ {X : Type 0} (σ κ : X → X) (F : X → Mat) (Real : X → Type 0) (g
   det-letterOf (pos (suc j)) = A .units j
   det-letterOf (negsuc j) = det-adj (getD gens j 𝟙) ∙ A .units j
 
-  pub det-wordOf : (u : List ℤ) → det (wordOf gens u) ≡ pos 1
+  pub det-wordOf : (u : List ℤ) → det (valueOf gens u) ≡ pos 1
   det-wordOf [] = det-𝟙
-  det-wordOf (z ∷ u) = det-one (letterOf gens z) (wordOf gens u) (det-letterOf z) (det-wordOf u)
+  det-wordOf (z ∷ u) = det-one (letterOf gens z) (valueOf gens u) (det-letterOf z) (det-wordOf u)
 
   -- ---- where a matrix leads
 
@@ -180,7 +180,7 @@ module _ {X : Type 0} (σ κ : X → X) (F : X → Mat) (Real : X → Type 0) (g
         let df = A .unit y (A .closed l x (k .counts)) in
         let dg = A .units j in
         let dk = det-one (adj f) m (det-adj f ∙ df) d in
-        let moved : F x ⊗ letter l ≈ g ⊗ f = A .promise l x (k .counts) ∙≈ inl (ap (λ (u : List ℤ). wordOf gens u ⊗ f) (k .writes) ∙ ap (λ (n : Mat). n ⊗ f) (⊗-idr g)) in
+        let moved : F x ⊗ letter l ≈ g ⊗ f = A .promise l x (k .counts) ∙≈ inl (ap (λ (u : List ℤ). valueOf gens u ⊗ f) (k .writes) ∙ ap (λ (n : Mat). n ⊗ f) (⊗-idr g)) in
         let there : lead (g ⊗ f) ≡ lead f =
         lead-≈ (g ⊗ f) (F x ⊗ letter l) (≈-sym moved)
         ∙ lead-⊗ (F x) (letter l) (A .unit x (k .counts)) (det-letter l)
@@ -199,11 +199,11 @@ module _ {X : Type 0} (σ κ : X → X) (F : X → Mat) (Real : X → Type 0) (g
         let n = adj g ⊗ m in
         sym (lead-generator j n (omega arith) (det-one (adj g) m (det-adj g ∙ A .units j) d)) ∙ ap lead (undo g m (A .units j))
 
-    pub lead-word : (u : List ℤ) (m : Mat) → IsWord (length gens) u → det m ≡ pos 1 → lead (wordOf gens u ⊗ m) ≡ lead m
+    pub lead-word : (u : List ℤ) (m : Mat) → IsWord (length gens) u → det m ≡ pos 1 → lead (valueOf gens u ⊗ m) ≡ lead m
     lead-word [] m h d = ap lead (⊗-idl m)
     lead-word (z ∷ u) m h d =
-        let n = wordOf gens u ⊗ m in
-        ap lead (⊗-assoc (letterOf gens z) (wordOf gens u) m) ∙ lead-letter z n (h .0) (det-one (wordOf gens u) m (det-wordOf u) d) ∙ lead-word u m (h .1) d
+        let n = valueOf gens u ⊗ m in
+        ap lead (⊗-assoc (letterOf gens z) (valueOf gens u) m) ∙ lead-letter z n (h .0) (det-one (valueOf gens u) m (det-wordOf u) d) ∙ lead-word u m (h .1) d
 
     -- ---- the theorems
 
@@ -215,11 +215,11 @@ module _ {X : Type 0} (σ κ : X → X) (F : X → Mat) (Real : X → Type 0) (g
     det-moved m d = det-one (adj F₀) (m ⊗ F₀) (det-adj F₀ ∙ d₀) (det-one m F₀ d d₀)
 
     -- a walk that comes home writes a word for m
-    pub found : (m : Mat) → det m ≡ pos 1 → at σ κ start (moved m) ≡ start → m ≈ wordOf gens (wrote σ κ w start (Euclid.wordOf (moved m)))
+    pub found : (m : Mat) → det m ≡ pos 1 → at σ κ start (moved m) ≡ start → m ≈ valueOf gens (wrote σ κ w start (Euclid.wordOf (moved m)))
     unfolding at
     found m d h =
         let u = Euclid.wordOf (moved m) in
-        let g = wordOf gens (wrote σ κ w start u) in
+        let g = valueOf gens (wrote σ κ w start u) in
         let e : m ⊗ F₀ ≈ g ⊗ F₀ =
         inl (sym (undo F₀ (m ⊗ F₀) d₀))
         ∙≈ ≈-left F₀ (≈-sym (existence (moved m) (det-moved m d) .1))
@@ -233,7 +233,7 @@ module _ {X : Type 0} (σ κ : X → X) (F : X → Mat) (Real : X → Type 0) (g
     pub stabiliser : (m : Mat) → det m ≡ pos 1 → InH gens m ↔ (at σ κ start (moved m) ≡ start)
     stabiliser m d = (
       (λ h.
-          lead-≈ (m ⊗ F₀) (wordOf gens (h .word) ⊗ F₀) (≈-right F₀ (h .is))
+          lead-≈ (m ⊗ F₀) (valueOf gens (h .word) ⊗ F₀) (≈-right F₀ (h .is))
           ∙ lead-word (h .word) F₀ (h .letters) d₀
           ∙ home start real),
       (λ h. record { word = wrote σ κ w start (Euclid.wordOf (moved m)); letters = wrote-word (Euclid.wordOf (moved m)) start real; is = found m d h }),
@@ -248,5 +248,5 @@ module _ {X : Type 0} (σ κ : X → X) (F : X → Mat) (Real : X → Type 0) (g
           let dk = det-one (adj m) F₀ (det-adj m ∙ dm) d₀ in
           let i = stabiliser x dx .1 (ap lead (⊗-assoc n (adj m) F₀) ∙ lead-same n m k dn dm dk (sym e) ∙ ap lead (undo m F₀ dm) ∙ home start real) in
           record { word = i .word; letters = i .letters; is = ≈-right m (≈-sym (i .is)) ∙≈ inl (⊗-assoc n (adj m) m ∙ ap (λ (y : Mat). n ⊗ y) (adj-⊗ m dm) ∙ ⊗-idr n) }),
-      (λ c. sym (lead-word (c .word) m (c .letters) dm) ∙ lead-≈ (wordOf gens (c .word) ⊗ m) n (c .is)),
+      (λ c. sym (lead-word (c .word) m (c .letters) dm) ∙ lead-≈ (valueOf gens (c .word) ⊗ m) n (c .is)),
     )

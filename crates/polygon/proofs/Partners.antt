@@ -22,7 +22,7 @@ use Rattle.symbol.specs.Count.{count}
 use Rattle.symbol.specs.Table.{pairings}
 use Rattle.pairing.specs.Inner.Work as pairing
 use Rattle.symbol.specs.Symbol.{IsSymbol}
-use Rattle.pairing.specs.Generator.{partner, pairingAt, leads, leadsBy, numberAt}
+use Rattle.pairing.specs.Generator.{partner, pairingAt, isLeader, isLeaderBy, numberAt}
 use Rattle.symbol.specs.declared.Pairing.{Pairing}
 use Rattle.symbol.specs.declared.Pairing.the-variants.{Even, Odd, Free, Bad}
 use Rattle.polygon.specs.Cut.{places}
@@ -41,30 +41,30 @@ module _ (t : List ℤ) (v : ℕ) (ok : IsSymbol v t) where
 
   module _ (w : List ℕ) (i n : ℕ) (p : NumberedTo t v w i n) (h : i ≤ v) where
     -- the number x is stored for side i
-    numbered-more : (x : ℕ) (c : ℕ) → x ≡ numberAt v t i → c ≡ count (leads v t) (suc i) → NumberedTo t v (set w (GENERATOR + i) x) (i + 1) c
+    numbered-more : (x : ℕ) (c : ℕ) → x ≡ numberAt v t i → c ≡ count (isLeader v t) (suc i) → NumberedTo t v (set w (GENERATOR + i) x) (i + 1) c
     numbered-more x c e f = record {
       long = still (length-set w (GENERATOR + i) x) (p .long);
       partnered = record { partners = λ j l b k. getD-set-other w (GENERATOR + i) (PARTNER + j) x 0 (let m = ok .most in λ z. omega arith) ∙ p .partnered .partners j l b k };
-      count = f ∙ ap (count (leads v t)) (sym (add-one i));
+      count = f ∙ ap (count (isLeader v t)) (sym (add-one i));
       numbers = below-more _ i (λ j b. getD-set-other w (GENERATOR + i) (GENERATOR + j) x 0 (λ z. omega arith) ∙ p .numbers j b)
           (getD-set-same w (GENERATOR + i) x 0 (let m = ok .most in omega (arith, p .long)) ∙ e);
     }
 
-    pub numbered-leads : leads v t i ≡ true → NumberedTo t v (set w (GENERATOR + i) (n + 1)) (i + 1) (n + 1)
+    pub numbered-leads : isLeader v t i ≡ true → NumberedTo t v (set w (GENERATOR + i) (n + 1)) (i + 1) (n + 1)
     numbered-leads e = numbered-more (n + 1) (n + 1)
-        (ap (λ (k : ℕ). k + 1) (p .count) ∙ ap (λ (b : Bool). count (leads v t) (pick b i (partner v t i)) + 1) (sym e))
-        (ap (λ (k : ℕ). k + 1) (p .count) ∙ ap (λ (b : Bool). count (leads v t) i + pick b 1 0) (sym e))
+        (ap (λ (k : ℕ). k + 1) (p .count) ∙ ap (λ (b : Bool). count (isLeader v t) (pick b i (partner v t i)) + 1) (sym e))
+        (ap (λ (k : ℕ). k + 1) (p .count) ∙ ap (λ (b : Bool). count (isLeader v t) i + pick b 1 0) (sym e))
 
     -- a side that doesn't lead is the second of a pair
-    pub follows : leads v t i ≡ false → (partner v t i < i) × (numberAt v t i ≡ numberAt v t (partner v t i)) × (getD w (PARTNER + i) 0 ≡ partner v t i)
+    pub follows : isLeader v t i ≡ false → (partner v t i < i) × (numberAt v t i ≡ numberAt v t (partner v t i)) × (getD w (PARTNER + i) 0 ≡ partner v t i)
     follows e = go (kind v t ok i h)
       where
         go : Kind v t i → (partner v t i < i) × (numberAt v t i ≡ numberAt v t (partner v t i)) × (getD w (PARTNER + i) 0 ≡ partner v t i)
-        go (even k o) = clash (ap (λ (x : Pairing). leadsBy x i (partner v t i)) k) e
-        go (odd k o) = clash (ap (λ (x : Pairing). leadsBy x i (partner v t i)) k) e
+        go (even k o) = clash (ap (λ (x : Pairing). isLeaderBy x i (partner v t i)) k) e
+        go (odd k o) = clash (ap (λ (x : Pairing). isLeaderBy x i (partner v t i)) k) e
         go (free l k o m) =
             let j = partner v t i in
-            let b : ltb i j ≡ false = sym (ap (λ (x : Pairing). leadsBy x i j) k) ∙ e in
+            let b : ltb i j ≡ false = sym (ap (λ (x : Pairing). isLeaderBy x i j) k) ∙ e in
             let c = ltb-false i j b in
             let d : j < i = let z = m .other in omega arith in (
               d,
@@ -72,12 +72,12 @@ module _ (t : List ℤ) (v : ℕ) (ok : IsSymbol v t) where
               p .partnered .partners i l h k,
             )
 
-    pub numbered-follows : (k : ℕ) → leads v t i ≡ false → k ≡ getD w (PARTNER + i) 0 → NumberedTo t v (set w (GENERATOR + i) (getD w (GENERATOR + k) 0)) (i + 1) n
+    pub numbered-follows : (k : ℕ) → isLeader v t i ≡ false → k ≡ getD w (PARTNER + i) 0 → NumberedTo t v (set w (GENERATOR + i) (getD w (GENERATOR + k) 0)) (i + 1) n
     numbered-follows k e f =
         let g = follows e in
         let z : k ≡ partner v t i = f ∙ g .2 in
         numbered-more (getD w (GENERATOR + k) 0) n (ap (λ (x : ℕ). getD w (GENERATOR + x) 0) z ∙ p .numbers (partner v t i) (g .0) ∙ sym (g .1))
-        (p .count ∙ let y : count (leads v t) i ≡ count (leads v t) i + 0 = omega arith in y ∙ ap (λ (b : Bool). count (leads v t) i + pick b 1 0) (sym e))
+        (p .count ∙ let y : count (isLeader v t) i ≡ count (isLeader v t) i + 0 = omega arith in y ∙ ap (λ (b : Bool). count (isLeader v t) i + pick b 1 0) (sym e))
 
   pub numbered-all : (w : List ℕ) (i n : ℕ) → NumberedTo t v w i n → v < i → Numbered t v w
   numbered-all w i n p h = record { numbers = λ j b. p .numbers j (omega arith) }
@@ -95,14 +95,14 @@ above-set a b i x f h = record { same = length-set b i x ∙ f .same; below = λ
 
 -- ---- one side, as the code has it
 
-pub leads-by : (v : ℕ) (t : List ℤ) (i : ℕ) (k : Pairing) → pairingAt v t i ≡ k → leadsBy k i (partner v t i) ≡ leads v t i
+pub leads-by : (v : ℕ) (t : List ℤ) (i : ℕ) (k : Pairing) → pairingAt v t i ≡ k → isLeaderBy k i (partner v t i) ≡ isLeader v t i
 leads-by v t i k e = rw e
 
-pub leads-free : (v : ℕ) (t : List ℤ) (w : List ℕ) (i l k : ℕ) → Partnered t v w → i ≤ v → pairingAt v t i ≡ Free l → k ≡ getD w (PARTNER + i) 0 → ltb i k ≡ leads v t i
+pub leads-free : (v : ℕ) (t : List ℤ) (w : List ℕ) (i l k : ℕ) → Partnered t v w → i ≤ v → pairingAt v t i ≡ Free l → k ≡ getD w (PARTNER + i) 0 → ltb i k ≡ isLeader v t i
 leads-free v t w i l k p h e f = ap (ltb i) (f ∙ p .partners i l h e) ∙ leads-by v t i (Free l) e
 
 pub number-count : (t : List ℤ) (v : ℕ) (w : List ℕ) (i n : ℕ) → NumberedTo t v w i n → n ≤ i
-number-count t v w i n p = rw (p .count) (count-most (leads v t) i)
+number-count t v w i n p = rw (p .count) (count-most (isLeader v t) i)
 
 -- ---- the tables together
 

@@ -22,8 +22,8 @@ use Rattle.matrix.specs.Euclid.{pick}
 use Rattle.matrix.proofs.Matrix.{⊗-assoc, ⊗-idl, ⊗-idr, det-𝟙, adj-⊗, redo, Q-P, Q-Q, ≈-sym, _∙≈_, ≈-left}
 use Rattle.symbol.specs.Table.{pairingOf, carried}
 use Rattle.symbol.specs.Symbol.{IsSymbol}
-use Rattle.pairing.specs.Generator.{partner, pairingAt, leadsBy, leads, numberAt, frameAt, generatorBy, generator, generators}
-use Rattle.pairing.specs.Subgroup.{IsWord, letterOf, wordOf}
+use Rattle.pairing.specs.Generator.{partner, pairingAt, isLeaderBy, isLeader, numberAt, frameAt, generatorBy, generator, generators}
+use Rattle.pairing.specs.Subgroup.{IsWord, letterOf, valueOf}
 use Rattle.symbol.specs.declared.Pairing.{Pairing}
 use Rattle.symbol.specs.declared.Pairing.the-variants.{Even, Odd, Free, Bad}
 use Rattle.pairing.proofs.Facts.{frame-det, generator-det}
@@ -56,14 +56,14 @@ carry-back g m f d e = inl (sym (redo g m d)) ∙≈ ≈-left (adj g) e
 -- ---- letters as matrices
 
 module _ (v : ℕ) (t : List ℤ) where
-  one-letter : (z : ℤ) → wordOf (generators v t) (z ∷ []) ≡ letterOf (generators v t) z
+  one-letter : (z : ℤ) → valueOf (generators v t) (z ∷ []) ≡ letterOf (generators v t) z
   one-letter z = ⊗-idr (letterOf (generators v t) z)
 
-  forth-is : (i k : ℕ) → Number v t i k → wordOf (generators v t) (forth (numberAt v t i)) ≡ generator v t k
-  forth-is i k n = ap (λ (j : ℕ). wordOf (generators v t) (forth j)) (n .number) ∙ one-letter (pos (suc (n .rank))) ∙ n .is
+  forth-is : (i k : ℕ) → Number v t i k → valueOf (generators v t) (forth (numberAt v t i)) ≡ generator v t k
+  forth-is i k n = ap (λ (j : ℕ). valueOf (generators v t) (forth j)) (n .number) ∙ one-letter (pos (suc (n .rank))) ∙ n .is
 
-  back-is : (i k : ℕ) → Number v t i k → wordOf (generators v t) (back (numberAt v t i)) ≡ adj (generator v t k)
-  back-is i k n = ap (λ (j : ℕ). wordOf (generators v t) (back j)) (n .number) ∙ one-letter (negsuc (n .rank)) ∙ ap adj (n .is)
+  back-is : (i k : ℕ) → Number v t i k → valueOf (generators v t) (back (numberAt v t i)) ≡ adj (generator v t k)
+  back-is i k n = ap (λ (j : ℕ). valueOf (generators v t) (back j)) (n .number) ∙ one-letter (negsuc (n .rank)) ∙ ap adj (n .is)
 
   forth-word : (i k : ℕ) → Number v t i k → IsWord (length (generators v t)) (forth (numberAt v t i))
   forth-word i k n = let low = n .low in rw (n .number) ((omega arith, omega arith), tt)
@@ -109,7 +109,7 @@ module _ (v : ℕ) (t : List ℤ) where
 
       -- what a first side writes, and what a second one
       free-first : (i l : ℕ) → i ≤ v → pairingAt v t i ≡ Free l → Mate v t i → i < partner v t i
-          → frameAt v t i ≈ wordOf (generators v t) (back (numberAt v t i)) ⊗ C .frame (flip v t (outer v (partner v t i)))
+          → frameAt v t i ≈ valueOf (generators v t) (back (numberAt v t i)) ⊗ C .frame (flip v t (outer v (partner v t i)))
       free-first i l h k m b =
           let j = partner v t i in
           let M = frameAt v t i in
@@ -120,26 +120,26 @@ module _ (v : ℕ) (t : List ℤ) where
           (inl (carried-own N matS M (frame-det v t ok i h)) ∙≈ face-S j (m .within)))
 
       free-second : (i l : ℕ) → i ≤ v → pairingAt v t i ≡ Free l → Mate v t i → partner v t i < i
-          → frameAt v t i ≈ wordOf (generators v t) (forth (numberAt v t i)) ⊗ C .frame (flip v t (outer v (partner v t i)))
+          → frameAt v t i ≈ valueOf (generators v t) (forth (numberAt v t i)) ⊗ C .frame (flip v t (outer v (partner v t i)))
       free-second i l h k m b =
           let j = partner v t i in
           rw (forth-is i j (number-second v t i l k m b), generator-free j l (ap (pairingOf v) (m .same) ∙ k), m .back)
           (carry (frameAt v t i) (frameAt v t j) (C .frame (flip v t (outer v j))) (frame-det v t ok j (m .within)) (face-S j (m .within)))
 
       free-both : (i l : ℕ) → i ≤ v → pairingAt v t i ≡ Free l → Mate v t i
-          → frameAt v t i ≈ wordOf (generators v t) (pick (ltb i (partner v t i)) (back (numberAt v t i)) (forth (numberAt v t i))) ⊗ C .frame (flip v t (outer v (partner v t i)))
+          → frameAt v t i ≈ valueOf (generators v t) (pick (ltb i (partner v t i)) (back (numberAt v t i)) (forth (numberAt v t i))) ⊗ C .frame (flip v t (outer v (partner v t i)))
       free-both i l h k m = elim (decLt i (partner v t i)) [
         | yes b ↦ rw (lt-ltb i (partner v t i) b) (free-first i l h k m b)
         | no b ↦ rw (le-ltb i (partner v t i) (omega arith)) (free-second i l h k m (let o = m .other in omega arith))
       ]
 
-      promise-S : (p : ℕ) → Real v t p → C .frame p ⊗ matS ≈ wordOf (generators v t) (written v t S p) ⊗ C .frame (stepS v t p)
+      promise-S : (p : ℕ) → Real v t p → C .frame p ⊗ matS ≈ valueOf (generators v t) (written v t S p) ⊗ C .frame (stepS v t p)
       promise-S p r = go (beyond v t ok C p r)
         where
           low : p < places v
           low = real-in v t ok p r
 
-          go : Beyond v t p → C .frame p ⊗ matS ≈ wordOf (generators v t) (written v t S p) ⊗ C .frame (stepS v t p)
+          go : Beyond v t p → C .frame p ⊗ matS ≈ valueOf (generators v t) (written v t S p) ⊗ C .frame (stepS v t p)
           go (crosses a b c) = rw (b, c) (C .cut .turn-S p low ∙≈ inl (sym (⊗-idl (C .frame (flip v t p)))))
           go (even-side i h e k o a b) =
               rw (a, b, forth-is i i (number-even v t i h k), generator-even i k)
@@ -177,7 +177,7 @@ module _ (v : ℕ) (t : List ℤ) where
           let h = odd-in v t ok i o in
           (generator-det v t ok i h, rw (e, C .cut .sides i, generator-odd i (odd-pairing i o)) (carried-own (frameAt v t i) matQ (frameAt v t i) (frame-det v t ok i h)))
 
-      promise-Q : (p : ℕ) → Real v t p → C .frame p ⊗ matQ ≈ wordOf (generators v t) (written v t Q p) ⊗ C .frame (turnQ v p)
+      promise-Q : (p : ℕ) → Real v t p → C .frame p ⊗ matQ ≈ valueOf (generators v t) (written v t Q p) ⊗ C .frame (turnQ v p)
       promise-Q p r = elim (place v p) [
         | inner h ↦ rw (silent-Q p h) (inl (C .cut .turn-Q p h ∙ sym (⊗-idl (C .frame (turnQ v p)))))
         | outside i e ↦ rw (written-Q p i e, forth-is i i (number-face p i e r), turn-face v p (omega arith)) (inl (sym (odd-face p i e r .1)))
@@ -190,7 +190,7 @@ module _ (v : ℕ) (t : List ℤ) where
           go (inner k) = ap (λ (m : Mat). C .frame p ⊗ m) (sym Q-Q) ∙ sym (⊗-assoc (C .frame p) matQ matQ) ∙ ap (λ (m : Mat). m ⊗ matQ) (C .cut .turn-Q p h) ∙ C .cut .turn-Q (turnQ v p) k
           go (outside i e) = absurd (omega (arith, turn-in v t ok C p h))
 
-      promise-P : (p : ℕ) → Real v t p → C .frame p ⊗ matP ≈ wordOf (generators v t) (written v t P p) ⊗ C .frame (turnQ v (turnQ v p))
+      promise-P : (p : ℕ) → Real v t p → C .frame p ⊗ matP ≈ valueOf (generators v t) (written v t P p) ⊗ C .frame (turnQ v (turnQ v p))
       promise-P p r = elim (place v p) [
         | inner h ↦ rw (silent-P p h) (inl (twice-Q p r h ∙ sym (⊗-idl (C .frame (turnQ v (turnQ v p))))))
         | outside i e ↦
@@ -201,7 +201,7 @@ module _ (v : ℕ) (t : List ℤ) where
             rw (written-P p i e, back-is i i (number-face p i e r), turn-face v p (omega arith), turn-face v p (omega arith)) (carry-back g (f ⊗ matP) f (o .0) (inl back)))
       ]
 
-      pub promise : (x : Letter) (p : ℕ) → Real v t p → C .frame p ⊗ letter x ≈ wordOf (generators v t) (written v t x p) ⊗ C .frame (goes v t x p)
+      pub promise : (x : Letter) (p : ℕ) → Real v t p → C .frame p ⊗ letter x ≈ valueOf (generators v t) (written v t x p) ⊗ C .frame (goes v t x p)
       promise S p r = promise-S p r
       promise Q p r = promise-Q p r
       promise P p r = promise-P p r
@@ -253,7 +253,7 @@ module _ (v : ℕ) (t : List ℤ) where
           low : i ≤ v
           low = lead .low
 
-          leading : leads v t i ≡ true
+          leading : isLeader v t i ≡ true
           leading = lead .leading
 
           number : numberAt v t i ≡ suc j
@@ -274,7 +274,7 @@ module _ (v : ℕ) (t : List ℤ) where
           }
           go (free l k o m) =
               let n = partner v t i in
-              let b : ltb i n ≡ true = sym (ap (λ (x : Pairing). leadsBy x i n) k) ∙ leading in
+              let b : ltb i n ≡ true = sym (ap (λ (x : Pairing). isLeaderBy x i n) k) ∙ leading in
               let less = ltb-true i n b in
               let second : crossed (pairingAt v t n) n (partner v t n) (numberAt v t n) ≡ forth (numberAt v t n) =
               ap (λ (x : Pairing). crossed x n (partner v t n) (numberAt v t n)) (ap (pairingOf v) (m .same) ∙ k)

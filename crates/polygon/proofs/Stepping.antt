@@ -19,7 +19,7 @@ use Rattle.matrix.specs.Euclid.{pick}
 use Rattle.symbol.specs.Table.{pairing, pairingOf}
 use Rattle.symbol.specs.Check.{isZero, eqZ}
 use Rattle.symbol.specs.Symbol.{IsSymbol}
-use Rattle.pairing.specs.Generator.{partner, pairingAt, leads, numberAt}
+use Rattle.pairing.specs.Generator.{partner, pairingAt, isLeader, numberAt}
 use Rattle.symbol.specs.declared.Pairing.{Pairing}
 use Rattle.symbol.specs.declared.Pairing.the-variants.{Even, Odd, Free, Bad}
 use Rattle.polygon.specs.Cut.{corners, outer, places, flip, underZero}
@@ -107,7 +107,7 @@ module _ (v : ℕ) (t : List ℤ) (ok : IsSymbol v t) where
   number-range i k n =
       let b = n .low in
       let g = length-generators v t in
-      let c = count-most (leads v t) (v + 1) in
+      let c = count-most (isLeader v t) (v + 1) in
       rw (n .number) (omega arith, omega arith)
 
   -- every side's number is from 1 to v + 1

@@ -23,7 +23,7 @@ use Rattle.symbol.specs.Count.{first, count}
 use Rattle.symbol.specs.Table.{pairings, pairing, pairingOf}
 use Rattle.symbol.specs.Check.{eqZ}
 use Rattle.symbol.specs.Symbol.{IsSymbol, FreeLabel}
-use Rattle.pairing.specs.Generator.{partner, pairingAt, leads, leaders, numberAt, generator, generators}
+use Rattle.pairing.specs.Generator.{partner, pairingAt, isLeader, leaders, numberAt, generator, generators}
 use Rattle.symbol.specs.declared.Pairing.the-variants.{Even, Odd, Free}
 use Rattle.symbol.proofs.Choice.{either, clash, eqZ-refl, eq-eqZ}
 use Rattle.symbol.proofs.Count.{search-first, count-yes, count-mono, another, length-those}
@@ -147,45 +147,45 @@ pub record Number (v : ℕ) (t : List ℤ) (i k : ℕ) : Type 0 where
 pub record Leader (v : ℕ) (t : List ℤ) (j : ℕ) : Type 0 where
   pub side : ℕ
   pub low : side ≤ v
-  pub leading : leads v t side ≡ true
+  pub leading : isLeader v t side ≡ true
   pub number : numberAt v t side ≡ suc j
 
 module _ (v : ℕ) (t : List ℤ) where
-  pub length-generators : length (generators v t) ≡ count (leads v t) (v + 1)
-  length-generators = length-map (leaders v t) (generator v t) ∙ length-those (leads v t) (v + 1)
+  pub length-generators : length (generators v t) ≡ count (isLeader v t) (v + 1)
+  length-generators = length-map (leaders v t) (generator v t) ∙ length-those (isLeader v t) (v + 1)
 
-  number-of : (i k : ℕ) → k ≤ v → leads v t k ≡ true → pick (leads v t i) i (partner v t i) ≡ k → Number v t i k
+  number-of : (i k : ℕ) → k ≤ v → isLeader v t k ≡ true → pick (isLeader v t i) i (partner v t i) ≡ k → Number v t i k
   number-of i k h e f =
-      let r = count (leads v t) k in
+      let r = count (isLeader v t) k in
       record {
         rank = r;
-        number = ap (λ (x : ℕ). count (leads v t) x + 1) f ∙ add-one r;
-        low = omega (arith, length-generators, count-less (leads v t) k (v + 1) (omega arith) e);
+        number = ap (λ (x : ℕ). count (isLeader v t) x + 1) f ∙ add-one r;
+        low = omega (arith, length-generators, count-less (isLeader v t) k (v + 1) (omega arith) e);
         is = generator-at v t k h e;
       }
 
-  pub number-leads : (i : ℕ) → i ≤ v → leads v t i ≡ true → Number v t i i
+  pub number-leads : (i : ℕ) → i ≤ v → isLeader v t i ≡ true → Number v t i i
   number-leads i h e = number-of i i h e (ap (λ (b : Bool). pick b i (partner v t i)) e)
 
   pub leader : (j : ℕ) → j < length (generators v t) → Leader v t j
   leader j h =
-      let r = those-made (leads v t) (v + 1) j (omega (arith, length-generators)) in
+      let r = those-made (isLeader v t) (v + 1) j (omega (arith, length-generators)) in
       record {
         side = r .is;
         low = let b = r .low in omega arith;
         leading = r .passes;
-        number = ap (λ (b : Bool). count (leads v t) (pick b (r .is) (partner v t (r .is))) + 1) (r .passes) ∙ add-one (count (leads v t) (r .is)) ∙ ap suc (r .rank);
+        number = ap (λ (b : Bool). count (isLeader v t) (pick b (r .is) (partner v t (r .is))) + 1) (r .passes) ∙ add-one (count (isLeader v t) (r .is)) ∙ ap suc (r .rank);
       }
 
   -- ---- who leads
 
-  leads-even : (i : ℕ) → pairingAt v t i ≡ Even → leads v t i ≡ true
+  leads-even : (i : ℕ) → pairingAt v t i ≡ Even → isLeader v t i ≡ true
   leads-even i e = rw e
 
-  leads-odd : (i : ℕ) → pairingAt v t i ≡ Odd → leads v t i ≡ true
+  leads-odd : (i : ℕ) → pairingAt v t i ≡ Odd → isLeader v t i ≡ true
   leads-odd i e = rw e
 
-  leads-free : (i l : ℕ) → pairingAt v t i ≡ Free l → leads v t i ≡ ltb i (partner v t i)
+  leads-free : (i l : ℕ) → pairingAt v t i ≡ Free l → isLeader v t i ≡ ltb i (partner v t i)
   leads-free i l e = rw e
 
   pub number-even : (i : ℕ) → i ≤ v → pairingAt v t i ≡ Even → Number v t i i
@@ -198,7 +198,7 @@ module _ (v : ℕ) (t : List ℤ) where
   number-first i l h e b = number-leads i h (leads-free i l e ∙ lt-ltb i (partner v t i) b)
 
   -- the partner of a second side leads, and it doesn't
-  second-leads : (i l : ℕ) → pairingAt v t i ≡ Free l → Mate v t i → partner v t i < i → (leads v t i ≡ false) × (leads v t (partner v t i) ≡ true)
+  second-leads : (i l : ℕ) → pairingAt v t i ≡ Free l → Mate v t i → partner v t i < i → (isLeader v t i ≡ false) × (isLeader v t (partner v t i) ≡ true)
   second-leads i l e m b =
       let k = partner v t i in (
         leads-free i l e ∙ le-ltb i k (omega arith),
@@ -213,4 +213,4 @@ module _ (v : ℕ) (t : List ℤ) where
   number-mate i l e m b =
       let k = partner v t i in
       let s = second-leads i l e m b in
-      ap (λ (x : Bool). count (leads v t) (pick x i k) + 1) (s .0) ∙ sym (ap (λ (x : Bool). count (leads v t) (pick x k (partner v t k)) + 1) (s .1))
+      ap (λ (x : Bool). count (isLeader v t) (pick x i k) + 1) (s .0) ∙ sym (ap (λ (x : Bool). count (isLeader v t) (pick x k (partner v t k)) + 1) (s .1))

@@ -24,7 +24,7 @@ use Rattle.matrix.specs.Words.{Letter, letter, value}
 use Rattle.matrix.specs.Action.{Involution, OrderThree}
 use Rattle.symbol.specs.Count.{count}
 use Rattle.pairing.specs.Generator.{generators}
-use Rattle.pairing.specs.Subgroup.{IsWord, wordOf, InH}
+use Rattle.pairing.specs.Subgroup.{IsWord, valueOf, InH}
 use Rattle.polygon.specs.Cut.{corners, places}
 use Rattle.polygon.specs.Step.{oddAt, real, Real, stepS, turnQ, written, startOf, startFrame, originOf}
 use Rattle.polygon.specs.Triangles.{Triangles}
@@ -33,7 +33,7 @@ use Rattle.polygon.specs.Walk.{goes, ends, writes, arrives, walkEnds, wa
 pub record SameCoset (gens : List Mat) (m n : Mat) : Type 0 where
   pub word : List ℤ
   pub letters : IsWord (length gens) word
-  pub is : wordOf gens word ⊗ m ≈ n
+  pub is : valueOf gens word ⊗ m ≈ n
 
 pub record Reached (v : ℕ) (t : List ℤ) (p q : ℕ) : Type 0 where
   pub word : List Letter
@@ -43,7 +43,7 @@ pub record Walks (v : ℕ) (t : List ℤ) (frame : ℕ → Mat) : Type 0 where
   pub walk-real : (l : List Letter) (p : ℕ) → Real v t p → Real v t (ends v t p l)
   pub walk-letters : (l : List Letter) (p : ℕ) → Real v t p → IsWord (length (generators v t)) (writes v t p l)
   pub walk-short : (l : List Letter) (p : ℕ) → length (writes v t p l) ≤ length l
-  pub walk : (l : List Letter) (p : ℕ) → Real v t p → frame p ⊗ value l ≈ wordOf (generators v t) (writes v t p l) ⊗ frame (ends v t p l)
+  pub walk : (l : List Letter) (p : ℕ) → Real v t p → frame p ⊗ value l ≈ valueOf (generators v t) (writes v t p l) ⊗ frame (ends v t p l)
   pub origin : Real v t (originOf v t)
   pub by-frame : (p : ℕ) → Real v t p → arrives v t (originOf v t) (frame p) ≡ p
 
@@ -61,10 +61,10 @@ pub record Polygon (v : ℕ) (t : List ℤ) : Type 0 where
   -- promise
   pub letters : (x : Letter) (p : ℕ) → Real v t p → IsWord (length (generators v t)) (written v t x p)
   pub short : (x : Letter) (p : ℕ) → length (written v t x p) ≤ 1
-  pub promise : (x : Letter) (p : ℕ) → Real v t p → frame p ⊗ letter x ≈ wordOf (generators v t) (written v t x p) ⊗ frame (goes v t x p)
+  pub promise : (x : Letter) (p : ℕ) → Real v t p → frame p ⊗ letter x ≈ valueOf (generators v t) (written v t x p) ⊗ frame (goes v t x p)
   -- H
   pub stabiliser : (m : Mat) → det m ≡ pos 1 → InH (generators v t) m ↔ (walkEnds v t m ≡ startOf v t)
-  pub found : (m : Mat) → det m ≡ pos 1 → walkEnds v t m ≡ startOf v t → m ≈ wordOf (generators v t) (walkWrites v t m)
+  pub found : (m : Mat) → det m ≡ pos 1 → walkEnds v t m ≡ startOf v t → m ≈ valueOf (generators v t) (walkWrites v t m)
   -- cosets
   pub cosets : (m n : Mat) → det m ≡ pos 1 → det n ≡ pos 1 → (arrives v t (originOf v t) m ≡ arrives v t (originOf v t) n) ↔ SameCoset (generators v t) m n
   -- all

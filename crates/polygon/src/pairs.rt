@@ -7,14 +7,14 @@ ghost use mathlib.Core.Path.{_≡_};
 ghost use Prim.Native.Nat.{_+_, _≤_};
 ghost use lib.ListN.{length};
 ghost use Rattle.symbol.specs.Symbol.{IsSymbol};
-ghost use Rattle.pairing.specs.Generator.{leads};
+ghost use Rattle.pairing.specs.Generator.{isLeader};
 ghost use Rattle.polygon.specs.Inner.Space.{Above};
 ghost use Rattle.polygon.specs.Inner.Partners.{Partnered, NumberedTo, Numbered};
 
 // Whether side i is the leftmost side of its generator.
 fn is_leading(t: &[i64], v: usize, w: &[u16], i: usize) -> bool
     requires { ⌜ IsSymbol v (now t) × Partnered (now t) v (now w) × (i ≤ v) × (32768 ≤ length (now w)) ⌝ }
-    ensures { λ r. ⌜ r ≡ leads v (now (t .entry)) i ⌝ }
+    ensures { λ r. ⌜ r ≡ isLeader v (now (t .entry)) i ⌝ }
 {
     let kind = pairing(t, v, i);
     match kind {

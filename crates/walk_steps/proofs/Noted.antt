@@ -21,7 +21,7 @@ use Rattle.matrix.specs.Matrix.{nth}
 use Rattle.matrix.specs.Words.{S}
 use Rattle.symbol.specs.Table.{pairing}
 use Rattle.symbol.specs.Symbol.{IsSymbol}
-use Rattle.pairing.specs.Generator.{generators, leads}
+use Rattle.pairing.specs.Generator.{generators, isLeader}
 use Rattle.pairing.specs.Subgroup.{IsWord}
 use Rattle.symbol.proofs.Choice.{clash}
 use Rattle.polygon.specs.Cut.{corners, places}
@@ -92,7 +92,7 @@ word-most n (negsuc k) w = w .0 .1
 pub letter-most : (v : ℕ) (t : List ℤ) → IsSymbol v t → (p : ℕ) (z : ℤ) → Real v t p → lettersOf z ≡ written v t S p → natAbs z ≤ 1024
 letter-most v t ok p z r e =
     let w : IsWord (length (generators v t)) (lettersOf z) = rw e (polygon v t ok .letters S p r) in
-    omega (arith, word-most (length (generators v t)) z w, length-generators v t, count-most (leads v t) (v + 1), ok .most)
+    omega (arith, word-most (length (generators v t)) z w, length-generators v t, count-most (isLeader v t) (v + 1), ok .most)
 
 -- ---- one step noted
 

@@ -23,7 +23,7 @@ use Rattle.matrix.proofs.Matrix.{⊗-assoc, ⊗-idr, ⊗-adj, adj-⊗, det-adj,
 use Rattle.symbol.specs.Symbol.{IsSymbol}
 use Rattle.pairing.specs.Generator as generator
 use Rattle.pairing.specs.Generator.{generators}
-use Rattle.pairing.specs.Subgroup.{IsWord, wordOf}
+use Rattle.pairing.specs.Subgroup.{IsWord, valueOf}
 use Rattle.symbol.proofs.Choice.{either, clash, pick-true, pick-false, and-left, and-right}
 use Rattle.polygon.specs.Step.{startOf}
 use Rattle.polygon.specs.Walk.{followed, walkEnds}
@@ -79,11 +79,11 @@ module _ {v : ℕ} {t : List ℤ} (ok : IsSymbol v t) (A B : Mat) (d : det A ≡
   joined-home : Joined v t A B → home v t A B ≡ true
   unfolding home
   joined-home j =
-      let W = wordOf (generators v t) (j .word) in
+      let W = valueOf (generators v t) (j .word) in
       let is : X ≈ W = ≈-sym (≈-right (adj A) (j .is)) ∙≈ inl (⊗-assoc W A (adj A) ∙ ap (λ (m : Mat). W ⊗ m) (⊗-adj A d) ∙ ⊗-idr W) in
       eq-eqb (walkEnds v t X) (startOf v t) (g .stabiliser X X-unit .0 (record { word = j .word; letters = j .letters; is = is }))
 
-  home-product : home v t A B ≡ true → wordOf (generators v t) word ⊗ A ≈ B
+  home-product : home v t A B ≡ true → valueOf (generators v t) word ⊗ A ≈ B
   unfolding home foundWord
   home-product h = ≈-right A (≈-sym (g .found X X-unit (eqb-true (walkEnds v t X) (startOf v t) h))) ∙≈ inl X-times
 
@@ -96,7 +96,7 @@ module _ {v : ℕ} {t : List ℤ} (ok : IsSymbol v t) (A B : Mat) (d : det A ≡
   bound-of = omega (arith, g .walks .walk-short (euclid.wordOf (followed v t X)) (startOf v t), followed-length X X-unit v t)
 
   sixteen-of : (i : ℕ) → i < length word → natAbs (getD word i (pos 0)) ≤ 1024
-  sixteen-of i h = omega (arith, letter-most (length (generators v t)) word letters-of i h, length-generators v t, count-most (generator.leads v t) (v + 1), ok .most)
+  sixteen-of i h = omega (arith, letter-most (length (generators v t)) word letters-of i h, length-generators v t, count-most (generator.isLeader v t) (v + 1), ok .most)
 
   home-joined : home v t A B ≡ true → Joined v t A B
   home-joined h = record { word = word; letters = letters-of; is = home-product h }

@@ -31,7 +31,7 @@ use Rattle.matrix.specs.Euclid as euclid
 use Rattle.workspace.specs.Space.{workLength}
 use Rattle.symbol.specs.Symbol.{IsSymbol}
 use Rattle.pairing.specs.Generator.{generators}
-use Rattle.pairing.specs.Subgroup.{IsWord, wordOf}
+use Rattle.pairing.specs.Subgroup.{IsWord, valueOf}
 use Rattle.polygon.specs.Theorem.{SameCoset}
 use Rattle.coset.specs.Tables.{tableS, tableR}
 use Rattle.coset.specs.Theorem.{leads}
@@ -60,7 +60,7 @@ Found r = (queryRefusal r .number ≡ 0) ⊎ (queryRefusal r .number ≡ 11)
 pub record Answered (v : ℕ) (t : List ℤ) (A B : Mat) (word out : List ℤ) (start : ℕ) (r : Queried) (out' : List ℤ) : Type 0 where
   pub found : Found r ↔ Joined v t A B
   pub letters : Found r → IsWord (length (generators v t)) word
-  pub product : Found r → wordOf (generators v t) word ⊗ A ≈ B
+  pub product : Found r → valueOf (generators v t) word ⊗ A ≈ B
   pub points : Found r ↔ (leads (tableS v t) (tableR v t) A ≡ leads (tableS v t) (tableR v t) B)
   pub none : (queryRefusal r .number ≡ 10) ↔ (Joined v t A B → ⊥)
   pub returned : (queryRefusal r .number ≡ 0) ↔ (Joined v t A B × Fits start (length word) (length out))

@@ -24,7 +24,7 @@ use Rattle.symbol.specs.Count.{first, count, those}
 use Rattle.symbol.specs.Table.{pairings, pairingOf}
 use Rattle.symbol.specs.Check.{eqZ, unpairedIn}
 use Rattle.symbol.specs.Symbol.{IsSymbol}
-use Rattle.pairing.specs.Generator.{partnerIn, leads, row, rows}
+use Rattle.pairing.specs.Generator.{partnerIn, isLeader, row, rows}
 use Rattle.symbol.specs.declared.Pairing.{Pairing}
 use Rattle.symbol.specs.declared.Pairing.the-variants.{Even, Odd, Free, Bad}
 
@@ -84,8 +84,8 @@ putRow n r out = take (5 * n) out ++ r ++ drop (5 * n + 5) out
 
 -- the generators of the first i sides stand in front
 pub record RowsTo (v : ℕ) (t : List ℤ) (i n : ℕ) (out out' : List ℤ) : Type 0 where
-  pub number : n ≡ count (leads v t) i
-  pub table : out' ≡ rows v t (those (leads v t) i) ++ drop (5 * n) out
+  pub number : n ≡ count (isLeader v t) i
+  pub table : out' ≡ rows v t (those (isLeader v t) i) ++ drop (5 * n) out
 
 -- side i was listed, if it leads: whatever stood behind the rows at the start
 pub record Listed (v : ℕ) (t : List ℤ) (i n r : ℕ) (out out' : List ℤ) : Type 0 where

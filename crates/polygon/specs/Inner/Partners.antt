@@ -9,7 +9,7 @@ use Prim.Native.Nat.{ℕ, _+_, _≤_, _<_}
 use lib.ListN.{length, getD}
 use lib.IntN.{ℤ}
 use Rattle.symbol.specs.Count.{count}
-use Rattle.pairing.specs.Generator.{partner, pairingAt, leads, numberAt}
+use Rattle.pairing.specs.Generator.{partner, pairingAt, isLeader, numberAt}
 use Rattle.symbol.specs.declared.Pairing.the-variants.{Free}
 use Rattle.polygon.specs.Inner.Space.{PARTNER, GENERATOR}
 
@@ -22,5 +22,5 @@ pub record Numbered (t : List ℤ) (v : ℕ) (w : List ℕ) : Type 0 where
 pub record NumberedTo (t : List ℤ) (v : ℕ) (w : List ℕ) (i n : ℕ) : Type 0 where
   pub long : 32768 ≤ length w
   pub partnered : Partnered t v w
-  pub count : n ≡ count (leads v t) i
+  pub count : n ≡ count (isLeader v t) i
   pub numbers : (j : ℕ) → j < i → getD w (GENERATOR + j) 0 ≡ numberAt v t j

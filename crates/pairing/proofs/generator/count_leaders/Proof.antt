@@ -5,14 +5,14 @@ use Prim.Native.Nat.{ℕ, _+_, _-_, _≤_}
 use native.Mathlib.Omega.{arith}
 use native.Mathlib.Numerals.{add-one}
 use Rattle.symbol.specs.Count.{count}
-use Rattle.pairing.specs.Generator.{leadsIn}
+use Rattle.pairing.specs.Generator.{isLeaderIn}
 use Rattle.symbol.proofs.Count.{count-yes, count-no, count-le}
 use borrow.Author.Needs.{needs}
 use Rattle.pairing.proofs.generator.count_leaders.Statement.{statement}
 use Rattle.pairing.proofs.generator.count_leaders.Tie as tie
 
 abbrev Inv-loop : tie.InvT-loop
-Inv-loop v p w n₀ i₀ n i = (i ≤ v + 1) × (n ≡ count (leadsIn v p) i)
+Inv-loop v p w n₀ i₀ n i = (i ≤ v + 1) × (n ≡ count (isLeaderIn v p) i)
 
 abbrev μ-loop : tie.MeasureT-loop
 μ-loop v p w n₀ i₀ n i = v + 1 - i
@@ -27,7 +27,7 @@ add-n : tie.Need-add-n Inv-loop μ-loop
 add-n c =
     let l = c .before .before .before in
     let s = l .before .before in
-    omega (arith, l .loop .inv .1, count-le (leadsIn (s .args .v) (s .args .p .now)) (l .loop .i), s .pre .0)
+    omega (arith, l .loop .inv .1, count-le (isLeaderIn (s .args .v) (s .args .p .now)) (l .loop .i), s .pre .0)
 
 add-i : tie.Need-add-i Inv-loop μ-loop
 add-i c = search needs
@@ -40,7 +40,7 @@ loop-again c =
     let a = c .before in
     let l = a .before .before in
     let s = l .before .before in
-    let test = leadsIn (s .args .v) (s .args .p .now) in
+    let test = isLeaderIn (s .args .v) (s .args .p .now) in
     let i = l .loop .i in (
       search needs,
       ⊎-elim

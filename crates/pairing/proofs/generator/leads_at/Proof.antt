@@ -5,7 +5,7 @@ use lib.Dec.{ltb}
 use Rattle.matrix.specs.Matrix.{nth}
 use Rattle.matrix.proofs.Bounds.{kept}
 use Rattle.symbol.specs.Table.{pairingOf}
-use Rattle.pairing.specs.Generator.{partnerIn, leadsBy, leadsIn}
+use Rattle.pairing.specs.Generator.{partnerIn, isLeaderBy, isLeaderIn}
 use Rattle.symbol.specs.declared.Pairing.{Pairing}
 use Rattle.symbol.specs.declared.Pairing.the-variants.{Even, Odd, Free, Bad}
 use borrow.Author.Needs.{needs}
@@ -28,10 +28,10 @@ is-read c =
     rw (kept (nth (s .args .p .now) (s .args .i)) (c .before .read-pairing-arg .given)) at (c .read-pairing .ensures)
 
 -- whether side i leads, for its pairing q
-leading : (c : tie.After-read-pairing) (q : Pairing) → c .read-pairing .result ≡ q → leadsIn (c .before .before .before .args .v) (c .before .before .before .args .p .now) (c .before .before .before .args .i) ≡ leadsBy q (c .before .before .before .args .i) (partnerIn (c .before .before .before .args .v) (c .before .before .before .args .p .now) (c .before .before .before .args .i))
+leading : (c : tie.After-read-pairing) (q : Pairing) → c .read-pairing .result ≡ q → isLeaderIn (c .before .before .before .args .v) (c .before .before .before .args .p .now) (c .before .before .before .args .i) ≡ isLeaderBy q (c .before .before .before .args .i) (partnerIn (c .before .before .before .args .v) (c .before .before .before .args .p .now) (c .before .before .before .args .i))
 leading c q e =
     let s = c .before .before .before in
-    ap (λ (r : Pairing). leadsBy r (s .args .i) (partnerIn (s .args .v) (s .args .p .now) (s .args .i))) (sym (is-read c) ∙ e)
+    ap (λ (r : Pairing). isLeaderBy r (s .args .i) (partnerIn (s .args .v) (s .args .p .now) (s .args .i))) (sym (is-read c) ∙ e)
 
 enum-told : tie.Need-enum-told
 enum-told c = search needs

@@ -7,7 +7,7 @@ use native.Mathlib.Omega.{arith}
 use lib.Dec.{ltb}
 use lib.ListN.{length, drop}
 use borrow.Author.Tests.{lt-ltb, le-ltb}
-use Rattle.pairing.specs.Generator.{leadsIn, leads, leaders, generatorTable}
+use Rattle.pairing.specs.Generator.{isLeaderIn, isLeader, leaders, generatorTable}
 use Rattle.refusal.specs.Refusal.{tooShort}
 use Rattle.refusal.specs.declared.Filled.the-variants as filled
 use Rattle.symbol.proofs.Choice.{pick-true, pick-false}
@@ -27,7 +27,7 @@ number c = c .count-leaders .ensures ∙ prepared-count _ _ _ _ (c .before .befo
 mul-needed : tie.Need-mul-needed
 mul-needed c =
     let s = c .before .before in
-    omega (arith, c .count-leaders .ensures, count-le (leadsIn (s .args .v) (s .args .p .now)) (s .args .v + 1), s .pre .symbol .most)
+    omega (arith, c .count-leaders .ensures, count-le (isLeaderIn (s .args .v) (s .args .p .now)) (s .args .v + 1), s .pre .symbol .most)
 
 returns : tie.Need-returns
 returns c =
@@ -41,7 +41,7 @@ list-all-requires : tie.Need-list-all-requires
 list-all-requires c κs =
     let d = c .before in
     let s = d .before .before .before in
-    (s .pre, omega (arith, number (d .before), length-those (leads (s .args .v) (s .args .t .now)) (s .args .v + 1), d .if1 .left))
+    (s .pre, omega (arith, number (d .before), length-those (isLeader (s .args .v) (s .args .t .now)) (s .args .v + 1), d .if1 .left))
 
 same-length : tie.Need-same-length
 same-length c = search needs
@@ -58,7 +58,7 @@ returns-2 c =
     let n = length (leaders v t) in
     let room = length out in (
       ap filled.Made (number a) ∙ sym (pick-false (ltb room (5 * n)) (filled.Refused (tooShort (5 * n))) (filled.Made n) (le-ltb room (5 * n) (omega (arith, number a, d .if1 .left)))),
-      e .list-all .ensures ∙ ap (λ (k : ℕ). generatorTable v t ++ drop (5 * k) out) (sym (length-those (leads v t) (v + 1)) ∙ sym (number a)),
+      e .list-all .ensures ∙ ap (λ (k : ℕ). generatorTable v t ++ drop (5 * k) out) (sym (length-those (isLeader v t) (v + 1)) ∙ sym (number a)),
     )
 
 pub list-if-room-spec : {M : Type 1} → statement M

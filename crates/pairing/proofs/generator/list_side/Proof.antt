@@ -9,7 +9,7 @@ use lib.ListN.{length}
 use Rattle.matrix.specs.Matrix.{nth, ofList, toList}
 use Rattle.matrix.proofs.Bounds.{kept}
 use Rattle.symbol.specs.Table.{pairingOf}
-use Rattle.pairing.specs.Generator.{leads, row, kindOf}
+use Rattle.pairing.specs.Generator.{isLeader, row, kindOf}
 use Rattle.pairing.specs.Inner.Work.{putRow}
 use Rattle.pairing.proofs.Rows.{length-putRow, rows-yes, rows-no, prepared-long, prepared-leads, prepared-row}
 use borrow.Author.Needs.{needs}
@@ -28,7 +28,7 @@ generator-at-requires : tie.Need-generator-at-requires
 generator-at-requires c κs = let s = c .before .before .before .before .before in (s .pre .0, s .pre .1)
 
 -- side i leads exactly when the test says so
-leading : (c : tie.After-leads-at) → c .leads-at .result ≡ leads (c .before .before .args .v) (c .before .before .args .t .now) (c .before .before .args .i)
+leading : (c : tie.After-leads-at) → c .leads-at .result ≡ isLeader (c .before .before .args .v) (c .before .before .args .t .now) (c .before .before .args .i)
 leading c = let s = c .before .before in c .leads-at .ensures ∙ prepared-leads _ _ _ _ (s .pre .0) (s .args .i)
 
 put-row-requires : tie.Need-put-row-requires
