@@ -20,7 +20,7 @@ use lib.ListN.{length, drop}
 use lib.IntN.{ℤ}
 use Rattle.matrix.specs.Euclid.{pick}
 use Rattle.workspace.specs.Space.{workLength}
-use Rattle.refusal.specs.Refusal.{none, tooShort, filledBy}
+use Rattle.refusal.specs.Refusal.{noRefusal, tooShort, filledBy}
 use Rattle.refusal.specs.declared.Refusal.{Refusal}
 use Rattle.refusal.specs.declared.Checked.{Checked}
 use Rattle.refusal.specs.declared.Checked.the-variants.{Accepted, Refused}
@@ -77,7 +77,7 @@ saidBy (figured.Made f) = made (f .index) (f .e2) (f .e3) (f .cusps) (genusSays 
 saidBy (figured.Refused f) = refused f
 
 abbrev pub saysRefusal : Says → Refusal
-saysRefusal (made n e2 e3 k genus level) = none
+saysRefusal (made n e2 e3 k genus level) = noRefusal
 saysRefusal (refused f) = f
 
 abbrev pub figuresOf : ℕ → List ℤ → Says

@@ -1,7 +1,8 @@
 -- WHAT A NUMBER 0 TELLS: the call was not refused, so what its answer means holds. In order: no answer is refused with the number 0
 -- (`generated-above`, `tabled-above`, `widthed-above`, `import-above`, `figured-above`); what a call that made something means (`zero-means`).
 -- Assumes nothing.
-use mathlib.Core.Path.{_≡_, refl, sym, subst}
+use mathlib.Core.Path.{_≡_, refl, sym, ap, subst, _∙_}
+use mathlib.Core.Logic.{_⊎_, inl, inr}
 use mathlib.Core.Bool.{Bool, true, false, not, _&&_}
 use mathlib.Core.List.{List}
 use Prim.Native.Nat.{ℕ, _+_, _*_, _<_}
@@ -16,18 +17,21 @@ use Rattle.refusal.specs.declared.Checked.{Checked}
 use Rattle.refusal.specs.declared.Checked.the-variants.{Accepted, Refused}
 use Rattle.refusal.specs.declared.Filled.{Filled}
 use Rattle.refusal.specs.declared.Filled.the-variants as filled
-use Rattle.refusal.proofs.Numbered.{Above, AboveIn, above-first, above-by}
+use Rattle.refusal.proofs.Numbered.{Among, AboveIn, among-first, above-by}
 use Rattle.symbol.specs.Count.{first}
 use Rattle.symbol.specs.Check.{checkOf}
-use Rattle.symbol.proofs.Accepted.{above-refuse, check-above}
+use Rattle.symbol.proofs.Accepted.{among-refuse, check-among}
 use Rattle.pairing.specs.Generator.{leaders, roomOf, byWork, generatedOf}
+use Rattle.pairing.specs.Same.{sameSymbol, samenessBy, answered, samenessOf, samenessRefusal, SameMeans, SameSays}
+use Rattle.pairing.specs.declared.same.Sameness.{Sameness}
+use Rattle.pairing.specs.declared.same.Sameness.the-variants as sameness
 use Rattle.coset.specs.Tables.{indexOf}
 use Rattle.coset.specs.Answer.{Says, made, refused, roomFor, tabledOf, roomOne, widthsOf, widthedOf, figuresOf, figuredBy, figuredOf}
 use Rattle.import_rule.specs.Symbol as rule
 use Rattle.import_table.specs.Answer.{grownOf}
 use Rattle.permutations.specs.Check as passport
 use Rattle.permutations.specs.Import.{ruleFor, importOf}
-use Rattle.engine.specs.Exported.{filledPlace}
+use Rattle.engine.specs.Exported.{filledPlace, samenessPlace}
 
 -- ---- numbers above 0
 
@@ -45,7 +49,7 @@ AboveSaid (refused f) = 0 < f .number
 
 module _ (v : ℕ) (t : List ℤ) (work : ℕ) where
   above-asked : (a : Filled) → AboveIn a → AboveIn (filledBy (checkOf v t) (byWork work a))
-  above-asked a h = above-by (checkOf v t) (byWork work a) (check-above v t) (above-work work a h)
+  above-asked a h = above-by 1 7 (checkOf v t) (byWork work a) (omega arith) (check-among v t) (above-work work a h)
 
   pub generated-above : (out : ℕ) → AboveIn (generatedOf v t work out)
   generated-above out =
@@ -67,19 +71,19 @@ module _ (v : ℕ) (t : List ℤ) (work : ℕ) where
       above-asked (roomOne n a) (above-pick (ltb a n) (filled.Refused (tooShort n)) (filled.Made n) (omega arith) tt)
 
   pub figured-above : AboveSaid (figuredOf v t work)
-  figured-above = go (checkOf v t) (check-above v t)
+  figured-above = go (checkOf v t) (check-among v t)
     where
       by-length : (b : Bool) → AboveSaid (pick b (refused (tooShort workLength)) (figuresOf v t))
       by-length true = omega arith
       by-length false = tt
 
-      go : (c : Checked) → Above c → AboveSaid (figuredBy c work (figuresOf v t))
-      go (Refused f) h = h
+      go : (c : Checked) → Among 1 7 c → AboveSaid (figuredBy c work (figuresOf v t))
+      go (Refused f) h = omega (arith, h .0)
       go Accepted h = by-length (ltb work workLength)
 
 module _ (s r : List ℕ) where
-  pairs-above : Above (passport.checkOf s r)
-  pairs-above =
+  pairs-among : Among 12 15 (passport.checkOf s r)
+  pairs-among =
       let n = length s in
       let i = first (passport.badEntry s) n in
       let j = first (passport.badEntry r) (length r) in
@@ -91,12 +95,12 @@ module _ (s r : List ℕ) where
       let c14' = passport.check14 passport.twiceMoved s orElse c14 in
       let c13 = passport.check13 r orElse c14' in
       let c13' = passport.check13 s orElse c13 in
-      above-first (passport.check12 s r) c13' (above-refuse (not (leb 1 n && leb n 3066 && eqb (length r) n)) pointCount (omega arith))
-      (above-first (passport.check13 s) c13 (above-refuse (ltb i n) (tableEntry i) (omega arith))
-      (above-first (passport.check13 r) c14' (above-refuse (ltb j (length r)) (tableEntry j) (omega arith))
-      (above-first (passport.check14 passport.twiceMoved s) c14 (above-refuse (ltb x n) (wrongOrder x) (omega arith))
-      (above-first (passport.check14 passport.thriceMoved r) c15 (above-refuse (ltb y (length r)) (wrongOrder y) (omega arith))
-      (above-refuse (ltb z n) (unreached z) (omega arith))))))
+      among-first 12 15 (passport.check12 s r) c13' (among-refuse 12 15 (not (leb 1 n && leb n 3066 && eqb (length r) n)) pointCount (omega arith) (omega arith))
+      (among-first 12 15 (passport.check13 s) c13 (among-refuse 12 15 (ltb i n) (tableEntry i) (omega arith) (omega arith))
+      (among-first 12 15 (passport.check13 r) c14' (among-refuse 12 15 (ltb j (length r)) (tableEntry j) (omega arith) (omega arith))
+      (among-first 12 15 (passport.check14 passport.twiceMoved s) c14 (among-refuse 12 15 (ltb x n) (wrongOrder x) (omega arith) (omega arith))
+      (among-first 12 15 (passport.check14 passport.thriceMoved r) c15 (among-refuse 12 15 (ltb y (length r)) (wrongOrder y) (omega arith) (omega arith))
+      (among-refuse 12 15 (ltb z n) (unreached z) (omega arith) (omega arith))))))
 
   grown-above : (g : rule.Ruled) (room : ℕ) → AboveIn (grownOf g room)
   grown-above (rule.made v t) room = above-pick (ltb room (3 * v + 1)) (filled.Refused (tooShort (3 * v + 1))) (filled.Made v) (omega arith) tt
@@ -104,7 +108,41 @@ module _ (s r : List ℕ) where
 
   pub import-above : (work room : ℕ) → AboveIn (importOf s r work room)
   import-above work room =
-      above-by (passport.checkOf s r) (byWork work (grownOf (ruleFor s r) room)) pairs-above (above-work work (grownOf (ruleFor s r) room) (grown-above (ruleFor s r) room))
+      above-by 12 15 (passport.checkOf s r) (byWork work (grownOf (ruleFor s r) room)) (omega arith) pairs-among (above-work work (grownOf (ruleFor s r) room) (grown-above (ruleFor s r) room))
+
+-- sameness: a number 0 is yes or no, by the place
+pub zero-same : (v : ℕ) (t : List ℤ) (v' : ℕ) (t' : List ℤ) (work : ℕ) (r : Sameness) → r ≡ samenessOf v t v' t' work → samenessRefusal r .number ≡ 0
+    → ((samenessPlace r ≡ 1) × (r ≡ sameness.Yes)) ⊎ ((samenessPlace r ≡ 0) × (r ≡ sameness.No))
+zero-same v t v' t' work r e z = go r refl
+  where
+    AboveSame : Sameness → Type 0
+    AboveSame sameness.Yes = Unit {0}
+    AboveSame sameness.No = Unit {0}
+    AboveSame (sameness.Refused f) = 0 < f .number
+
+    by-length : (b c : Bool) → AboveSame (pick b (sameness.Refused (tooShort workLength)) (pick c sameness.Yes sameness.No))
+    by-length true c = omega arith
+    by-length false true = tt
+    by-length false false = tt
+
+    above : (c d : Checked) → Among 1 7 c → Among 1 7 d → AboveSame (samenessBy c d (answered v t v' t' work))
+    above (Refused f) d h k = omega (arith, h .0)
+    above Accepted (Refused f) h k = omega (arith, k .0)
+    above Accepted Accepted h k = by-length (ltb work workLength) (sameSymbol v t v' t')
+
+    go : (x : Sameness) → r ≡ x → ((samenessPlace r ≡ 1) × (r ≡ sameness.Yes)) ⊎ ((samenessPlace r ≡ 0) × (r ≡ sameness.No))
+    go sameness.Yes q = inl (ap samenessPlace q, q)
+    go sameness.No q = inr (ap samenessPlace q, q)
+    go (sameness.Refused f) q =
+        let h = subst AboveSame (sym e ∙ q) (above (checkOf v t) (checkOf v' t') (check-among v t) (check-among v' t')) in
+        absurd (omega (arith, h, ap (λ (x : Sameness). samenessRefusal x .number) (sym q) ∙ z))
+
+pub same-says : (v : ℕ) (t : List ℤ) (v' : ℕ) (t' : List ℤ) (work : ℕ) (r : Sameness) → r ≡ samenessOf v t v' t' work → SameMeans v t v' t' r → {place : ℕ}
+    → place ≡ samenessPlace r → samenessRefusal r .number ≡ 0 → SameSays v t v' t' place
+same-says v t v' t' work r e m {place} p z = elim (zero-same v t v' t' work r e z) [
+  | inl y ↦ (let k = m .yes (y .1) in record { one = k .0; other = k .1; answer = inl (p ∙ y .0, k .2) })
+  | inr n ↦ (let k = m .no (n .1) in record { one = k .0; other = k .1; answer = inr (p ∙ n .0, k .2) })
+]
 
 -- ---- what a call that made something means
 

@@ -18,7 +18,7 @@ ghost use Rattle.matrix.specs.Matrix.{ofList};
 ghost use Rattle.refusal.specs.Refusal.{checkedRefusal, filledRefusal};
 ghost use Rattle.symbol.specs.Check.{checkOf};
 ghost use Rattle.pairing.specs.Generator.{generatorTable, generatedOf, tableLeft, workAfter, Generates};
-ghost use Rattle.pairing.specs.Same.{samenessOf, samenessRefusal, workAfterBoth, SameMeans};
+ghost use Rattle.pairing.specs.Same.{samenessOf, samenessRefusal, workAfterBoth, SameSays};
 ghost use Rattle.symbol.specs.Symbol.{IsSymbol};
 ghost use Rattle.coset.specs.Tables.{tableS, tableR, tableT};
 ghost use Rattle.coset.specs.Answer.{tabledOf, columnLeft, widthsOf, widthedOf, figuredOf, saysRefusal, Meaning};
@@ -204,7 +204,7 @@ pub extern "C" fn farey_same(
     ensures { λ n. ⌜ n ≡ samenessRefusal (samenessOf v (now (t .entry)) m (now (u .entry)) (length (now (w .entry)))) .number ⌝ }
     ensures { λ n. ⌜ now (place .exit) ≡ samenessPlace (samenessOf v (now (t .entry)) m (now (u .entry)) (length (now (w .entry)))) ⌝ }
     ensures { λ n. ⌜ now (w .exit) ≡ workAfterBoth (checkOf v (now (t .entry))) (checkOf m (now (u .entry))) (now (w .entry)) ⌝ }
-    ensures { λ n. ⌜ SameMeans v (now (t .entry)) m (now (u .entry)) (samenessOf v (now (t .entry)) m (now (u .entry)) (length (now (w .entry)))) ⌝ }
+    ensures { λ n. ⌜ (n ≡ 0 → SameSays v (now (t .entry)) m (now (u .entry)) (now (place .exit))) ⌝ }
 {
     let said = of_sameness(pairing::same::same(v, t, m, u, w));
     *place = said.place;

@@ -7,8 +7,10 @@
 --   samenessRefusal      the refusal that the answer is
 --   workAfterBoth        what the call leaves in the work space
 --   Equal v t v' t'      as many vertices, the same ones, and equal pairings after relabelling
+--   SameSays             the same by 1 for yes and 0 for no
 --   SameMeans            yes means that both tables are symbols and equal, no that both are symbols and not equal
 use mathlib.Core.Path.{_≡_}
+use mathlib.Core.Logic.{_⊎_}
 use mathlib.Core.Bool.{Bool, true, false, not, _&&_}
 use mathlib.Core.List.{List}
 use Prim.Native.Nat.{ℕ, zero, suc, _+_, _*_, _<_, _≤_}
@@ -16,7 +18,7 @@ use lib.Dec.{ltb, eqb}
 use lib.IntN.{ℤ, pos}
 use Rattle.matrix.specs.Matrix.{nth}
 use Rattle.matrix.specs.Euclid.{pick}
-use Rattle.refusal.specs.Refusal.{none, tooShort}
+use Rattle.refusal.specs.Refusal.{noRefusal, tooShort}
 use Rattle.refusal.specs.declared.Refusal.{Refusal}
 use Rattle.symbol.specs.Count.{first, count}
 use Rattle.symbol.specs.Table.{pairing, pairingOf}
@@ -78,8 +80,8 @@ workAfterBoth (Refused f) c w = w
 workAfterBoth Accepted c w = workAfter c w
 
 abbrev pub samenessRefusal : Sameness → Refusal
-samenessRefusal sameness.Yes = none
-samenessRefusal sameness.No = none
+samenessRefusal sameness.Yes = noRefusal
+samenessRefusal sameness.No = noRefusal
 samenessRefusal (sameness.Refused f) = f
 
 -- ---- what the answer means
@@ -92,3 +94,9 @@ pub record Equal (v : ℕ) (t : List ℤ) (v' : ℕ) (t' : List ℤ) : Type 0 wh
 pub record SameMeans (v : ℕ) (t : List ℤ) (v' : ℕ) (t' : List ℤ) (r : Sameness) : Type 0 where
   pub yes : r ≡ sameness.Yes → IsSymbol v t × IsSymbol v' t' × Equal v t v' t'
   pub no : r ≡ sameness.No → IsSymbol v t × IsSymbol v' t' × (Equal v t v' t' → ⊥)
+
+-- the same by a number that says it: 1 for yes, 0 for no
+pub record SameSays (v : ℕ) (t : List ℤ) (v' : ℕ) (t' : List ℤ) (says : ℕ) : Type 0 where
+  pub one : IsSymbol v t
+  pub other : IsSymbol v' t'
+  pub answer : ((says ≡ 1) × Equal v t v' t') ⊎ ((says ≡ 0) × (Equal v t v' t' → ⊥))

@@ -13,7 +13,7 @@ use lib.IntN.{ℤ}
 use lib.ListN.{length}
 use borrow.Author.Tests.{lt-ltb, le-ltb}
 use Rattle.matrix.specs.Matrix.{ofList}
-use Rattle.refusal.specs.Refusal.{vertexCount}
+use Rattle.refusal.specs.Refusal.{badVertexCount}
 use Rattle.workspace.specs.Space.{workLength}
 use Rattle.symbol.proofs.Choice.{pick-true, pick-false}
 use Rattle.text.specs.Piece.{pieces, numbers}
@@ -52,7 +52,7 @@ module _ (ns : List ℤ) where
   enough : {X : Type 0} (x y : X) → 10 ≤ length ns → y ≡ byCount ns x y
   enough x y h = sym (pick-false (ltb (length ns) 10) x y (le-ltb (length ns) 10 h))
 
-  pub few-line : length ns < 10 → refusalLine vertexCount ≡ repliedTo ns
+  pub few-line : length ns < 10 → refusalLine badVertexCount ≡ repliedTo ns
   unfolding repliedTo
   few-line h = few _ _ h
 

@@ -23,7 +23,7 @@ use lib.IntN.{ℤ}
 use lib.ListN.{length, take, drop}
 use Rattle.matrix.specs.Matrix.{nth, ofList}
 use Rattle.matrix.specs.Euclid.{pick}
-use Rattle.refusal.specs.Refusal.{vertexCount}
+use Rattle.refusal.specs.Refusal.{badVertexCount}
 use Rattle.workspace.specs.Space.{workLength}
 use Rattle.text.specs.Piece.{pieces, numbers}
 use Rattle.text.specs.Reading as reading
@@ -74,7 +74,7 @@ abbrev pub byCount : {X : Type 0} → List ℤ → X → X → X
 byCount ns x y = pick (ltb (length ns) 10) x y
 
 unfoldable pub repliedTo : List ℤ → List ℕ
-repliedTo ns = byCount ns (refusalLine vertexCount) (replied (countIn ns) (tableIn ns) (firstIn ns) (secondIn ns))
+repliedTo ns = byCount ns (refusalLine badVertexCount) (replied (countIn ns) (tableIn ns) (firstIn ns) (secondIn ns))
 
 unfoldable pub workTo : List ℤ → List ℕ → List ℕ
 workTo ns w = byCount ns w (workLeft (countIn ns) (tableIn ns) (firstIn ns) (secondIn ns) w)

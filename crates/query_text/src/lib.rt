@@ -1,6 +1,6 @@
 // What the program `query` writes for a text: all of it, byte for byte, as specs/Reply.antt says (document 01, "Who can cause a refusal").
 use refusal::Refusal;
-use refusal::VERTEX_COUNT;
+use refusal::BAD_VERTEX_COUNT;
 use text::Format;
 use text::Reading;
 use text::read_input;
@@ -62,7 +62,7 @@ fn reply_numbers(ns: &[i64], w: &mut [u16], letters: &mut [i16], out: &mut [u8])
     if k < 10 {
         return refusal_line(
             Refusal {
-                number: VERTEX_COUNT,
+                number: BAD_VERTEX_COUNT,
                 place: 0,
             },
             out,

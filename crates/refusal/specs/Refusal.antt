@@ -1,16 +1,16 @@
--- THE REFUSALS of document 01 ("Who can cause a refusal"): each has a number and a place. This list is the only one: the promises of all
--- calls, the lines of the programs and the numbers that the exported functions return are made from it.
+-- THE REFUSALS (docs/CONVENTIONS.md, 9): each has a number and a place. The promises of all calls, the lines of the programs and the numbers
+-- that the exported functions return are made from this list; src/lib.rt has the numbers under the same names for the code.
 --
 --   Refusal            a number and a place
---   none               no refusal: the number 0, and the place 0
+--   noRefusal          none: the number 0, and the place 0
 --   refusal n p        the refusal with the number n at the place p
---   vertexCount .. badText     the refusals 1 to 19 by name, each at the place that document 01 gives it
+--   badVertexCount .. badText     the refusals 1 to 19 by name, each at its place
 --   Checked            the answer of checks: accepted, or refused
 --   c orElse d         the first refusal of the two
 --   checkedRefusal     the refusal that an answer of checks is
 --   Filled             the answer of a call that fills a result space: how many things it made, or its refusal
 --   filledBy c a       the refusal of the checks, or else the answer a
---   filledRefusal, filledCount     the refusal that such an answer is; how many things it made, none for a refusal
+--   filledRefusal      the refusal that such an answer is
 use Prim.Native.Nat.{ℕ}
 use Rattle.refusal.specs.declared.Refusal.{Refusal}
 use Rattle.refusal.specs.declared.Checked.{Checked}
@@ -21,14 +21,14 @@ use Rattle.refusal.specs.declared.Filled.the-variants as filled
 abbrev pub refusal : (number place : ℕ) → Refusal
 refusal n p = record { number = n; place = p }
 
-abbrev pub none : Refusal
-none = refusal 0 0
+abbrev pub noRefusal : Refusal
+noRefusal = refusal 0 0
 
 -- ---- whoever writes the symbol
 
 -- v out of range
-abbrev pub vertexCount : Refusal
-vertexCount = refusal 1 0
+abbrev pub badVertexCount : Refusal
+badVertexCount = refusal 1 0
 
 -- the table's length isn't 3v + 1: the length
 abbrev pub tableLength : ℕ → Refusal
@@ -61,10 +61,10 @@ abbrev pub matrixEntry : ℕ → Refusal
 matrixEntry i = refusal 8 i
 
 -- a determinant that isn't 1: 0 for A, 1 for B
-abbrev pub determinant : ℕ → Refusal
-determinant i = refusal 9 i
+abbrev pub badDeterminant : ℕ → Refusal
+badDeterminant i = refusal 9 i
 
--- none: no word exists
+-- 'none': no word exists
 abbrev pub noWord : Refusal
 noWord = refusal 10 0
 
@@ -120,18 +120,14 @@ checked.Refused f orElse c = checked.Refused f
 checked.Accepted orElse c = c
 
 abbrev pub checkedRefusal : Checked → Refusal
-checkedRefusal checked.Accepted = none
+checkedRefusal checked.Accepted = noRefusal
 checkedRefusal (checked.Refused f) = f
 
 -- ---- the answers of calls that fill a result space
 
 abbrev pub filledRefusal : Filled → Refusal
-filledRefusal (filled.Made n) = none
+filledRefusal (filled.Made n) = noRefusal
 filledRefusal (filled.Refused f) = f
-
-abbrev pub filledCount : Filled → ℕ
-filledCount (filled.Made n) = n
-filledCount (filled.Refused f) = 0
 
 -- the checks come first
 abbrev pub filledBy : Checked → Filled → Filled

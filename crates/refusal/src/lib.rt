@@ -3,7 +3,7 @@
 // The numbers and their names are in one list, here and in specs/Refusal.antt; the crate that raises a refusal names it.
 
 ghost use mathlib.Core.Path.{_≡_};
-ghost use Rattle.refusal.specs.Refusal.{checkedRefusal, filledRefusal, filledCount};
+ghost use Rattle.refusal.specs.Refusal.{checkedRefusal};
 
 // A refusal's number and place. Where nothing is refused, both are 0.
 pub struct Refusal {
@@ -24,7 +24,7 @@ pub enum Filled {
 }
 
 // Whoever writes the symbol.
-pub const VERTEX_COUNT: u64 = 1;
+pub const BAD_VERTEX_COUNT: u64 = 1;
 
 pub const TABLE_LENGTH: u64 = 2;
 
@@ -40,7 +40,7 @@ pub const NO_ODD_SIDE: u64 = 7;
 // Whoever sends matrices.
 pub const MATRIX_ENTRY: u64 = 8;
 
-pub const DETERMINANT: u64 = 9;
+pub const BAD_DETERMINANT: u64 = 9;
 
 pub const NO_WORD: u64 = 10;
 // Whoever lends space.
@@ -72,18 +72,5 @@ pub fn checked_refusal(answer: Checked) -> Refusal
             place: 0,
         },
         Checked::Refused(refusal) => refusal,
-    }
-}
-
-// The refusal that an answer is.
-pub fn filled_refusal(answer: Filled) -> Refusal
-    ensures { λ r. ⌜ r ≡ filledRefusal answer ⌝ }
-{
-    match answer {
-        Filled::Made(_) => Refusal {
-            number: 0,
-            place: 0,
-        },
-        Filled::Refused(refusal) => refusal,
     }
 }

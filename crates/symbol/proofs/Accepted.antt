@@ -1,6 +1,6 @@
 -- THE CHECKS ACCEPT EXACTLY THE SYMBOLS: `accepted`.
 --
--- In order: what it is to pass a check; what each check says; the theorem; the numbers of refusals (`check-above`).
+-- In order: what it is to pass a check; what each check says; the theorem; the numbers of refusals (`check-among`).
 -- Assumes nothing.
 use mathlib.Core.Path.{_≡_, refl, sym, _∙_, ap}
 use mathlib.Core.Logic.{_⊎_, inl, inr, _↔_}
@@ -21,12 +21,12 @@ use Rattle.symbol.specs.Check.{refuse, refuseAt, eqZ, check1, check2, ch
 use Rattle.symbol.specs.Symbol.{ZeroAt, FreeLabel, IsSymbol, Verdict}
 use Rattle.refusal.proofs.Apart.{refused-accepted}
 use Rattle.refusal.proofs.Answers.{both-pass}
-use Rattle.refusal.proofs.Numbered.{Above, above-first}
+use Rattle.refusal.proofs.Numbered.{Among, among-first}
 use Rattle.symbol.specs.declared.Side.{Side}
 use Rattle.symbol.specs.declared.Pairing.{Pairing}
 use Rattle.symbol.specs.declared.Pairing.the-variants.{Even, Odd, Free, Bad}
 use Rattle.refusal.specs.declared.Refusal.{Refusal}
-use Rattle.refusal.specs.Refusal.{_orElse_, vertexCount, tableLength, vertexEntry, notNeighbours, noZero, badPairing, noOddSide}
+use Rattle.refusal.specs.Refusal.{_orElse_, badVertexCount, tableLength, vertexEntry, notNeighbours, noZero, badPairing, noOddSide}
 use Rattle.refusal.specs.declared.Checked.{Checked}
 use Rattle.refusal.specs.declared.Checked.the-variants.{Accepted, Refused}
 use Rattle.symbol.proofs.Choice.{pick-true, pick-false, either, clash, and-left, and-right, eqZ-true, eq-eqZ, positive-true, true-positive}
@@ -183,7 +183,7 @@ module _ (v : ℕ) (t : List ℤ) where
 
   meaning : Passed → IsSymbol v t
   meaning p =
-      let one = not-false (leb 1 v && leb v 1023) (passes (not (leb 1 v && leb v 1023)) vertexCount (p .one)) in
+      let one = not-false (leb 1 v && leb v 1023) (passes (not (leb 1 v && leb v 1023)) badVertexCount (p .one)) in
       let three = passes-at (outOfRange t) (2 * v) vertexEntry (p .three) in
       let four = passes-at (apart v t) (v + 1) notNeighbours (p .four) in
       let six = passes-at (unpairedIn v (pairings v t)) (v + 1) badPairing (p .six) in
@@ -221,7 +221,7 @@ module _ (v : ℕ) (t : List ℤ) where
       let a = s .some in
       let b = s .most in
       record {
-        one = pass (not (leb 1 v && leb v 1023)) vertexCount (false-not (leb 1 v && leb v 1023) (and-true (leb 1 v) (leb v 1023) (le-leb 1 v a) (le-leb v 1023 b)));
+        one = pass (not (leb 1 v && leb v 1023)) badVertexCount (false-not (leb 1 v && leb v 1023) (and-true (leb 1 v) (leb v 1023) (le-leb 1 v a) (le-leb v 1023 b)));
         two = pass (not (eqb (length t) (3 * v + 1))) (tableLength (length t)) (false-not (eqb (length t) (3 * v + 1)) (eq-eqb (length t) (3 * v + 1) (s .long)));
         three = pass-at (outOfRange t) (2 * v) vertexEntry (record { none = range-of s });
         four = pass-at (apart v t) (v + 1) notNeighbours (record { none = λ i h. false-not (eqZ (gap (sideAt v t i)) (pos 1)) (eq-eqZ (gap (sideAt v t i)) (pos 1) (neighbour (sideAt v t i) ∙ s .neighbours i (omega arith))) });
@@ -239,13 +239,13 @@ verdict v t r e = record { returned = e; means = (λ a. accepted v t .0 (sym e �
 
 -- ---- the numbers
 
-pub above-refuse : (b : Bool) (f : Refusal) → 0 < f .number → Above (refuse b f)
-above-refuse true f h = h
-above-refuse false f h = tt
+pub among-refuse : (low high : ℕ) (b : Bool) (f : Refusal) → low ≤ f .number → f .number ≤ high → Among low high (refuse b f)
+among-refuse low high true f h k = (h, k)
+among-refuse low high false f h k = tt
 
--- what the checks refuse has a number above 0
-pub check-above : (v : ℕ) (t : List ℤ) → Above (checkOf v t)
-check-above v t =
+-- what the checks refuse has a number from 1 to 7
+pub check-among : (v : ℕ) (t : List ℤ) → Among 1 7 (checkOf v t)
+check-among v t =
     let p = pairings v t in
     let c6 = check6 v p orElse check7 v p in
     let c5 = check5 v t orElse c6 in
@@ -255,10 +255,10 @@ check-above v t =
     let i3 = first (outOfRange t) (2 * v) in
     let i4 = first (apart v t) (v + 1) in
     let i6 = first (unpairedIn v p) (v + 1) in
-    above-first (check1 v) c2 (above-refuse (not (leb 1 v && leb v 1023)) vertexCount (omega arith))
-    (above-first (check2 v t) c3 (above-refuse (not (eqb (length t) (3 * v + 1))) (tableLength (length t)) (omega arith))
-    (above-first (check3 v t) c4 (above-refuse (ltb i3 (2 * v)) (vertexEntry i3) (omega arith))
-    (above-first (check4 v t) c5 (above-refuse (ltb i4 (v + 1)) (notNeighbours i4) (omega arith))
-    (above-first (check5 v t) c6 (above-refuse (not (ltb (first (isZero t) v) v)) noZero (omega arith))
-    (above-first (check6 v p) (check7 v p) (above-refuse (ltb i6 (v + 1)) (badPairing i6) (omega arith))
-    (above-refuse (lacksOdd v p) noOddSide (omega arith)))))))
+    among-first 1 7 (check1 v) c2 (among-refuse 1 7 (not (leb 1 v && leb v 1023)) badVertexCount (omega arith) (omega arith))
+    (among-first 1 7 (check2 v t) c3 (among-refuse 1 7 (not (eqb (length t) (3 * v + 1))) (tableLength (length t)) (omega arith) (omega arith))
+    (among-first 1 7 (check3 v t) c4 (among-refuse 1 7 (ltb i3 (2 * v)) (vertexEntry i3) (omega arith) (omega arith))
+    (among-first 1 7 (check4 v t) c5 (among-refuse 1 7 (ltb i4 (v + 1)) (notNeighbours i4) (omega arith) (omega arith))
+    (among-first 1 7 (check5 v t) c6 (among-refuse 1 7 (not (ltb (first (isZero t) v) v)) noZero (omega arith) (omega arith))
+    (among-first 1 7 (check6 v p) (check7 v p) (among-refuse 1 7 (ltb i6 (v + 1)) (badPairing i6) (omega arith) (omega arith))
+    (among-refuse 1 7 (lacksOdd v p) noOddSide (omega arith) (omega arith)))))))

@@ -23,7 +23,7 @@ use Rattle.symbol.specs.Check.{refuse, refuseAt, eqZ, outOfRange, isOdd,
 use Rattle.symbol.specs.Inner.Marks.{digit, Tallied}
 use Rattle.symbol.specs.Inner.Ready.{Ready}
 use Rattle.refusal.specs.declared.Refusal.{Refusal}
-use Rattle.refusal.specs.Refusal.{_orElse_, vertexCount, tableLength}
+use Rattle.refusal.specs.Refusal.{_orElse_, badVertexCount, tableLength}
 use Rattle.refusal.specs.declared.Checked.{Checked}
 use Rattle.refusal.specs.declared.Checked.the-variants.{Accepted, Refused}
 use Rattle.symbol.proofs.Choice.{pick-true, pick-false, clash, eqZ-true, eq-eqZ}
@@ -62,18 +62,18 @@ none-found test n k e h = let l = first-le test n in clear-first test n (omega a
 
 -- ---- checks 1 and 2
 
-pub too-few : (v : ℕ) (t : List ℤ) → v < 1 → checkOf v t ≡ Refused vertexCount
-too-few v t h = first-refused _ (refuse-yes (not (leb 1 v && leb v 1023)) vertexCount (ap (λ (b : Bool). not (b && leb v 1023)) (lt-leb 1 v h)))
+pub too-few : (v : ℕ) (t : List ℤ) → v < 1 → checkOf v t ≡ Refused badVertexCount
+too-few v t h = first-refused _ (refuse-yes (not (leb 1 v && leb v 1023)) badVertexCount (ap (λ (b : Bool). not (b && leb v 1023)) (lt-leb 1 v h)))
 
-pub too-many : (v : ℕ) (t : List ℤ) → 1 ≤ v → 1023 < v → checkOf v t ≡ Refused vertexCount
-too-many v t h k = first-refused _ (refuse-yes (not (leb 1 v && leb v 1023)) vertexCount (ap (λ (b : Bool). not (leb 1 v && b)) (lt-leb v 1023 k) ∙ and-false (leb 1 v)))
+pub too-many : (v : ℕ) (t : List ℤ) → 1 ≤ v → 1023 < v → checkOf v t ≡ Refused badVertexCount
+too-many v t h k = first-refused _ (refuse-yes (not (leb 1 v && leb v 1023)) badVertexCount (ap (λ (b : Bool). not (leb 1 v && b)) (lt-leb v 1023 k) ∙ and-false (leb 1 v)))
   where
     and-false : (b : Bool) → not (b && false) ≡ true
     and-false true = refl
     and-false false = refl
 
 in-number : (v : ℕ) → 1 ≤ v → v ≤ 1023 → check1 v ≡ Accepted
-in-number v h k = refuse-no (not (leb 1 v && leb v 1023)) vertexCount (ap not (both (leb 1 v) (leb v 1023) (le-leb 1 v h) (le-leb v 1023 k)))
+in-number v h k = refuse-no (not (leb 1 v && leb v 1023)) badVertexCount (ap not (both (leb 1 v) (leb v 1023) (le-leb 1 v h) (le-leb v 1023 k)))
   where
     both : (a b : Bool) → a ≡ true → b ≡ true → (a && b) ≡ true
     both a b p q = ap (λ (x : Bool). x && b) p ∙ q

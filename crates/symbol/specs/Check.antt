@@ -17,7 +17,7 @@ use Rattle.symbol.specs.Table.{numer, denom, pairings, pairing, sideAt, 
 use Rattle.symbol.specs.declared.Pairing.{Pairing}
 use Rattle.symbol.specs.declared.Pairing.the-variants.{Even, Odd, Free, Bad}
 use Rattle.refusal.specs.declared.Refusal.{Refusal}
-use Rattle.refusal.specs.Refusal.{_orElse_, vertexCount, tableLength, vertexEntry, notNeighbours, noZero, badPairing, noOddSide}
+use Rattle.refusal.specs.Refusal.{_orElse_, badVertexCount, tableLength, vertexEntry, notNeighbours, noZero, badPairing, noOddSide}
 use Rattle.refusal.specs.declared.Checked.{Checked}
 use Rattle.refusal.specs.declared.Checked.the-variants.{Accepted, Refused}
 
@@ -37,7 +37,7 @@ eqZ (negsuc m) (negsuc n) = eqb m n
 
 -- 1: v is from 1 to 1,023
 abbrev pub check1 : ℕ → Checked
-check1 v = refuse (not (leb 1 v && leb v 1023)) vertexCount
+check1 v = refuse (not (leb 1 v && leb v 1023)) badVertexCount
 
 -- 2: the table has 3v + 1 entries
 abbrev pub check2 : ℕ → List ℤ → Checked

@@ -8,7 +8,7 @@ use refusal::NO_ZERO;
 use refusal::NOT_NEIGHBOURS;
 use refusal::Refusal;
 use refusal::TABLE_LENGTH;
-use refusal::VERTEX_COUNT;
+use refusal::BAD_VERTEX_COUNT;
 use refusal::VERTEX_ENTRY;
 ghost use mathlib.Core.Path.{_≡_};
 ghost use Prim.Native.Nat.{ℕ, _+_, _*_, _%_, _≤_, _<_};
@@ -388,13 +388,13 @@ pub fn check(v: usize, t: &[i64]) -> Checked
 {
     if v < 1 {
         return Checked::Refused(Refusal {
-            number: VERTEX_COUNT,
+            number: BAD_VERTEX_COUNT,
             place: 0,
         });
     }
     if 1023 < v {
         return Checked::Refused(Refusal {
-            number: VERTEX_COUNT,
+            number: BAD_VERTEX_COUNT,
             place: 0,
         });
     }

@@ -25,7 +25,7 @@ use Rattle.refusal.specs.declared.Checked.the-variants.{Accepted, Refused}
 use Rattle.symbol.proofs.Accepted.{accepted}
 use Rattle.symbol.proofs.Choice.{either, pick-true, pick-false}
 use Rattle.symbol.proofs.Count.{first-clear, clear-first, first-le}
-use Rattle.refusal.specs.Refusal.{matrixEntry, determinant, tooShort}
+use Rattle.refusal.specs.Refusal.{matrixEntry, badDeterminant, tooShort}
 use Rattle.word.specs.Answer.{large, unit, passes, foundWord, foundOf, byWork, byDeterminants, byEntries, byCheck, queryOf, workLeft, wordLeft}
 use Rattle.word.specs.Claim.{Asked, Answered, Claim}
 use Rattle.word.specs.Inner.Ready.{judgedOf}
@@ -64,11 +64,11 @@ module _ (v : ℕ) (t a b : List ℤ) (w : List ℕ) (room start : ℕ) where
   past-entries : 8 ≤ i → unital ≡ entered
   past-entries h = sym (pick-false (ltb i 8) (queried.Refused (matrixEntry i)) unital (le-ltb i 8 h))
 
-  past-A : unit a ≡ true → pick (unit b) worked (queried.Refused (determinant 1)) ≡ unital
-  past-A e = sym (pick-true (unit a) (pick (unit b) worked (queried.Refused (determinant 1))) (queried.Refused (determinant 0)) e)
+  past-A : unit a ≡ true → pick (unit b) worked (queried.Refused (badDeterminant 1)) ≡ unital
+  past-A e = sym (pick-true (unit a) (pick (unit b) worked (queried.Refused (badDeterminant 1))) (queried.Refused (badDeterminant 0)) e)
 
-  past-B : unit b ≡ true → worked ≡ pick (unit b) worked (queried.Refused (determinant 1))
-  past-B e = sym (pick-true (unit b) worked (queried.Refused (determinant 1)) e)
+  past-B : unit b ≡ true → worked ≡ pick (unit b) worked (queried.Refused (badDeterminant 1))
+  past-B e = sym (pick-true (unit b) worked (queried.Refused (badDeterminant 1)) e)
 
   past-work : workLength ≤ length w → found ≡ worked
   past-work h = sym (pick-false (ltb (length w) workLength) (queried.Refused (tooShort workLength)) found (le-ltb (length w) workLength h))
@@ -100,16 +100,16 @@ module _ (v : ℕ) (t a b : List ℤ) (w : List ℕ) (room start : ℕ) where
       small-entries : not (ltb i 8) ≡ true
       small-entries = ap not (le-ltb i 8 h)
 
-      pub by-A : unit a ≡ false → (queried.Refused (determinant 0) ≡ all) × (w ≡ workLeft v t a b w)
+      pub by-A : unit a ≡ false → (queried.Refused (badDeterminant 0) ≡ all) × (w ≡ workLeft v t a b w)
       by-A f = (
-        sym (pick-false (unit a) (pick (unit b) worked (queried.Refused (determinant 1))) (queried.Refused (determinant 0)) f) ∙ past-entries h ∙ past-check e,
+        sym (pick-false (unit a) (pick (unit b) worked (queried.Refused (badDeterminant 1))) (queried.Refused (badDeterminant 0)) f) ∙ past-entries h ∙ past-check e,
         work-kept (passes-is true false (unit b) small-entries f refl),
       )
 
       module _ (f : unit a ≡ true) where
-        pub by-B : unit b ≡ false → (queried.Refused (determinant 1) ≡ all) × (w ≡ workLeft v t a b w)
+        pub by-B : unit b ≡ false → (queried.Refused (badDeterminant 1) ≡ all) × (w ≡ workLeft v t a b w)
         by-B g = (
-          sym (pick-false (unit b) worked (queried.Refused (determinant 1)) g) ∙ past-A f ∙ past-entries h ∙ past-check e,
+          sym (pick-false (unit b) worked (queried.Refused (badDeterminant 1)) g) ∙ past-A f ∙ past-entries h ∙ past-check e,
           work-kept (passes-is true true false small-entries f g),
         )
 
@@ -189,7 +189,7 @@ module _ (v : ℕ) (t a b : List ℤ) (w : List ℕ) (room start : ℕ) (e : che
         )
   ]
 
-  pub by-determinant : 8 ≤ k → k < 10 → (queried.Refused (determinant (k - 8)) ≡ queryOf v t a b (length w) room start) × (w ≡ workLeft v t a b w)
+  pub by-determinant : 8 ≤ k → k < 10 → (queried.Refused (badDeterminant (k - 8)) ≡ queryOf v t a b (length w) room start) × (w ≡ workLeft v t a b w)
   by-determinant h h' = elim (decLt (first (large a b) 8) 8) [
     | yes l ↦ (let z = judged-entry a b l in absurd (omega arith))
     | no l ↦ (
@@ -199,14 +199,14 @@ module _ (v : ℕ) (t a b : List ℤ) (w : List ℕ) (room start : ℕ) (e : che
               let z = judged-A a b m f in
               let y : k - 8 ≡ 0 = omega arith in
               let x = by-A v t a b w room start e m f in
-              (ap (λ (i : ℕ). queried.Refused (determinant i)) y ∙ x .0, x .1)
+              (ap (λ (i : ℕ). queried.Refused (badDeterminant i)) y ∙ x .0, x .1)
               )
           | inl f ↦ elim (either (unit b)) [
             | inr g ↦ (
                 let z = judged-B a b m f g in
                 let y : k - 8 ≡ 1 = omega arith in
                 let x = by-B v t a b w room start e m f g in
-                (ap (λ (i : ℕ). queried.Refused (determinant i)) y ∙ x .0, x .1)
+                (ap (λ (i : ℕ). queried.Refused (badDeterminant i)) y ∙ x .0, x .1)
                 )
             | inl g ↦ (let z = judged-passed a b m f g in absurd (omega arith))
           ]

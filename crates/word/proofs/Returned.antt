@@ -20,7 +20,7 @@ use Rattle.symbol.specs.Check.{checkOf}
 use Rattle.refusal.specs.declared.Checked.{Checked}
 use Rattle.refusal.specs.declared.Checked.the-variants.{Accepted, Refused}
 use Rattle.symbol.proofs.Choice.{and-left, and-right}
-use Rattle.refusal.specs.Refusal.{matrixEntry, determinant, noWord, tooShort}
+use Rattle.refusal.specs.Refusal.{matrixEntry, badDeterminant, noWord, tooShort}
 use Rattle.word.specs.Answer.{placed, large, unit, home, foundWord, fits, roomOf, foundOf, byWork, byDeterminants, byEntries, byCheck, queryOf, partOf}
 use Rattle.word.specs.declared.Queried.{Queried}
 use Rattle.word.specs.declared.Queried.the-variants as queried
@@ -42,7 +42,7 @@ module _ (s n : ℕ) where
   no-entry : (i : ℕ) → Is (queried.Refused (matrixEntry i)) → ⊥
   no-entry i e = let z : _≡_ {A = ℕ} 0 1 = cc in absurd (omega arith)
 
-  no-determinant : (i : ℕ) → Is (queried.Refused (determinant i)) → ⊥
+  no-determinant : (i : ℕ) → Is (queried.Refused (badDeterminant i)) → ⊥
   no-determinant i e = let z : _≡_ {A = ℕ} 0 1 = cc in absurd (omega arith)
 
   no-short : (k : ℕ) → Is (queried.Refused (tooShort k)) → ⊥
@@ -77,8 +77,8 @@ module _ (s n : ℕ) where
         let enough = byWork work found in
         let e1 = by-check (checkOf v t) (byEntries a b (byDeterminants a b enough)) e in
         let e2 = second (ltb (first (large a b) 8) 8) (queried.Refused (matrixEntry (first (large a b) 8))) (byDeterminants a b enough) (no-entry (first (large a b) 8)) e1 in
-        let e3 = first-one (unit a) (pick (unit b) enough (queried.Refused (determinant 1))) (queried.Refused (determinant 0)) (no-determinant 0) e2 in
-        let e4 = first-one (unit b) enough (queried.Refused (determinant 1)) (no-determinant 1) e3 in
+        let e3 = first-one (unit a) (pick (unit b) enough (queried.Refused (badDeterminant 1))) (queried.Refused (badDeterminant 0)) (no-determinant 0) e2 in
+        let e4 = first-one (unit b) enough (queried.Refused (badDeterminant 1)) (no-determinant 1) e3 in
         let e5 = second (ltb work workLength) (queried.Refused (tooShort workLength)) found (no-short workLength) e4 in
         let e6 = first-one (home v t (ofList a) (ofList b)) (roomOf (length word) start (length out)) (queried.Refused noWord) no-absent e5 in
         by-room (length word) start (length out) e6

@@ -1,10 +1,10 @@
 -- The answer of a pair query, and what it leaves in the two lent spaces.
 --
 --   Queried                     the answer of `query`
---   queryRefusal                the refusal that the answer is, none for a word
+--   queryRefusal                the refusal that the answer is, noRefusal for a word
 --   entryAt a b i               the entry i of the pair: 0 to 3 in A, 4 to 7 in B
 --   large a b i                 whether it is beyond 1,000,000 in size
---   unit m                      whether the determinant of m is 1
+--   unit m                      whether the badDeterminant of m is 1
 --   passes a b                  whether the pair passes 8 and 9
 --   home v t m n                whether the walk from m to n, which follows n m⁻¹, ends where it began
 --   foundWord v t m n           the word that it writes
@@ -24,7 +24,7 @@ use lib.IntN.{ℤ, pos, natAbs}
 use Rattle.matrix.specs.Matrix.{Mat, _⊗_, adj, det, nth, ofList}
 use Rattle.matrix.specs.Euclid.{pick}
 use Rattle.workspace.specs.Space.{workLength}
-use Rattle.refusal.specs.Refusal.{none, matrixEntry, determinant, noWord, tooShort}
+use Rattle.refusal.specs.Refusal.{noRefusal, matrixEntry, badDeterminant, noWord, tooShort}
 use Rattle.refusal.specs.declared.Refusal.{Refusal}
 use Rattle.symbol.specs.Count.{first}
 use Rattle.symbol.specs.Check.{eqZ, checkOf}
@@ -37,7 +37,7 @@ use Rattle.word.specs.declared.Queried.{Queried}
 use Rattle.word.specs.declared.Queried.the-variants as queried
 
 abbrev pub queryRefusal : Queried → Refusal
-queryRefusal (queried.Word start n) = none
+queryRefusal (queried.Word start n) = noRefusal
 queryRefusal (queried.Refused f) = f
 
 -- ---- the pair
@@ -78,7 +78,7 @@ byWork work r = pick (ltb work workLength) (queried.Refused (tooShort workLength
 
 -- 9, A before B
 abbrev pub byDeterminants : (a b : List ℤ) → Queried → Queried
-byDeterminants a b r = pick (unit a) (pick (unit b) r (queried.Refused (determinant 1))) (queried.Refused (determinant 0))
+byDeterminants a b r = pick (unit a) (pick (unit b) r (queried.Refused (badDeterminant 1))) (queried.Refused (badDeterminant 0))
 
 -- 8, A before B
 abbrev pub byEntries : (a b : List ℤ) → Queried → Queried

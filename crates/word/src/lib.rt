@@ -7,7 +7,7 @@ use matrix::matrix_s;
 use matrix::product;
 use polygon::walking::is_turned;
 use refusal::Checked;
-use refusal::DETERMINANT;
+use refusal::BAD_DETERMINANT;
 use refusal::MATRIX_ENTRY;
 use refusal::NO_WORD;
 use refusal::Refusal;
@@ -201,7 +201,7 @@ pub fn query(
             }
             if judged < 10 {
                 return Queried::Refused(Refusal {
-                    number: DETERMINANT,
+                    number: BAD_DETERMINANT,
                     place: judged - 8,
                 });
             }

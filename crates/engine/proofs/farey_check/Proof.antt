@@ -1,10 +1,11 @@
 -- `farey_check` meets its contract: the number and the place of the answer of the checks. Assumes nothing.
 use mathlib.Core.Path.{sym, ap, subst, _∙_}
+use native.Mathlib.Omega.{arith}
 use Rattle.refusal.specs.Refusal.{checkedRefusal}
 use Rattle.refusal.specs.declared.Refusal.{Refusal}
 use Rattle.refusal.specs.declared.Checked.{Checked}
-use Rattle.refusal.proofs.Numbered.{Above, accepted-zero, zero-accepted}
-use Rattle.symbol.proofs.Accepted.{check-above}
+use Rattle.refusal.proofs.Numbered.{Among, accepted-zero, zero-accepted}
+use Rattle.symbol.proofs.Accepted.{check-among}
 use borrow.Author.Needs.{needs}
 use Rattle.engine.proofs.farey_check.Statement.{statement}
 use Rattle.engine.proofs.farey_check.Tie as tie
@@ -22,12 +23,12 @@ returns c =
     let s = c .before .before in
     let e = c .checked-refusal .ensures in
     let k = e ∙ ap checkedRefusal (q .ensures .returned) in
-    let above = subst Above (sym (q .ensures .returned)) (check-above (s .args .v) (s .args .t .now)) in (
+    let among = subst (Among 1 7) (sym (q .ensures .returned)) (check-among (s .args .v) (s .args .t .now)) in (
       ap (λ (f : Refusal). f .number) k,
       (
         ap (λ (f : Refusal). f .place) k,
         (
-          (λ z. q .ensures .means .0 (zero-accepted r above (sym (ap (λ (f : Refusal). f .number) e) ∙ z))),
+          (λ z. q .ensures .means .0 (zero-accepted 1 7 r (omega arith) among (sym (ap (λ (f : Refusal). f .number) e) ∙ z))),
           (λ h. ap (λ (f : Refusal). f .number) e ∙ accepted-zero r (q .ensures .means .1 h)),
         ),
       ),

@@ -1,8 +1,10 @@
 -- `farey_same` meets its contract: the number and the count of the answer, what the call leaves, and what that means. Assumes nothing.
-use mathlib.Core.Path.{ap, subst, _∙_}
-use Rattle.pairing.specs.Same.{samenessRefusal, SameMeans}
+use mathlib.Core.Path.{sym, ap, _∙_}
+use lib.ListN.{length}
+use Rattle.pairing.specs.Same.{samenessRefusal}
 use Rattle.pairing.specs.declared.same.Sameness.{Sameness}
 use Rattle.engine.specs.Exported.{samenessPlace}
+use Rattle.engine.proofs.Zero.{same-says}
 use borrow.Author.Needs.{needs}
 use Rattle.engine.proofs.farey_same.Statement.{statement}
 use Rattle.engine.proofs.farey_same.Tie as tie
@@ -24,7 +26,10 @@ returns c =
       c .of-sameness .ensures .0 ∙ ap (λ (r : Sameness). samenessRefusal r .number) e,
       (
         c .of-sameness .ensures .1 ∙ ap samenessPlace e,
-        (q .ensures .1 .0, subst (SameMeans (s .args .v) (s .args .t .now) (s .args .m) (s .args .u .now)) e (q .ensures .1 .1)),
+        (
+          q .ensures .1 .0,
+          λ z. same-says (s .args .v) (s .args .t .now) (s .args .m) (s .args .u .now) (length (s .args .w .now)) (q .result) e (q .ensures .1 .1) (c .of-sameness .ensures .1) (sym (c .of-sameness .ensures .0) ∙ z),
+        ),
       ),
     )
 
