@@ -109,7 +109,7 @@ meaning {v} {t} ok =
     let g = polygon v t ok in
     let c = cosets-are v t g in
     let k = cusps-are (c .permutations .T) in
-    record { symbol = ok; polygon = g; cosets = c; cusps = k; figures = table-figures (indexOf v t) (tableS v t) (tableR v t) (tableT v t) (c .permutations .T) k }
+    record { symbol = ok; polygon = g; cosets = c; cusps = k; figures = table-figures (indexOf v t) (tableS v t) (tableR v t) (tableT v t) (sym (c .size-S)) (c .permutations .T) k }
 
 pub means-refused : {v : ℕ} {t : List ℤ} (f : Refusal) → TablesMean v t (filled.Refused f)
 means-refused f n e = let z : _≡_ {A = ℕ} 0 1 = cc in absurd (omega arith)

@@ -97,12 +97,17 @@ figuredOf v t work = figuredBy (checkOf v t) work (figuresOf v t)
 
 -- ---- what an answer means
 
+-- the figures that are answered are those of the tables
+abbrev pub FiguresSay : (s r u : List ℕ) → Says → Type 0
+FiguresSay s r u (made n e2 e3 k genus level) = TableFigures s r u n e2 e3 k genus level
+FiguresSay s r u (refused f) = ⊥
+
 pub record Meaning (v : ℕ) (t : List ℤ) : Type 0 where
   pub symbol : IsSymbol v t
   pub polygon : Polygon v t
   pub cosets : Cosets v t (tableS v t) (tableR v t) (tableT v t)
   pub cusps : Cusps (tableT v t)
-  pub figures : TableFigures (indexOf v t) (tableS v t) (tableR v t) (tableT v t)
+  pub figures : FiguresSay (tableS v t) (tableR v t) (tableT v t) (figuresOf v t)
 
 abbrev pub TablesMean : ℕ → List ℤ → Filled → Type 0
 TablesMean v t r = (n : ℕ) → r ≡ filled.Made n → Meaning v t

@@ -23,7 +23,7 @@ use Rattle.workspace.specs.Space.{workLength}
 use Rattle.text.specs.Blank.{isBlank}
 use Rattle.text.specs.Decimal.{decimalOf}
 use Rattle.text.specs.Laws.{Inside64}
-use Rattle.text.specs.Reading.{textMost, wanted}
+use Rattle.text.specs.Reading.{symbolFormat, textMost, wanted}
 use Rattle.text.proofs.Says.{Says, says-none, says-number, says-numbers, says-reading}
 use Rattle.text_line.specs.Line.{natural, spaced}
 use Rattle.text_line.proofs.Spacing.{decimal-most}
@@ -33,7 +33,7 @@ use Rattle.import_table.specs.Answer.{tableIn}
 use Rattle.permutations.specs.Import.{importOf, ruleFor}
 use Rattle.permutations.proofs.Means.{made-means}
 use Rattle.import_text.specs.Answer.{numberLine, symbolLines, Asked, tables, asked, madeOf, linesBy, answered, linesFor, importedOf}
-use Rattle.import_text.specs.ReadBack.{symbolFormat, ReadBack, LinesReadBack, SymbolReadBack, Printed, PrintMeans}
+use Rattle.import_text.specs.ReadBack.{ReadBack, LinesReadBack, SymbolReadBack, Printed, PrintMeans}
 
 -- ---- what the lines say
 

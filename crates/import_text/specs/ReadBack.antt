@@ -1,7 +1,6 @@
 -- WHAT `import` PRINTS IS READ AS THE SYMBOL THAT IT MADE.
 --
---   symbolFormat           the form of a symbol as text, which the listing program reads: v from 1 to 1,023, and then 3v + 1 numbers
---   ReadBack v t bytes     read by the rule of 19, `bytes` is no refusal: it is short enough, its numbers are v and then the table t, and all of
+--   ReadBack v t bytes     read by the rule of 19 in the form of a symbol's text (`symbolFormat`, which the listing program reads), `bytes` is no refusal: it is short enough, its numbers are v and then the table t, and all of
 --                          them are handed on to any space that has room for them
 --   LinesReadBack          the lines of v and t are, where v is in range, the numbers fit 64 signed bits and the lines are short enough
 --   SymbolReadBack         the lines of a symbol always are
@@ -18,17 +17,13 @@ use Rattle.refusal.specs.declared.Filled.the-variants as filled
 use Rattle.matrix.specs.Matrix.{nth}
 use Rattle.text.specs.Piece.{pieces, numbers}
 use Rattle.text.specs.Laws.{Inside64}
-use Rattle.text.specs.Reading.{textMost, readingOf}
-use Rattle.text.specs.declared.Format.{Format}
+use Rattle.text.specs.Reading.{textMost, symbolFormat, readingOf}
 use Rattle.text.specs.declared.Reading.the-variants as reading
 use Rattle.text_line.specs.Line.{natural}
 use Rattle.symbol.specs.Symbol.{IsSymbol}
 use Rattle.import_table.specs.Answer.{tableIn}
 use Rattle.permutations.specs.Import.{ruleFor, Symbolised}
 use Rattle.import_text.specs.Answer.{Asked, tables, symbolLines, madeOf}
-
-abbrev pub symbolFormat : Format
-symbolFormat = record { most = 1023; each = 3; more = 2 }
 
 pub record ReadBack (v : ℕ) (t : List ℤ) (bytes : List ℕ) : Type 0 where
   pub short : length bytes ≤ textMost

@@ -27,7 +27,7 @@ use Rattle.text_line.specs.Line.{line, refusalLine, Puts}
 use Rattle.text_line.proofs.Placing.{puts-as, puts-then}
 use Rattle.workspace.specs.Space.{workLength}
 use Rattle.text.specs.Piece.{pieces, numbers}
-use Rattle.text.specs.Reading.{inputOf, leftBy}
+use Rattle.text.specs.Reading.{symbolFormat, inputOf, leftBy}
 use Rattle.text.specs.declared.Reading.{Reading}
 use Rattle.symbol.specs.Check.{checkOf}
 use Rattle.pairing.specs.Generator.{leaders, generatorTable}
@@ -38,7 +38,7 @@ use Rattle.coset.specs.Inner.Survey.{Surveyed}
 use Rattle.coset.specs.declared.FigureRecord.{FigureRecord}
 use Rattle.coset.specs.declared.Figured.the-variants as figured
 use Rattle.coset.proofs.Answer.{figures-refused, figures-long}
-use Rattle.listing_text.specs.Listing.{listedBy, listed, listingFormat, readBy, listingOf, workBy, tableBy, Leaves, freeWord, evenWord, oddWord, kindWord, generatorLine, generatorLines}
+use Rattle.listing_text.specs.Listing.{listedBy, listed, readBy, listingOf, workBy, tableBy, Leaves, freeWord, evenWord, oddWord, kindWord, generatorLine, generatorLines}
 use Rattle.listing_text.specs.Inner.Parts.{partsOf}
 
 module _ (z : ℤ) where
@@ -82,12 +82,12 @@ parts-listed {v} {t} {w} {w'} {f} g rows s n r =
     let same : partsOf f g rows w' ≡ listedBy v t (saidBy (figured.Made f)) = cc (s .widths-are, s .S-is, s .R-is, s .T-is, n, r) in
     same ∙ ap (listedBy v t) (s .figures)
 
-pub listing-by : (longer : Bool) (text : List ℕ) (r : Reading) → r ≡ inputOf longer listingFormat text 3071 → readBy r (numbers (pieces text)) ≡ listingOf longer text
+pub listing-by : (longer : Bool) (text : List ℕ) (r : Reading) → r ≡ inputOf longer symbolFormat text 3071 → readBy r (numbers (pieces text)) ≡ listingOf longer text
 unfolding listingOf
 listing-by longer text r e = ap (λ (x : Reading). readBy x (numbers (pieces text))) e
 
 -- what is left, by the answer of `read_input`
-pub leaves-by : {longer : Bool} {text : List ℕ} {ns table : List ℤ} {w : List ℕ} {ns' table' : List ℤ} {w' : List ℕ} (r : Reading) → r ≡ inputOf longer listingFormat text 3071
+pub leaves-by : {longer : Bool} {text : List ℕ} {ns table : List ℤ} {w : List ℕ} {ns' table' : List ℤ} {w' : List ℕ} (r : Reading) → r ≡ inputOf longer symbolFormat text 3071
     → ns' ≡ leftBy r (numbers (pieces text)) ns → w' ≡ workBy r (numbers (pieces text)) w → table' ≡ tableBy r (numbers (pieces text)) (length w) table
     → Leaves longer text ns table w ns' table' w'
 leaves-by {longer} {text} {ns} {table} {w} r e a b d = record {

@@ -11,7 +11,6 @@
 --   generatorPart v t               how many generators, and their lines
 --   tableLines s r u                the tables of S, R and T
 --   listed v t                      all of it for the symbol in t, or its refusal
---   listingFormat                   the form of the text: v from 1 to 1,023, and then 3v + 1 numbers
 --   listingOf longer text           the bytes for a text, or for one with more than the 65,536 bytes that fit into the buffer
 --   workBy, tableBy                 what the call leaves in the work space and in the space for generators, by the answer of `read_input`
 --   Leaves ..                       what it leaves in every lent space but that of the bytes
@@ -26,8 +25,7 @@ use Rattle.matrix.specs.Euclid.{pick}
 use Rattle.workspace.specs.Space.{workLength}
 use Rattle.text.specs.Decimal.{digits}
 use Rattle.text.specs.Piece.{pieces, numbers}
-use Rattle.text.specs.Reading.{inputOf, leftBy, vertexCount}
-use Rattle.text.specs.declared.Format.{Format}
+use Rattle.text.specs.Reading.{symbolFormat, inputOf, leftBy, vertexCount}
 use Rattle.text.specs.declared.Reading.{Reading}
 use Rattle.text.specs.declared.Reading.the-variants as reading
 use Rattle.text_line.specs.Line.{natural, line, refusedWord, refusalLine}
@@ -106,15 +104,12 @@ listedBy v t (refused f) = refusalLine f
 unfoldable pub listed : ℕ → List ℤ → List ℕ
 listed v t = listedBy v t (figuredOf v t workLength)
 
-abbrev pub listingFormat : Format
-listingFormat = record { most = 1023; each = 3; more = 2 }
-
 abbrev pub readBy : Reading → List ℤ → List ℕ
 readBy (reading.Numbers k) ns = listed (vertexCount (nth ns 0)) (drop 1 (take k ns))
 readBy (reading.Refused f) ns = refusalLine f
 
 unfoldable pub listingOf : Bool → List ℕ → List ℕ
-listingOf longer text = readBy (inputOf longer listingFormat text 3071) (numbers (pieces text))
+listingOf longer text = readBy (inputOf longer symbolFormat text 3071) (numbers (pieces text))
 
 -- ---- what it leaves
 
@@ -130,6 +125,6 @@ tableBy (reading.Numbers k) ns work table = tableIn (vertexCount (nth ns 0)) (dr
 tableBy (reading.Refused f) ns work table = table
 
 pub record Leaves (longer : Bool) (text : List ℕ) (ns table : List ℤ) (w : List ℕ) (ns' table' : List ℤ) (w' : List ℕ) : Type 0 where
-  pub numbers-left : ns' ≡ leftBy (inputOf longer listingFormat text 3071) (numbers (pieces text)) ns
-  pub work-left : w' ≡ workBy (inputOf longer listingFormat text 3071) (numbers (pieces text)) w
-  pub table-left : table' ≡ tableBy (inputOf longer listingFormat text 3071) (numbers (pieces text)) (length w) table
+  pub numbers-left : ns' ≡ leftBy (inputOf longer symbolFormat text 3071) (numbers (pieces text)) ns
+  pub work-left : w' ≡ workBy (inputOf longer symbolFormat text 3071) (numbers (pieces text)) w
+  pub table-left : table' ≡ tableBy (inputOf longer symbolFormat text 3071) (numbers (pieces text)) (length w) table

@@ -10,16 +10,13 @@
 use mathlib.Core.Path.{_≡_}
 use mathlib.Core.List.{List}
 use Prim.Native.Nat.{ℕ, _+_, _*_}
-use lib.Dec.{ltb}
 use lib.ListN.{length, take}
 use lib.IntN.{ℤ}
-use Rattle.refusal.specs.Refusal.{tooShort, filledBy}
+use Rattle.refusal.specs.Refusal.{filledBy}
 use Rattle.refusal.specs.declared.Checked.{Checked}
-use Rattle.refusal.specs.declared.Checked.the-variants as checked
 use Rattle.refusal.specs.declared.Filled.{Filled}
-use Rattle.refusal.specs.declared.Filled.the-variants.{Made, Refused}
-use Rattle.matrix.specs.Euclid.{pick}
-use Rattle.workspace.specs.Space.{workLength, zeros}
+use Rattle.refusal.specs.declared.Filled.the-variants.{Made}
+use Rattle.pairing.specs.Generator.{byWork, workAfter}
 use Rattle.numbering.specs.Order.{orderOf}
 use Rattle.numbering.specs.Table.{renamed}
 use Rattle.coset.specs.Tables.{indexOf, tableS, tableR}
@@ -33,14 +30,13 @@ abbrev pub ruleFor : (s r : List ℕ) → Ruled
 ruleFor s r = ruleOf (image s) (byQ (image s) (image r)) (length s)
 
 abbrev pub importOf : (s r : List ℕ) (work room : ℕ) → Filled
-importOf s r work room = filledBy (checkOf s r) (pick (ltb work workLength) (Refused (tooShort workLength)) (grownOf (ruleFor s r) room))
+importOf s r work room = filledBy (checkOf s r) (byWork work (grownOf (ruleFor s r) room))
 
 abbrev pub tableLeft : Ruled → Filled → List ℤ → List ℤ
 tableLeft g a out = leftBy g a out
 
 abbrev pub workLeft : Checked → List ℕ → List ℕ
-workLeft checked.Accepted w = pick (ltb (length w) workLength) w (zeros (length w))
-workLeft (checked.Refused f) w = w
+workLeft c w = workAfter c w
 
 -- the points, by the number that the listing's rule gives them
 abbrev pub numbering : (s r : List ℕ) → List ℕ

@@ -12,7 +12,7 @@
 --   turned v t         whether the last side starts at 0/1 and is not odd
 --   startOf v t        where the walk starts: on the edge from 0 to infinity, or where `turned` holds on the edge from infinity to 0
 --   startFrame v t     the matrix of that edge, up to sign: the identity, or S
---   originOf v t       the position that stands for the coset H, whose matrix is the identity up to sign: the start, or its image under S
+--   originOf v t       the position that stands for the coset H, whose frame lies in H: the start, or its image under S
 use mathlib.Core.Path.{_≡_}
 use mathlib.Core.Bool.{Bool, true, not, _&&_, _||_}
 use mathlib.Core.List.{List, [], _∷_}

@@ -17,7 +17,7 @@
 --     triangles        the v - 1 triangles are Farey triangles; frames have determinant 1; Q turns within the triangle
 --     edge to edge     beyond each edge lies exactly one other position, which is the same edge turned round by S
 --     one piece        beyond a side lies a triangle, unless v = 1 and there is none; beyond the edge from left to right of a triangle lies a
---                      triangle of a higher number, or the last side. So the triangles hang together as a tree, and fill the polygon
+--                      triangle of a higher number, or the last side. It follows that they hang together as a tree, and fill the polygon
 use mathlib.Core.Path.{_≡_}
 use mathlib.Core.Logic.{_⊎_}
 use mathlib.Core.List.{List}

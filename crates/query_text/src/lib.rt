@@ -1,6 +1,6 @@
 // What the program `query` writes for a text: all of it, byte for byte, as specs/Reply.antt says (document 01, "Who can cause a refusal").
-use refusal::Refusal;
 use refusal::BAD_VERTEX_COUNT;
+use refusal::Refusal;
 use text::Format;
 use text::Reading;
 use text::read_input;

@@ -2,13 +2,13 @@
 //
 // A table of a symbol with v vertices holds 2v vertex entries and then v + 1 pairings. specs/ says what each call returns and leaves.
 use refusal::BAD_PAIRING;
+use refusal::BAD_VERTEX_COUNT;
 use refusal::Checked;
 use refusal::NO_ODD_SIDE;
 use refusal::NO_ZERO;
 use refusal::NOT_NEIGHBOURS;
 use refusal::Refusal;
 use refusal::TABLE_LENGTH;
-use refusal::BAD_VERTEX_COUNT;
 use refusal::VERTEX_ENTRY;
 ghost use mathlib.Core.Path.{_≡_};
 ghost use Prim.Native.Nat.{ℕ, _+_, _*_, _%_, _≤_, _<_};

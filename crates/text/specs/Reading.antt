@@ -11,6 +11,7 @@
 --     place19 f t           the place of refusal 19; none where the text t is not refused
 --     answer p k room       19 at the place p; or else k numbers, where they fit into `room` entries, or 11 with k
 --     readingOf f t room    the answer to the text t
+--     symbolFormat          the form of a symbol's text: v from 1 to 1,023, and then 3v + 1 numbers
 --     inputOf longer f t room     the same for a program's text: refused where more was sent than the program's buffer holds
 --     leftBy r ns out       what the slice holds in the end, where it held `out` and the text's numbers are ns
 --     vertexCount z         the first number as a number of vertices; a negative one is out of range as 0 is
@@ -71,6 +72,9 @@ answer none k room = pick (ltb room k) (Refused (tooShort k)) (Numbers k)
 
 unfoldable pub readingOf : Format → List ℕ → ℕ → Reading
 readingOf f t room = answer (place19 f t) (handed f (numbers (pieces t))) room
+
+abbrev pub symbolFormat : Format
+symbolFormat = record { most = 1023; each = 3; more = 2 }
 
 unfoldable pub inputOf : Bool → Format → List ℕ → ℕ → Reading
 inputOf longer f t room = pick longer (Refused (badText textMost)) (readingOf f t room)

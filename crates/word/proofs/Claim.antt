@@ -33,11 +33,16 @@ use Rattle.coset.specs.Tables.{tableS, tableR}
 use Rattle.coset.specs.Theorem.{leads}
 use Rattle.coset.proofs.Answer.{meaning}
 use Rattle.refusal.specs.Refusal.{noWord, tooShort}
+use Rattle.refusal.specs.declared.Refusal.{Refusal}
 use Rattle.word.specs.Answer.{placed, home, foundWord, fits, roomOf, foundOf, wordLeft, partOf}
 use Rattle.word.specs.Claim.{Joined, Fits, Answered}
 use Rattle.word.specs.declared.Queried.{Queried}
 use Rattle.word.specs.declared.Queried.the-variants as queried
 use Rattle.word.proofs.Turned.{followed-length}
+
+-- the numbers of equal refusals are equal
+pub same-number : {f g : Refusal} → f ≡ g → f .number ≡ g .number
+same-number e = ap (λ (h : Refusal). h .number) e
 
 -- ---- a word in its place
 
@@ -128,16 +133,15 @@ module _ {v : ℕ} {t : List ℤ} (ok : IsSymbol v t) (A B : Mat) (d : det A ≡
     absent h =
         let no : Joined v t A B → ⊥ = λ j. clash (joined-home j) h in
         record {
-          found = ((λ f. elim f [ inl z ↦ absurd (omega arith) | inr z ↦ absurd (omega arith) ]), (λ j. absurd (no j)));
-          points = ((λ f. elim f [ inl z ↦ absurd (omega arith) | inr z ↦ absurd (omega arith) ]), (λ e. absurd (no (same-joined e))));
+          found = ((λ f. elim f [ inl z ↦ absurd (omega (arith, same-number z)) | inr z ↦ absurd (omega (arith, same-number z)) ]), (λ j. absurd (no j)));
+          points = ((λ f. elim f [ inl z ↦ absurd (omega (arith, same-number z)) | inr z ↦ absurd (omega (arith, same-number z)) ]), (λ e. absurd (no (same-joined e))));
           letters = λ f. letters-of;
-          product = λ f. elim f [ inl z ↦ absurd (omega arith) | inr z ↦ absurd (omega arith) ];
+          product = λ f. elim f [ inl z ↦ absurd (omega (arith, same-number z)) | inr z ↦ absurd (omega (arith, same-number z)) ];
           none = ((λ z. no), (λ z. refl));
-          returned = ((λ z. absurd (omega arith)), (λ z. absurd (no (z .0))));
-          short = ((λ z. absurd (omega arith)), (λ z. absurd (no (z .0))));
-          places = ((λ z. refl), (λ z. absurd (omega arith)));
-          names = λ z. absurd (omega arith);
-          stands = λ z. absurd (omega arith);
+          returned = ((λ z. absurd (omega (arith, same-number z))), (λ z. absurd (no (z .0))));
+          short = ((λ z. absurd (omega (arith, same-number z))), (λ z. absurd (no (z .0))));
+          names = λ z. absurd (omega (arith, same-number z));
+          stands = λ z. absurd (omega (arith, same-number z));
           untouched = λ z. refl;
           bound = bound-of;
           sixteen = sixteen-of;
@@ -152,10 +156,9 @@ module _ {v : ℕ} {t : List ℤ} (ok : IsSymbol v t) (A B : Mat) (d : det A ≡
           points = ((λ z. joined-same j), (λ e. inl refl));
           letters = λ z. letters-of;
           product = λ z. home-product h;
-          none = ((λ z. absurd (omega arith)), (λ n. absurd (n j)));
+          none = ((λ z. absurd (omega (arith, same-number z))), (λ n. absurd (n j)));
           returned = ((λ z. (j, f)), (λ z. refl));
-          short = ((λ z. absurd (omega arith)), (λ z. absurd (z .1 f)));
-          places = ((λ z. absurd (omega arith)), (λ z. absurd (omega arith)));
+          short = ((λ z. absurd (omega (arith, same-number z))), (λ z. absurd (z .1 f)));
           names = λ z. refl;
           stands = λ z. (refl, part-placed start word out (f .inside) (f .enough));
           untouched = λ n. absurd (n refl);
@@ -171,12 +174,11 @@ module _ {v : ℕ} {t : List ℤ} (ok : IsSymbol v t) (A B : Mat) (d : det A ≡
           points = ((λ z. joined-same j), (λ e. inr refl));
           letters = λ z. letters-of;
           product = λ z. home-product h;
-          none = ((λ z. absurd (omega arith)), (λ n. absurd (n j)));
-          returned = ((λ z. absurd (omega arith)), (λ z. clash (yes-fits (z .1)) k));
+          none = ((λ z. absurd (omega (arith, same-number z))), (λ n. absurd (n j)));
+          returned = ((λ z. absurd (omega (arith, same-number z))), (λ z. clash (yes-fits (z .1)) k));
           short = ((λ z. (j, λ f. clash (yes-fits f) k)), (λ z. refl));
-          places = ((λ z. absurd (omega arith)), (λ z. refl));
-          names = λ z. absurd (omega arith);
-          stands = λ z. absurd (omega arith);
+          names = λ z. absurd (omega (arith, same-number z));
+          stands = λ z. absurd (omega (arith, same-number z));
           untouched = λ n. refl;
           bound = bound-of;
           sixteen = sixteen-of;

@@ -1,7 +1,7 @@
 -- Laws for the query: the order of refusals (`by-…`), and the claim for whatever it answers (`claim`).
 -- Assumes nothing.
 use mathlib.Core.Path.{_≡_, refl, sym, _∙_, ap, subst}
-use mathlib.Core.Logic.{inl, inr}
+use mathlib.Core.Logic.{_⊎_, inl, inr}
 use mathlib.Core.Bool.{Bool, true, false, not, _&&_}
 use mathlib.Core.List.{List}
 use Prim.Native.Nat.{ℕ, _-_, _≤_, _<_}
@@ -22,17 +22,18 @@ use Rattle.pairing.specs.Generator.{workAfter}
 use Rattle.refusal.specs.declared.Refusal.{Refusal}
 use Rattle.refusal.specs.declared.Checked.{Checked}
 use Rattle.refusal.specs.declared.Checked.the-variants.{Accepted, Refused}
-use Rattle.symbol.proofs.Accepted.{accepted}
+use Rattle.symbol.proofs.Accepted.{accepted, check-among}
 use Rattle.symbol.proofs.Choice.{either, pick-true, pick-false}
 use Rattle.symbol.proofs.Count.{first-clear, clear-first, first-le}
-use Rattle.refusal.specs.Refusal.{matrixEntry, badDeterminant, tooShort}
-use Rattle.word.specs.Answer.{large, unit, passes, foundWord, foundOf, byWork, byDeterminants, byEntries, byCheck, queryOf, workLeft, wordLeft}
+use Rattle.refusal.specs.Refusal.{noRefusal, matrixEntry, badDeterminant, noWord, tooShort}
+use Rattle.refusal.proofs.Numbered.{Among}
+use Rattle.word.specs.Answer.{queryRefusal, large, unit, passes, foundWord, foundOf, byWork, byDeterminants, byEntries, byCheck, queryOf, workLeft, wordLeft}
 use Rattle.word.specs.Claim.{Asked, Answered, Claim}
 use Rattle.word.specs.Inner.Ready.{judgedOf}
 use Rattle.word.specs.declared.Queried.{Queried}
 use Rattle.word.specs.declared.Queried.the-variants as queried
 use Rattle.word.proofs.Pair.{small-clear, clear-small, unit-is, is-unit}
-use Rattle.word.proofs.Claim.{answered}
+use Rattle.word.proofs.Claim.{same-number, answered}
 
 same : {A : Type 0} (b : Bool) (x : A) → pick b x x ≡ x
 same true x = refl
@@ -233,10 +234,44 @@ asked-found : (v : ℕ) (t a b : List ℤ) (w : List ℕ) (room start : ℕ) →
 asked-found v t a b w room start q =
     by-long v t a b w room start (accepted v t .1 (q .symbol)) (omega (arith, first-clear (large a b) 8 (small-clear a b (q .entries-A) (q .entries-B)))) (is-unit a (q .unit-A)) (is-unit b (q .unit-B)) (q .work) .0
 
+-- a word, or 'none', is answered only where the query gets to its walk
+asked-by : (v : ℕ) (t a b : List ℤ) (w : List ℕ) (room start : ℕ) (r : Queried) → r ≡ queryOf v t a b (length w) room start
+    → (queryRefusal r ≡ noRefusal) ⊎ (queryRefusal r ≡ noWord) → Asked v t a b w
+asked-by v t a b w room start r e h = go (checkOf v t) refl
+  where
+    -- the answer is no other refusal
+    other : {A : Type 0} (f : Refusal) → queried.Refused f ≡ queryOf v t a b (length w) room start → (f .number ≡ 0 → ⊥) → (f .number ≡ 10 → ⊥) → A
+    other f q low ten =
+        let k : queryRefusal r ≡ f = ap queryRefusal (e ∙ sym q) in
+        elim h [ inl z ↦ absurd (low (same-number (sym k ∙ z))) | inr z ↦ absurd (ten (same-number (sym k ∙ z))) ]
+
+    long : checkOf v t ≡ Accepted → 8 ≤ first (large a b) 8 → unit a ≡ true → unit b ≡ true → Asked v t a b w
+    long ok m f g = elim (decLt (length w) workLength) [
+      | yes k ↦ other (tooShort workLength) (by-short v t a b w room start ok m f g k .0) (λ z. omega (arith, z)) (λ z. omega (arith, z))
+      | no k ↦ asked a b (accepted v t .0 ok) (omega arith) (record { entries = m; A = f; B = g })
+    ]
+
+    units : checkOf v t ≡ Accepted → 8 ≤ first (large a b) 8 → (unit a ≡ true) ⊎ (unit a ≡ false) → (unit b ≡ true) ⊎ (unit b ≡ false) → Asked v t a b w
+    units ok m (inr f) g = other (badDeterminant 0) (by-A v t a b w room start ok m f .0) (λ z. omega (arith, z)) (λ z. omega (arith, z))
+    units ok m (inl f) (inr g) = other (badDeterminant 1) (by-B v t a b w room start ok m f g .0) (λ z. omega (arith, z)) (λ z. omega (arith, z))
+    units ok m (inl f) (inl g) = long ok m f g
+
+    go : (c : Checked) → checkOf v t ≡ c → Asked v t a b w
+    go (Refused f) q =
+        let k = subst (Among 1 7) q (check-among v t) in
+        other f (by-fault v t a b w room start f q .0) (λ z. omega (arith, k .0, z)) (λ z. omega (arith, k .1, z))
+    go Accepted q = elim (decLt (first (large a b) 8) 8) [
+      | yes l ↦ other (matrixEntry (first (large a b) 8)) (by-entry v t a b w room start q l .0) (λ z. omega (arith, z)) (λ z. omega (arith, z))
+      | no l ↦ units q (omega arith) (either (unit a)) (either (unit b))
+    ]
+
 pub claim : {v : ℕ} {t a b : List ℤ} {w : List ℕ} {out : List ℤ} {start : ℕ} {r : Queried} {out' : List ℤ} → r ≡ queryOf v t a b (length w) (length out) start
     → out' ≡ wordLeft r (foundWord v t (ofList a) (ofList b)) out → Claim v t a b w out start r out'
-claim {v} {t} {a} {b} {w} {out} {start} {r} {out'} e f q =
-    let l = foundWord v t (ofList a) (ofList b) in
-    let z : r ≡ foundOf v t a b start (length out) = e ∙ sym (asked-found v t a b w (length out) start q) in
-    subst (λ (o : List ℤ). Answered v t (ofList a) (ofList b) l out start r o) (sym f)
-    (subst (λ (x : Queried). Answered v t (ofList a) (ofList b) l out start x (wordLeft x l out)) (sym z) (answered (q .symbol) a b (q .unit-A) (q .unit-B) out start))
+claim {v} {t} {a} {b} {w} {out} {start} {r} {out'} e f = record { asked = asked-by v t a b w (length out) start r e; answered = by-walk }
+  where
+    by-walk : Asked v t a b w → Answered v t (ofList a) (ofList b) (foundWord v t (ofList a) (ofList b)) out start r out'
+    by-walk q =
+        let l = foundWord v t (ofList a) (ofList b) in
+        let z : r ≡ foundOf v t a b start (length out) = e ∙ sym (asked-found v t a b w (length out) start q) in
+        subst (λ (o : List ℤ). Answered v t (ofList a) (ofList b) l out start r o) (sym f)
+        (subst (λ (x : Queried). Answered v t (ofList a) (ofList b) l out start x (wordLeft x l out)) (sym z) (answered (q .symbol) a b (q .unit-A) (q .unit-B) out start))

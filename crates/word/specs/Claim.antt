@@ -1,24 +1,23 @@
 -- THE CLAIM: WHAT A PAIR QUERY ANSWERS, for every symbol, pair, space and start place. `query` promises it of its answer r and of the word
 -- space out' that it leaves; the proof is `answered`, in proofs/Claim.antt. A and B are the two matrices, and `word` stands for
--- `foundWord v t A B`, which depends on the symbol, A and B alone. A number 0 says that a word is returned, 10 'none', 11 that the word
--- doesn't fit.
+-- `foundWord v t A B`, which depends on the symbol, A and B alone. A word that is returned is no refusal,
+-- 'none' is refusal 10, and a word that doesn't fit is refusal 11.
 --
 --   Asked v t a b w         the query gets to its walk: the symbol is accepted, the work space is long enough, whatever stands in it,
 --                           the entries of A and B are from -1,000,000 to 1,000,000, and both determinants are 1
 --   Joined v t m n          some product of the symbol's generators and their inverses, of whatever length, times m is n up to sign
 --   Fits start n room       the start place isn't past the end, and at least n letters lie from there to the end
---   Found r                 a word is found: it is returned, or refused with 11, by the word space
+--   Found word r            a word is found: it is returned, or refused with 11 and its true length, by the word space
 --   Answered                the claim, in these parts:
 --     found                 a word is found exactly when some product of generators and inverses times A is B up to sign
 --     points                and exactly when A and B lead from point 0 to the same point of the coset tables of S and R: the same right coset
 --     letters, product      the word found is such a product, with the letter j for generator j and -j for its inverse
---     none                  otherwise the answer is 10, and only then: 'none' means that there is no such product
---     returned, short       the word found is returned exactly when it fits, and otherwise refused with 11
---     places                the place of 10 is 0, and that of 11 is the word's true length
+--     none                  otherwise the answer is 10, place 0, and only then: 'none' means that there is no such product
+--     returned, short       the word found is returned exactly when it fits, and otherwise refused with 11 and its true length
 --     names, stands         a word that is returned stands where the answer says, from the start place on, and all else is as before
 --     untouched             any other answer leaves the word space as it was, whatever stood in it
 --     bound, sixteen        the word has at most two letters more than the alternating word of B A⁻¹, and each fits 16 signed bits
---   Claim                   where the query gets to its walk, this is what it answers
+--   Claim                   a word, or 'none', is answered only where the query gets to its walk; and where it does, this is what it answers
 use mathlib.Core.Path.{_≡_}
 use mathlib.Core.Logic.{_⊎_, _↔_}
 use mathlib.Core.List.{List}
@@ -28,6 +27,7 @@ use lib.IntN.{ℤ, pos, natAbs}
 use Rattle.matrix.specs.Matrix.{Mat, _⊗_, adj, det, _≈_, ofList}
 use Rattle.matrix.specs.Bounds.{Small}
 use Rattle.matrix.specs.Euclid as euclid
+use Rattle.refusal.specs.Refusal.{noRefusal, noWord, tooShort}
 use Rattle.workspace.specs.Space.{workLength}
 use Rattle.symbol.specs.Symbol.{IsSymbol}
 use Rattle.pairing.specs.Generator.{generators}
@@ -54,23 +54,23 @@ pub record Fits (start n room : ℕ) : Type 0 where
   pub inside : start ≤ room
   pub enough : n ≤ room - start
 
-abbrev pub Found : Queried → Type 0
-Found r = (queryRefusal r .number ≡ 0) ⊎ (queryRefusal r .number ≡ 11)
+abbrev pub Found : List ℤ → Queried → Type 0
+Found word r = (queryRefusal r ≡ noRefusal) ⊎ (queryRefusal r ≡ tooShort (length word))
 
 pub record Answered (v : ℕ) (t : List ℤ) (A B : Mat) (word out : List ℤ) (start : ℕ) (r : Queried) (out' : List ℤ) : Type 0 where
-  pub found : Found r ↔ Joined v t A B
-  pub letters : Found r → IsWord (length (generators v t)) word
-  pub product : Found r → valueOf (generators v t) word ⊗ A ≈ B
-  pub points : Found r ↔ (leads (tableS v t) (tableR v t) A ≡ leads (tableS v t) (tableR v t) B)
-  pub none : (queryRefusal r .number ≡ 10) ↔ (Joined v t A B → ⊥)
-  pub returned : (queryRefusal r .number ≡ 0) ↔ (Joined v t A B × Fits start (length word) (length out))
-  pub short : (queryRefusal r .number ≡ 11) ↔ (Joined v t A B × (Fits start (length word) (length out) → ⊥))
-  pub places : (queryRefusal r .number ≡ 10 → queryRefusal r .place ≡ 0) × (queryRefusal r .number ≡ 11 → queryRefusal r .place ≡ length word)
-  pub names : queryRefusal r .number ≡ 0 → r ≡ queried.Word start (length word)
-  pub stands : queryRefusal r .number ≡ 0 → (out' ≡ placed start word out) × (partOf out' start (length word) ≡ word)
-  pub untouched : (queryRefusal r .number ≡ 0 → ⊥) → out' ≡ out
+  pub found : Found word r ↔ Joined v t A B
+  pub points : Found word r ↔ (leads (tableS v t) (tableR v t) A ≡ leads (tableS v t) (tableR v t) B)
+  pub letters : Found word r → IsWord (length (generators v t)) word
+  pub product : Found word r → valueOf (generators v t) word ⊗ A ≈ B
+  pub none : (queryRefusal r ≡ noWord) ↔ (Joined v t A B → ⊥)
+  pub returned : (queryRefusal r ≡ noRefusal) ↔ (Joined v t A B × Fits start (length word) (length out))
+  pub short : (queryRefusal r ≡ tooShort (length word)) ↔ (Joined v t A B × (Fits start (length word) (length out) → ⊥))
+  pub names : queryRefusal r ≡ noRefusal → r ≡ queried.Word start (length word)
+  pub stands : queryRefusal r ≡ noRefusal → (out' ≡ placed start word out) × (partOf out' start (length word) ≡ word)
+  pub untouched : (queryRefusal r ≡ noRefusal → ⊥) → out' ≡ out
   pub bound : length word ≤ length (euclid.wordOf (B ⊗ adj A)) + 2
   pub sixteen : (i : ℕ) → i < length word → natAbs (getD word i (pos 0)) ≤ 1024
 
-abbrev pub Claim : (v : ℕ) (t a b : List ℤ) (w : List ℕ) (out : List ℤ) (start : ℕ) → Queried → (out' : List ℤ) → Type 0
-Claim v t a b w out start r out' = Asked v t a b w → Answered v t (ofList a) (ofList b) (foundWord v t (ofList a) (ofList b)) out start r out'
+pub record Claim (v : ℕ) (t a b : List ℤ) (w : List ℕ) (out : List ℤ) (start : ℕ) (r : Queried) (out' : List ℤ) : Type 0 where
+  pub asked : (queryRefusal r ≡ noRefusal) ⊎ (queryRefusal r ≡ noWord) → Asked v t a b w
+  pub answered : Asked v t a b w → Answered v t (ofList a) (ofList b) (foundWord v t (ofList a) (ofList b)) out start r out'

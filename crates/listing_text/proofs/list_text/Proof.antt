@@ -9,14 +9,14 @@ use mir.Syntax.{w64}
 use mir.Facts.{toZ-ofZ}
 use Rattle.matrix.specs.Matrix.{nth}
 use Rattle.text.specs.Piece.{pieces, numbers}
-use Rattle.text.specs.Reading.{inputOf, leftBy, vertexCount}
+use Rattle.text.specs.Reading.{symbolFormat, inputOf, leftBy, vertexCount}
 use Rattle.text.specs.declared.Reading.{Reading}
 use Rattle.text.specs.declared.Reading.the-variants.{Numbers, Refused}
 use Rattle.text.proofs.Handed.{Handed, input-on, first-entry, other-entries}
 use Rattle.text_line.proofs.Placing.{puts-as}
 use Rattle.symbol.specs.Check.{checkOf}
 use Rattle.pairing.specs.Generator.{workAfter}
-use Rattle.listing_text.specs.Listing.{listed, listingFormat, tableIn}
+use Rattle.listing_text.specs.Listing.{listed, tableIn}
 use Rattle.listing_text.proofs.Listed.{listing-by, leaves-by}
 use borrow.Author.Needs.{needs}
 use Rattle.listing_text.proofs.list_text.Statement.{statement}
@@ -27,8 +27,8 @@ module _ (r : tie.After-read-input) where
   abbrev begun : tie.Start
   begun = r .before .before .before .before .before
 
-  answer : r .read-input .result ≡ inputOf (begun .args .longer) listingFormat (begun .args .text .now) 3071
-  answer = r .read-input .ensures .0 ∙ ap (inputOf (begun .args .longer) listingFormat (begun .args .text .now)) (begun .pre .0)
+  answer : r .read-input .result ≡ inputOf (begun .args .longer) symbolFormat (begun .args .text .now) 3071
+  answer = r .read-input .ensures .0 ∙ ap (inputOf (begun .args .longer) symbolFormat (begun .args .text .now)) (begun .pre .0)
 
   -- what then stands in the space for the numbers
   abbrev stood : List ℤ
@@ -51,11 +51,11 @@ module _ (d : tie.After-known-told2) where
   abbrev count : ℕ
   count = d .before .read2 .given .0 .0
 
-  numbered : Numbers count ≡ inputOf (start .args .longer) listingFormat (start .args .text .now) 3071
+  numbered : Numbers count ≡ inputOf (start .args .longer) symbolFormat (start .args .text .now) 3071
   numbered = sym (d .before .read2 .given .1) ∙ answer read
 
   some-numbers : Handed ns 3071 count
-  some-numbers = input-on (start .args .longer) listingFormat (start .args .text .now) 3071 count (omega arith) numbered
+  some-numbers = input-on (start .args .longer) symbolFormat (start .args .text .now) 3071 count (omega arith) numbered
 
   numbers-left : stood read ≡ leftBy (Numbers count) ns (start .args .numbers .now)
   numbers-left = left read (Numbers count) (d .before .read2 .given .1)
