@@ -10,7 +10,7 @@
 --   figuresOf v t           the figures of the symbol's tables: index, e2, e3, cusps, genus (18 for itself), level (17 for itself)
 --   figuredOf v t work      the refusals 1 to 7, then the work space, or the figures
 --   Meaning v t             the symbol is one; its polygon is cut into Farey triangles, and the steps over these keep their promise; its tables are
---                           those of the right cosets of H; its cusps are the cycles of T, and its widths, genus and level what document 01 says
+--                           those of the right cosets of H; its cusps are the cycles of T, and its widths, genus and level what docs/CONVENTIONS.md says
 --   TablesMean, FiguresMean an answer that is no refusal means this
 use mathlib.Core.Path.{_≡_}
 use mathlib.Core.List.{List, _++_}

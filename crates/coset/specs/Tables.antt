@@ -1,4 +1,4 @@
--- The coset tables of an accepted symbol (document 01, "Figures").
+-- The coset tables of an accepted symbol (docs/CONVENTIONS.md, 4).
 --
 --   stepR v t p         where R leads from the position p: R is S Q⁻¹ S up to sign, and Q⁻¹ is Q twice
 --   cosets v t          the positions that stand for the cosets of H, by number: H is 0; then, for each in order, its S image and next

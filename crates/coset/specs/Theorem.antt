@@ -10,7 +10,7 @@
 --     zero, cosets      point 0 is H; two matrices lead to one point exactly where some product of generators and inverses takes one to
 --                       the other, up to sign
 --     reached           each point is some matrix's coset, so the number of points is the index of H
---     numbered          the points are numbered as document 01 says: the rule, followed in the tables from point 0, gives 0, 1, 2, ..
+--     numbered          the points are numbered as docs/CONVENTIONS.md says: the rule, followed in the tables from point 0, gives 0, 1, 2, ..
 use mathlib.Core.Path.{_≡_}
 use mathlib.Core.Logic.{_↔_}
 use mathlib.Core.List.{List}

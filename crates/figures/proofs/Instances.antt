@@ -1,4 +1,4 @@
--- The figures, run on the tables of document 01's groups, and at the borders of the two refusals. Its starred instances are proved in the crate
+-- The figures, run on the tables of the groups of docs/CONVENTIONS.md, 12, and at the borders of the two refusals. Its starred instances are proved in the crate
 -- `instances`.
 -- Assumes nothing.
 use mathlib.Core.Path.{_≡_, refl}

@@ -1,5 +1,5 @@
 -- Why the figures are what they are, in reading order: cycles and cusps, the genus, the level; the code's own laws; what upper crates cite;
--- the figures of document 01's groups, computed.
+-- the figures of the groups of docs/CONVENTIONS.md, 12, computed.
 pub mod Cycle
 pub mod Cusps
 pub mod GenusOf

@@ -1,4 +1,4 @@
--- Fixed points and cusps of a table (document 01, "Figures"). The figures e2 and e3 are the fixed points of the tables of S and
+-- Fixed points and cusps of a table (docs/CONVENTIONS.md, 5). The figures e2 and e3 are the fixed points of the tables of S and
 -- of R; the cusps are the cycles of the table of T, listed by smallest point, and a cusp's width is the length of its cycle.
 --     isFixed t x        whether t fixes x
 --     fixedPoints t      how many places the table t fixes

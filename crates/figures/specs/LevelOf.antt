@@ -1,4 +1,4 @@
--- The level (document 01, "Figures"): the least common multiple of the widths, refused with 17 at or over 2^64.
+-- The level (docs/CONVENTIONS.md, 5): the least common multiple of the widths, refused with 17 at or over 2^64.
 --     euclid k a b      k rounds of Euclid's rule; b rounds are enough, since the remainders fall
 --     gcd a b           the greatest common divisor, by Euclid's rule
 --     lcm a b           the least common multiple of two numbers

@@ -1,4 +1,4 @@
-// The figures of document 01, of tables that the crate `numbering` leaves in the work space: fixed points, cusps and their widths,
+// The figures of docs/CONVENTIONS.md, of tables that the crate `numbering` leaves in the work space: fixed points, cusps and their widths,
 // genus and level. The functions have `requires`, for they are called from inside the engine.
 ghost use mathlib.Core.Path.{_≡_};
 ghost use mathlib.Core.List.{_++_};

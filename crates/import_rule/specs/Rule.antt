@@ -1,4 +1,4 @@
--- THE RULE of document 01, "From permutations to a symbol", to the letter. S is σ and Q is κ on the points; the group is that of the
+-- THE RULE of docs/CONVENTIONS.md, 6, to the letter. S is σ and Q is κ on the points; the group is that of the
 -- matrices that fix point 0.
 --
 --   Mark                 what a side is paired as so far: `unpaired`, `even`, `odd` or `free` with a label

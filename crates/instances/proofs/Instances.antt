@@ -1,4 +1,4 @@
--- Each of document 01's starred instances holds: one test over the whole table, and one law that turns it into each of them.
+-- Each of the starred instances holds: one test over the whole table, and one law that turns it into each of them.
 --
 -- In order: the test computes to true (`all-hold`); a test for sameness that passes gives an equation, on lists (`same-list`) and on answers
 -- (`same-answer`); so each instance of a list that passes holds (`holds-at`), and each of the table (`each`). Then, for a reader, two of them

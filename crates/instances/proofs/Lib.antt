@@ -1,2 +1,2 @@
--- Why each of document 01's starred instances holds.
+-- Why each of the starred instances holds.
 pub mod Instances

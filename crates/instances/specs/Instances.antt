@@ -1,8 +1,8 @@
--- DOCUMENT 01'S STARRED INSTANCES, all of them, as one table over the definitions that the public calls promise.
+-- THE STARRED INSTANCES (docs/CONVENTIONS.md, 12), all of them, as one table over the definitions that the public calls promise.
 --
 --   Question               a public call with what it is lent: a symbol of v vertices in the table t, matrices a and b, permutations s and r;
 --                          the length of the work space; what stands in the result spaces
---   Answer                 document 01's number and place of a refusal, both 0 where nothing is refused; and rows of numbers: what the call
+--   Answer                 the number and place of a refusal, both 0 where nothing is refused; and rows of numbers: what the call
 --                          returns, and then what it leaves in each result space
 --   refuses n p rows       the refusal n at the place p
 --   says f rows            the refusal f, or none
@@ -10,13 +10,13 @@
 --   indexIs n              no refusal, and the index n
 --   word l                 no refusal, and the word l, which fills the lent space
 --   answerTo q             THE ANSWER TO q, by those definitions alone
---   Instance, q answers a  what is asked, and what document 01 says
---   instances              THE TABLE, in document 01's order; instanceAt i is the one at the place i
+--   Instance, q answers a  what is asked, and what docs/CONVENTIONS.md says
+--   instances              THE TABLE, in the order of docs/CONVENTIONS.md; instanceAt i is the one at the place i
 --   sameAnswer a b         whether the two are the same, number by number
---   holds x, allHold l     whether the answer is what document 01 says, at x, and at all of l: tests that compute
+--   holds x, allHold l     whether the answer is what docs/CONVENTIONS.md says, at x, and at all of l: tests that compute
 --   Holds x                that it is
 --
--- proofs/Instances.antt: `all-hold`, that `allHold instances` computes to true; `each`, that so each answer is what document 01 says.
+-- proofs/Instances.antt: `all-hold`, that `allHold instances` computes to true; `each`, that so each answer is what docs/CONVENTIONS.md says.
 use mathlib.Core.Path.{_≡_}
 use mathlib.Core.Bool.{Bool, true, false, _&&_}
 use mathlib.Core.List.{List, [], _∷_, map}
@@ -56,7 +56,7 @@ pub data Question : Type 0 where
   tables : (v : ℕ) (t : List ℤ) (work : ℕ) (s r u : List ℕ) → Question
   -- word's `query`, and `word_part` of what it answers
   query : (v : ℕ) (t a b : List ℤ) (work : ℕ) (out : List ℤ) (start : ℕ) → Question
-  -- passport's `import`
+  -- permutations' `import`
   import : (s r : List ℕ) (work : ℕ) (out : List ℤ) → Question
 
 -- ---- what is answered

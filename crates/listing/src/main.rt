@@ -1,5 +1,5 @@
 // The program `listing`: a symbol as text on standard input, and on standard output its index, elliptic counts, cusps with widths, genus,
-// level, generators and coset tables, or the number and the place of its refusal (document 01, "Γ0(2), whole").
+// level, generators and coset tables, or the number and the place of its refusal (docs/CONVENTIONS.md, 10.5).
 //
 // The crate `listing_text` makes all that is written; here it is read and written (`stdio`).
 // Where standard input can't be read to its end, nothing is written to standard output.

@@ -1,4 +1,4 @@
--- WHAT THE PROGRAM `listing` WRITES, byte for byte (document 01, "Γ0(2), whole").
+-- WHAT THE PROGRAM `listing` WRITES, byte for byte (docs/CONVENTIONS.md, 10.5).
 --
 --   indexWord .. oddWord            the words of a listing as bytes; a kind has a space in front
 --   figureLine name f               the line of a figure: its number, or `refused` with number and place

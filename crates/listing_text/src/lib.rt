@@ -1,4 +1,4 @@
-// What the program `listing` writes for a text: all of it, byte for byte, as specs/Listing.antt says (document 01, "Γ0(2), whole").
+// What the program `listing` writes for a text: all of it, byte for byte, as specs/Listing.antt says (docs/CONVENTIONS.md, 10.5).
 use coset::FigureRecord;
 use coset::survey;
 use lines::figure_lines;

@@ -1,5 +1,5 @@
 -- Why the numbering and the tables are what they are, in reading order: places in a list, the numbering, the tables, and that these number
--- themselves; numbers that pass a test; the work space and the code's own laws; what upper crates cite; document 01's groups, computed.
+-- themselves; numbers that pass a test; the work space and the code's own laws; what upper crates cite; the groups of docs/CONVENTIONS.md, 12, computed.
 pub mod Find
 pub mod Order
 pub mod Table

@@ -1,4 +1,4 @@
--- The numbering of document 01 ("Figures"): the start is 0; then, for each point in order, its S image and next its R image
+-- The numbering (docs/CONVENTIONS.md, 4): the start is 0; then, for each point in order, its S image and next its R image
 -- take the next free number if new. The points are numbers below `size`, and σ and ρ are S and R as maps of points.
 --     add l x                     l with x behind it if x is new
 --     visit σ ρ l i               l after a visit to its entry at i: the S image, and next the R image, are added

@@ -1,4 +1,4 @@
-// A finite set with two maps S and R: the numbering of document 01, and the tables of S, R and T by number. Nothing here knows of
+// A finite set with two maps S and R: the numbering of docs/CONVENTIONS.md, and the tables of S, R and T by number. Nothing here knows of
 // polygons: whoever calls fills two tables of images in the work space. The functions have `requires`, for they are called from
 // inside the engine. The figures of the tables are in the crate `figures`.
 ghost use mathlib.Core.Path.{_≡_};

@@ -1,4 +1,4 @@
--- The checks 12 to 15 of document 01, in their order, each with its place: s and r are the tables of S and R.
+-- The checks 12 to 15 of docs/CONVENTIONS.md, in their order, each with its place: s and r are the tables of S and R.
 --
 --   check12 .. check15   the four checks; 13 and 14 look at S before R
 --   checkOf s r          all of them, in order: the first fault counts

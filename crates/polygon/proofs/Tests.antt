@@ -1,4 +1,4 @@
--- The definitions compute, on symbols of document 01.
+-- The definitions compute, on symbols of docs/CONVENTIONS.md.
 --
 -- In order: Γ0(2), with the vertices 0/1 and 1/1 and the pairings 1 -2 1: one triangle, whose corners are 0, 1 and 2, and the outer faces 3, 4 and 5;
 -- the symbols with the vertex 0/1 alone; Γ(2), with two triangles.

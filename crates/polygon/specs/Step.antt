@@ -1,7 +1,7 @@
--- The steps of the walk (document 01, "Pair queries and the walk").
+-- The steps of the walk (docs/CONVENTIONS.md, 7).
 --
 --   oddAt v t i        whether side i is odd
---   real v t p         whether p is a position of document 01: a corner, or the outer face of an odd side
+--   real v t p         whether p is a position of docs/CONVENTIONS.md: a corner, or the outer face of an odd side
 --   Real v t p         that it is. The outer faces of the other sides are counted as positions, and no walk gets there
 --   stepS v t p        where S leads from p. Beyond the edge lies flip p: a corner, or the outer face of some side i. S goes there where
 --                      that is real; through an even side it stays, and through a free one it lands under the partner of i

@@ -1,6 +1,6 @@
--- THE CUT INTO FAREY TRIANGLES, said of a function `frame` from positions to matrices: "The polygon is cut into Farey triangles. A position is
--- an edge of a triangle with that triangle on its right, or an odd side taken from left to right. A frame's matrix sends 0 and infinity to its
--- edge's two ends; S turns the edge round, Q turns within the triangle" (document 01). Nothing here speaks of the scan that finds the triangles.
+-- THE CUT INTO FAREY TRIANGLES (docs/CONVENTIONS.md, 7), said of a function `frame` from positions to matrices. A position is an edge with its
+-- triangle on the right, or a side from left to right; its frame is a matrix that sends 0 and infinity to the two ends of the edge; S turns the
+-- edge round, and Q goes to the next edge of the triangle. Nothing here speaks of the scan that finds the triangles.
 --
 --   Fraction, fraction n d   the fraction n/d, which is infinity where d is 0
 --   opposite x               -n/-d, the same point of the line

@@ -1,4 +1,4 @@
--- WHAT THE PROGRAM `query` WRITES, byte for byte (document 01, "Who can cause a refusal"), and what the call leaves in the lent spaces.
+-- WHAT THE PROGRAM `query` WRITES, byte for byte (docs/CONVENTIONS.md, 10.6), and what the call leaves in the lent spaces.
 --
 --   wordWord                        `word` as bytes
 --   lettersLent                     the letters that the program lends

@@ -1,4 +1,4 @@
-// What the program `query` writes for a text: all of it, byte for byte, as specs/Reply.antt says (document 01, "Who can cause a refusal").
+// What the program `query` writes for a text: all of it, byte for byte, as specs/Reply.antt says (docs/CONVENTIONS.md, 10.6).
 use refusal::BAD_VERTEX_COUNT;
 use refusal::Refusal;
 use text::Format;

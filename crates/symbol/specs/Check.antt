@@ -1,4 +1,4 @@
--- The checks 1 to 7 of document 01, in their order, each with its place. Every later call cites `checkOf`.
+-- The checks 1 to 7 of docs/CONVENTIONS.md, in their order, each with its place. Every later call cites `checkOf`.
 --
 --   refuse b f            refused with f where b holds
 --   refuseAt i n f        refused at i, the first place that fails, where it is below n

@@ -23,7 +23,7 @@ pub record ZeroAt (v : ℕ) (t : List ℤ) : Type 0 where
   pub num : numer t at ≡ pos 0
   pub den : denom t at ≡ pos 1
 
--- a free label that just two sides have
+-- a free label that exactly two sides have
 pub record FreeLabel (v : ℕ) (t : List ℤ) (x : ℤ) : Type 0 where
   pub label : ℕ
   pub is : x ≡ pos label

@@ -1,4 +1,4 @@
-// A Farey symbol in a lent table: the checks of document 01, and its sides with their frames and generators.
+// A Farey symbol in a lent table: the checks of docs/CONVENTIONS.md, and its sides with their frames and generators.
 //
 // A table of a symbol with v vertices holds 2v vertex entries and then v + 1 pairings. specs/ says what each call returns and leaves.
 use refusal::BAD_PAIRING;

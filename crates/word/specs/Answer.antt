@@ -10,7 +10,7 @@
 --   foundWord v t m n           the word that it writes
 --   fits start n room           whether n letters fit in a space of `room` letters from the place `start` on
 --   roomOf, foundOf             the word, or 11 with its length; the same, or 10 where the walk doesn't come home
---   queryOf v t a b work room start     the refusals in document 01's order, or the word
+--   queryOf v t a b work room start     the refusals in the order of docs/CONVENTIONS.md, or the word
 --   workLeft v t a b w          what the call leaves in the work space: zeros where it got past the length check, else all as it was
 --   placed start l out          the letters l in place of those that stood from `start` on
 --   wordLeft r l out            what the call leaves in the word space: the letters l from the start place on, or all as it was

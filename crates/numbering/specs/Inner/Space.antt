@@ -7,7 +7,7 @@
 --     20480   ORDER      ORDER      the position of each number
 --     24576   R_TABLE    R-TABLE    the images of the coset numbers under R
 --     28672   T_TABLE    T-TABLE    the images of the coset numbers under T
--- What stands below 4096 is the caller's. A position is a place in the tables of images (document 01 has the word); upper
+-- What stands below 4096 is the caller's. A position is a place in the tables of images (docs/CONVENTIONS.md has the word); upper
 -- crates say what their positions are.
 --     WORK                  the length of the work space; ROOM: the most entries that a table has room for (4,090 are needed)
 --     entries off n w       the table of n entries at off
