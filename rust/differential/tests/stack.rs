@@ -16,10 +16,10 @@ use std::path::Path;
 use std::ptr;
 
 use farey::calls;
-use reckoning::random::drafts::{draft_of_size, many_cusps};
-use reckoning::random::matrices::{any_pair, far};
-use reckoning::random::pairs::{dice_pair, shallow_pair, zigzag_pair};
-use reckoning::random::Rng;
+use reference::random::drafts::{draft_of_size, many_cusps};
+use reference::random::matrices::{any_pair, far};
+use reference::random::pairs::{dice_pair, shallow_pair, zigzag_pair};
+use reference::random::Rng;
 
 /// What a thread's stack is filled with.
 const PAINT: u8 = 0xA5;

@@ -25,10 +25,10 @@ use std::thread;
 use std::time::{Duration, Instant};
 
 use child::{farey, repository, shown, Program};
-use reckoning::random::pairs::shallow_pair;
-use reckoning::random::Rng;
-use reckoning::text::MAX_TEXT;
-use reckoning::{import, listing, query};
+use reference::random::pairs::shallow_pair;
+use reference::random::Rng;
+use reference::text::MAX_TEXT;
+use reference::{import, listing, query};
 
 /// How long a program may take before it counts as hanging.
 const TIME_LIMIT: Duration = Duration::from_secs(120);
@@ -57,7 +57,7 @@ struct Subject {
     name: &'static str,
     program: Program,
     by_script: bool,
-    reckoned: fn(&[u8]) -> String,
+    reference: fn(&[u8]) -> String,
     /// A text whose last number loses a digit, or its neighbours, when cut short.
     text: &'static str,
 }
@@ -87,7 +87,7 @@ impl Subject {
         ];
         let mut all = Vec::new();
         for by_script in [false, true] {
-            for (variable, name, reckoned, text) in rows {
+            for (variable, name, reference, text) in rows {
                 let named = if by_script {
                     farey()
                 } else {
@@ -97,7 +97,7 @@ impl Subject {
                     name,
                     program,
                     by_script,
-                    reckoned,
+                    reference,
                     text,
                 }));
             }
@@ -280,7 +280,7 @@ fn no_output() {
 #[test]
 fn two_pieces_without_waiting() {
     for subject in Subject::all() {
-        let expected = (subject.reckoned)(subject.text.as_bytes());
+        let expected = (subject.reference)(subject.text.as_bytes());
         // A script takes longer to start, so of its cuts only some are made.
         let step = if subject.by_script { 5 } else { 1 };
         for cut in (0..subject.text.len()).rev().step_by(step) {
@@ -335,7 +335,7 @@ fn a_full_buffer_without_an_end() {
 #[test]
 fn two_pieces_with_waiting() {
     for subject in Subject::all() {
-        let expected = (subject.reckoned)(subject.text.as_bytes());
+        let expected = (subject.reference)(subject.text.as_bytes());
         for cut in [1, subject.text.len() - 1] {
             let (first, second) = subject.text.split_at(cut);
             let mut command = subject.command();
@@ -398,7 +398,7 @@ fn a_reader_that_went_away() {
 fn a_full_pipe_without_waiting() {
     for subject in Subject::all() {
         let text = subject.long_text();
-        let expected = (subject.reckoned)(text.as_bytes());
+        let expected = (subject.reference)(text.as_bytes());
         assert!(expected.len() > SMALL as usize, "{expected}");
         let (reader, writer) = new_pipe();
         set_non_blocking(&writer);
