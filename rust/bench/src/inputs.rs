@@ -1,7 +1,7 @@
 //! Texts to measure with, the same ones every time.
 
-use reckoning::random::drafts::{pairings, polygon, Draft, Growth, Style, Zero};
-use reckoning::random::Rng;
+use reference::random::drafts::{pairings, polygon, Draft, Growth, Style, Zero};
+use reference::random::Rng;
 
 use crate::import::plain_import;
 use crate::listing::{tables, Tables};

@@ -13,7 +13,7 @@
 //! | `inputs`  | texts to measure with                                            |
 //! | `timing`  | wall times of two programs, run by turns                         |
 //!
-//! Every answer is the same, byte for byte, as that of the reckoning beside it;
+//! Every answer is the same, byte for byte, as that of the reference beside it;
 //! `tests/` compares the two.
 
 #![forbid(unsafe_code)]

@@ -1,16 +1,16 @@
-//! The yardstick prints what the reckoning prints: a fast program that gave
+//! The yardstick prints what the reference prints: a fast program that gave
 //! other answers would be no measure.
 
 use bench::inputs::inputs;
 use bench::{plain_import, plain_listing, plain_query};
-use reckoning::random::{import_case, listing_case, query_case};
-use reckoning::{import, listing, query};
+use reference::random::{import_case, listing_case, query_case};
+use reference::{import, listing, query};
 
-fn same(text: &[u8], plain: &[u8], reckoned: &str) {
+fn same(text: &[u8], plain: &[u8], reference: &str) {
     let start = &text[..text.len().min(500)];
     assert!(
-        plain == reckoned.as_bytes(),
-        "text: {}\nplain: {:.500}\nreckoned: {reckoned:.500}",
+        plain == reference.as_bytes(),
+        "text: {}\nplain: {:.500}\nreference: {reference:.500}",
         start.escape_ascii(),
         String::from_utf8_lossy(plain)
     );
@@ -45,12 +45,12 @@ fn imports() {
 fn measured_texts() {
     for input in inputs() {
         let text = input.text.as_bytes();
-        let (plain, reckoned) = match input.name.split('-').next() {
+        let (plain, reference) = match input.name.split('-').next() {
             Some("listing") => (plain_listing(text), listing(text)),
             Some("query") => (plain_query(text), query(text)),
             _ => (plain_import(text), import(text)),
         };
-        same(text, &plain, &reckoned);
+        same(text, &plain, &reference);
         let expected = match input.name {
             "listing-short.txt" => "index 3\n",
             "listing-1023.txt" => "index ",
@@ -64,8 +64,8 @@ fn measured_texts() {
             name => panic!("{name} isn't known here"),
         };
         assert!(
-            reckoned.starts_with(expected),
-            "{}: {reckoned:.80}",
+            reference.starts_with(expected),
+            "{}: {reference:.80}",
             input.name
         );
     }

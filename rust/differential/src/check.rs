@@ -1,7 +1,7 @@
 //! `check`: whether a table holds a symbol, refusals 1 to 7.
 
 use farey::calls;
-use reckoning::random::Rng;
+use reference::random::Rng;
 
 use crate::outcome::Outcome;
 use crate::symbols::Lent;

@@ -6,11 +6,11 @@
 //! a surface's genus is a whole number from 0.
 
 use farey::calls;
-use reckoning::coset::Cosets;
-use reckoning::random::drafts::many_cusps;
-use reckoning::random::Rng;
-use reckoning::symbol::Symbol;
-use reckoning::Refusal;
+use reference::coset::Cosets;
+use reference::random::drafts::many_cusps;
+use reference::random::Rng;
+use reference::symbol::Symbol;
+use reference::Refusal;
 
 use crate::outcome::{Expected, Outcome};
 use crate::spaces::{work, Space};

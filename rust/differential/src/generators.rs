@@ -1,8 +1,8 @@
 //! `generators`: kind and matrix of each.
 
 use farey::calls;
-use reckoning::random::Rng;
-use reckoning::symbol::{Generator, Kind, Symbol};
+use reference::random::Rng;
+use reference::symbol::{Generator, Kind, Symbol};
 
 use crate::listed;
 use crate::outcome::Outcome;

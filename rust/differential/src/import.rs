@@ -2,11 +2,11 @@
 //! the work space, 16, 11 for the result space.
 
 use farey::calls;
-use reckoning::permutations::Action;
-use reckoning::random::pairs::{pair, put_pair_fault, shallow_pair, PAIR_FAULTS};
-use reckoning::random::Rng;
-use reckoning::symbol::MAX_VERTICES;
-use reckoning::text::MAX_POINTS;
+use reference::permutations::Action;
+use reference::random::pairs::{pair, put_pair_fault, shallow_pair, PAIR_FAULTS};
+use reference::random::Rng;
+use reference::symbol::MAX_VERTICES;
+use reference::text::MAX_POINTS;
 
 use crate::outcome::{Expected, Outcome};
 use crate::spaces::{work, Space};

@@ -1,8 +1,8 @@
-//! Random calls of the proved engine, compared with the reckoning.
+//! Random calls of the proved engine, compared with the reference.
 //!
 //! A case makes each call once, through `farey::calls` and on spaces full of
 //! random numbers. The answer, and every number of every space afterwards, is
-//! compared with what the reckoning and the order of refusals give: nothing
+//! compared with what the reference and the order of refusals give: nothing
 //! that is expected comes from the engine.
 //!
 //! | module       | what it holds                                               |
@@ -34,7 +34,7 @@ use std::ops::Range;
 
 use counts::Tally;
 use outcome::Outcome;
-use reckoning::random::Rng;
+use reference::random::Rng;
 
 /// A call's name and its cases.
 pub type Call = (&'static str, fn(&mut Rng) -> Outcome);

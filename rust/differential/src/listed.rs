@@ -2,8 +2,8 @@
 //! for the work space, 11 for the result space.
 
 use farey::Refusal;
-use reckoning::random::Rng;
-use reckoning::symbol::Symbol;
+use reference::random::Rng;
+use reference::symbol::Symbol;
 
 use crate::outcome::{Expected, Outcome};
 use crate::spaces::{work, Number, Space};

@@ -2,7 +2,7 @@
 
 use std::fmt::{self, Display};
 
-use reckoning::Refusal;
+use reference::Refusal;
 
 use crate::spaces::{Number, Space, WORK};
 
@@ -39,7 +39,7 @@ impl<R> Expected<R> {
 /// The answer of a call: its count, or a refusal.
 pub type Answer = Result<usize, farey::Refusal>;
 
-/// A refusal of the reckoning in the engine's types.
+/// A refusal of the reference in the engine's types.
 fn refused(refusal: Refusal) -> farey::Refusal {
     farey::Refusal {
         number: refusal.number.into(),

@@ -2,14 +2,14 @@
 //! 10, 11 for the word's space from its start place on.
 
 use farey::calls;
-use reckoning::coset::Cosets;
-use reckoning::matrix::Matrix;
-use reckoning::random::drafts::{draft_of_size, size};
-use reckoning::random::matrices::{any_pair, found_pair, put_matrix_fault};
-use reckoning::random::Rng;
-use reckoning::symbol::Symbol;
-use reckoning::word::{check_matrices, pair_query, takes};
-use reckoning::Refusal;
+use reference::coset::Cosets;
+use reference::matrix::Matrix;
+use reference::random::drafts::{draft_of_size, size};
+use reference::random::matrices::{any_pair, found_pair, put_matrix_fault};
+use reference::random::Rng;
+use reference::symbol::Symbol;
+use reference::word::{check_matrices, pair_query, takes};
+use reference::Refusal;
 
 use crate::outcome::{Expected, Outcome};
 use crate::spaces::{around, work, Space};

@@ -2,9 +2,9 @@
 //! first, then for the second, 11 for the work space.
 
 use farey::calls;
-use reckoning::random::drafts::{draft, draft_of_size, pairings, Draft, Style};
-use reckoning::random::Rng;
-use reckoning::symbol::same;
+use reference::random::drafts::{draft, draft_of_size, pairings, Draft, Style};
+use reference::random::Rng;
+use reference::symbol::same;
 
 use crate::outcome::{Expected, Outcome};
 use crate::spaces::work;

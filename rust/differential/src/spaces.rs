@@ -3,8 +3,8 @@
 
 use std::fmt::Debug;
 
-use reckoning::random::Rng;
-use reckoning::Refusal;
+use reference::random::Rng;
+use reference::Refusal;
 
 /// The length of the work space, as `include/farey.h` names it.
 pub const WORK: usize = 32_768;

@@ -1,10 +1,10 @@
 //! Symbols as they are lent: v and a table, sound or damaged.
 
-use reckoning::random::drafts::{draft, draft_of_size, Draft};
-use reckoning::random::faults::{poke, put_fault, SYMBOL_FAULTS};
-use reckoning::random::Rng;
-use reckoning::symbol::{Symbol, EVEN, MAX_VERTICES, ODD};
-use reckoning::Refusal;
+use reference::random::drafts::{draft, draft_of_size, Draft};
+use reference::random::faults::{poke, put_fault, SYMBOL_FAULTS};
+use reference::random::Rng;
+use reference::symbol::{Symbol, EVEN, MAX_VERTICES, ODD};
+use reference::Refusal;
 
 use crate::spaces::Space;
 

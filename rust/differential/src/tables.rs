@@ -2,8 +2,8 @@
 //! space, 11 for the result spaces, s before r before u.
 
 use farey::calls;
-use reckoning::coset::Cosets;
-use reckoning::random::Rng;
+use reference::coset::Cosets;
+use reference::random::Rng;
 
 use crate::outcome::{Expected, Outcome};
 use crate::spaces::{work, Space};

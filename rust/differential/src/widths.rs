@@ -1,9 +1,9 @@
 //! `widths`: those of the cusps, by the smallest coset of each.
 
 use farey::calls;
-use reckoning::coset::Cosets;
-use reckoning::random::Rng;
-use reckoning::symbol::Symbol;
+use reference::coset::Cosets;
+use reference::random::Rng;
+use reference::symbol::Symbol;
 
 use crate::listed;
 use crate::outcome::Outcome;

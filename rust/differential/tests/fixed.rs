@@ -61,7 +61,7 @@ fn met_all(call: &str, tally: &Tally) {
 }
 
 #[test]
-fn every_call_is_as_reckoned() {
+fn every_call_is_as_the_reference_has_it() {
     let tallies = run(SEED, 0..CASES).unwrap_or_else(|difference| panic!("{difference}"));
     // Shown also where the test passes, which `println!` isn't.
     writeln!(stdout(), "\n{}", table(&tallies)).expect("standard output is open");

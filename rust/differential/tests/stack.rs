@@ -16,10 +16,10 @@ use std::path::Path;
 use std::ptr;
 
 use farey::calls;
-use reckoning::random::drafts::{draft_of_size, many_cusps};
-use reckoning::random::matrices::{any_pair, far};
-use reckoning::random::pairs::{dice_pair, shallow_pair, zigzag_pair};
-use reckoning::random::Rng;
+use reference::random::drafts::{draft_of_size, many_cusps};
+use reference::random::matrices::{any_pair, far};
+use reference::random::pairs::{dice_pair, shallow_pair, zigzag_pair};
+use reference::random::Rng;
 
 /// What a thread's stack is filled with.
 const PAINT: u8 = 0xA5;
@@ -93,9 +93,11 @@ impl Most {
     }
 }
 
-/// The number that the header gives.
+/// The number that the header gives: that of the run's own repository, which
+/// cargo names, and not of the one in which this test was compiled.
 fn promised() -> usize {
-    let header = Path::new(env!("CARGO_MANIFEST_DIR")).join("../../include/farey.h");
+    let here = std::env::var("CARGO_MANIFEST_DIR").expect("cargo runs the tests");
+    let header = Path::new(&here).join("../../include/farey.h");
     let header = std::fs::read_to_string(header).expect("the header can be read");
     let line = header
         .lines()

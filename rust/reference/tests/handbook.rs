@@ -1,5 +1,5 @@
 //! The pages of docs/HANDBOOK.md: what they show of files and of the programs'
-//! answers is so, by the reckoning, by the programs and by `./farey`. Its Rust
+//! answers is so, by the reference, by the programs and by `./farey`. Its Rust
 //! blocks are tests of the crate `farey`. And the commands of README.md.
 //!
 //! | block                     | what is checked                                       |
@@ -8,7 +8,7 @@
 //! | `console`                 | `$ COMMAND`, and then all that the command prints     |
 //! | a row of the refusals     | the program answers its example so, and the sentence  |
 //! |                           | is that of rust/farey/refusals.txt                    |
-//! | `./farey ..` of README.md | it prints what the reckoning says                     |
+//! | `./farey ..` of README.md | it prints what the reference says                     |
 
 mod child;
 
@@ -16,7 +16,7 @@ use std::fs;
 use std::process::Command;
 
 use child::{farey, repository, Program};
-use reckoning::{import, listing, query};
+use reference::{import, listing, query};
 
 /// A block between two fences: what stands behind the first one, and the lines.
 struct Block {
@@ -84,15 +84,15 @@ fn rows(page: &str) -> Vec<Row> {
         .collect()
 }
 
-/// What the reckoning says, and what the program says.
+/// What the reference says, and what the program says.
 fn answers(program: &str, text: &[u8]) -> [String; 2] {
-    let (variable, reckoned): (_, fn(&[u8]) -> String) = match program {
+    let (variable, reference): (_, fn(&[u8]) -> String) = match program {
         "listing" => ("LISTING_PROGRAM", listing),
         "query" => ("QUERY_PROGRAM", query),
         "import" => ("IMPORT_PROGRAM", import),
         _ => panic!("there is no program {program}"),
     };
-    let expected = reckoned(text);
+    let expected = reference(text);
     match Program::named_by(variable) {
         Some(named) => [expected, named.output(text)],
         None => [expected.clone(), expected],
@@ -100,7 +100,7 @@ fn answers(program: &str, text: &[u8]) -> [String; 2] {
 }
 
 /// The answers to a command `./farey PROGRAM < PATH`, perhaps with `| ./farey
-/// PROGRAM` behind it: by the reckoning, by the programs, and by the command
+/// PROGRAM` behind it: by the reference, by the programs, and by the command
 /// itself. `./farey` alone lists Γ0(2).
 fn run(command: &str) -> [String; 3] {
     let whole = match command {
@@ -120,12 +120,12 @@ fn run(command: &str) -> [String; 3] {
         assert_eq!(came[0], came[1], "{command}");
         came = answers(&named(stage), came[0].as_bytes());
     }
-    let [reckoned, by_programs] = came;
+    let [reference, by_programs] = came;
     let by_script = match farey() {
         Some(_) => output_of(command),
-        None => reckoned.clone(),
+        None => reference.clone(),
     };
-    [reckoned, by_programs, by_script]
+    [reference, by_programs, by_script]
 }
 
 /// What a command prints, in the folder of the repository.
@@ -187,9 +187,9 @@ fn commands_of_the_first_page() {
         .map(|line| line.split("  ").next().expect("there is a command"))
         .collect();
     for command in &commands {
-        let [reckoned, by_programs, by_script] = run(command);
-        assert_eq!(by_programs, reckoned, "{command}");
-        assert_eq!(by_script, reckoned, "{command}");
+        let [reference, by_programs, by_script] = run(command);
+        assert_eq!(by_programs, reference, "{command}");
+        assert_eq!(by_script, reference, "{command}");
     }
     assert!(commands.len() >= 4, "only {commands:?}");
     assert!(commands.iter().any(|command| command.contains(" | ")));

@@ -1,13 +1,13 @@
 //! Laws that hold for every symbol, on random ones; and the three roads to a
 //! word, which must agree.
 
-use reckoning::coset::Cosets;
-use reckoning::matrix::{Matrix, I, R, S};
-use reckoning::random::drafts::{draft, draft_of_size, many_cusps, Draft};
-use reckoning::random::matrices::{any_pair, found_pair, matrix};
-use reckoning::random::Rng;
-use reckoning::symbol::{Symbol, EVEN, ODD};
-use reckoning::word::{alternating_word, carried_word, related, takes, walk, Turn};
+use reference::coset::Cosets;
+use reference::matrix::{Matrix, I, R, S};
+use reference::random::drafts::{draft, draft_of_size, many_cusps, Draft};
+use reference::random::matrices::{any_pair, found_pair, matrix};
+use reference::random::Rng;
+use reference::symbol::{Symbol, EVEN, ODD};
+use reference::word::{alternating_word, carried_word, related, takes, walk, Turn};
 
 fn sound(draft: &Draft) -> Symbol {
     Symbol::from_numbers(&draft.numbers()).unwrap_or_else(|r| panic!("{r} for {draft:?}"))

@@ -1,4 +1,4 @@
-//! The engine's programs against this reckoning, line by line, and against what
+//! The engine's programs against the reference, line by line, and against what
 //! is known of the groups from elsewhere.
 //!
 //! | variable          | its program                                            |
@@ -14,22 +14,22 @@ mod child;
 use std::collections::BTreeMap;
 
 use child::{shown, Program};
-use reckoning::coset::Cosets;
-use reckoning::matrix::Matrix;
-use reckoning::random::drafts::{draft_of_size, many_cusps, pairings, size, Draft, Style};
-use reckoning::random::faults::{
+use reference::coset::Cosets;
+use reference::matrix::Matrix;
+use reference::random::drafts::{draft_of_size, many_cusps, pairings, size, Draft, Style};
+use reference::random::faults::{
     faulty_text, full_text, poke, put_fault, scratch, typed, SYMBOL_FAULTS, TEXT_FAULTS,
 };
-use reckoning::random::matrices::{any_pair, far, found_pair, put_matrix_fault};
-use reckoning::random::pairs::{
+use reference::random::matrices::{any_pair, far, found_pair, put_matrix_fault};
+use reference::random::pairs::{
     dice_pair, fraction_at_the_limit, pair, pair_towards, put_pair_fault, shallow_pair,
     symbol_pair, zigzag_pair, PAIR_FAULTS,
 };
-use reckoning::random::{import_case, listing_case, query_case, Rng};
-use reckoning::symbol::{Pairing, Symbol, MAX_ENTRY, MAX_VERTICES};
-use reckoning::text::{numbers, Format, MAX_TEXT};
-use reckoning::word::takes;
-use reckoning::{import, listing, query};
+use reference::random::{import_case, listing_case, query_case, Rng};
+use reference::symbol::{Pairing, Symbol, MAX_ENTRY, MAX_VERTICES};
+use reference::text::{numbers, Format, MAX_TEXT};
+use reference::word::takes;
+use reference::{import, listing, query};
 
 const FIGURES: &str = include_str!("../data/symbols.txt");
 const PAIRS: &str = include_str!("../data/permutations.txt");
@@ -636,7 +636,7 @@ fn meets_the_condition(family: &str, n: i128, x: Matrix) -> bool {
 }
 
 /// A word is found exactly when B A^-1 meets the group's congruence condition.
-/// What is expected here doesn't come from the reckoning.
+/// What is expected here doesn't come from the reference.
 #[test]
 fn query_of_congruence_groups() {
     let Some(program) = Program::named_by("QUERY_PROGRAM") else {
@@ -691,7 +691,7 @@ fn query_of_congruence_groups() {
 
 // The import program
 
-/// The stored pairs: the program's symbol is that of the reckoning, and its
+/// The stored pairs: the program's symbol is that of the reference, and its
 /// listing has the stored figures.
 #[test]
 fn import_of_stored_pairs() {

@@ -1,4 +1,5 @@
-//! The listing program of this reckoning: a symbol's text in, its figures out.
+//! The reference's query program: a symbol and two matrices in, a word or
+//! a refusal out.
 
 #![forbid(unsafe_code)]
 
@@ -7,5 +8,5 @@ use std::io::{self, Read, Write};
 fn main() -> io::Result<()> {
     let mut text = Vec::new();
     io::stdin().read_to_end(&mut text)?;
-    io::stdout().write_all(reckoning::listing(&text).as_bytes())
+    io::stdout().write_all(reference::query(&text).as_bytes())
 }

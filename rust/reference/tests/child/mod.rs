@@ -54,10 +54,11 @@ pub fn farey() -> Option<Program> {
     Some(script)
 }
 
-/// The folder that holds the whole project.
+/// The folder that holds the whole project: that of the run, which cargo names,
+/// and not that in which this test was compiled.
 pub fn repository() -> PathBuf {
-    let here = Path::new(env!("CARGO_MANIFEST_DIR"));
-    let root = here.ancestors().nth(2);
+    let here = env::var("CARGO_MANIFEST_DIR").expect("cargo runs the tests");
+    let root = Path::new(&here).ancestors().nth(2);
     root.expect("this crate lies two folders deep")
         .to_path_buf()
 }

@@ -2,11 +2,12 @@
 //! text where it isn't, and an answer that can't be written isn't passed over in
 //! silence.
 //!
-//! | what fails           | what must be so                                                       |
-//! |----------------------|-----------------------------------------------------------------------|
-//! | a read               | nothing on standard output, a line `farey: ..` on standard error      |
-//! | a write              | a line `farey: ..` on standard error; what was written is a beginning |
-//! | nothing, but a pause | the answer to the whole text                                          |
+//! | what fails             | what must be so                                                       |
+//! |------------------------|-----------------------------------------------------------------------|
+//! | a read                 | nothing on standard output, a line `farey: ..` on standard error      |
+//! | a write                | a line `farey: ..` on standard error; what was written is a beginning |
+//! | a reader that is gone  | the system's signal ends it, unless it is ignored: then as a write    |
+//! | nothing, but a pause   | the answer to the whole text                                          |
 //!
 //! Each test is made of each of the three programs (`LISTING_PROGRAM`,
 //! `QUERY_PROGRAM`, `IMPORT_PROGRAM`) and of `./farey` with each of their names
@@ -25,29 +26,30 @@ use std::thread;
 use std::time::{Duration, Instant};
 
 use child::{farey, repository, shown, Program};
-use reckoning::random::pairs::shallow_pair;
-use reckoning::random::Rng;
-use reckoning::text::MAX_TEXT;
-use reckoning::{import, listing, query};
+use reference::random::pairs::shallow_pair;
+use reference::random::Rng;
+use reference::text::MAX_TEXT;
+use reference::{import, listing, query};
 
 /// How long a program may take before it counts as hanging.
 const TIME_LIMIT: Duration = Duration::from_secs(120);
-/// The pause between two pieces of a text.
-const PAUSE: Duration = Duration::from_millis(15);
 
-// What fcntl is asked, on Linux.
+// What fcntl, ioctl and pipe2 are asked, on Linux.
 const F_GETFL: i32 = 3;
 const F_SETFL: i32 = 4;
 const F_SETPIPE_SZ: i32 = 1031;
+const FIONREAD: u64 = 0x541B;
 const O_NONBLOCK: i32 = 0o4000;
+const O_CLOEXEC: i32 = 0o2000000;
 const SIGPIPE: i32 = 13;
 const SIG_IGN: usize = 1;
 /// The room of a small pipe: one page.
 const SMALL: i32 = 4096;
 
 extern "C" {
-    fn pipe(fds: *mut i32) -> i32;
+    fn pipe2(fds: *mut i32, flags: i32) -> i32;
     fn fcntl(fd: i32, command: i32, ...) -> i32;
+    fn ioctl(fd: i32, request: u64, ...) -> i32;
     fn close(fd: i32) -> i32;
     fn signal(number: i32, handler: usize) -> usize;
 }
@@ -57,7 +59,7 @@ struct Subject {
     name: &'static str,
     program: Program,
     by_script: bool,
-    reckoned: fn(&[u8]) -> String,
+    reference: fn(&[u8]) -> String,
     /// A text whose last number loses a digit, or its neighbours, when cut short.
     text: &'static str,
 }
@@ -87,7 +89,7 @@ impl Subject {
         ];
         let mut all = Vec::new();
         for by_script in [false, true] {
-            for (variable, name, reckoned, text) in rows {
+            for (variable, name, reference, text) in rows {
                 let named = if by_script {
                     farey()
                 } else {
@@ -97,7 +99,7 @@ impl Subject {
                     name,
                     program,
                     by_script,
-                    reckoned,
+                    reference,
                     text,
                 }));
             }
@@ -117,6 +119,13 @@ impl Subject {
     fn called(&self) -> String {
         let by = if self.by_script { "./farey " } else { "" };
         format!("{by}{}", self.name)
+    }
+
+    /// Where the text is cut in two. A script takes longer to start, so of its
+    /// cuts only some are made.
+    fn cuts(&self) -> Vec<usize> {
+        let step = if self.by_script { 5 } else { 1 };
+        (0..self.text.len()).rev().step_by(step).collect()
     }
 
     /// A text whose answer has more than `SMALL` bytes.
@@ -142,8 +151,9 @@ impl Subject {
             .stderr
             .lines()
             .filter(|line| line.starts_with("farey:"));
-        assert!(
-            told.count() > 0,
+        assert_eq!(
+            told.count(),
+            1,
             "{}, {on}: standard error is {:?}",
             self.called(),
             came.stderr
@@ -198,12 +208,13 @@ fn ended(mut child: Child) -> Came {
     }
 }
 
-/// The two ends of a new pipe: to read from, to write to.
+/// The two ends of a new pipe: to read from, to write to. No child holds one that
+/// wasn't given to it.
 fn new_pipe() -> (OwnedFd, OwnedFd) {
     let mut fds = [0; 2];
-    // SAFETY: `pipe` fills two numbers, which are nobody else's descriptors.
+    // SAFETY: `pipe2` fills two numbers, which are nobody else's descriptors.
     unsafe {
-        assert_eq!(pipe(fds.as_mut_ptr()), 0);
+        assert_eq!(pipe2(fds.as_mut_ptr(), O_CLOEXEC), 0);
         (OwnedFd::from_raw_fd(fds[0]), OwnedFd::from_raw_fd(fds[1]))
     }
 }
@@ -214,6 +225,22 @@ fn set_non_blocking(end: &OwnedFd) {
         let flags = fcntl(end.as_raw_fd(), F_GETFL);
         assert!(flags >= 0);
         assert_eq!(fcntl(end.as_raw_fd(), F_SETFL, flags | O_NONBLOCK), 0);
+    }
+}
+
+/// Waits until nothing is left in a pipe, because its reader has taken it.
+fn wait_until_read(end: &OwnedFd) {
+    let start = Instant::now();
+    loop {
+        let mut left = 0i32;
+        // SAFETY: the call writes one number, which is ours.
+        let answer = unsafe { ioctl(end.as_raw_fd(), FIONREAD, &mut left as *mut i32) };
+        assert_eq!(answer, 0);
+        if left == 0 {
+            return;
+        }
+        assert!(start.elapsed() < TIME_LIMIT, "nobody reads");
+        thread::sleep(Duration::from_millis(1));
     }
 }
 
@@ -276,40 +303,23 @@ fn no_output() {
     }
 }
 
-/// A pipe that doesn't wait: its text comes in two pieces, cut anywhere.
+/// A pipe that doesn't wait: it has a first piece of the text, cut anywhere, and
+/// the second one doesn't come before the program has ended.
 #[test]
-fn two_pieces_without_waiting() {
+fn a_piece_without_waiting() {
     for subject in Subject::all() {
-        let expected = (subject.reckoned)(subject.text.as_bytes());
-        // A script takes longer to start, so of its cuts only some are made.
-        let step = if subject.by_script { 5 } else { 1 };
-        for cut in (0..subject.text.len()).rev().step_by(step) {
+        for cut in subject.cuts() {
             let (reader, writer) = new_pipe();
             set_non_blocking(&reader);
             let mut writer = File::from(writer);
-            let (first, second) = subject.text.split_at(cut);
+            let first = &subject.text[..cut];
             writer.write_all(first.as_bytes()).expect("there is room");
             let mut command = subject.command();
             command.stdin(reader).stdout(Stdio::piped());
-            let child = command.spawn().expect("the program starts");
-            // The command holds the reading end too.
-            drop(command);
-            thread::sleep(PAUSE);
-            // The program may have ended already.
-            let _ = writer.write_all(second.as_bytes());
+            let came = ended(command.spawn().expect("the program starts"));
+            subject.must_not_answer(&came, &format!("cut at {cut}"));
+            // So long there was somebody who could have written more.
             drop(writer);
-            let came = ended(child);
-            let on = format!("cut at {cut}");
-            if came.stdout.is_empty() {
-                subject.must_not_answer(&came, &on);
-            } else {
-                assert_eq!(
-                    String::from_utf8_lossy(&came.stdout),
-                    expected,
-                    "{}, {on}",
-                    subject.called()
-                );
-            }
         }
     }
 }
@@ -332,24 +342,29 @@ fn a_full_buffer_without_an_end() {
     }
 }
 
+/// A pipe that waits: the second piece comes when the first has been read.
 #[test]
 fn two_pieces_with_waiting() {
     for subject in Subject::all() {
-        let expected = (subject.reckoned)(subject.text.as_bytes());
-        for cut in [1, subject.text.len() - 1] {
+        let expected = (subject.reference)(subject.text.as_bytes());
+        for cut in subject.cuts() {
+            let (reader, writer) = new_pipe();
+            let seen = reader.try_clone().expect("a descriptor can be copied");
+            let mut writer = File::from(writer);
             let (first, second) = subject.text.split_at(cut);
+            writer.write_all(first.as_bytes()).expect("there is room");
             let mut command = subject.command();
-            command.stdin(Stdio::piped()).stdout(Stdio::piped());
-            let mut child = command.spawn().expect("the program starts");
-            let mut stdin = child.stdin.take().expect("stdin is piped");
-            stdin.write_all(first.as_bytes()).expect("it is read");
-            thread::sleep(PAUSE);
-            stdin.write_all(second.as_bytes()).expect("it is read");
-            drop(stdin);
+            command.stdin(reader).stdout(Stdio::piped());
+            let child = command.spawn().expect("the program starts");
+            drop(command);
+            wait_until_read(&seen);
+            writer.write_all(second.as_bytes()).expect("it is read");
+            drop((writer, seen));
             let came = ended(child);
-            assert_eq!(String::from_utf8_lossy(&came.stdout), expected);
-            assert_eq!(came.stderr, "", "{}", subject.called());
-            assert!(came.status.success(), "{}", subject.called());
+            let on = format!("{}, cut at {cut}", subject.called());
+            assert_eq!(String::from_utf8_lossy(&came.stdout), expected, "{on}");
+            assert_eq!(came.stderr, "", "{on}");
+            assert!(came.status.success(), "{on}");
         }
     }
 }
@@ -383,11 +398,12 @@ fn a_reader_that_went_away() {
                 };
             }
             let came = ended(with_text(&mut command, subject.text));
-            // The system ends a program that doesn't ignore the signal.
-            if came.status.signal() != Some(SIGPIPE) {
+            if ignored {
                 subject.must_tell(&came, "a reader that went away");
             } else {
-                assert!(!ignored, "{}", subject.called());
+                // The system ends it, and a shell shows that as status 141.
+                assert_eq!(came.status.signal(), Some(SIGPIPE), "{}", subject.called());
+                assert_eq!(came.stderr, "", "{}", subject.called());
             }
         }
     }
@@ -398,7 +414,7 @@ fn a_reader_that_went_away() {
 fn a_full_pipe_without_waiting() {
     for subject in Subject::all() {
         let text = subject.long_text();
-        let expected = (subject.reckoned)(text.as_bytes());
+        let expected = (subject.reference)(text.as_bytes());
         assert!(expected.len() > SMALL as usize, "{expected}");
         let (reader, writer) = new_pipe();
         set_non_blocking(&writer);

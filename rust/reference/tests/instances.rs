@@ -1,8 +1,8 @@
 //! The instances that the scope names, word for word.
 
-use reckoning::symbol::Symbol;
-use reckoning::word::pair_query;
-use reckoning::{listing, query, Refusal};
+use reference::symbol::Symbol;
+use reference::word::pair_query;
+use reference::{listing, query, Refusal};
 
 const I: [i64; 4] = [1, 0, 0, 1];
 const S: [i64; 4] = [0, -1, 1, 0];

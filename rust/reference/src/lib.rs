@@ -1,4 +1,5 @@
-//! A second reckoning of Farey symbols of finite index subgroups of PSL2(Z).
+//! The reference implementation: a second engine for Farey symbols of finite
+//! index subgroups of PSL2(Z).
 //!
 //! The engine and this crate answer the same questions by different roads, so
 //! that a slip in one of them shows up as a difference. Here every figure comes

@@ -1,4 +1,4 @@
-//! The folder `examples`: every input has its output beside it, the reckoning
+//! The folder `examples`: every input has its output beside it, the reference
 //! gives that output, and so do the engine's programs, byte for byte.
 
 mod child;
@@ -8,14 +8,14 @@ use std::fs;
 use std::path::PathBuf;
 
 use child::{repository, Program};
-use reckoning::{import, listing, query};
+use reference::{import, listing, query};
 
 /// One program's examples.
 struct Kind {
     folder: &'static str,
     input: &'static str,
     output: &'static str,
-    reckoned: fn(&[u8]) -> String,
+    reference: fn(&[u8]) -> String,
     /// How many there are at least.
     least: usize,
 }
@@ -24,21 +24,21 @@ const LISTINGS: Kind = Kind {
     folder: "examples",
     input: "txt",
     output: "listing",
-    reckoned: listing,
+    reference: listing,
     least: 7,
 };
 const QUERIES: Kind = Kind {
     folder: "examples/queries",
     input: "query",
     output: "answer",
-    reckoned: query,
+    reference: query,
     least: 7,
 };
 const IMPORTS: Kind = Kind {
     folder: "examples/imports",
     input: "pair",
     output: "symbol",
-    reckoned: import,
+    reference: import,
     least: 1,
 };
 
@@ -83,14 +83,14 @@ impl Kind {
             .collect()
     }
 
-    fn by_the_reckoning(&self) {
+    fn by_the_reference(&self) {
         for Example {
             name,
             text,
             expected,
         } in self.examples()
         {
-            assert_eq!((self.reckoned)(&text), expected, "{name}");
+            assert_eq!((self.reference)(&text), expected, "{name}");
         }
     }
 
@@ -112,9 +112,9 @@ impl Kind {
 }
 
 #[test]
-fn by_the_reckoning() {
+fn by_the_reference() {
     for kind in [LISTINGS, QUERIES, IMPORTS] {
-        kind.by_the_reckoning();
+        kind.by_the_reference();
     }
 }
 

@@ -1,5 +1,4 @@
-//! The import program of this reckoning: two permutations in, a symbol or a
-//! refusal out.
+//! The reference's listing program: a symbol's text in, its figures out.
 
 #![forbid(unsafe_code)]
 
@@ -8,5 +7,5 @@ use std::io::{self, Read, Write};
 fn main() -> io::Result<()> {
     let mut text = Vec::new();
     io::stdin().read_to_end(&mut text)?;
-    io::stdout().write_all(reckoning::import(&text).as_bytes())
+    io::stdout().write_all(reference::listing(&text).as_bytes())
 }

@@ -2,16 +2,16 @@
 
 use std::collections::BTreeMap;
 
-use reckoning::random::drafts::{draft, draft_of_size, size};
-use reckoning::random::faults::{
+use reference::random::drafts::{draft, draft_of_size, size};
+use reference::random::faults::{
     faulty_text, full_text, put_fault, typed, SYMBOL_FAULTS, TEXT_FAULTS,
 };
-use reckoning::random::matrices::{any_pair, put_matrix_fault};
-use reckoning::random::{listing_case, query_case, Rng};
-use reckoning::symbol::{check, MAX_ENTRY};
-use reckoning::text::{numbers, Format};
-use reckoning::word::check_matrices;
-use reckoning::{listing, query, Refusal};
+use reference::random::matrices::{any_pair, put_matrix_fault};
+use reference::random::{listing_case, query_case, Rng};
+use reference::symbol::{check, MAX_ENTRY};
+use reference::text::{numbers, Format};
+use reference::word::check_matrices;
+use reference::{listing, query, Refusal};
 
 #[test]
 fn drafts_are_sound_and_varied() {

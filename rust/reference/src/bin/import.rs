@@ -1,5 +1,5 @@
-//! The query program of this reckoning: a symbol and two matrices in, a word or
-//! a refusal out.
+//! The reference's import program: two permutations in, a symbol or a
+//! refusal out.
 
 #![forbid(unsafe_code)]
 
@@ -8,5 +8,5 @@ use std::io::{self, Read, Write};
 fn main() -> io::Result<()> {
     let mut text = Vec::new();
     io::stdin().read_to_end(&mut text)?;
-    io::stdout().write_all(reckoning::query(&text).as_bytes())
+    io::stdout().write_all(reference::import(&text).as_bytes())
 }

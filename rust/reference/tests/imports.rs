@@ -3,16 +3,16 @@
 
 use std::collections::BTreeMap;
 
-use reckoning::coset::Cosets;
-use reckoning::permutations::{Action, Imported};
-use reckoning::random::drafts::{draft, draft_of_size};
-use reckoning::random::pairs::{
+use reference::coset::Cosets;
+use reference::permutations::{Action, Imported};
+use reference::random::drafts::{draft, draft_of_size};
+use reference::random::pairs::{
     dice_pair, fraction_at_the_limit, pair, pair_towards, put_pair_fault, shallow_pair,
     symbol_pair, zigzag_pair, Pair, PAIR_FAULTS,
 };
-use reckoning::random::{import_case, Rng};
-use reckoning::symbol::Symbol;
-use reckoning::{import, listing, Refusal};
+use reference::random::{import_case, Rng};
+use reference::symbol::Symbol;
+use reference::{import, listing, Refusal};
 
 const FIGURES: &str = include_str!("../data/permutations.txt");
 
@@ -368,7 +368,7 @@ fn cases_meet_every_answer() {
 
 #[test]
 fn space_for_the_result() {
-    use reckoning::permutations::import_pair;
+    use reference::permutations::import_pair;
     let mut rng = Rng::new(78);
     for _ in 0..50 {
         let pair = shallow_pair(&mut rng, 12);

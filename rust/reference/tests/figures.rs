@@ -1,7 +1,7 @@
-//! Figures of known groups, computed by SageMath, against this reckoning.
+//! Figures of known groups, computed by SageMath, against the reference.
 
-use reckoning::coset::Cosets;
-use reckoning::symbol::Symbol;
+use reference::coset::Cosets;
+use reference::symbol::Symbol;
 
 const FIGURES: &str = include_str!("../data/symbols.txt");
 
@@ -60,9 +60,9 @@ fn stored_figures() {
 /// be read off their entries.
 #[test]
 fn membership_by_congruence() {
-    use reckoning::matrix::Matrix;
-    use reckoning::random::{matrices::matrix, Rng};
-    use reckoning::word::related;
+    use reference::matrix::Matrix;
+    use reference::random::{matrices::matrix, Rng};
+    use reference::word::related;
 
     let mut rng = Rng::new(7);
     let mut inside = 0;

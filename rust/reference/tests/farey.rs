@@ -8,8 +8,9 @@
 mod child;
 
 use std::env;
+use std::ffi::OsStr;
 use std::fs;
-use std::os::unix::fs::PermissionsExt;
+use std::os::unix::fs::{symlink, PermissionsExt};
 use std::path::{Path, PathBuf};
 use std::process::{Command, Output, Stdio};
 use std::thread;
@@ -17,25 +18,60 @@ use std::time::Duration;
 
 use child::{farey, repository, Program};
 
-/// A script that stands for `rt`. It fails where another is at work, and it
-/// keeps what it was asked in `asked`. Where there is a file `edit`, it becomes
-/// the source while it "proves".
+/// A script that stands for `rt` with two crates, `low` and the one that it is
+/// asked for. As `rt` does, it takes a crate's sum before it proves it, calls a
+/// crate unchanged whose sum is the one in target/stamp, and then doesn't look at
+/// what was made of it. A program that it makes prints the source of `low` that
+/// was proved. It fails where another is at work, and `asked` and `proofs` have a
+/// line for each time that it was asked and that it proved something. What else
+/// it does is for files of these names to say:
+///
+/// | file       | what is done                                                       |
+/// |------------|--------------------------------------------------------------------|
+/// | `unproved` | nothing is proved                                                  |
+/// | `slow`     | a proof takes longer than `./farey` stays silent                   |
+/// | `edit`     | becomes the source of `low` while it is proved                     |
+/// | `edits`    | each line likewise, a proof after the other                        |
+/// | `brief`    | is the source of `low` before its sum is taken, and until its end  |
 const RT: &str = r#"#!/bin/sh
 echo "$*" >> asked
 mkdir busy || exit 2
+mkdir -p target/bin target/stamp
 if [ -f unproved ]; then
     echo "rt: low NOT PROVED (exit 1, 3 s)"
     rmdir busy
     exit 1
 fi
-source=$(cat crates/low/src/lib.rt)
-sleep 0.3
-[ ! -f edit ] || mv edit crates/low/src/lib.rt
-echo "rt: low proved (1 s)"
-echo "rt: $2 proved (1 s)"
-mkdir -p target/bin
-printf '#!/bin/sh\ncat > /dev/null\necho "%s"\n' "$source" > "target/bin/$2"
-chmod +x "target/bin/$2"
+source=crates/low/src/lib.rt
+if [ -f brief ]; then
+    cp $source kept
+    mv brief $source
+fi
+sum=$(cat $source)
+proved=no
+for crate in low "$2"; do
+    if [ -f "target/stamp/$crate" ] && [ "$(cat "target/stamp/$crate")" = "$sum" ]; then
+        echo "rt: $crate proved (unchanged since it was last proved)"
+        continue
+    fi
+    [ ! -f slow ] || sleep 2
+    sleep 0.3
+    if [ $crate = low ]; then
+        [ ! -f edit ] || mv edit $source
+        if [ -s edits ]; then
+            head -n 1 edits > $source
+            sed -i 1d edits
+        fi
+    else
+        printf '#!/bin/sh\ncat > /dev/null\necho "%s"\n' "$sum" > "target/bin/$crate"
+        chmod +x "target/bin/$crate"
+    fi
+    echo "$sum" > "target/stamp/$crate"
+    echo "rt: $crate proved (1 s)"
+    proved=yes
+done
+[ ! -f kept ] || mv kept $source
+[ $proved = no ] || echo "$2" >> proofs
 rmdir busy
 echo "rt: ok, 2 crates proved"
 "#;
@@ -81,10 +117,16 @@ impl Folder {
 
     /// `./farey`, with the script for `rt`.
     fn command(&self, words: &[&str]) -> Command {
-        let mut command = Command::new(self.at("farey"));
+        let mut command = self.with_rt(self.at("farey"));
+        command.args(words);
+        command
+    }
+
+    /// Any program, with the script for `rt`.
+    fn with_rt(&self, program: impl AsRef<OsStr>) -> Command {
+        let mut command = Command::new(program);
         let path = env::var("PATH").expect("there is a PATH");
         command
-            .args(words)
             .env("PATH", format!("{}:{path}", self.at("bin").display()))
             .stdin(Stdio::null())
             .stdout(Stdio::piped())
@@ -96,10 +138,19 @@ impl Folder {
         self.command(words).output().expect("./farey starts")
     }
 
-    /// How often something was to be proved.
+    /// How often something was proved.
     fn proofs(&self) -> usize {
-        let asked = fs::read_to_string(self.at("asked")).unwrap_or_default();
-        asked.lines().count()
+        self.lines("proofs")
+    }
+
+    /// How often the script for `rt` was asked.
+    fn asked(&self) -> usize {
+        self.lines("asked")
+    }
+
+    fn lines(&self, part: &str) -> usize {
+        let text = fs::read_to_string(self.at(part)).unwrap_or_default();
+        text.lines().count()
     }
 }
 
@@ -118,14 +169,49 @@ fn proves_once_and_says_how_far_it_is() {
     let folder = Folder::new("once");
     let first = folder.run(&["listing"]);
     assert_eq!(text(&first.stdout), "first\n");
-    let said = text(&first.stderr);
-    let one = said.find("farey: proved low, 1 of 2\n");
-    let two = said.find("farey: proved listing, 2 of 2\n");
-    assert!(one.is_some() && one < two, "{said}");
+    must_say(
+        &text(&first.stderr),
+        &[
+            "farey: proved low, 1 of 2\n",
+            "farey: proved listing, 2 of 2\n",
+        ],
+    );
+    // Once to prove, and once to see that nothing is left to prove.
+    assert_eq!((folder.proofs(), folder.asked()), (1, 2));
     let again = folder.run(&["listing"]);
     assert_eq!(text(&again.stdout), "first\n");
     assert_eq!(text(&again.stderr), "");
-    assert_eq!(folder.proofs(), 1);
+    assert_eq!((folder.proofs(), folder.asked()), (1, 2));
+}
+
+/// A crate is named before its proof has ended.
+#[test]
+fn says_what_is_next() {
+    let folder = Folder::new("next");
+    folder.put("slow", "");
+    let came = folder.run(&["listing"]);
+    assert_eq!(text(&came.stdout), "first\n");
+    must_say(
+        &text(&came.stderr),
+        &[
+            "farey: listing is made of 2 crates;",
+            "farey: 0 of 2 are done, next: low\n",
+            "farey: proved low, 1 of 2\n",
+            "farey: 1 of 2 are done, next: listing\n",
+            "farey: proved listing, 2 of 2\n",
+        ],
+    );
+}
+
+/// All of these are there, in this order.
+fn must_say(said: &str, parts: &[&str]) {
+    let mut rest = said;
+    for part in parts {
+        let Some((_, behind)) = rest.split_once(part) else {
+            panic!("{part:?} isn't in its place in {said:?}");
+        };
+        rest = behind;
+    }
 }
 
 #[test]
@@ -165,6 +251,35 @@ fn an_edit_during_the_proof_is_proved() {
     assert_eq!(folder.proofs(), 2);
 }
 
+/// The sources are the same before and after the proof, and what was proved are
+/// others.
+#[test]
+fn an_edit_that_is_edited_back_is_not_taken_for_the_source() {
+    let folder = Folder::new("back");
+    folder.put("brief", "brief");
+    let came = folder.run(&["listing"]);
+    assert_eq!(text(&came.stdout), "first\n", "{}", text(&came.stderr));
+    assert!(text(&came.stderr).contains("farey: the sources were edited"));
+    assert_eq!(folder.proofs(), 2);
+    assert_eq!(text(&folder.run(&["listing"]).stdout), "first\n");
+    assert_eq!(folder.proofs(), 2);
+}
+
+#[test]
+fn sources_that_never_stay_have_no_answer() {
+    let folder = Folder::new("edits");
+    folder.put("edits", "second\nthird\nfourth\nfifth\n");
+    let came = folder.run(&["listing"]);
+    assert_eq!(text(&came.stdout), "");
+    assert_eq!(came.status.code(), Some(1));
+    let said = text(&came.stderr);
+    assert!(
+        said.contains("farey: the sources don't stay as they are"),
+        "{said}"
+    );
+    assert_eq!(folder.proofs(), 3);
+}
+
 #[test]
 fn only_what_is_edited_is_proved_again() {
     let folder = Folder::new("later");
@@ -174,13 +289,52 @@ fn only_what_is_edited_is_proved_again() {
     folder.put("crates/low/src/lib.rt", "first");
     assert_eq!(text(&folder.run(&["listing"]).stdout), "first\n");
     assert_eq!(folder.proofs(), 1);
-    // Another program, at a time when the sources are as they were.
+    folder.put("crates/low/src/lib.rt", "second");
+    assert_eq!(text(&folder.run(&["listing"]).stdout), "second\n");
+    assert_eq!(folder.proofs(), 2);
+}
+
+/// The sources are as they were, and the program isn't: another one, or none.
+#[test]
+fn another_program_is_made_again() {
+    let folder = Folder::new("other");
+    folder.run(&["listing"]);
     folder.put("target/bin/listing", "#!/bin/sh\necho other\n");
     assert_eq!(text(&folder.run(&["listing"]).stdout), "first\n");
     assert_eq!(folder.proofs(), 2);
-    folder.put("crates/low/src/lib.rt", "second");
-    assert_eq!(text(&folder.run(&["listing"]).stdout), "second\n");
+    fs::remove_file(folder.at("target/bin/listing")).expect("it can be removed");
+    assert_eq!(text(&folder.run(&["listing"]).stdout), "first\n");
     assert_eq!(folder.proofs(), 3);
+}
+
+/// By a link, and by a relative path where the shell looks elsewhere too.
+#[test]
+fn runs_from_anywhere() {
+    let folder = Folder::new("anywhere");
+    let link = folder.at("bin/link");
+    symlink(folder.at("farey"), &link).expect("a link can be made");
+    let above = folder.0.parent().expect("a folder above");
+    let name = folder.0.file_name().expect("a name").to_string_lossy();
+    let lines = [
+        format!("{} listing", link.display()),
+        format!("{name}/farey listing"),
+    ];
+    for line in lines {
+        let came = folder
+            .with_rt("sh")
+            .args(["-c", &line])
+            .current_dir(above)
+            .env("CDPATH", above)
+            .output()
+            .expect("there is a shell");
+        assert_eq!(
+            text(&came.stdout),
+            "first\n",
+            "{line}: {}",
+            text(&came.stderr)
+        );
+    }
+    assert_eq!(folder.proofs(), 1);
 }
 
 #[test]
@@ -281,7 +435,13 @@ fn a_refusal_is_passed_on() {
             assert_eq!(text(&came.stderr), "");
             assert!(came.status.success());
         }
-        let read: [&[u8]; 5] = [
+        // A refusal of the engine has a number that has a sentence.
+        let read: [&[u8]; 10] = [
+            b"refused 0 0\n",
+            b"refused 20 0\n",
+            b"refused 999 7\n",
+            b"refused 015 2\n",
+            b"refused 15 02\n",
             b"refused 15 2",
             b"refused 15 2\n\n",
             b"refused 15 2\0\n",
@@ -293,6 +453,51 @@ fn a_refusal_is_passed_on() {
             assert_eq!(text(&came.stdout), "refused 19 0\n", "{other:?}");
             assert_eq!(text(&came.stderr), explained("refused 19 0"));
         }
+    }
+}
+
+/// A text that can't be read has no answer. To the next program in a pipe that
+/// is an empty text; the first one's status tells.
+#[test]
+fn a_failure_in_a_pipe_is_told_by_the_status() {
+    let Some(farey) = farey() else {
+        return;
+    };
+    let pipe = r#""$0" import < / | "$0" listing"#;
+    for (line, expected) in [
+        (
+            format!(r#"{pipe}; echo "${{PIPESTATUS[*]}}""#),
+            "refused 19 0\n1 0\n",
+        ),
+        (
+            format!("set -o pipefail; {pipe}; echo $?"),
+            "refused 19 0\n1\n",
+        ),
+    ] {
+        let mut shell = Command::new("bash");
+        shell.args(["-c", &line]).arg(farey.command().get_program());
+        let came = shell.output().expect("there is a shell");
+        assert_eq!(text(&came.stdout), expected, "{line}");
+        assert!(text(&came.stderr).contains("farey: standard input could not be read"));
+    }
+}
+
+/// These tests once more as a process, in which cargo seems to have named another
+/// repository: they look at that one, wherever they were compiled.
+#[test]
+fn the_repository_is_that_of_the_run() {
+    let folder = Folder::new("repository");
+    for (sentences, passes) in [(None, true), (Some("1 the only sentence\n"), false)] {
+        if let Some(sentences) = sentences {
+            folder.put(SENTENCES, sentences);
+        }
+        let came = Command::new(env::current_exe().expect("these tests have a path"))
+            .args(["--exact", "refusals_have_numbers_in_order"])
+            .env("CARGO_MANIFEST_DIR", folder.at("rust/reference"))
+            .output()
+            .expect("these tests start");
+        assert_eq!(came.status.success(), passes, "{}", text(&came.stdout));
+        assert!(text(&came.stdout).contains("running 1 test"));
     }
 }
 
