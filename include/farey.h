@@ -11,7 +11,7 @@
  *
  * THE SYMBOL is lent as v and a table t of t_len numbers: for each of the v finite vertices its numerator and its denominator, from
  * left to right, then the v + 1 pairings, 3v + 1 numbers in all. A pairing is -2 (even), -3 (odd) or a free label from 1 to v + 1 that
- * stands on just two sides.
+ * stands on exactly two sides.
  *
  * THE ANSWER of each function is 0, or the number of a refusal. Through `place` it writes the place of the refusal, or where it returns
  * 0 a count, as said at each. Where it refuses, the result spaces are as they were. Where it returns 0, it has written the part that
@@ -26,7 +26,7 @@
  *    3  a denominator isn't from 1 to 10^9, or a numerator is over 10^9 in size             the entry's index
  *    4  neighbours a/b and a'/b' with a'b - ab' other than 1                                the side, from 0
  *    5  no vertex is 0/1                                                                    0
- *    6  a pairing that isn't allowed, or a label that isn't there just twice                the first such side
+ *    6  a pairing that isn't allowed, or a label that isn't there exactly twice             the first such side
  *    7  v is 1 and no side is odd                                                           0
  *    8  a matrix entry over 1,000,000 in size                                               0 to 3 in A, 4 to 7 in B
  *    9  a determinant other than 1                                                          0 for A, 1 for B
