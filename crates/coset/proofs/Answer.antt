@@ -1,8 +1,8 @@
--- Laws for the public calls: the result spaces in their order (`room-…`), the tables that were arranged (`Made`, `made`), the order of
--- refusals (`by-…`), what an answer means (`meaning`, `means-refused`), the figures (`said`, `surveyed`, `figures-…`).
+-- Laws for the public calls: the result spaces in their order (`room-…`, `one-…`), the tables that were arranged (`Made`, `made`),
+-- what an answer means (`meaning`, `means-refused`), the figures (`surveyed`), and the order of their refusals (`figured-by`).
 -- Assumes nothing.
-use mathlib.Core.Path.{_≡_, sym, _∙_, ap}
-use mathlib.Core.Bool.{Bool}
+use mathlib.Core.Path.{_≡_, refl, sym, _∙_, ap}
+use mathlib.Core.Bool.{Bool, true, false}
 use mathlib.Core.List.{List}
 use Prim.Native.Nat.{ℕ, _≤_, _<_}
 use native.Mathlib.Omega.{arith}
@@ -10,32 +10,28 @@ use lib.Dec.{ltb}
 use lib.ListN.{length}
 use lib.IntN.{ℤ}
 use borrow.Author.Tests.{lt-ltb, le-ltb}
-use Rattle.workspace.specs.Space.{workLength, zeros}
-use Rattle.symbol.specs.Check.{checkOf}
+use Rattle.basics.specs.Choice.{pick}
+use Rattle.workspace.specs.Space.{workLength, entries}
+use Rattle.symbol.specs.Check.{symbolCheck}
 use Rattle.symbol.specs.Symbol.{IsSymbol}
-use Rattle.pairing.specs.Generator.{workAfter}
-use Rattle.refusal.specs.Refusal.{tooShort}
+use Rattle.pairing.specs.Inner.Admitted.{workCheck, admittedOf}
+use Rattle.refusal.specs.Refusal.{tooShort, _orElse_}
 use Rattle.refusal.specs.declared.Refusal.{Refusal}
 use Rattle.refusal.specs.declared.Checked.{Checked}
 use Rattle.refusal.specs.declared.Checked.the-variants.{Accepted, Refused}
-use Rattle.symbol.proofs.Choice.{pick-true, pick-false}
 use Rattle.polygon.proofs.Polygon.{polygon}
-use Rattle.numbering.specs.Inner.Space.{S-TABLE, R-TABLE, T-TABLE, entries}
-use Rattle.figures.specs.Cusps.{fixedPoints, widths}
-use Rattle.figures.specs.Figure.{genusSays, levelSays}
-use Rattle.figures.specs.LevelOf.{levelOf}
+use Rattle.numbering.specs.Inner.Space.{S-TABLE, R-TABLE, T-TABLE}
+use Rattle.figures.specs.Cusps.{widths}
+use Rattle.figures.specs.declared.FigureRecord.{FigureRecord}
 use Rattle.figures.specs.Inner.Scan.{Permuted, FiguresOf}
-use Rattle.figures.specs.declared.Level as level
-use Rattle.figures.specs.declared.Genus as genus
 use Rattle.figures.proofs.Filled.{filled-permuted, S-stays, R-stays, T-stays}
 use Rattle.figures.proofs.Cusps.{cusps-are}
 use Rattle.coset.specs.Tables.{cosets, tableS, tableR, tableT, indexOf}
 use Rattle.coset.specs.Inner.Work.{Arranged}
-use Rattle.coset.specs.Answer.{roomFor, roomOne, tabledBy, figuresOf, figuredBy, figuredOf, Meaning, TablesMean, FiguresMean}
+use Rattle.coset.specs.Answer.{roomFor, roomOne, figuresOf, figuredBy, figuredOf, Meaning, TablesMean, FiguresMean}
 use Rattle.coset.specs.Inner.Survey.{Surveyed}
-use Rattle.coset.specs.Answer as answer
-use Rattle.refusal.specs.declared.Filled.{Filled}
 use Rattle.refusal.specs.declared.Filled.the-variants as filled
+use Rattle.coset.specs.declared.Figured.{Figured}
 use Rattle.coset.specs.declared.Figured.the-variants as figured
 use Rattle.coset.proofs.TableFigures.{table-figures}
 use Rattle.coset.proofs.Theorem.{size-is, cosets-are, maps, injective-S, injective-R}
@@ -82,26 +78,6 @@ made {t} {v} ok a =
       permuted = filled-permuted (maps v t (polygon v t ok)) b (injective-S v t (polygon v t ok)) (injective-R v t (polygon v t ok));
     }
 
--- ---- the order of refusals
-
-module _ (v : ℕ) (t : List ℤ) (w : List ℕ) (r : Filled) where
-  pub by-refused : (f : Refusal) → checkOf v t ≡ Refused f → (filled.Refused f ≡ tabledBy (checkOf v t) (length w) r) × (w ≡ workAfter (checkOf v t) w)
-  by-refused f e = (sym (ap (λ (c : Checked). tabledBy c (length w) r) e), sym (ap (λ (c : Checked). workAfter c w) e))
-
-  pub by-short : checkOf v t ≡ Accepted → length w < workLength → (filled.Refused (tooShort workLength) ≡ tabledBy (checkOf v t) (length w) r) × (w ≡ workAfter (checkOf v t) w)
-  by-short e h =
-      let b = lt-ltb (length w) workLength h in (
-        sym (ap (λ (c : Checked). tabledBy c (length w) r) e ∙ pick-true (ltb (length w) workLength) (filled.Refused (tooShort workLength)) r b),
-        sym (ap (λ (c : Checked). workAfter c w) e ∙ pick-true (ltb (length w) workLength) w (zeros (length w)) b),
-      )
-
-  pub by-long : checkOf v t ≡ Accepted → workLength ≤ length w → (r ≡ tabledBy (checkOf v t) (length w) r) × (zeros (length w) ≡ workAfter (checkOf v t) w)
-  by-long e h =
-      let b = le-ltb (length w) workLength h in (
-        sym (ap (λ (c : Checked). tabledBy c (length w) r) e ∙ pick-false (ltb (length w) workLength) (filled.Refused (tooShort workLength)) r b),
-        sym (ap (λ (c : Checked). workAfter c w) e ∙ pick-false (ltb (length w) workLength) w (zeros (length w)) b),
-      )
-
 -- ---- what it means
 
 pub meaning : {v : ℕ} {t : List ℤ} → IsSymbol v t → Meaning v t
@@ -109,7 +85,14 @@ meaning {v} {t} ok =
     let g = polygon v t ok in
     let c = cosets-are v t g in
     let k = cusps-are (c .permutations .T) in
-    record { symbol = ok; polygon = g; cosets = c; cusps = k; figures = table-figures (indexOf v t) (tableS v t) (tableR v t) (tableT v t) (sym (c .size-S)) (c .permutations .T) k }
+    record {
+      symbol = ok;
+      polygon = g;
+      cosets = c;
+      cusps = k;
+      figures =
+          table-figures (indexOf v t) (tableS v t) (tableR v t) (tableT v t) (sym (c .size-S)) (c .permutations .T) k;
+    }
 
 pub means-refused : {v : ℕ} {t : List ℤ} (f : Refusal) → TablesMean v t (filled.Refused f)
 means-refused f n e = let z : _≡_ {A = ℕ} 0 1 = cc in absurd (omega arith)
@@ -119,33 +102,36 @@ figures-mean-refused f r e = let z : _≡_ {A = ℕ} 0 1 = cc in absurd (omega a
 
 -- ---- figures
 
-module _ {t : List ℤ} {v n e2 e3 k : ℕ} {w w' : List ℕ} {g : genus.Genus} {l : level.Level} (m : Made t v w n) (f : FiguresOf n w w' e2 e3 k g l) where
-  said : answer.made n e2 e3 k (genusSays g) (levelSays l) ≡ figuresOf v t
-  said =
-      let a = f .e2-is ∙ ap (λ (s : List ℕ). fixedPoints s) (m .S-is) in
-      let b = f .e3-is ∙ ap (λ (s : List ℕ). fixedPoints s) (m .R-is) in
-      let c = f .cusps-are .count ∙ ap (λ (s : List ℕ). length (widths s)) (m .T-is) in
-      let d = f .level-is ∙ ap (λ (s : List ℕ). levelOf (widths s)) (m .T-is) in
-      cc (m .index, a, b, c, d, f .genus-is)
+module _ {t : List ℤ} {v n : ℕ} {w w' : List ℕ} {f : FigureRecord} (m : Made t v w n) (of : FiguresOf n w w' f) where
+  pub surveyed : {w₀ : List ℕ} → length w ≡ length w₀ → Surveyed v t w₀ w' f
+  surveyed same =
+      let cusps = of .cusps-are in
+      let index : f .index ≡ n = ap (λ (x : FigureRecord). x .index) (of .figures) in
+      record {
+        figures = of .figures ∙ cc (m .index, m .S-is, m .R-is, m .T-is);
+        same = cusps .frame .same ∙ same;
+        few = omega (arith, index, m .few);
+        few-cusps = omega (arith, cusps .few, m .few);
+        S-is = rw index (S-stays (m .permuted) cusps ∙ m .S-is);
+        R-is = rw index (R-stays (m .permuted) cusps ∙ m .R-is);
+        T-is = rw index (T-stays (m .permuted) cusps ∙ m .T-is);
+        widths-are = cusps .table ∙ ap widths (m .T-is);
+      }
 
-  pub surveyed : {w₀ : List ℕ} → length w ≡ length w₀ → Surveyed v t w₀ w' (record { index = n; e2 = e2; e3 = e3; cusps = k; genus = g; level = l })
-  surveyed same = record {
-    figures = said;
-    same = f .cusps-are .frame .same ∙ same;
-    few = m .few;
-    few-cusps = omega (arith, f .cusps-are .few, m .few);
-    S-is = S-stays (m .permuted) (f .cusps-are) ∙ m .S-is;
-    R-is = R-stays (m .permuted) (f .cusps-are) ∙ m .R-is;
-    T-is = T-stays (m .permuted) (f .cusps-are) ∙ m .T-is;
-    widths-are = f .cusps-are .table ∙ ap widths (m .T-is);
-  }
+-- what is answered where `admit` says r
+abbrev figuredWhere : Checked → Figured → Figured
+figuredWhere (Refused f) a = figured.Refused f
+figuredWhere Accepted a = a
 
-module _ (v : ℕ) (t : List ℤ) (n : ℕ) where
-  pub figures-refused : (f : Refusal) → checkOf v t ≡ Refused f → answer.refused f ≡ figuredOf v t n
-  figures-refused f e = sym (ap (λ (c : Checked). figuredBy c n (figuresOf v t)) e)
+figured-orElse : (c : Checked) (work : ℕ) (a : Figured) → figuredWhere (c orElse workCheck work) a ≡ figuredBy c work a
+figured-orElse (Refused f) work a = refl
+figured-orElse Accepted work a = go (ltb work workLength)
+  where
+    go : (b : Bool) → figuredWhere (pick b (Refused (tooShort workLength)) Accepted) a ≡ pick b (figured.Refused (tooShort workLength)) a
+    go true = refl
+    go false = refl
 
-  pub figures-short : checkOf v t ≡ Accepted → n < workLength → answer.refused (tooShort workLength) ≡ figuredOf v t n
-  figures-short e h = sym (ap (λ (c : Checked). figuredBy c n (figuresOf v t)) e ∙ pick-true (ltb n workLength) (answer.refused (tooShort workLength)) (figuresOf v t) (lt-ltb n workLength h))
-
-  pub figures-long : checkOf v t ≡ Accepted → workLength ≤ n → figuresOf v t ≡ figuredOf v t n
-  figures-long e h = sym (ap (λ (c : Checked). figuredBy c n (figuresOf v t)) e ∙ pick-false (ltb n workLength) (answer.refused (tooShort workLength)) (figuresOf v t) (le-ltb n workLength h))
+pub figured-by : (v : ℕ) (t : List ℤ) (work : ℕ) (r : Checked) → r ≡ admittedOf v t work → figuredWhere r (figured.Made (figuresOf v t)) ≡ figuredOf v t work
+figured-by v t work r e =
+    let a = figured.Made (figuresOf v t) in
+    ap (λ (c : Checked). figuredWhere c a) e ∙ figured-orElse (symbolCheck v t) work a

@@ -9,18 +9,18 @@ use lib.ListN.{length, getD, length-map}
 use Rattle.numbering.specs.Table.{Permutes}
 use Rattle.numbering.proofs.Find.{getD-in}
 use Rattle.numbering.proofs.Table.{getD-map}
-use Rattle.numbering.proofs.Select.{select-low}
+use Rattle.numbering.proofs.Those.{those-low}
 use Rattle.figures.specs.Cusps.{fixedPoints, width, smallest, cusps, widths, Cusps}
-use Rattle.figures.specs.Figure.{value}
-use Rattle.figures.specs.GenusOf.{genusOf, Genus}
-use Rattle.figures.specs.LevelOf.{lcmOf, TOO-LARGE, fitting, levelOf}
+use Rattle.figures.specs.declared.Figure.the-variants.{Value}
+use Rattle.figures.specs.FiguresOf.{figuresIn}
+use Rattle.figures.specs.LevelOf.{lcmOf}
 use Rattle.figures.proofs.Cycle.{width-is}
 use Rattle.figures.proofs.GenusOf.{genus-is}
 use Rattle.figures.proofs.LevelOf.{lcm-of-is, fitting-yes, fitting-no, value-fits}
 use Rattle.coset.specs.TableFigures.{TableFigures}
 
 pub table-figures : (n : ℕ) (s r u : List ℕ) → n ≡ length s → Permutes u → Cusps u
-    → TableFigures s r u n (fixedPoints s) (fixedPoints r) (length (widths u)) (genusOf n (fixedPoints s) (fixedPoints r) (length (widths u))) (levelOf (widths u))
+    → TableFigures s r u (figuresIn n s r u)
 table-figures n s r u long p c =
     let g = genus-is n (fixedPoints s) (fixedPoints r) (length (widths u)) in
     let m = lcmOf (widths u) in
@@ -30,10 +30,10 @@ table-figures n s r u long p c =
       fixed-R = refl;
       cusp-count = length-map (cusps u) (width u);
       as-many = length-map (cusps u) (width u);
-      width = λ j h. rw (getD-map (width u) (cusps u) j h) (width-is p (select-low (smallest u) (length u) (getD (cusps u) j 0) (getD-in (cusps u) j h)));
+      width = λ j h. rw (getD-map (width u) (cusps u) j h) (width-is p (those-low (smallest u) (length u) (getD (cusps u) j 0) (getD-in (cusps u) j h)));
       genus-is = λ k. (g .right k, g .found k);
       no-genus = λ no. g .none (λ k e. no k (g .found k e));
       least = lcm-of-is (widths u) (record { each = c .positive });
-      level-is = λ k. ((λ e. value-fits m k (sym e)), (λ q. sym (fitting-yes m (omega (arith, q .0, q .1))) ∙ ap value (sym (q .0))));
+      level-is = λ k. ((λ e. value-fits m k (sym e)), (λ q. sym (fitting-yes m (omega (arith, q .0, q .1))) ∙ ap Value (sym (q .0))));
       no-level = λ h. sym (fitting-no m h);
     }

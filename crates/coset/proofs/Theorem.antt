@@ -21,33 +21,24 @@ use Rattle.matrix.specs.Theorems.{Acts}
 use Rattle.matrix.proofs.Matrix.{T-is, R-is, ⊗-idr, det-letter}
 use Rattle.matrix.proofs.Action.{acts}
 use Rattle.matrix.proofs.Sign.{det-value}
-use Rattle.symbol.specs.Count.{count}
+use Rattle.basics.specs.Count.{count, those}
 use Rattle.pairing.specs.Generator.{generators}
-use Rattle.symbol.proofs.Choice.{either, clash}
+use Rattle.basics.proofs.Choice.{either, clash}
 use Rattle.polygon.specs.Cut.{corners, places}
 use Rattle.polygon.specs.Step.{oddAt, real, Real, stepS, turnQ, turned, startOf, originOf}
 use Rattle.polygon.specs.Walk.{goes, ends, arrives}
 use Rattle.polygon.specs.Theorem.{Polygon, SameCoset}
 use Rattle.numbering.specs.Find.{find, _∈_}
-use Rattle.numbering.specs.Select.{select}
 use Rattle.numbering.specs.Order.{orderOf, upTo, Maps, Reached, here, by-σ, by-ρ, Numbering}
-use Rattle.numbering.specs.Table.{at, Injective, Renaming, Permutations}
+use Rattle.numbering.specs.Table.{imageAt, Injective, Renaming, Permutations}
 use Rattle.numbering.proofs.Find.{getD-find, getD-in}
 use Rattle.numbering.proofs.Order.{numbering}
 use Rattle.numbering.proofs.Table.{undone, renaming, permutations}
-use Rattle.numbering.proofs.Select.{select-yes, select-no}
+use Rattle.basics.proofs.Count.{length-those}
 use Rattle.numbering.proofs.Filled.{order-count}
 use Rattle.numbering.proofs.Numbered.{numbered}
 use Rattle.coset.specs.Tables.{stepR, cosets, tableS, tableR, tableT, indexOf}
-use Rattle.coset.specs.Theorem.{byQ, leads, Led, Cosets}
-
-select-count : (p : ℕ → Bool) (n : ℕ) → length (select p n) ≡ count p n
-unfolding select
-select-count p zero = refl
-select-count p (suc n) = let h = select-count p n in elim (either (p n)) [
-  | inl e ↦ rw (select-yes p n e, e) (omega (arith, length-append (select p n) (n ∷ [])))
-  | inr e ↦ rw (select-no p n e, e) (omega arith)
-]
+use Rattle.coset.specs.Theorem.{byTableQ, leads, Led, Cosets}
 
 module _ (v : ℕ) (t : List ℤ) (g : Polygon v t) where
   abbrev σ : ℕ → ℕ
@@ -72,7 +63,17 @@ module _ (v : ℕ) (t : List ℤ) (g : Polygon v t) where
   κ-is x = cc (ρ-is (σ x), ρ-is (ρ (σ x)), g .involution x, g .involution (κ (κ x)), g .involution (κ (κ (κ (κ x)))), g .order-three x)
 
   ρ-three : (x : ℕ) → ρ (ρ (ρ x)) ≡ x
-  ρ-three x = cc (ρ-is x, ρ-is (ρ x), ρ-is (ρ (ρ x)), g .involution (κ (κ (σ x))), g .involution (κ (κ (κ (κ (σ x))))), g .order-three (σ x), g .order-three (κ (κ (κ (σ x)))), g .involution x)
+  ρ-three x = cc (
+    ρ-is x,
+    ρ-is (ρ x),
+    ρ-is (ρ (ρ x)),
+    g .involution (κ (κ (σ x))),
+    g .involution (κ (κ (κ (κ (σ x))))),
+    g .order-three (σ x),
+    g .order-three
+        (κ (κ (κ (σ x)))),
+    g .involution x,
+  )
 
   τ-is : (x : ℕ) → ρ (σ x) ≡ σ (κ (κ x))
   τ-is x = cc (ρ-is (σ x), g .involution x)
@@ -146,7 +147,7 @@ module _ (v : ℕ) (t : List ℤ) (g : Polygon v t) where
 
   pub size-is : length (cosets v t) ≡ indexOf v t
   unfolding cosets
-  size-is = order-count maps (real v t) listed-real (λ x h e. real-reached x e) ∙ select-count (real v t) (places v) ∙ g .index
+  size-is = order-count maps (real v t) listed-real (λ x h e. real-reached x e) ∙ length-those (real v t) (places v) ∙ g .index
 
   -- ---- words in the tables
 
@@ -169,21 +170,28 @@ module _ (v : ℕ) (t : List ℤ) (g : Polygon v t) where
   unfolding cosets tableS tableR tableT
   names = renaming σ ρ origin (places v) maps
 
-  q-is : (x : ℕ) → Real v t x → byQ s r (number x) ≡ number (κ x)
+  q-is : (x : ℕ) → Real v t x → byTableQ s r (number x) ≡ number (κ x)
   q-is x h =
       let a = g .closed S x h in
       let b = ρ-real (σ x) a in
       let c = ρ-real (ρ (σ x)) b in
-      cc (names .S .step x (member x h), names .R .step (σ x) (member (σ x) a), names .R .step (ρ (σ x)) (member (ρ (σ x)) b), names .S .step (ρ (ρ (σ x))) (member (ρ (ρ (σ x))) c), κ-is x)
+      cc (
+        names .S .step x (member x h),
+        names .R .step (σ x) (member (σ x) a),
+        names .R .step (ρ (σ x)) (member (ρ (σ x)) b),
+        names .S .step (ρ (ρ (σ x)))
+            (member (ρ (ρ (σ x))) c),
+        κ-is x,
+      )
 
-  step-is : (y : Letter) (x : ℕ) → Real v t x → action.step (at s) (byQ s r) y (number x) ≡ number (goes v t y x)
+  step-is : (y : Letter) (x : ℕ) → Real v t x → action.step (imageAt s) (byTableQ s r) y (number x) ≡ number (goes v t y x)
   step-is S x h = names .S .step x (member x h)
   step-is Q x h = q-is x h
   step-is P x h = cc (q-is x h, q-is (κ x) (g .closed Q x h))
 
-  run-is : (l : List Letter) (x : ℕ) → Real v t x → action.run (at s) (byQ s r) (number x) l ≡ number (ends v t x l)
+  run-is : (l : List Letter) (x : ℕ) → Real v t x → action.run (imageAt s) (byTableQ s r) (number x) l ≡ number (ends v t x l)
   run-is [] x h = refl
-  run-is (y ∷ l) x h = ap (λ (z : ℕ). action.run (at s) (byQ s r) z l) (step-is y x h) ∙ run-is l (goes v t y x) (g .closed y x h)
+  run-is (y ∷ l) x h = ap (λ (z : ℕ). action.run (imageAt s) (byTableQ s r) z l) (step-is y x h) ∙ run-is l (goes v t y x) (g .closed y x h)
 
   zero-is : number origin ≡ 0
   zero-is = ap number (sym (numbers .first)) ∙ numbers .once .place 0 (numbers .some)
@@ -194,7 +202,7 @@ module _ (v : ℕ) (t : List ℤ) (g : Polygon v t) where
 
   leads-is : (m : Mat) → leads s r m ≡ number (arrives v t origin m)
   unfolding action.at
-  leads-is m = ap (λ (z : ℕ). action.run (at s) (byQ s r) z (wordOf m)) (sym zero-is) ∙ run-is (wordOf m) origin (g .walks .origin)
+  leads-is m = ap (λ (z : ℕ). action.run (imageAt s) (byTableQ s r) z (wordOf m)) (sym zero-is) ∙ run-is (wordOf m) origin (g .walks .origin)
 
   -- positions with one number are one position
   number-one : (x y : ℕ) → Real v t x → Real v t y → number x ≡ number y → x ≡ y
@@ -225,18 +233,19 @@ module _ (v : ℕ) (t : List ℤ) (g : Polygon v t) where
     h : Real v t x
     h = arrives-real m
 
-    S-step : leads s r (m ⊗ matS) ≡ at s (leads s r m)
-    S-step = leads-is (m ⊗ matS) ∙ ap number (arrives-more m matS d (det-letter S) ∙ a .by-S x) ∙ sym (names .S .step x (member x h)) ∙ ap (at s) (sym (leads-is m))
+    S-step : leads s r (m ⊗ matS) ≡ imageAt s (leads s r m)
+    S-step = leads-is (m ⊗ matS) ∙ ap number (arrives-more m matS d (det-letter S) ∙ a .by-S x) ∙ sym (names .S .step x (member x h))
+        ∙ ap (imageAt s) (sym (leads-is m))
 
-    R-step : leads s r (m ⊗ matR) ≡ at r (leads s r m)
+    R-step : leads s r (m ⊗ matR) ≡ imageAt r (leads s r m)
     R-step =
         leads-is (m ⊗ matR) ∙ ap number (ap (λ (n : Mat). arrives v t origin (m ⊗ n)) R-word ∙ word-more m (S ∷ P ∷ S ∷ []) d ∙ sym (ρ-is x))
-        ∙ sym (names .R .step x (member x h)) ∙ ap (at r) (sym (leads-is m))
+        ∙ sym (names .R .step x (member x h)) ∙ ap (imageAt r) (sym (leads-is m))
 
-    T-step : leads s r (m ⊗ matT) ≡ at u (leads s r m)
+    T-step : leads s r (m ⊗ matT) ≡ imageAt u (leads s r m)
     T-step =
         leads-is (m ⊗ matT) ∙ ap number (ap (λ (n : Mat). arrives v t origin (m ⊗ n)) T-word ∙ word-more m (P ∷ S ∷ []) d ∙ sym (τ-is x))
-        ∙ sym (names .T .step x (member x h)) ∙ ap (at u) (sym (leads-is m))
+        ∙ sym (names .T .step x (member x h)) ∙ ap (imageAt u) (sym (leads-is m))
 
   -- ---- the theorem
 
@@ -263,7 +272,7 @@ module _ (v : ℕ) (t : List ℤ) (g : Polygon v t) where
       let k = listed-real p (numbers .only p (getD-in (cosets v t) j h)) in
       record { matrix = g .frame p; unit = g .cut .unit p (g .within p k); is = leads-is (g .frame p) ∙ ap number (g .walks .by-frame p k) ∙ numbers .once .place j h }
 
-  in-order : orderOf (at s) (at r) 0 (indexOf v t) ≡ upTo (indexOf v t)
+  in-order : orderOf (imageAt s) (imageAt r) 0 (indexOf v t) ≡ upTo (indexOf v t)
   unfolding cosets tableS tableR
   in-order = rw (sym size-is) (numbered σ ρ origin (places v) maps)
 

@@ -1,7 +1,7 @@
 -- Laws for the functions that fill the work space.
 --
 -- In order: which places are positions, and that the others stay (`corner-real`, `odd-real`, `face-still`); the S images (`moved-…`), the
--- R images (`turned-…`); what `points` asks for (`filled`).
+-- R images (`turned-…`); what `numbering` asks for (`filled`).
 -- Assumes nothing.
 use mathlib.Core.Path.{_≡_, refl, sym, _∙_, ap}
 use mathlib.Core.Logic.{inl, inr}
@@ -17,28 +17,28 @@ use lib.Seq.{getD-set-same, getD-set-other, getD-drop}
 use lib.IntN.{ℤ, pos}
 use borrow.Author.Tests.{lt-ltb, le-ltb, ltb-true}
 use borrow.Author.Count.{below-more}
-use Rattle.matrix.specs.Euclid.{pick}
+use Rattle.basics.specs.Choice.{pick}
 use Rattle.matrix.specs.Matrix.{nth}
 use Rattle.workspace.specs.Space.{workLength}
-use Rattle.symbol.specs.Table.{pairing, pairingOf}
+use Rattle.symbol.specs.Table.{pairingEntry, pairingOf}
 use Rattle.symbol.specs.Symbol.{IsSymbol}
 use Rattle.pairing.specs.Generator.{pairingAt}
 use Rattle.symbol.specs.declared.Pairing.{Pairing}
 use Rattle.symbol.specs.declared.Pairing.the-variants.{Even, Odd, Free, Bad}
-use Rattle.symbol.proofs.Choice.{either}
+use Rattle.basics.proofs.Choice.{either}
 use Rattle.polygon.specs.Cut.{corners, places, flipOf}
 use Rattle.polygon.specs.Step.{oddAt, real, Real, stepS, turnQ, turned, startOf, originOf}
 use Rattle.polygon.specs.Theorem.{Polygon}
-use Rattle.polygon.specs.Inner.Partners.{Partnered, Numbered}
-use Rattle.polygon.specs.Inner.Tables.{Tables}
+use Rattle.polygon.specs.Inner.Partners.{PartnersHeld, Numbered}
+use Rattle.polygon.specs.Inner.Tables.{PolygonTables}
 use Rattle.polygon.proofs.Space.{still}
 use Rattle.polygon.proofs.Partners.{tables-set}
 use Rattle.polygon.proofs.Polygon.{polygon}
 use Rattle.polygon.proofs.SymbolFacts.{Kind, even, odd, free, kind}
 use Rattle.numbering.specs.Inner.Space.{SIGMA, RHO}
-use Rattle.numbering.specs.Inner.Marks.{Filled}
+use Rattle.numbering.specs.Inner.Marks.{MapsFilled}
 use Rattle.coset.specs.Tables.{stepR}
-use Rattle.coset.specs.Inner.Work.{Moved, Inside, Turned}
+use Rattle.coset.specs.Inner.Work.{FilledS, Inside, FilledR}
 use Rattle.coset.proofs.Theorem.{maps}
 
 -- ---- which places are positions
@@ -68,7 +68,7 @@ face-real v t ok p h k =
     ap (λ (b : Bool). b || oddAt v t (p - corners v)) (le-ltb p (corners v) h) ∙ odd-is v t ok (p - corners v) (omega arith)
 
 -- the entry that the code reads there
-pub face-entry : (v : ℕ) (t : List ℤ) (p : ℕ) → nth t (2 * v + (p - corners v)) ≡ pairing v t (p - corners v)
+pub face-entry : (v : ℕ) (t : List ℤ) (p : ℕ) → nth t (2 * v + (p - corners v)) ≡ pairingEntry v t (p - corners v)
 face-entry v t p = sym (getD-drop (2 * v) t (p - corners v) (pos 0))
 
 module _ (v : ℕ) (t : List ℤ) (ok : IsSymbol v t) (p : ℕ) (h : corners v ≤ p) (k : p < places v) where
@@ -92,22 +92,23 @@ module _ (v : ℕ) (t : List ℤ) where
 
 -- ---- S images
 
-pub image-low : {t : List ℤ} {v : ℕ} {w : List ℕ} (p : ℕ) → Tables t v w → p < places v → stepS v t p < places v
+pub image-low : {t : List ℤ} {v : ℕ} {w : List ℕ} (p : ℕ) → PolygonTables t v w → p < places v → stepS v t p < places v
 image-low {t} {v} p g h = maps v t (polygon v t (g .symbol)) .σ-low p h
 
-pub moved-none : {t : List ℤ} {v : ℕ} {w : List ℕ} → Tables t v w → Moved t v w 0
+pub moved-none : {t : List ℤ} {v : ℕ} {w : List ℕ} → PolygonTables t v w → FilledS t v w 0
 moved-none g = record { tables = g; images = λ p h. absurd (omega arith) }
 
-pub moved-more : {t : List ℤ} {v : ℕ} {w : List ℕ} (p q : ℕ) → Moved t v w p → p < places v → q ≡ stepS v t p → Moved t v (set w (SIGMA + p) q) (p + 1)
+pub moved-more : {t : List ℤ} {v : ℕ} {w : List ℕ} (p q : ℕ) → FilledS t v w p → p < places v → q ≡ stepS v t p → FilledS t v (set w (SIGMA + p) q) (p + 1)
 moved-more {t} {v} {w} p q m h e =
     let most = m .tables .symbol .most in
     let long = m .tables .long in
     record {
       tables = tables-set (SIGMA + p) q (m .tables) (omega arith) (omega arith);
-      images = below-more _ p (λ j b. getD-set-other w (SIGMA + p) (SIGMA + j) q 0 (λ z. omega arith) ∙ m .images j b) (getD-set-same w (SIGMA + p) q 0 (omega arith) ∙ e);
+      images = below-more _ p (λ j b. getD-set-other w (SIGMA + p) (SIGMA + j) q 0 (λ z. omega arith) ∙ m .images j b)
+          (getD-set-same w (SIGMA + p) q 0 (omega arith) ∙ e);
     }
 
-pub moved-all : {t : List ℤ} {v : ℕ} {w : List ℕ} (p : ℕ) → Moved t v w p → p ≡ places v → Moved t v w (places v)
+pub moved-all : {t : List ℤ} {v : ℕ} {w : List ℕ} (p : ℕ) → FilledS t v w p → p ≡ places v → FilledS t v w (places v)
 moved-all p m e = rw (sym e) m
 
 -- ---- R images
@@ -119,10 +120,11 @@ turn-low v a some h = elim (either (ltb a (corners v))) [
   | inr e ↦ rw e h
 ]
 
-pub turned-none : (v : ℕ) (w : List ℕ) → Turned v w w 0
+pub turned-none : (v : ℕ) (w : List ℕ) → FilledR v w w 0
 turned-none v w = record { same = refl; images = λ p h. refl; turns = λ p h. absurd (omega arith) }
 
-module _ {v : ℕ} {w₀ w : List ℕ} {p : ℕ} (inside : Inside v w₀) (g : Turned v w₀ w p) (h : p < places v) (a b c : ℕ) (e : a ≡ getD w (SIGMA + p) 0) (f : b ≡ turnQ v a) (k : c ≡ turnQ v b) where
+module _ {v : ℕ} {w₀ w : List ℕ} {p : ℕ} (inside : Inside v w₀) (g : FilledR v w₀ w p) (h : p < places v) (a b c : ℕ) (e : a ≡ getD w (SIGMA + p) 0)
+    (f : b ≡ turnQ v a) (k : c ≡ turnQ v b) where
   a-is : a ≡ getD w₀ (SIGMA + p) 0
   a-is = e ∙ g .images p h
 
@@ -132,7 +134,7 @@ module _ {v : ℕ} {w₀ w : List ℕ} {p : ℕ} (inside : Inside v w₀) (g : T
   pub c-low : c < places v
   c-low = rw c-is (turn-low v (turnQ v (getD w₀ (SIGMA + p) 0)) (inside .some) (turn-low v (getD w₀ (SIGMA + p) 0) (inside .some) (inside .low p h)))
 
-  pub turned-more : Turned v w₀ (set w (RHO + p) (getD w (SIGMA + c) 0)) (p + 1)
+  pub turned-more : FilledR v w₀ (set w (RHO + p) (getD w (SIGMA + c) 0)) (p + 1)
   turned-more =
       let most = inside .most in
       let long = inside .long in
@@ -145,12 +147,12 @@ module _ {v : ℕ} {w₀ w : List ℕ} {p : ℕ} (inside : Inside v w₀) (g : T
             (getD-set-same w (RHO + p) x 0 (omega arith) ∙ g .images c c-low ∙ ap (λ (y : ℕ). getD w₀ (SIGMA + y) 0) c-is);
       }
 
-pub turned-all : {v : ℕ} {w₀ w : List ℕ} (p : ℕ) → Turned v w₀ w p → p ≡ places v → Turned v w₀ w (places v)
+pub turned-all : {v : ℕ} {w₀ w : List ℕ} (p : ℕ) → FilledR v w₀ w p → p ≡ places v → FilledR v w₀ w (places v)
 turned-all p g e = rw (sym e) g
 
--- ---- what `points` asks for, and leaves
+-- ---- what `numbering` asks for, and leaves
 
-pub inside : {t : List ℤ} {v : ℕ} {w : List ℕ} → Moved t v w (places v) → Inside v w
+pub inside : {t : List ℤ} {v : ℕ} {w : List ℕ} → FilledS t v w (places v) → Inside v w
 inside {t} {v} {w} m = record {
   some = m .tables .symbol .some;
   most = m .tables .symbol .most;
@@ -158,7 +160,7 @@ inside {t} {v} {w} m = record {
   low = λ p h. rw (m .images p h) (image-low p (m .tables) h);
 }
 
-pub filled : {t : List ℤ} {v : ℕ} {w w' : List ℕ} → Moved t v w (places v) → Turned v w w' (places v) → Filled (stepS v t) (stepR v t) (places v) w'
+pub filled : {t : List ℤ} {v : ℕ} {w w' : List ℕ} → FilledS t v w (places v) → FilledR v w w' (places v) → MapsFilled (stepS v t) (stepR v t) (places v) w'
 unfolding stepR
 filled {t} {v} {w} {w'} m g =
     let most = m .tables .symbol .most in

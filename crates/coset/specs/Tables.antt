@@ -10,7 +10,7 @@
 use mathlib.Core.List.{List}
 use Prim.Native.Nat.{ℕ, _+_}
 use lib.IntN.{ℤ}
-use Rattle.symbol.specs.Count.{count}
+use Rattle.basics.specs.Count.{count}
 use Rattle.polygon.specs.Cut.{corners, places}
 use Rattle.polygon.specs.Step.{oddAt, stepS, turnQ, originOf}
 use Rattle.numbering.specs.Order.{orderOf}

@@ -1,7 +1,7 @@
 -- WHAT THE COSET TABLES SAY, for every accepted symbol: `Cosets v t s r u`, of its tables s, r and u of S, R and T, which are tables
 -- of the right cosets of the subgroup H that its side pairings generate. The proof is `cosets-are`, in proofs/Theorem.antt.
 --
---   byQ s r x           where Q leads from the point x: Q is S R R S up to sign
+--   byTableQ s r x      where Q leads from the point x: Q is S R R S up to sign
 --   leads s r m         where the matrix m leads from point 0: its alternating word, followed in the tables
 --   Led s r j           some matrix of determinant 1 leads from point 0 to j
 --   Cosets v t s r u    the promise, in these parts:
@@ -22,14 +22,14 @@ use Rattle.matrix.specs.Action as action
 use Rattle.pairing.specs.Generator.{generators}
 use Rattle.polygon.specs.Theorem.{SameCoset}
 use Rattle.numbering.specs.Order.{orderOf, upTo}
-use Rattle.numbering.specs.Table.{at, _thenTable_, Permutations}
+use Rattle.numbering.specs.Table.{imageAt, _thenTable_, Permutations}
 use Rattle.coset.specs.Tables.{indexOf}
 
-abbrev pub byQ : (s r : List ℕ) → ℕ → ℕ
-byQ s r x = at s (at r (at r (at s x)))
+abbrev pub byTableQ : (s r : List ℕ) → ℕ → ℕ
+byTableQ s r x = imageAt s (imageAt r (imageAt r (imageAt s x)))
 
 abbrev pub leads : (s r : List ℕ) → Mat → ℕ
-leads s r m = action.at (at s) (byQ s r) 0 m
+leads s r m = action.at (imageAt s) (byTableQ s r) 0 m
 
 pub record Led (s r : List ℕ) (j : ℕ) : Type 0 where
   pub matrix : Mat
@@ -44,9 +44,9 @@ pub record Cosets (v : ℕ) (t : List ℤ) (s r u : List ℕ) : Type 0 where
   pub permutations : Permutations s r u
   -- S, R, T
   pub low : (m : Mat) → det m ≡ pos 1 → leads s r m < indexOf v t
-  pub by-S : (m : Mat) → det m ≡ pos 1 → leads s r (m ⊗ matS) ≡ at s (leads s r m)
-  pub by-R : (m : Mat) → det m ≡ pos 1 → leads s r (m ⊗ matR) ≡ at r (leads s r m)
-  pub by-T : (m : Mat) → det m ≡ pos 1 → leads s r (m ⊗ matT) ≡ at u (leads s r m)
+  pub by-S : (m : Mat) → det m ≡ pos 1 → leads s r (m ⊗ matS) ≡ imageAt s (leads s r m)
+  pub by-R : (m : Mat) → det m ≡ pos 1 → leads s r (m ⊗ matR) ≡ imageAt r (leads s r m)
+  pub by-T : (m : Mat) → det m ≡ pos 1 → leads s r (m ⊗ matT) ≡ imageAt u (leads s r m)
   pub T-is : u ≡ s thenTable r
   -- zero, cosets
   pub zero : leads s r 𝟙 ≡ 0
@@ -54,4 +54,4 @@ pub record Cosets (v : ℕ) (t : List ℤ) (s r u : List ℕ) : Type 0 where
   -- reached
   pub reached : (j : ℕ) → j < indexOf v t → Led s r j
   -- numbered
-  pub numbered : orderOf (at s) (at r) 0 (indexOf v t) ≡ upTo (indexOf v t)
+  pub numbered : orderOf (imageAt s) (imageAt r) 0 (indexOf v t) ≡ upTo (indexOf v t)

@@ -13,12 +13,12 @@ ghost use Rattle.workspace.specs.Space.{workLength};
 ghost use Rattle.symbol.specs.Symbol.{IsSymbol};
 ghost use Rattle.polygon.specs.Cut.{places};
 ghost use Rattle.polygon.specs.Step.{stepS, startOf, originOf};
-ghost use Rattle.polygon.specs.Inner.Tables.{Tables};
-ghost use Rattle.coset.specs.Inner.Work.{Moved, Inside, Turned, Arranged};
+ghost use Rattle.polygon.specs.Inner.Tables.{PolygonTables};
+ghost use Rattle.coset.specs.Inner.Work.{FilledS, Inside, FilledR, Arranged};
 
 // The S image of the place p; the outer face of a side that isn't odd stays.
 fn image_s(t: &[i64], v: usize, w: &[u16], p: usize) -> usize
-    requires { ⌜ Tables (now t) v (now w) × (p < places v) ⌝ }
+    requires { ⌜ PolygonTables (now t) v (now w) × (p < places v) ⌝ }
     ensures { λ r. ⌜ r ≡ stepS v (now (t .entry)) p ⌝ }
 {
     let b = 3 * (v - 1);
@@ -36,8 +36,8 @@ fn image_s(t: &[i64], v: usize, w: &[u16], p: usize) -> usize
 
 // The S images of all places.
 fn fill_s(t: &[i64], v: usize, w: &mut [u16])
-    requires { ⌜ Tables (now t) v (now w) ⌝ }
-    ensures { λ _. ⌜ Moved (now (t .entry)) v (now (w .exit)) (places v) × (length (now (w .exit)) ≡ length (now (w .entry))) ⌝ }
+    requires { ⌜ PolygonTables (now t) v (now w) ⌝ }
+    ensures { λ _. ⌜ FilledS (now (t .entry)) v (now (w .exit)) (places v) × (length (now (w .exit)) ≡ length (now (w .entry))) ⌝ }
 {
     let end = 3 * (v - 1) + (v + 1);
     let mut p: usize = 0;
@@ -51,7 +51,7 @@ fn fill_s(t: &[i64], v: usize, w: &mut [u16])
 // The R images of all places: R is S, Q twice, and S.
 fn fill_r(v: usize, w: &mut [u16])
     requires { ⌜ Inside v (now w) ⌝ }
-    ensures { λ _. ⌜ Turned v (now (w .entry)) (now (w .exit)) (places v) ⌝ }
+    ensures { λ _. ⌜ FilledR v (now (w .entry)) (now (w .exit)) (places v) ⌝ }
 {
     let end = 3 * (v - 1) + (v + 1);
     let mut p: usize = 0;
@@ -66,7 +66,7 @@ fn fill_r(v: usize, w: &mut [u16])
 
 // The position that stands for H, from the one where the walk starts.
 fn origin(t: &[i64], v: usize, w: &[u16], start: usize) -> usize
-    requires { ⌜ Tables (now t) v (now w) × (start ≡ startOf v (now t)) ⌝ }
+    requires { ⌜ PolygonTables (now t) v (now w) × (start ≡ startOf v (now t)) ⌝ }
     ensures { λ r. ⌜ r ≡ originOf v (now (t .entry)) ⌝ }
 {
     if is_turned(t, v) {

@@ -1,8 +1,7 @@
 // The cosets of the subgroup that a symbol's side pairings generate: specs/Tables.antt has their numbering and the tables of S, R and T,
 // specs/Theorem.antt says what the tables are tables of, and specs/Answer.antt what the calls answer and leave.
 use arrange::arrange;
-use figures::Genus;
-use figures::Level;
+use figures::FigureRecord;
 use figures::cusp_widths;
 use figures::figures_of;
 use numbering::R_TABLE;
@@ -10,22 +9,23 @@ use numbering::S_TABLE;
 use numbering::T_TABLE;
 use numbering::WIDTHS;
 use numbering::copy_out;
+use pairing::admit::admit;
 use refusal::Checked;
 use refusal::Filled;
 use refusal::Refusal;
 use refusal::TOO_SHORT;
-use symbol::check;
 ghost use mathlib.Core.Path.{_≡_};
 ghost use Prim.Native.Nat.{_≤_};
 ghost use lib.ListN.{length};
-ghost use Rattle.workspace.specs.Space.{workLength, zeros};
-ghost use Rattle.symbol.specs.Check.{checkOf};
+ghost use Rattle.workspace.specs.Space.{workLength, zeros, entries};
+ghost use Rattle.symbol.specs.Check.{symbolCheck};
 ghost use Rattle.symbol.specs.Symbol.{IsSymbol};
 ghost use Rattle.pairing.specs.Generator.{workAfter};
-ghost use Rattle.numbering.specs.Inner.Space.{S-TABLE, R-TABLE, T-TABLE, WIDTHS, entries};
+ghost use Rattle.numbering.specs.Inner.Space.{S-TABLE, R-TABLE, T-TABLE, WIDTHS};
 ghost use Rattle.coset.specs.Tables.{indexOf, tableS, tableR, tableT};
-ghost use Rattle.coset.specs.Answer.{roomFor, tabledOf, columnLeft, roomOne, widthsOf, widthedOf, saidBy, figuresOf, figuredOf, TablesMean, FiguresMean};
+ghost use Rattle.coset.specs.Answer.{roomFor, tabledOf, columnLeft, roomOne, widthsOf, widthedOf, figuresOf, figuredOf, TablesMean, FiguresMean};
 ghost use Rattle.coset.specs.Inner.Survey.{Surveyed};
+ghost use Rattle.coset.specs.declared.Figured.the-variants as figured;
 
 mod arrange;
 
@@ -94,24 +94,16 @@ pub fn tables(
     u: &mut [u32],
 ) -> Filled
     ensures { λ a. ⌜ a ≡ tabledOf v (now (t .entry)) (length (now (w .entry))) (length (now (s .entry))) (length (now (r .entry))) (length (now (u .entry))) ⌝ }
-    ensures { λ a. ⌜ now (w .exit) ≡ workAfter (checkOf v (now (t .entry))) (now (w .entry)) ⌝ }
+    ensures { λ a. ⌜ now (w .exit) ≡ workAfter (symbolCheck v (now (t .entry))) (now (w .entry)) ⌝ }
     ensures { λ a. ⌜ now (s .exit) ≡ columnLeft a (tableS v (now (t .entry))) (now (s .entry)) ⌝ }
     ensures { λ a. ⌜ now (r .exit) ≡ columnLeft a (tableR v (now (t .entry))) (now (r .entry)) ⌝ }
     ensures { λ a. ⌜ now (u .exit) ≡ columnLeft a (tableT v (now (t .entry))) (now (u .entry)) ⌝ }
     ensures { λ a. ⌜ TablesMean v (now (t .entry)) a ⌝ }
 {
-    let checked = check(v, t);
-    match checked {
+    let admitted = admit(v, t, w.len());
+    match admitted {
         Checked::Refused(refusal) => Filled::Refused(refusal),
-        Checked::Accepted => {
-            if w.len() < workspace::WORK {
-                return Filled::Refused(Refusal {
-                    number: TOO_SHORT,
-                    place: workspace::WORK,
-                });
-            }
-            make_tables(v, t, w, s, r, u)
-        }
+        Checked::Accepted => make_tables(v, t, w, s, r, u),
     }
 }
 
@@ -148,33 +140,15 @@ fn make_widths(v: usize, t: &[i64], w: &mut [u16], out: &mut [u32]) -> Filled
 // The widths of the cusps of the symbol in t, by smallest point, at the front of out: checks 1 to 7, then the work space, then out.
 pub fn widths(v: usize, t: &[i64], w: &mut [u16], out: &mut [u32]) -> Filled
     ensures { λ a. ⌜ a ≡ widthedOf v (now (t .entry)) (length (now (w .entry))) (length (now (out .entry))) ⌝ }
-    ensures { λ a. ⌜ now (w .exit) ≡ workAfter (checkOf v (now (t .entry))) (now (w .entry)) ⌝ }
+    ensures { λ a. ⌜ now (w .exit) ≡ workAfter (symbolCheck v (now (t .entry))) (now (w .entry)) ⌝ }
     ensures { λ a. ⌜ now (out .exit) ≡ columnLeft a (widthsOf v (now (t .entry))) (now (out .entry)) ⌝ }
     ensures { λ a. ⌜ TablesMean v (now (t .entry)) a ⌝ }
 {
-    let checked = check(v, t);
-    match checked {
+    let admitted = admit(v, t, w.len());
+    match admitted {
         Checked::Refused(refusal) => Filled::Refused(refusal),
-        Checked::Accepted => {
-            if w.len() < workspace::WORK {
-                return Filled::Refused(Refusal {
-                    number: TOO_SHORT,
-                    place: workspace::WORK,
-                });
-            }
-            make_widths(v, t, w, out)
-        }
+        Checked::Accepted => make_widths(v, t, w, out),
     }
-}
-
-// The figures of a subgroup.
-pub struct FigureRecord {
-    pub index: usize,
-    pub e2: usize,
-    pub e3: usize,
-    pub cusps: usize,
-    pub genus: Genus,
-    pub level: Level,
 }
 
 // The answer of `figures`.
@@ -190,26 +164,13 @@ pub fn survey(v: usize, t: &[i64], w: &mut [u16]) -> FigureRecord
     ensures { λ f. ⌜ Surveyed v (now (t .entry)) (now (w .entry)) (now (w .exit)) f ⌝ }
 {
     let n = arrange(v, t, w);
-    let f = figures_of(w, n);
-    let e2 = f.e2;
-    let e3 = f.e3;
-    let cusps = f.cusps;
-    let genus = f.genus;
-    let level = f.level;
-    FigureRecord {
-        index: n,
-        e2,
-        e3,
-        cusps,
-        genus,
-        level,
-    }
+    figures_of(w, n)
 }
 
 // The figures of an accepted symbol; the work space is cleared after.
 fn make_figures(v: usize, t: &[i64], w: &mut [u16]) -> Figured
     requires { ⌜ IsSymbol v (now t) × (workLength ≤ length (now w)) ⌝ }
-    ensures { λ a. ⌜ saidBy a ≡ figuresOf v (now (t .entry)) ⌝ }
+    ensures { λ a. ⌜ a ≡ figured.Made (figuresOf v (now (t .entry))) ⌝ }
     ensures { λ a. ⌜ now (w .exit) ≡ zeros (length (now (w .entry))) ⌝ }
 {
     let f = survey(v, t, w);
@@ -219,21 +180,13 @@ fn make_figures(v: usize, t: &[i64], w: &mut [u16]) -> Figured
 
 // The figures of the symbol in t: checks 1 to 7, then the work space; 17 and 18 are each for its own figure.
 pub fn figures(v: usize, t: &[i64], w: &mut [u16]) -> Figured
-    ensures { λ a. ⌜ saidBy a ≡ figuredOf v (now (t .entry)) (length (now (w .entry))) ⌝ }
-    ensures { λ a. ⌜ now (w .exit) ≡ workAfter (checkOf v (now (t .entry))) (now (w .entry)) ⌝ }
+    ensures { λ a. ⌜ a ≡ figuredOf v (now (t .entry)) (length (now (w .entry))) ⌝ }
+    ensures { λ a. ⌜ now (w .exit) ≡ workAfter (symbolCheck v (now (t .entry))) (now (w .entry)) ⌝ }
     ensures { λ a. ⌜ FiguresMean v (now (t .entry)) a ⌝ }
 {
-    let checked = check(v, t);
-    match checked {
+    let admitted = admit(v, t, w.len());
+    match admitted {
         Checked::Refused(refusal) => Figured::Refused(refusal),
-        Checked::Accepted => {
-            if w.len() < workspace::WORK {
-                return Figured::Refused(Refusal {
-                    number: TOO_SHORT,
-                    place: workspace::WORK,
-                });
-            }
-            make_figures(v, t, w)
-        }
+        Checked::Accepted => make_figures(v, t, w),
     }
 }

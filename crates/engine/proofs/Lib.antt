@@ -1,2 +1,3 @@
 -- What the proofs of the exported functions share.
 pub mod Zero
+pub mod Said

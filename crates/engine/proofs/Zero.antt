@@ -10,7 +10,7 @@ use native.Mathlib.Omega.{arith}
 use lib.Dec.{ltb, leb, eqb}
 use lib.ListN.{length}
 use lib.IntN.{ℤ}
-use Rattle.matrix.specs.Euclid.{pick}
+use Rattle.basics.specs.Choice.{pick}
 use Rattle.workspace.specs.Space.{workLength}
 use Rattle.refusal.specs.Refusal.{_orElse_, tooShort, pointCount, tableEntry, wrongOrder, unreached, filledRefusal, filledBy}
 use Rattle.refusal.specs.declared.Checked.{Checked}
@@ -18,15 +18,17 @@ use Rattle.refusal.specs.declared.Checked.the-variants.{Accepted, Refused}
 use Rattle.refusal.specs.declared.Filled.{Filled}
 use Rattle.refusal.specs.declared.Filled.the-variants as filled
 use Rattle.refusal.proofs.Numbered.{Among, AboveIn, among-first, above-by}
-use Rattle.symbol.specs.Count.{first}
-use Rattle.symbol.specs.Check.{checkOf}
+use Rattle.basics.specs.Count.{first}
+use Rattle.symbol.specs.Check.{symbolCheck}
 use Rattle.symbol.proofs.Accepted.{among-refuse, check-among}
 use Rattle.pairing.specs.Generator.{leaders, roomOf, byWork, generatedOf}
-use Rattle.pairing.specs.Same.{sameSymbol, samenessBy, answered, samenessOf, samenessRefusal, SameMeans, SameSays}
+use Rattle.pairing.specs.Same.{sameSymbol, samenessBy, samenessFor, samenessOf, samenessRefusal, SameMeans, SameSays}
 use Rattle.pairing.specs.declared.same.Sameness.{Sameness}
 use Rattle.pairing.specs.declared.same.Sameness.the-variants as sameness
 use Rattle.coset.specs.Tables.{indexOf}
-use Rattle.coset.specs.Answer.{Says, made, refused, roomFor, tabledOf, roomOne, widthsOf, widthedOf, figuresOf, figuredBy, figuredOf}
+use Rattle.coset.specs.declared.Figured.{Figured}
+use Rattle.coset.specs.declared.Figured.the-variants as figured
+use Rattle.coset.specs.Answer.{roomFor, tabledOf, roomOne, widthsOf, widthedOf, figuresOf, figuredBy, figuredOf}
 use Rattle.import_rule.specs.Symbol as rule
 use Rattle.import_table.specs.Answer.{grownOf}
 use Rattle.permutations.specs.Check as passport
@@ -42,14 +44,14 @@ above-pick false x y h k = k
 above-work : (work : ℕ) (a : Filled) → AboveIn a → AboveIn (byWork work a)
 above-work work a h = above-pick (ltb work workLength) (filled.Refused (tooShort workLength)) a (omega arith) h
 
--- the same of what `figures` says
-abbrev pub AboveSaid : Says → Type 0
-AboveSaid (made n e2 e3 k genus level) = Unit {0}
-AboveSaid (refused f) = 0 < f .number
+-- the same of the answer of `figures`
+abbrev pub AboveFigured : Figured → Type 0
+AboveFigured (figured.Made f) = Unit {0}
+AboveFigured (figured.Refused f) = 0 < f .number
 
 module _ (v : ℕ) (t : List ℤ) (work : ℕ) where
-  above-asked : (a : Filled) → AboveIn a → AboveIn (filledBy (checkOf v t) (byWork work a))
-  above-asked a h = above-by 1 7 (checkOf v t) (byWork work a) (omega arith) (check-among v t) (above-work work a h)
+  above-asked : (a : Filled) → AboveIn a → AboveIn (filledBy (symbolCheck v t) (byWork work a))
+  above-asked a h = above-by 1 7 (symbolCheck v t) (byWork work a) (omega arith) (check-among v t) (above-work work a h)
 
   pub generated-above : (out : ℕ) → AboveIn (generatedOf v t work out)
   generated-above out =
@@ -70,19 +72,19 @@ module _ (v : ℕ) (t : List ℤ) (work : ℕ) where
       let n = length (widthsOf v t) in
       above-asked (roomOne n a) (above-pick (ltb a n) (filled.Refused (tooShort n)) (filled.Made n) (omega arith) tt)
 
-  pub figured-above : AboveSaid (figuredOf v t work)
-  figured-above = go (checkOf v t) (check-among v t)
+  pub figured-above : AboveFigured (figuredOf v t work)
+  figured-above = go (symbolCheck v t) (check-among v t)
     where
-      by-length : (b : Bool) → AboveSaid (pick b (refused (tooShort workLength)) (figuresOf v t))
+      by-length : (b : Bool) → AboveFigured (pick b (figured.Refused (tooShort workLength)) (figured.Made (figuresOf v t)))
       by-length true = omega arith
       by-length false = tt
 
-      go : (c : Checked) → Among 1 7 c → AboveSaid (figuredBy c work (figuresOf v t))
+      go : (c : Checked) → Among 1 7 c → AboveFigured (figuredBy c work (figured.Made (figuresOf v t)))
       go (Refused f) h = omega (arith, h .0)
       go Accepted h = by-length (ltb work workLength)
 
 module _ (s r : List ℕ) where
-  pairs-among : Among 12 15 (passport.checkOf s r)
+  pairs-among : Among 12 15 (passport.pairCheck s r)
   pairs-among =
       let n = length s in
       let i = first (passport.badEntry s) n in
@@ -108,7 +110,8 @@ module _ (s r : List ℕ) where
 
   pub import-above : (work room : ℕ) → AboveIn (importOf s r work room)
   import-above work room =
-      above-by 12 15 (passport.checkOf s r) (byWork work (grownOf (ruleFor s r) room)) (omega arith) pairs-among (above-work work (grownOf (ruleFor s r) room) (grown-above (ruleFor s r) room))
+      above-by 12 15 (passport.pairCheck s r) (byWork work (grownOf (ruleFor s r) room)) (omega arith) pairs-among
+      (above-work work (grownOf (ruleFor s r) room) (grown-above (ruleFor s r) room))
 
 -- sameness: a number 0 is yes or no, by the place
 pub zero-same : (v : ℕ) (t : List ℤ) (v' : ℕ) (t' : List ℤ) (work : ℕ) (r : Sameness) → r ≡ samenessOf v t v' t' work → samenessRefusal r .number ≡ 0
@@ -125,7 +128,7 @@ zero-same v t v' t' work r e z = go r refl
     by-length false true = tt
     by-length false false = tt
 
-    above : (c d : Checked) → Among 1 7 c → Among 1 7 d → AboveSame (samenessBy c d (answered v t v' t' work))
+    above : (c d : Checked) → Among 1 7 c → Among 1 7 d → AboveSame (samenessBy c d (samenessFor v t v' t' work))
     above (Refused f) d h k = omega (arith, h .0)
     above Accepted (Refused f) h k = omega (arith, k .0)
     above Accepted Accepted h k = by-length (ltb work workLength) (sameSymbol v t v' t')
@@ -134,7 +137,7 @@ zero-same v t v' t' work r e z = go r refl
     go sameness.Yes q = inl (ap samenessPlace q, q)
     go sameness.No q = inr (ap samenessPlace q, q)
     go (sameness.Refused f) q =
-        let h = subst AboveSame (sym e ∙ q) (above (checkOf v t) (checkOf v' t') (check-among v t) (check-among v' t')) in
+        let h = subst AboveSame (sym e ∙ q) (above (symbolCheck v t) (symbolCheck v' t') (check-among v t) (check-among v' t')) in
         absurd (omega (arith, h, ap (λ (x : Sameness). samenessRefusal x .number) (sym q) ∙ z))
 
 pub same-says : (v : ℕ) (t : List ℤ) (v' : ℕ) (t' : List ℤ) (work : ℕ) (r : Sameness) → r ≡ samenessOf v t v' t' work → SameMeans v t v' t' r → {place : ℕ}

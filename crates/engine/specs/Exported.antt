@@ -1,6 +1,6 @@
 -- What the exported functions return and write, from the answers of the calls beneath them.
 --
--- Each returns a number: 0, or that of the answer's refusal (`checkedRefusal`, `filledRefusal`, `saysRefusal`, `queryRefusal`,
+-- Each returns a number: 0, or that of the answer's refusal (`checkedRefusal`, `filledRefusal`, `figuredRefusal`, `queryRefusal`,
 -- `samenessRefusal`). Through `place` it writes the refusal's place or, where it returns 0, a count.
 --
 --   filledPlace                     place, or how many things were made: generators, cosets, cusps, vertices
@@ -15,8 +15,10 @@ use Rattle.refusal.specs.declared.Filled.{Filled}
 use Rattle.refusal.specs.declared.Filled.the-variants as filled
 use Rattle.pairing.specs.declared.same.Sameness.{Sameness}
 use Rattle.pairing.specs.declared.same.Sameness.the-variants as sameness
-use Rattle.figures.specs.Figure as figure
-use Rattle.coset.specs.Answer.{Says, made, refused}
+use Rattle.figures.specs.declared.Figure.{Figure}
+use Rattle.figures.specs.declared.Figure.the-variants as figure
+use Rattle.coset.specs.declared.Figured.{Figured}
+use Rattle.coset.specs.declared.Figured.the-variants as figured
 use Rattle.word.specs.declared.Queried.{Queried}
 use Rattle.word.specs.declared.Queried.the-variants as queried
 
@@ -35,14 +37,17 @@ samenessPlace (sameness.Refused f) = f .place
 
 -- ---- figures
 
-abbrev pub figureNumber : figure.Figure → ℕ
-figureNumber (figure.value x) = 0
-figureNumber (figure.refused f) = f .number
+abbrev pub figureNumber : Figure → ℕ
+figureNumber (figure.Value x) = 0
+figureNumber (figure.Refused f) = f .number
 
-abbrev pub figureValue : figure.Figure → ℕ
-figureValue (figure.value x) = x
-figureValue (figure.refused f) = 0
+abbrev pub figureValue : Figure → ℕ
+figureValue (figure.Value x) = x
+figureValue (figure.Refused f) = 0
 
-abbrev pub figuresLeft : Says → List ℕ → List ℕ
-figuresLeft (made n e2 e3 k genus level) out = n ∷ e2 ∷ e3 ∷ k ∷ figureNumber genus ∷ figureValue genus ∷ figureNumber level ∷ figureValue level ∷ []
-figuresLeft (refused f) out = out
+abbrev pub figuresLeft : Figured → List ℕ → List ℕ
+figuresLeft (figured.Made f) out =
+    let genus = f .genus in
+    let level = f .level in
+    f .index ∷ f .e2 ∷ f .e3 ∷ f .cusps ∷ figureNumber genus ∷ figureValue genus ∷ figureNumber level ∷ figureValue level ∷ []
+figuresLeft (figured.Refused f) out = out

@@ -1,16 +1,12 @@
 // What an exported function says of the answer of its call (specs/Exported.antt).
-use figures::Genus;
-use figures::Level;
+use figures::Figure;
 use pairing::same::Sameness;
 use refusal::Filled;
-use refusal::LEVEL_TOO_LARGE;
-use refusal::NO_GENUS;
 use refusal::Refusal;
 use word::Queried;
 ghost use mathlib.Core.Path.{_≡_};
 ghost use Rattle.refusal.specs.Refusal.{filledRefusal};
 ghost use Rattle.pairing.specs.Same.{samenessRefusal};
-ghost use Rattle.figures.specs.Figure.{genusSays, levelSays};
 ghost use Rattle.word.specs.Answer.{queryRefusal};
 ghost use Rattle.engine.specs.Exported.{filledPlace, queryPlace, samenessPlace, figureNumber, figureValue};
 
@@ -75,31 +71,16 @@ pub(crate) fn of_sameness(answer: Sameness) -> Said
     }
 }
 
-pub(crate) fn of_genus(answer: Genus) -> Told
-    ensures { λ r. ⌜ (r .number ≡ figureNumber (genusSays answer)) × (r .value ≡ figureValue (genusSays answer)) ⌝ }
+pub(crate) fn of_figure(answer: Figure) -> Told
+    ensures { λ r. ⌜ (r .number ≡ figureNumber answer) × (r .value ≡ figureValue answer) ⌝ }
 {
     match answer {
-        Genus::Genus(g) => Told {
+        Figure::Value(x) => Told {
             number: 0,
-            value: g,
+            value: x,
         },
-        Genus::NoGenus => Told {
-            number: NO_GENUS,
-            value: 0,
-        },
-    }
-}
-
-pub(crate) fn of_level(answer: Level) -> Told
-    ensures { λ r. ⌜ (r .number ≡ figureNumber (levelSays answer)) × (r .value ≡ figureValue (levelSays answer)) ⌝ }
-{
-    match answer {
-        Level::Level(m) => Told {
-            number: 0,
-            value: m,
-        },
-        Level::TooLarge => Told {
-            number: LEVEL_TOO_LARGE,
+        Figure::Refused(why) => Told {
+            number: why.number,
             value: 0,
         },
     }

@@ -3,9 +3,8 @@
 // An exported function returns 0, or the number of a refusal. Through `place` it writes the refusal's place or, where it returns 0, a
 // count. What it writes elsewhere, and what that means, is the promise of the call beneath it (specs/Exported.antt has the numbers).
 // include/farey.h says all of it in words.
+use answers::of_figure;
 use answers::of_filled;
-use answers::of_genus;
-use answers::of_level;
 use answers::of_query;
 use answers::of_sameness;
 use coset::Figured;
@@ -16,25 +15,25 @@ ghost use Prim.Native.Nat.{_+_, _*_};
 ghost use lib.ListN.{length, take};
 ghost use Rattle.matrix.specs.Matrix.{ofList};
 ghost use Rattle.refusal.specs.Refusal.{checkedRefusal, filledRefusal};
-ghost use Rattle.symbol.specs.Check.{checkOf};
+ghost use Rattle.symbol.specs.Check.{symbolCheck};
 ghost use Rattle.pairing.specs.Generator.{generatorTable, generatedOf, tableLeft, workAfter, Generates};
 ghost use Rattle.pairing.specs.Same.{samenessOf, samenessRefusal, workAfterBoth, SameSays};
 ghost use Rattle.symbol.specs.Symbol.{IsSymbol};
 ghost use Rattle.coset.specs.Tables.{tableS, tableR, tableT};
-ghost use Rattle.coset.specs.Answer.{tabledOf, columnLeft, widthsOf, widthedOf, figuredOf, saysRefusal, Meaning};
+ghost use Rattle.coset.specs.Answer.{tabledOf, columnLeft, widthsOf, widthedOf, figuredOf, figuredRefusal, Meaning};
 ghost use Rattle.permutations.specs.Check as passport;
 ghost use Rattle.permutations.specs.Import as import;
-ghost use Rattle.word.specs.Answer.{queryOf, queryRefusal, foundWord, wordLeft, workLeft};
-ghost use Rattle.word.specs.Claim.{Claim};
-ghost use Rattle.engine.specs.Exported.{filledPlace, queryPlace, samenessPlace, figureNumber, figureValue, figuresLeft};
+ghost use Rattle.word.specs.Answer.{queryOf, queryRefusal, foundWord, wordLeft, queryWork};
+ghost use Rattle.word.specs.Claim.{Claim, QuerySays};
+ghost use Rattle.engine.specs.Exported.{filledPlace, queryPlace, samenessPlace, figuresLeft};
 
 mod answers;
 
 // The checks of a symbol: refusals 1 to 7.
 #[no_mangle]
 pub extern "C" fn farey_check(v: usize, t: &[i64], place: &mut usize) -> u64
-    ensures { λ n. ⌜ n ≡ checkedRefusal (checkOf v (now (t .entry))) .number ⌝ }
-    ensures { λ n. ⌜ now (place .exit) ≡ checkedRefusal (checkOf v (now (t .entry))) .place ⌝ }
+    ensures { λ n. ⌜ n ≡ checkedRefusal (symbolCheck v (now (t .entry))) .number ⌝ }
+    ensures { λ n. ⌜ now (place .exit) ≡ checkedRefusal (symbolCheck v (now (t .entry))) .place ⌝ }
     ensures { λ n. ⌜ (n ≡ 0) ↔ IsSymbol v (now (t .entry)) ⌝ }
 {
     let refusal = checked_refusal(symbol::check(v, t));
@@ -53,7 +52,7 @@ pub extern "C" fn farey_generators(
 ) -> u64
     ensures { λ n. ⌜ n ≡ filledRefusal (generatedOf v (now (t .entry)) (length (now (w .entry))) (length (now (out .entry)))) .number ⌝ }
     ensures { λ n. ⌜ now (place .exit) ≡ filledPlace (generatedOf v (now (t .entry)) (length (now (w .entry))) (length (now (out .entry)))) ⌝ }
-    ensures { λ n. ⌜ now (w .exit) ≡ workAfter (checkOf v (now (t .entry))) (now (w .entry)) ⌝ }
+    ensures { λ n. ⌜ now (w .exit) ≡ workAfter (symbolCheck v (now (t .entry))) (now (w .entry)) ⌝ }
     ensures { λ n. ⌜ now (out .exit) ≡ tableLeft (generatedOf v (now (t .entry)) (length (now (w .entry))) (length (now (out .entry)))) (generatorTable v (now (t .entry))) (now (out .entry)) ⌝ }
     ensures { λ n. ⌜ (n ≡ 0 → Generates v (now (t .entry))) ⌝ }
 {
@@ -75,7 +74,7 @@ pub extern "C" fn farey_tables(
 ) -> u64
     ensures { λ n. ⌜ n ≡ filledRefusal (tabledOf v (now (t .entry)) (length (now (w .entry))) (length (now (s .entry))) (length (now (r .entry))) (length (now (u .entry)))) .number ⌝ }
     ensures { λ n. ⌜ now (place .exit) ≡ filledPlace (tabledOf v (now (t .entry)) (length (now (w .entry))) (length (now (s .entry))) (length (now (r .entry))) (length (now (u .entry)))) ⌝ }
-    ensures { λ n. ⌜ now (w .exit) ≡ workAfter (checkOf v (now (t .entry))) (now (w .entry)) ⌝ }
+    ensures { λ n. ⌜ now (w .exit) ≡ workAfter (symbolCheck v (now (t .entry))) (now (w .entry)) ⌝ }
     ensures { λ n. ⌜ now (s .exit) ≡ columnLeft (tabledOf v (now (t .entry)) (length (now (w .entry))) (length (now (s .entry))) (length (now (r .entry))) (length (now (u .entry)))) (tableS v (now (t .entry))) (now (s .entry)) ⌝ }
     ensures { λ n. ⌜ now (r .exit) ≡ columnLeft (tabledOf v (now (t .entry)) (length (now (w .entry))) (length (now (s .entry))) (length (now (r .entry))) (length (now (u .entry)))) (tableR v (now (t .entry))) (now (r .entry)) ⌝ }
     ensures { λ n. ⌜ now (u .exit) ≡ columnLeft (tabledOf v (now (t .entry)) (length (now (w .entry))) (length (now (s .entry))) (length (now (r .entry))) (length (now (u .entry)))) (tableT v (now (t .entry))) (now (u .entry)) ⌝ }
@@ -97,7 +96,7 @@ pub extern "C" fn farey_widths(
 ) -> u64
     ensures { λ n. ⌜ n ≡ filledRefusal (widthedOf v (now (t .entry)) (length (now (w .entry))) (length (now (out .entry)))) .number ⌝ }
     ensures { λ n. ⌜ now (place .exit) ≡ filledPlace (widthedOf v (now (t .entry)) (length (now (w .entry))) (length (now (out .entry)))) ⌝ }
-    ensures { λ n. ⌜ now (w .exit) ≡ workAfter (checkOf v (now (t .entry))) (now (w .entry)) ⌝ }
+    ensures { λ n. ⌜ now (w .exit) ≡ workAfter (symbolCheck v (now (t .entry))) (now (w .entry)) ⌝ }
     ensures { λ n. ⌜ now (out .exit) ≡ columnLeft (widthedOf v (now (t .entry)) (length (now (w .entry))) (length (now (out .entry)))) (widthsOf v (now (t .entry))) (now (out .entry)) ⌝ }
     ensures { λ n. ⌜ (n ≡ 0 → Meaning v (now (t .entry))) ⌝ }
 {
@@ -115,9 +114,9 @@ pub extern "C" fn farey_figures(
     out: &mut [u64; 8],
     place: &mut usize,
 ) -> u64
-    ensures { λ n. ⌜ n ≡ saysRefusal (figuredOf v (now (t .entry)) (length (now (w .entry)))) .number ⌝ }
-    ensures { λ n. ⌜ now (place .exit) ≡ saysRefusal (figuredOf v (now (t .entry)) (length (now (w .entry)))) .place ⌝ }
-    ensures { λ n. ⌜ now (w .exit) ≡ workAfter (checkOf v (now (t .entry))) (now (w .entry)) ⌝ }
+    ensures { λ n. ⌜ n ≡ figuredRefusal (figuredOf v (now (t .entry)) (length (now (w .entry)))) .number ⌝ }
+    ensures { λ n. ⌜ now (place .exit) ≡ figuredRefusal (figuredOf v (now (t .entry)) (length (now (w .entry)))) .place ⌝ }
+    ensures { λ n. ⌜ now (w .exit) ≡ workAfter (symbolCheck v (now (t .entry))) (now (w .entry)) ⌝ }
     ensures { λ n. ⌜ now (out .exit) ≡ figuresLeft (figuredOf v (now (t .entry)) (length (now (w .entry)))) (now (out .entry)) ⌝ }
     ensures { λ n. ⌜ (n ≡ 0 → Meaning v (now (t .entry))) ⌝ }
 {
@@ -130,8 +129,8 @@ pub extern "C" fn farey_figures(
         Figured::Made(f) => {
             let g = f.genus;
             let l = f.level;
-            let genus = of_genus(g);
-            let level = of_level(l);
+            let genus = of_figure(g);
+            let level = of_figure(l);
             *place = 0;
             *out = [
                 f.index as u64,
@@ -159,8 +158,8 @@ pub extern "C" fn farey_import(
 ) -> u64
     ensures { λ n. ⌜ n ≡ filledRefusal (import.importOf (now (s .entry)) (now (r .entry)) (length (now (w .entry))) (length (now (out .entry)))) .number ⌝ }
     ensures { λ n. ⌜ now (place .exit) ≡ filledPlace (import.importOf (now (s .entry)) (now (r .entry)) (length (now (w .entry))) (length (now (out .entry)))) ⌝ }
-    ensures { λ n. ⌜ now (w .exit) ≡ import.workLeft (passport.checkOf (now (s .entry)) (now (r .entry))) (now (w .entry)) ⌝ }
-    ensures { λ n. ⌜ now (out .exit) ≡ import.tableLeft (import.ruleFor (now (s .entry)) (now (r .entry))) (import.importOf (now (s .entry)) (now (r .entry)) (length (now (w .entry))) (length (now (out .entry)))) (now (out .entry)) ⌝ }
+    ensures { λ n. ⌜ now (w .exit) ≡ import.importWork (passport.pairCheck (now (s .entry)) (now (r .entry))) (now (w .entry)) ⌝ }
+    ensures { λ n. ⌜ now (out .exit) ≡ import.importTable (import.ruleFor (now (s .entry)) (now (r .entry))) (import.importOf (now (s .entry)) (now (r .entry)) (length (now (w .entry))) (length (now (out .entry)))) (now (out .entry)) ⌝ }
     ensures { λ n. ⌜ (n ≡ 0 → import.Symbolised (now (s .entry)) (now (r .entry)) (now (place .exit)) (take (3 * now (place .exit) + 1) (now (out .exit)))) ⌝ }
 {
     let said = of_filled(permutations::import(s, r, w, out));
@@ -182,9 +181,10 @@ pub extern "C" fn farey_query(
 ) -> u64
     ensures { λ n. ⌜ n ≡ queryRefusal (queryOf v (now (t .entry)) (now (a .entry)) (now (b .entry)) (length (now (w .entry))) (length (now (out .entry))) start) .number ⌝ }
     ensures { λ n. ⌜ now (place .exit) ≡ queryPlace (queryOf v (now (t .entry)) (now (a .entry)) (now (b .entry)) (length (now (w .entry))) (length (now (out .entry))) start) ⌝ }
-    ensures { λ n. ⌜ now (w .exit) ≡ workLeft v (now (t .entry)) (now (a .entry)) (now (b .entry)) (now (w .entry)) ⌝ }
+    ensures { λ n. ⌜ now (w .exit) ≡ queryWork v (now (t .entry)) (now (a .entry)) (now (b .entry)) (now (w .entry)) ⌝ }
     ensures { λ n. ⌜ now (out .exit) ≡ wordLeft (queryOf v (now (t .entry)) (now (a .entry)) (now (b .entry)) (length (now (w .entry))) (length (now (out .entry))) start) (foundWord v (now (t .entry)) (ofList (now (a .entry))) (ofList (now (b .entry)))) (now (out .entry)) ⌝ }
     ensures { λ n. ⌜ Claim v (now (t .entry)) (now (a .entry)) (now (b .entry)) (now (w .entry)) (now (out .entry)) start (queryOf v (now (t .entry)) (now (a .entry)) (now (b .entry)) (length (now (w .entry))) (length (now (out .entry))) start) (now (out .exit)) ⌝ }
+    ensures { λ n. ⌜ QuerySays v (now (t .entry)) (now (a .entry)) (now (b .entry)) (now (w .entry)) start n (now (place .exit)) (now (out .exit)) ⌝ }
 {
     let said = of_query(word::query(v, t, *a, *b, w, out, start));
     *place = said.place;
@@ -203,7 +203,7 @@ pub extern "C" fn farey_same(
 ) -> u64
     ensures { λ n. ⌜ n ≡ samenessRefusal (samenessOf v (now (t .entry)) m (now (u .entry)) (length (now (w .entry)))) .number ⌝ }
     ensures { λ n. ⌜ now (place .exit) ≡ samenessPlace (samenessOf v (now (t .entry)) m (now (u .entry)) (length (now (w .entry)))) ⌝ }
-    ensures { λ n. ⌜ now (w .exit) ≡ workAfterBoth (checkOf v (now (t .entry))) (checkOf m (now (u .entry))) (now (w .entry)) ⌝ }
+    ensures { λ n. ⌜ now (w .exit) ≡ workAfterBoth (symbolCheck v (now (t .entry))) (symbolCheck m (now (u .entry))) (now (w .entry)) ⌝ }
     ensures { λ n. ⌜ (n ≡ 0 → SameSays v (now (t .entry)) m (now (u .entry)) (now (place .exit))) ⌝ }
 {
     let said = of_sameness(pairing::same::same(v, t, m, u, w));

@@ -14,12 +14,12 @@ use lib.ListN.{length, getD, length-append, length-map}
 use lib.Dec.{leb}
 use borrow.Author.Tests.{leb-true, leb-false}
 use Rattle.numbering.specs.Find.{find, _∈_, _∉_, Once}
-use Rattle.numbering.specs.Table.{at, Permutes}
+use Rattle.numbering.specs.Table.{imageAt, Permutes}
 use Rattle.figures.specs.Cusps.{width, cycle, noneBelow, smallest, cuspsTo, cusps, cycles, sum, Lies, Cusps}
-use Rattle.numbering.specs.Select.{select}
+use Rattle.basics.specs.Count.{those}
 use Rattle.numbering.proofs.Find.{none-below, true-false, test, getD-find, getD-in, in-left, in-right, in-append, once-none, once-append, once-below, once-below-all}
 use Rattle.numbering.proofs.Table.{getD-map}
-use Rattle.numbering.proofs.Select.{select-yes, select-no, select-low}
+use Rattle.numbering.proofs.Those.{those-yes, those-no, those-low}
 use Rattle.figures.proofs.Cycle.{cycle-length, cycle-once, cycle-self, cycle-low, cycle-sym, cycle-trans, width-is}
 
 -- ---- noneBelow
@@ -108,11 +108,11 @@ module _ {t : List ℕ} (p : Permutes t) where
     }
 
   begun : (i : ℕ) → i ≤ length t → Begun t i (cycles t (cuspsTo t i))
-  unfolding select cycles
+  unfolding cycles
   begun zero h = record { once = once-none; from = λ x k. none-below k; all = λ x y a b k. none-below k }
   begun (suc i) h = let s = begun i (omega arith) in elim (test (smallest t i)) [
-    | inl e ↦ rw (select-yes (smallest t) i e, cycles-last t (cuspsTo t i) i) (begun-yes (omega arith) s e)
-    | inr e ↦ rw (select-no (smallest t) i e) (begun-no (omega arith) s e)
+    | inl e ↦ rw (those-yes (smallest t) i e, cycles-last t (cuspsTo t i) i) (begun-yes (omega arith) s e)
+    | inr e ↦ rw (those-no (smallest t) i e) (begun-no (omega arith) s e)
   ]
 
   -- what the scan's test finds at a point
@@ -145,7 +145,7 @@ module _ {t : List ℕ} (p : Permutes t) where
     least = λ x a. least-of (a .cusp) x (a .small) (a .has);
     positive = λ j h.
         let k : j < length (cusps t) = rw (length-map (cusps t) (width t)) at h in
-        rw (getD-map (width t) (cusps t) j k) (width-is p (select-low (smallest t) (length t) _ (getD-in (cusps t) j k)) .some);
+        rw (getD-map (width t) (cusps t) j k) (width-is p (those-low (smallest t) (length t) _ (getD-in (cusps t) j k)) .some);
     total = sym (cycles-length t (cusps t)) ∙ omega (
       arith,
       once-below points (length t) (all-begun .once) points-low,

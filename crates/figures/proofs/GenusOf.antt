@@ -6,7 +6,8 @@ use native.Mathlib.Omega.{arith}
 use native.Mathlib.Decide.{decLt, ℕ-discrete}
 use borrow.Author.Tests.{le-leb, lt-leb, eq-eqb, ne-eqb}
 use Rattle.refusal.specs.Refusal.{noGenus}
-use Rattle.figures.specs.Figure.{Figure, value, refused}
+use Rattle.figures.specs.declared.Figure.{Figure}
+use Rattle.figures.specs.declared.Figure.the-variants.{Value, Refused}
 use Rattle.figures.specs.GenusOf.{genusOf, Genus}
 
 module _ (index e2 e3 cusps : ℕ) where
@@ -16,22 +17,22 @@ module _ (index e2 e3 cusps : ℕ) where
   abbrev minus : ℕ
   minus = 3 * e2 + 4 * e3 + 6 * cusps
 
-  pub genus-below : plus < minus → refused noGenus ≡ genusOf index e2 e3 cusps
+  pub genus-below : plus < minus → Refused noGenus ≡ genusOf index e2 e3 cusps
   unfolding genusOf
   genus-below h = rw (lt-leb minus plus h)
 
-  pub genus-broken : minus ≤ plus → ((plus - minus) % 12 ≡ 0 → ⊥) → refused noGenus ≡ genusOf index e2 e3 cusps
+  pub genus-broken : minus ≤ plus → ((plus - minus) % 12 ≡ 0 → ⊥) → Refused noGenus ≡ genusOf index e2 e3 cusps
   unfolding genusOf
   genus-broken h k = rw (le-leb minus plus h, ne-eqb ((plus - minus) % 12) 0 k)
 
-  pub genus-whole : minus ≤ plus → (plus - minus) % 12 ≡ 0 → value ((plus - minus) / 12) ≡ genusOf index e2 e3 cusps
+  pub genus-whole : minus ≤ plus → (plus - minus) % 12 ≡ 0 → Value ((plus - minus) / 12) ≡ genusOf index e2 e3 cusps
   unfolding genusOf
   genus-whole h k = rw (le-leb minus plus h, eq-eqb ((plus - minus) % 12) 0 k)
 
   -- the formula, with the answer that each arm gives
   data Arm : Figure → Type 0 where
-    whole : (g : ℕ) → 12 * g + 3 * e2 + 4 * e3 + 6 * cusps ≡ plus → Arm (value g)
-    none : ((g : ℕ) → 12 * g + 3 * e2 + 4 * e3 + 6 * cusps ≡ plus → ⊥) → Arm (refused noGenus)
+    whole : (g : ℕ) → 12 * g + 3 * e2 + 4 * e3 + 6 * cusps ≡ plus → Arm (Value g)
+    none : ((g : ℕ) → 12 * g + 3 * e2 + 4 * e3 + 6 * cusps ≡ plus → ⊥) → Arm (Refused noGenus)
 
   arm : Arm (genusOf index e2 e3 cusps)
   arm = elim (decLt plus minus) [

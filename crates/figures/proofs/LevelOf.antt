@@ -7,13 +7,16 @@ use mathlib.Core.Path.{_≡_, refl, ap}
 use mathlib.Core.Logic.{inl, inr}
 use mathlib.Core.List.{List, [], _∷_}
 use Prim.Native.Nat.{ℕ, zero, suc, _+_, _*_, _/_, _%_, _≤_, _<_, _∣_}
-use native.Mathlib.Nat.{mod-lt, dvd-refl, dvd-zero, dvd-trans, dvd-mod-iff, le-of-dvd, dvd-mul-left, dvd-mul-right, mul-div-cancel', dvd-mul-left-of-dvd, div-add-mod', dvd-add-iff-right, pos-of-dvd-of-pos, div-mul-cancel, mul-dvd-mul-left, dvd-of-mul-dvd-mul-left, one-dvd, le-div-iff-mul-le, div-lt-iff-lt-mul}
+use native.Mathlib.Nat.{mod-lt, dvd-refl, dvd-zero, dvd-trans, dvd-mod-iff, le-of-dvd, dvd-mul-left, dvd-mul-right, mul-div-cancel'}
+use native.Mathlib.Nat.{dvd-mul-left-of-dvd, div-add-mod', dvd-add-iff-right, pos-of-dvd-of-pos, div-mul-cancel, mul-dvd-mul-left}
+use native.Mathlib.Nat.{dvd-of-mul-dvd-mul-left, one-dvd, le-div-iff-mul-le, div-lt-iff-lt-mul}
 use native.Mathlib.Omega.{arith}
 use lib.ListN.{length, getD}
 use lib.Dec.{ltb}
 use borrow.Author.Tests.{lt-ltb, le-ltb, ltb-true, ltb-false}
 use Rattle.refusal.specs.Refusal.{levelTooLarge}
-use Rattle.figures.specs.Figure.{value, refused}
+use Rattle.refusal.specs.declared.Refusal.{Refusal}
+use Rattle.figures.specs.declared.Figure.the-variants.{Value, Refused}
 use Rattle.figures.specs.LevelOf.{euclid, gcd, lcm, lcmFrom, lcmOf, TOO-LARGE, fitting, Positive, LeastMultiple}
 use Rattle.numbering.proofs.Find.{none-below, test}
 
@@ -120,7 +123,8 @@ lcm-from-is m (x ∷ l) h p =
       least = λ c b e. r .least c (lcm-least m x h hx c b (e 0 (omega arith))) (λ j k. e (suc j) (omega arith));
     }
   where
-    each-of : (m x : ℕ) (l : List ℕ) (hx : 0 < x) (h : 0 < m) → MultipleFrom (lcm m x) l (lcmFrom (lcm m x) l) → (j : ℕ) → j < length (x ∷ l) → getD (x ∷ l) j 0 ∣ lcmFrom (lcm m x) l
+    each-of : (m x : ℕ) (l : List ℕ) (hx : 0 < x) (h : 0 < m) → MultipleFrom (lcm m x) l (lcmFrom (lcm m x) l) → (j : ℕ) → j < length (x ∷ l)
+        → getD (x ∷ l) j 0 ∣ lcmFrom (lcm m x) l
     each-of m x l hx h r zero k = dvd-trans _ (lcm-right m x h hx) (r .base)
     each-of m x l hx h r (suc j) k = r .each j (omega arith)
 
@@ -140,21 +144,21 @@ over q b h k = omega (arith, div-lt-iff-lt-mul h .0 k)
 pub under : (q b : ℕ) → 0 < b → q ≤ 18446744073709551615 / b → q * b < TOO-LARGE
 under q b h k = omega (arith, le-div-iff-mul-le h .0 k)
 
-pub fitting-yes : (m : ℕ) → m < TOO-LARGE → value m ≡ fitting m
+pub fitting-yes : (m : ℕ) → m < TOO-LARGE → Value m ≡ fitting m
 fitting-yes m h = rw (lt-ltb m TOO-LARGE h)
 
-pub fitting-no : (m : ℕ) → TOO-LARGE ≤ m → refused levelTooLarge ≡ fitting m
+pub fitting-no : (m : ℕ) → TOO-LARGE ≤ m → Refused levelTooLarge ≡ fitting m
 fitting-no m h = rw (le-ltb m TOO-LARGE h)
 
 -- what an answer says of the number
-pub value-fits : (m k : ℕ) → value k ≡ fitting m → (k ≡ m) × (k < TOO-LARGE)
+pub value-fits : (m k : ℕ) → Value k ≡ fitting m → (k ≡ m) × (k < TOO-LARGE)
 value-fits m k e = elim (test (ltb m TOO-LARGE)) [
   | inl q ↦ let d = rw q at e in let s : k ≡ m = cc in let l = ltb-true m TOO-LARGE q in (s, omega arith)
   | inr q ↦ let d = rw q at e in let z : _≡_ {A = ℕ} 0 1 = cc in let no : ⊥ = omega arith in absurd no
 ]
 
-pub refused-over : (m : ℕ) → refused levelTooLarge ≡ fitting m → TOO-LARGE ≤ m
-refused-over m e = elim (test (ltb m TOO-LARGE)) [
+pub refused-over : (m : ℕ) (f : Refusal) → Refused f ≡ fitting m → TOO-LARGE ≤ m
+refused-over m f e = elim (test (ltb m TOO-LARGE)) [
   | inl q ↦ let d = rw q at e in let z : _≡_ {A = ℕ} 0 1 = cc in let no : ⊥ = omega arith in absurd no
   | inr q ↦ ltb-false m TOO-LARGE q
 ]

@@ -1,5 +1,5 @@
 -- One law for each place in the code of the figures.
--- In order: `mark_cycle`; `turn`; `cusp_widths`; `fixed_points`; `level_of`.
+-- In order: `mark_cycle`; `turn`; `cusp_widths`; `fixed_points`; `level_of`; `figures_of`.
 -- Assumes nothing.
 use mathlib.Core.Path.{_≡_, refl, sym, ap, _∙_}
 use mathlib.Core.Logic.{_≢_, inl, inr}
@@ -13,19 +13,24 @@ use lib.ListN.{length, getD, set, drop, length-set, length-append, length-map, l
 use lib.Seq.{getD-set-other, drop-cons, getD-drop, drop-length}
 use borrow.Author.Tests.{ltb-true, ltb-false, eq-eqb, ne-eqb}
 use Rattle.numbering.specs.Find.{find, _∈_, _∉_, isIn}
-use Rattle.numbering.specs.Table.{at}
-use Rattle.figures.specs.Cusps.{isFixed, fixedPoints, times, width, run, cycle, smallest, cuspsTo, cusps, cycles}
-use Rattle.numbering.specs.Select.{select}
-use Rattle.refusal.specs.Refusal.{levelTooLarge}
-use Rattle.figures.specs.Figure.{value, refused}
+use Rattle.numbering.specs.Table.{imageAt}
+use Rattle.figures.specs.Cusps.{isFixed, fixedPoints, times, width, iterates, cycle, smallest, cuspsTo, cusps, widths, cycles}
+use Rattle.basics.specs.Count.{those}
+use Rattle.refusal.specs.declared.Refusal.{Refusal}
+use Rattle.figures.specs.declared.Figure.{Figure}
+use Rattle.figures.specs.declared.FigureRecord.{FigureRecord}
+use Rattle.figures.specs.GenusOf.{genusOf}
+use Rattle.figures.specs.FiguresOf.{figuresIn}
+use Rattle.figures.specs.declared.Figure.the-variants.{Value, Refused}
 use Rattle.figures.specs.LevelOf.{lcm, lcmFrom, lcmOf, TOO-LARGE, fitting, levelOf, Positive}
-use Rattle.numbering.specs.Inner.Space.{WORK, ROOM, WIDTHS, NUMBER, ORDER, R-TABLE, T-TABLE, entries, Within}
-use Rattle.numbering.specs.Inner.Marks.{listed, Sparse, Marked, Fresh}
-use Rattle.figures.specs.Inner.Scan.{tableT, Permuted, CuspFrame, Scan, NewCycle, Turn, Turned, CuspWidths, PositiveTable}
+use Rattle.numbering.specs.Inner.Space.{WORK, ROOM, WIDTHS, NUMBER, ORDER, R-TABLE, T-TABLE, ChangedWithin}
+use Rattle.workspace.specs.Space.{entries}
+use Rattle.numbering.specs.Inner.Marks.{listed, Sparse, NowListed, Fresh}
+use Rattle.figures.specs.Inner.Scan.{heldT, Permuted, CuspFrame, CyclesListed, NewCycle, CycleDue, CycleTaken, CuspWidths, PositiveTable}
 use Rattle.numbering.proofs.Find.{none-below, test, getD-find, getD-in, find-right}
 use Rattle.numbering.proofs.Table.{map-last}
 use Rattle.figures.proofs.Cycle.{times-last, times-low, run-length, run-at, run-more, cycle-length, cycle-at, cycle-once, cycle-self, width-is}
-use Rattle.numbering.proofs.Select.{select-yes, select-no, select-few, select-le}
+use Rattle.numbering.proofs.Those.{those-yes, those-no, those-few, those-le}
 use Rattle.figures.proofs.Cusps.{cycles-last, cusp-new, cusp-old}
 use Rattle.figures.proofs.LevelOf.{lcm-some, lcm-from-le, fitting-yes, fitting-no, value-fits, refused-over}
 use Rattle.numbering.proofs.Space.{entries-length, entries-at, entries-push, entries-set, within-refl, within-trans, within-entries}
@@ -34,21 +39,21 @@ use Rattle.numbering.proofs.Marks.{listed-length, sparse-set}
 -- ---- `mark_cycle`: so many steps from x have been listed, and the next point is y
 pub record Walk (n x c₀ : ℕ) (w₀ w : List ℕ) (c y : ℕ) : Type 0 where
   pub steps : ℕ
-  pub most : steps < width (tableT n w₀) x
-  pub point : y ≡ times (tableT n w₀) steps x
+  pub most : steps < width (heldT n w₀) x
+  pub point : y ≡ times (heldT n w₀) steps x
   pub sparse : Sparse n c w
-  pub frame : Within NUMBER R-TABLE w₀ w
-  pub list : listed c w ≡ listed c₀ w₀ ++ run (tableT n w₀) steps x
+  pub frame : ChangedWithin NUMBER R-TABLE w₀ w
+  pub list : listed c w ≡ listed c₀ w₀ ++ iterates (heldT n w₀) steps x
 
-T-kept : (n : ℕ) {w w' : List ℕ} → Within NUMBER R-TABLE w w' → n ≤ ROOM → WORK ≤ length w → tableT n w' ≡ tableT n w
+T-kept : (n : ℕ) {w w' : List ℕ} → ChangedWithin NUMBER R-TABLE w w' → n ≤ ROOM → WORK ≤ length w → heldT n w' ≡ heldT n w
 T-kept n f h long = within-entries f T-TABLE n (inr (omega arith)) (omega arith) (omega arith)
 
-T-long : (n : ℕ) (w : List ℕ) → n ≤ ROOM → WORK ≤ length w → length (tableT n w) ≡ n
+T-long : (n : ℕ) (w : List ℕ) → n ≤ ROOM → WORK ≤ length w → length (heldT n w) ≡ n
 T-long n w h long = entries-length T-TABLE n w (omega arith)
 
 module _ {n x c₀ : ℕ} {w₀ : List ℕ} (p : NewCycle n x c₀ w₀) where
   abbrev t : List ℕ
-  t = tableT n w₀
+  t = heldT n w₀
 
   t-long : length t ≡ n
   t-long = T-long n w₀ (p .sparse .room) (p .sparse .long)
@@ -57,7 +62,7 @@ module _ {n x c₀ : ℕ} {w₀ : List ℕ} (p : NewCycle n x c₀ w₀) where
   x-low = omega (arith, t-long, p .low)
 
   pub walk-start : Walk n x c₀ w₀ w₀ c₀ x
-  unfolding run times
+  unfolding iterates times
   walk-start = record {
     steps = 0;
     most = width-is (p .permutes) x-low .some;
@@ -80,10 +85,10 @@ module _ {n x c₀ : ℕ} {w₀ : List ℕ} (p : NewCycle n x c₀ w₀) where
         let yc = rw (← k .point) at (cycle-at t x j (k .most)) in
         let far = p .new y (rw yc at (getD-in (cycle t x) j (omega (arith, k .most)))) in
         let pj = rw yc at (o .place j (omega (arith, k .most))) in
-        let apart : j ≤ find (run t j x) y = elim (decLt (find (run t j x) y) j) [
+        let apart : j ≤ find (iterates t j x) y = elim (decLt (find (iterates t j x) y) j) [
           | yes g ↦
-              let i = find (run t j x) y in
-              let e = cycle-at t x i (omega (arith, k .most)) ∙ sym (run-at t j x i g) ∙ getD-find (run t j x) y (omega (arith, run-length t j x)) in
+              let i = find (iterates t j x) y in
+              let e = cycle-at t x i (omega (arith, k .most)) ∙ sym (run-at t j x i g) ∙ getD-find (iterates t j x) y (omega (arith, run-length t j x)) in
               let pi = rw e at (o .place i (omega (arith, k .most))) in
               omega arith
           | no g ↦ omega arith
@@ -91,20 +96,20 @@ module _ {n x c₀ : ℕ} {w₀ : List ℕ} (p : NewCycle n x c₀ w₀) where
         record {
           sparse = k .sparse;
           low = omega (arith, walk-low, t-long);
-          new = rw (k .list) (omega (arith, length-append (listed c₀ w₀) (run t j x), run-length t j x, find-right (listed c₀ w₀) (run t j x) y far));
+          new = rw (k .list) (omega (arith, length-append (listed c₀ w₀) (iterates t j x), run-length t j x, find-right (listed c₀ w₀) (iterates t j x) y far));
         }
 
-    module _ {w' : List ℕ} (v : Marked n w w' (listed c w ++ (y ∷ [])) (c + 1)) {z : ℕ} (ez : z ≡ getD w' (T-TABLE + y) 0) where
-      walk-frame : Within NUMBER R-TABLE w₀ w'
+    module _ {w' : List ℕ} (v : NowListed n w w' (listed c w ++ (y ∷ [])) (c + 1)) {z : ℕ} (ez : z ≡ getD w' (T-TABLE + y) 0) where
+      walk-frame : ChangedWithin NUMBER R-TABLE w₀ w'
       walk-frame = within-trans (k .frame) (v .frame)
 
       walk-point : z ≡ times t (suc (k .steps)) x
       walk-point =
           ez ∙ walk-frame .above (T-TABLE + y) (omega arith)
-          ∙ sym (entries-at T-TABLE n w₀ y (omega (arith, walk-low, t-long))) ∙ ap (at t) (k .point) ∙ sym (times-last t (k .steps) x)
+          ∙ sym (entries-at T-TABLE n w₀ y (omega (arith, walk-low, t-long))) ∙ ap (imageAt t) (k .point) ∙ sym (times-last t (k .steps) x)
 
-      walk-list : listed (c + 1) w' ≡ listed c₀ w₀ ++ run t (suc (k .steps)) x
-      walk-list = v .list ∙ (rw (k .list, k .point, run-more t (k .steps) x) (append-assoc (listed c₀ w₀) (run t (k .steps) x) (times t (k .steps) x ∷ [])))
+      walk-list : listed (c + 1) w' ≡ listed c₀ w₀ ++ iterates t (suc (k .steps)) x
+      walk-list = v .list ∙ (rw (k .list, k .point, run-more t (k .steps) x) (append-assoc (listed c₀ w₀) (iterates t (k .steps) x) (times t (k .steps) x ∷ [])))
 
       pub walk-more : z ≢ x → Walk n x c₀ w₀ w' (c + 1) z
       walk-more ne = record {
@@ -119,7 +124,7 @@ module _ {n x c₀ : ℕ} {w₀ : List ℕ} (p : NewCycle n x c₀ w₀) where
         list = walk-list;
       }
 
-      pub walk-end : z ≡ x → Marked n w₀ w' (listed c₀ w₀ ++ cycle t x) (c + 1)
+      pub walk-end : z ≡ x → NowListed n w₀ w' (listed c₀ w₀ ++ cycle t x) (c + 1)
       walk-end e =
           let s : suc (k .steps) ≡ width t x = elim (ℕ-discrete (suc (k .steps)) (width t x)) [
             | yes d ↦ d
@@ -139,9 +144,9 @@ frame-trans l f g = record {
   above = λ i h. g .above i h ∙ f .above i h;
 }
 
-module _ {n i c k : ℕ} {w : List ℕ} (p : Turn n i c k w) where
+module _ {n i c k : ℕ} {w : List ℕ} (p : CycleDue n i c k w) where
   abbrev T : List ℕ
-  T = tableT n w
+  T = heldT n w
 
   i-low : i < length T
   i-low = omega (arith, p .low, T-long n w (p .scan .sparse .room) (p .scan .sparse .long))
@@ -165,9 +170,9 @@ module _ {n i c k : ℕ} {w : List ℕ} (p : Turn n i c k w) where
         let no : ⊥ = omega arith in absurd no
   ]
 
-  pub turned-old : isIn (listed c w) i ≡ true → Turned n i w w c k
+  pub turned-old : isIn (listed c w) i ≡ true → CycleTaken n i w w c k
   turned-old e =
-      let q = select-no (smallest T) i (turn-old e) in
+      let q = those-no (smallest T) i (turn-old e) in
       let s = p .scan in
       record {
         scan = record {
@@ -181,7 +186,7 @@ module _ {n i c k : ℕ} {w : List ℕ} (p : Turn n i c k w) where
       }
 
   pub turn-few : k ≤ i
-  turn-few = omega (arith, p .scan .count, select-few (smallest T) i)
+  turn-few = omega (arith, p .scan .count, those-few (smallest T) i)
 
   pub turn-low : k < ROOM
   turn-low = omega (arith, turn-few, p .low, p .scan .sparse .room)
@@ -195,7 +200,7 @@ module _ {n i c k : ℕ} {w : List ℕ} (p : Turn n i c k w) where
       new = rw (p .scan .list) (cusp-new (p .permutes) i-low (turn-new e));
     }
 
-    module _ {w1 : List ℕ} {c1 : ℕ} (v : Marked n w w1 (listed c w ++ cycle T i) c1) where
+    module _ {w1 : List ℕ} {c1 : ℕ} (v : NowListed n w w1 (listed c w ++ cycle T i) c1) where
       -- as many points have come to the list as the cycle has
       turn-sum : c1 ≡ c + width T i
       turn-sum = sym (listed-length (v .sparse)) ∙ ap (λ (l : List ℕ). length l) (v .list) ∙ length-append (listed c w) (cycle T i)
@@ -207,15 +212,15 @@ module _ {n i c k : ℕ} {w : List ℕ} (p : Turn n i c k w) where
       pub turn-more : c ≤ c1
       turn-more = omega (arith, turn-sum)
 
-      pub turned-new : Turned n i w (set w1 (WIDTHS + k) (c1 - c)) c1 (k + 1)
+      pub turned-new : CycleTaken n i w (set w1 (WIDTHS + k) (c1 - c)) c1 (k + 1)
       turned-new =
           let s = p .scan in
           let low = turn-low in
           let long1 = v .sparse .long in
           let room = s .sparse .room in
-          let q = select-yes (smallest T) i (turn-new e) in
+          let q = those-yes (smallest T) i (turn-new e) in
           let w2 = set w1 (WIDTHS + k) (c1 - c) in
-          let T1 : tableT n w1 ≡ T = T-kept n (v .frame) room (s .sparse .long) in
+          let T1 : heldT n w1 ≡ T = T-kept n (v .frame) room (s .sparse .long) in
           let few1 = v .sparse .few in
           record {
             scan = record {
@@ -225,7 +230,14 @@ module _ {n i c k : ℕ} {w : List ℕ} (p : Turn n i c k w) where
                   ∙ ap (λ (l : List ℕ). l ++ cycle T i) (s .list) ∙ sym (cycles-last T (cuspsTo T i) i) ∙ (rw (add-one, q));
               count = rw (add-one i, q) (omega (arith, s .count, length-append (cuspsTo T i) (i ∷ [])));
               table = entries-push WIDTHS k w1 (c1 - c) (omega arith)
-                  ∙ (rw (within-entries (v .frame) WIDTHS k (inl (omega arith)) (omega arith) (omega (arith, s .sparse .long)), s .table, turn-width, add-one i, q) (sym (map-last (width T) (cuspsTo T i) i)));
+                  ∙ (rw (
+                    within-entries (v .frame) WIDTHS k (inl (omega arith)) (omega arith)
+                        (omega (arith, s .sparse .long)),
+                    s .table,
+                    turn-width,
+                    add-one i,
+                    q,
+                  ) (sym (map-last (width T) (cuspsTo T i) i)));
             };
             frame = record {
               same = length-set w1 (WIDTHS + k) (c1 - c) ∙ v .frame .same;
@@ -237,13 +249,13 @@ module _ {n i c k : ℕ} {w : List ℕ} (p : Turn n i c k w) where
 
 -- ---- `cusp_widths`
 pub record Scanning (n : ℕ) (w₀ w : List ℕ) (c k i : ℕ) : Type 0 where
-  pub scan : Scan (tableT n w₀) n i c k w
+  pub scan : CyclesListed (heldT n w₀) n i c k w
   pub frame : CuspFrame k w₀ w
   pub permuted : Permuted n w₀
   pub done : i ≤ n
 
 pub scanning-start : {n : ℕ} {w : List ℕ} → Permuted n w → Scanning n w w 0 0 0
-unfolding select cycles
+unfolding cycles
 scanning-start {n} {w} p = record {
   scan = record {
     sparse = record { long = p .long; room = p .room; few = omega arith; low = λ j h. none-below h; number = λ j h. none-below h };
@@ -258,10 +270,10 @@ scanning-start {n} {w} p = record {
 }
 
 module _ {n c k i : ℕ} {w₀ w : List ℕ} (s : Scanning n w₀ w c k i) where
-  pub scanning-turn : i < n → Turn n i c k w
+  pub scanning-turn : i < n → CycleDue n i c k w
   scanning-turn h = record { scan = rw (s .scan .T-is) (s .scan); permutes = rw (s .scan .T-is) (s .permuted .permutes); low = h }
 
-  pub scanning-more : i < n → {w' : List ℕ} {c' k' : ℕ} → Turned n i w w' c' k' → Scanning n w₀ w' c' k' (i + 1)
+  pub scanning-more : i < n → {w' : List ℕ} {c' k' : ℕ} → CycleTaken n i w w' c' k' → Scanning n w₀ w' c' k' (i + 1)
   scanning-more h {w'} {c'} {k'} v =
       let q = rw (s .scan .T-is) at (v .scan) in
       record {
@@ -271,31 +283,31 @@ module _ {n c k i : ℕ} {w₀ w : List ℕ} (s : Scanning n w₀ w c k i) where
         done = omega arith;
       }
     where
-      grows : k' ≡ length (cuspsTo (tableT n w₀) (i + 1)) → k ≤ k'
-      grows e = omega (arith, s .scan .count, e, select-le (smallest (tableT n w₀)) i 1)
+      grows : k' ≡ length (cuspsTo (heldT n w₀) (i + 1)) → k ≤ k'
+      grows e = omega (arith, s .scan .count, e, those-le (smallest (heldT n w₀)) i 1)
 
   pub scanning-end : n ≤ i → CuspWidths n w₀ w k
   scanning-end h =
-      let t = tableT n w₀ in
+      let t = heldT n w₀ in
       let e : i ≡ length t = omega (arith, s .done, T-long n w₀ (s .permuted .room) (s .permuted .long)) in
       let a = rw e at (s .scan .count) in
       record {
         count = a ∙ sym (length-map (cusps t) (width t));
-        few = omega (arith, s .scan .count, select-few (smallest t) i, s .done);
+        few = omega (arith, s .scan .count, those-few (smallest t) i, s .done);
         table = rw e at (s .scan .table);
         frame = s .frame;
       }
 
 -- ---- `fixed_points`
 module _ (t : List ℕ) (i : ℕ) where
-  pub fixed-yes : at t i ≡ i → length (select (isFixed t) (i + 1)) ≡ length (select (isFixed t) i) + 1
-  fixed-yes e = rw (add-one i, select-yes (isFixed t) i (eq-eqb (at t i) i e)) (length-append (select (isFixed t) i) (i ∷ []))
+  pub fixed-yes : imageAt t i ≡ i → length (those (isFixed t) (i + 1)) ≡ length (those (isFixed t) i) + 1
+  fixed-yes e = rw (add-one i, those-yes (isFixed t) i (eq-eqb (imageAt t i) i e)) (length-append (those (isFixed t) i) (i ∷ []))
 
-  pub fixed-no : (at t i ≡ i → ⊥) → length (select (isFixed t) (i + 1)) ≡ length (select (isFixed t) i)
-  fixed-no e = rw (add-one i, select-no (isFixed t) i (ne-eqb (at t i) i e))
+  pub fixed-no : (imageAt t i ≡ i → ⊥) → length (those (isFixed t) (i + 1)) ≡ length (those (isFixed t) i)
+  fixed-no e = rw (add-one i, those-no (isFixed t) i (ne-eqb (imageAt t i) i e))
 
 pub fixed-few : (off n : ℕ) (w : List ℕ) → off + n ≤ length w → fixedPoints (entries off n w) ≤ n
-fixed-few off n w h = omega (arith, select-few (isFixed (entries off n w)) (length (entries off n w)), entries-length off n w h)
+fixed-few off n w h = omega (arith, those-few (isFixed (entries off n w)) (length (entries off n w)), entries-length off n w h)
 
 -- ---- `level_of`: what is left of the list gives, from m on, the least common multiple of the whole
 pub record Levelling (l : List ℕ) (m i : ℕ) : Type 0 where
@@ -313,7 +325,7 @@ module _ {off n : ℕ} {w : List ℕ} (p : PositiveTable off n w) {m i : ℕ} (s
   table-long : length table ≡ n
   table-long = entries-length off n w (p .fits)
 
-  pub level-end : i ≡ n → value m ≡ levelOf table
+  pub level-end : i ≡ n → Value m ≡ levelOf table
   unfolding lcmFrom
   level-end e =
       let d : m ≡ lcmOf table = rw (e ∙ sym table-long, drop-length table) at (s .left) in
@@ -336,12 +348,19 @@ module _ {off n : ℕ} {w : List ℕ} (p : PositiveTable off n w) {m i : ℕ} (s
     }
 
     -- over 2^64 once is over it for good
-    pub level-over : refused levelTooLarge ≡ fitting (lcm m x) → refused levelTooLarge ≡ levelOf table
-    level-over e =
+    pub level-over : {r : Figure} (f : Refusal) → r ≡ Refused f → r ≡ fitting (lcm m x) → r ≡ levelOf table
+    level-over f q e =
         let a = lcm-from-le (lcm m x) (drop (i + 1) table) (lcm-some m x (s .some) level-positive) rest-positive in
-        fitting-no (lcmOf table) (omega (arith, refused-over (lcm m x) e, a, level-left))
+        let h = refused-over (lcm m x) f (sym q ∙ e) in
+        e ∙ sym (fitting-no (lcm m x) h) ∙ fitting-no (lcmOf table) (omega (arith, h, a, level-left))
 
-    pub level-more : (k : ℕ) → value k ≡ fitting (lcm m x) → Levelling table k (i + 1)
+    pub level-more : (k : ℕ) → Value k ≡ fitting (lcm m x) → Levelling table k (i + 1)
     level-more k e =
         let f = value-fits (lcm m x) k e in
         record { some = rw (f .0) (lcm-some m x (s .some) level-positive); fits = f .1; left = rw (f .0) level-left }
+
+-- ---- `figures_of`
+pub all-figures : (n : ℕ) (s r u : List ℕ) {e2 e3 k : ℕ} {g l : Figure} → e2 ≡ fixedPoints s → e3 ≡ fixedPoints r → k ≡ length (widths u)
+    → g ≡ genusOf n e2 e3 k → l ≡ levelOf (widths u)
+    → _≡_ {A = FigureRecord} (record { index = n; e2 = e2; e3 = e3; cusps = k; genus = g; level = l }) (figuresIn n s r u)
+all-figures n s r u a b c d e = cc

@@ -5,7 +5,7 @@
 --     times t k x        t, k times, from x
 --     stepsTo x t k y    how many steps of t lead from y to x: at most k are tried
 --     width t x          the length of the cycle of x: how many steps lead from x back to x, at least one
---     run t k x          the first k points of the walk from x by t
+--     iterates t k x     the first k points of the walk from x by t
 --     cycle t x          the points of the cycle of x
 --     noneBelow x l      whether no entry of l is below x
 --     smallest t x       whether x is the smallest point of its cycle
@@ -26,33 +26,34 @@ use mathlib.Core.List.{List, [], _∷_, _++_, map}
 use Prim.Native.Nat.{ℕ, zero, suc, _+_, _≤_, _<_}
 use lib.ListN.{length, getD}
 use lib.Dec.{eqb, leb}
-use Rattle.numbering.specs.Find.{pick, _∈_}
-use Rattle.numbering.specs.Select.{select}
-use Rattle.numbering.specs.Table.{at}
+use Rattle.numbering.specs.Find.{_∈_}
+use Rattle.basics.specs.Choice.{pick}
+use Rattle.basics.specs.Count.{those}
+use Rattle.numbering.specs.Table.{imageAt}
 
 abbrev pub isFixed : List ℕ → ℕ → Bool
-isFixed t x = eqb (at t x) x
+isFixed t x = eqb (imageAt t x) x
 
 abbrev pub fixedPoints : List ℕ → ℕ
-fixedPoints t = length (select (isFixed t) (length t))
+fixedPoints t = length (those (isFixed t) (length t))
 
 unfoldable pub times : List ℕ → ℕ → ℕ → ℕ
 times t zero x = x
-times t (suc k) x = times t k (at t x)
+times t (suc k) x = times t k (imageAt t x)
 
 unfoldable pub stepsTo : ℕ → List ℕ → ℕ → ℕ → ℕ
 stepsTo x t zero y = 0
-stepsTo x t (suc k) y = pick (eqb y x) 0 (suc (stepsTo x t k (at t y)))
+stepsTo x t (suc k) y = pick (eqb y x) 0 (suc (stepsTo x t k (imageAt t y)))
 
 unfoldable pub width : List ℕ → ℕ → ℕ
-width t x = suc (stepsTo x t (length t) (at t x))
+width t x = suc (stepsTo x t (length t) (imageAt t x))
 
-unfoldable pub run : List ℕ → ℕ → ℕ → List ℕ
-run t zero x = []
-run t (suc k) x = x ∷ run t k (at t x)
+unfoldable pub iterates : List ℕ → ℕ → ℕ → List ℕ
+iterates t zero x = []
+iterates t (suc k) x = x ∷ iterates t k (imageAt t x)
 
 abbrev pub cycle : List ℕ → ℕ → List ℕ
-cycle t x = run t (width t x) x
+cycle t x = iterates t (width t x) x
 
 unfoldable pub noneBelow : ℕ → List ℕ → Bool
 noneBelow x [] = true
@@ -62,7 +63,7 @@ abbrev pub smallest : List ℕ → ℕ → Bool
 smallest t x = noneBelow x (cycle t x)
 
 abbrev pub cuspsTo : List ℕ → ℕ → List ℕ
-cuspsTo t i = select (smallest t) i
+cuspsTo t i = those (smallest t) i
 
 abbrev pub cusps : List ℕ → List ℕ
 cusps t = cuspsTo t (length t)

@@ -6,17 +6,18 @@
 use mathlib.Core.Path.{_≡_}
 use Prim.Native.Nat.{ℕ, _+_, _-_, _*_, _/_, _%_}
 use lib.Dec.{eqb, leb}
-use Rattle.numbering.specs.Find.{pick}
+use Rattle.basics.specs.Choice.{pick}
 use Rattle.refusal.specs.Refusal.{noGenus}
-use Rattle.figures.specs.Figure.{Figure, value, refused}
+use Rattle.figures.specs.declared.Figure.{Figure}
+use Rattle.figures.specs.declared.Figure.the-variants.{Value, Refused}
 
 unfoldable pub genusOf : (index e2 e3 cusps : ℕ) → Figure
 genusOf index e2 e3 cusps =
     let plus = 12 + index in
     let minus = 3 * e2 + 4 * e3 + 6 * cusps in
-    pick (leb minus plus) (pick (eqb ((plus - minus) % 12) 0) (value ((plus - minus) / 12)) (refused noGenus)) (refused noGenus)
+    pick (leb minus plus) (pick (eqb ((plus - minus) % 12) 0) (Value ((plus - minus) / 12)) (Refused noGenus)) (Refused noGenus)
 
 pub record Genus (index e2 e3 cusps : ℕ) : Type 0 where
-  pub right : (g : ℕ) → genusOf index e2 e3 cusps ≡ value g → 12 * g + 3 * e2 + 4 * e3 + 6 * cusps ≡ 12 + index
-  pub found : (g : ℕ) → 12 * g + 3 * e2 + 4 * e3 + 6 * cusps ≡ 12 + index → genusOf index e2 e3 cusps ≡ value g
-  pub none : ((g : ℕ) → 12 * g + 3 * e2 + 4 * e3 + 6 * cusps ≡ 12 + index → ⊥) → genusOf index e2 e3 cusps ≡ refused noGenus
+  pub right : (g : ℕ) → genusOf index e2 e3 cusps ≡ Value g → 12 * g + 3 * e2 + 4 * e3 + 6 * cusps ≡ 12 + index
+  pub found : (g : ℕ) → 12 * g + 3 * e2 + 4 * e3 + 6 * cusps ≡ 12 + index → genusOf index e2 e3 cusps ≡ Value g
+  pub none : ((g : ℕ) → 12 * g + 3 * e2 + 4 * e3 + 6 * cusps ≡ 12 + index → ⊥) → genusOf index e2 e3 cusps ≡ Refused noGenus

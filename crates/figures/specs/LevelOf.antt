@@ -14,9 +14,10 @@ use mathlib.Core.List.{List, [], _∷_}
 use Prim.Native.Nat.{ℕ, zero, suc, _*_, _/_, _%_, _<_, _∣_}
 use lib.ListN.{length, getD}
 use lib.Dec.{ltb}
-use Rattle.numbering.specs.Find.{pick}
+use Rattle.basics.specs.Choice.{pick}
 use Rattle.refusal.specs.Refusal.{levelTooLarge}
-use Rattle.figures.specs.Figure.{Figure, value, refused}
+use Rattle.figures.specs.declared.Figure.{Figure}
+use Rattle.figures.specs.declared.Figure.the-variants.{Value, Refused}
 
 unfoldable pub euclid : ℕ → ℕ → ℕ → ℕ
 euclid zero a b = a
@@ -40,7 +41,7 @@ abbrev pub TOO-LARGE : ℕ
 TOO-LARGE = 18446744073709551616
 
 abbrev pub fitting : ℕ → Figure
-fitting m = pick (ltb m TOO-LARGE) (value m) (refused levelTooLarge)
+fitting m = pick (ltb m TOO-LARGE) (Value m) (Refused levelTooLarge)
 
 abbrev pub levelOf : List ℕ → Figure
 levelOf l = fitting (lcmOf l)

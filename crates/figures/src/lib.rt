@@ -3,23 +3,25 @@
 ghost use mathlib.Core.Path.{_≡_};
 ghost use mathlib.Core.List.{_++_};
 ghost use Prim.Native.Nat.{_<_};
-ghost use Rattle.numbering.specs.Inner.Space.{entries};
-ghost use Rattle.numbering.specs.Inner.Marks.{listed, Marked};
+ghost use Rattle.workspace.specs.Space.{entries};
+ghost use Rattle.numbering.specs.Inner.Marks.{listed, NowListed};
 ghost use Rattle.figures.specs.Cusps.{cycle, fixedPoints};
-ghost use Rattle.figures.specs.Figure.{levelSays, genusSays};
 ghost use Rattle.figures.specs.GenusOf.{genusOf};
 ghost use Rattle.figures.specs.LevelOf.{gcd, lcm, fitting, levelOf};
-ghost use Rattle.figures.specs.Inner.Scan.{Holds, tableT, Permuted, NewCycle, Turn, Turned, CuspWidths, FiguresOf, PositiveTable};
+ghost use Rattle.figures.specs.Inner.Scan.{HoldsTable, heldT, Permuted, NewCycle, CycleDue, CycleTaken, CuspWidths, FiguresOf, PositiveTable};
 use numbering::R_TABLE;
 use numbering::S_TABLE;
 use numbering::T_TABLE;
 use numbering::WIDTHS;
 use numbering::has;
 use numbering::push;
+use refusal::LEVEL_TOO_LARGE;
+use refusal::NO_GENUS;
+use refusal::Refusal;
 
 // How many places the table of n entries at `off` fixes.
 fn fixed_points(w: &[u16], off: usize, n: usize) -> usize
-    requires { ⌜ Holds off n (now w) ⌝ }
+    requires { ⌜ HoldsTable off n (now w) ⌝ }
     ensures { λ r. ⌜ r ≡ fixedPoints (entries off n (now (w .entry))) ⌝ }
 {
     let mut count: usize = 0;
@@ -37,7 +39,7 @@ fn fixed_points(w: &[u16], off: usize, n: usize) -> usize
 // The points of the cycle of x under T are listed behind the c0 that are. How many are listed now.
 fn mark_cycle(w: &mut [u16], n: usize, x: usize, c0: usize) -> usize
     requires { ⌜ NewCycle n x c0 (now w) ⌝ }
-    ensures { λ r. ⌜ Marked n (now (w .entry)) (now (w .exit)) (listed c0 (now (w .entry)) ++ cycle (tableT n (now (w .entry))) x) r ⌝ }
+    ensures { λ r. ⌜ NowListed n (now (w .entry)) (now (w .exit)) (listed c0 (now (w .entry)) ++ cycle (heldT n (now (w .entry))) x) r ⌝ }
 {
     let mut c = c0;
     let mut y = x;
@@ -59,8 +61,8 @@ struct Counts {
 
 // One point of the scan: if it is in no cycle so far, its cycle is the next cusp's, and it is the smallest point there.
 fn turn(w: &mut [u16], n: usize, i: usize, c: usize, k: usize) -> Counts
-    requires { ⌜ Turn n i c k (now w) ⌝ }
-    ensures { λ r. ⌜ Turned n i (now (w .entry)) (now (w .exit)) (r .c) (r .k) ⌝ }
+    requires { ⌜ CycleDue n i c k (now w) ⌝ }
+    ensures { λ r. ⌜ CycleTaken n i (now (w .entry)) (now (w .exit)) (r .c) (r .k) ⌝ }
 {
     if has(w, n, i, c) {
         return Counts { c, k };
@@ -87,33 +89,33 @@ pub fn cusp_widths(w: &mut [u16], n: usize) -> usize
     k
 }
 
-// The genus, or that the formula gives no whole number from 0.
-pub enum Genus {
-    Genus(u64),
-    NoGenus,
+// A figure: its value, or why there is none.
+pub enum Figure {
+    Value(u64),
+    Refused(Refusal),
 }
 
-// The genus formula.
-fn genus_of(index: usize, e2: usize, e3: usize, cusps: usize) -> Genus
+// The genus formula; 18 where it gives no whole number from 0.
+fn genus_of(index: usize, e2: usize, e3: usize, cusps: usize) -> Figure
     requires { ⌜ (index < 4294967296) × (e2 < 4294967296) × (e3 < 4294967296) × (cusps < 4294967296) ⌝ }
-    ensures { λ r. ⌜ genusSays r ≡ genusOf index e2 e3 cusps ⌝ }
+    ensures { λ r. ⌜ r ≡ genusOf index e2 e3 cusps ⌝ }
 {
     let plus = 12 + index;
     let minus = 3 * e2 + 4 * e3 + 6 * cusps;
     if plus < minus {
-        return Genus::NoGenus;
+        return Figure::Refused(Refusal {
+            number: NO_GENUS,
+            place: 0,
+        });
     }
     let d = plus - minus;
     if d % 12 != 0 {
-        return Genus::NoGenus;
+        return Figure::Refused(Refusal {
+            number: NO_GENUS,
+            place: 0,
+        });
     }
-    Genus::Genus((d / 12) as u64)
-}
-
-// The level, or that it is at or over 2^64.
-pub enum Level {
-    Level(u64),
-    TooLarge,
+    Figure::Value((d / 12) as u64)
 }
 
 fn wide64(x: u16) -> u64
@@ -136,59 +138,64 @@ fn gcd_of(a: u64, b: u64) -> u64
     x
 }
 
-// The least common multiple of two positive numbers.
-fn lcm_of(a: u64, b: u64) -> Level
+// The least common multiple of two positive numbers; 17 where it is at or over 2^64.
+fn lcm_of(a: u64, b: u64) -> Figure
     requires { ⌜ (0 < a) × (0 < b) ⌝ }
-    ensures { λ r. ⌜ levelSays r ≡ fitting (lcm a b) ⌝ }
+    ensures { λ r. ⌜ r ≡ fitting (lcm a b) ⌝ }
 {
     let g = gcd_of(a, b);
     let q = a / g;
     if 18446744073709551615 / b < q {
-        return Level::TooLarge;
+        return Figure::Refused(Refusal {
+            number: LEVEL_TOO_LARGE,
+            place: 0,
+        });
     }
-    Level::Level(q * b)
+    Figure::Value(q * b)
 }
 
 // The least common multiple of the table of n positive entries at `off`: of the widths it is the level. A common multiple
 // never falls as entries come to it, so the first one over is the answer.
-fn level_of(w: &[u16], off: usize, n: usize) -> Level
+fn level_of(w: &[u16], off: usize, n: usize) -> Figure
     requires { ⌜ PositiveTable off n (now w) ⌝ }
-    ensures { λ r. ⌜ levelSays r ≡ levelOf (entries off n (now (w .entry))) ⌝ }
+    ensures { λ r. ⌜ r ≡ levelOf (entries off n (now (w .entry))) ⌝ }
 {
     let mut m: u64 = 1;
     let mut i: usize = 0;
     while i < n {
         let x = wide64(w[off + i]);
         let r = lcm_of(m, x);
-        let Level::Level(k) = r else {
-            return Level::TooLarge;
+        let Figure::Value(k) = r else {
+            return r;
         };
         m = k;
         i += 1;
     }
-    Level::Level(m)
+    Figure::Value(m)
 }
 
-// The figures of the tables.
-pub struct Figures {
+// All figures of a group's tables.
+pub struct FigureRecord {
+    pub index: usize,
     pub e2: usize,
     pub e3: usize,
     pub cusps: usize,
-    pub genus: Genus,
-    pub level: Level,
+    pub genus: Figure,
+    pub level: Figure,
 }
 
 // The figures of the tables of S, R and T of n points. The widths stay at WIDTHS.
-pub fn figures_of(w: &mut [u16], n: usize) -> Figures
+pub fn figures_of(w: &mut [u16], n: usize) -> FigureRecord
     requires { ⌜ Permuted n (now w) ⌝ }
-    ensures { λ r. ⌜ FiguresOf n (now (w .entry)) (now (w .exit)) (r .e2) (r .e3) (r .cusps) (r .genus) (r .level) ⌝ }
+    ensures { λ r. ⌜ FiguresOf n (now (w .entry)) (now (w .exit)) r ⌝ }
 {
     let e2 = fixed_points(w, S_TABLE, n);
     let e3 = fixed_points(w, R_TABLE, n);
     let cusps = cusp_widths(w, n);
     let level = level_of(w, WIDTHS, cusps);
     let genus = genus_of(n, e2, e3, cusps);
-    Figures {
+    FigureRecord {
+        index: n,
         e2,
         e3,
         cusps,

@@ -22,26 +22,27 @@ use lib.IntN.{ℤ, pos, negsuc, natAbs}
 use borrow.Author.Tests.{lt-ltb, le-ltb}
 use Rattle.matrix.specs.Matrix.{Mat, mat, _⊗_, 𝟙, neg, adj, det, matS, matQ, matP, _≈_}
 use Rattle.matrix.specs.Words as word
-use Rattle.matrix.specs.Euclid.{pick}
+use Rattle.basics.specs.Choice.{pick}
 use Rattle.matrix.specs.Action.{at}
 use Rattle.matrix.proofs.Matrix.{⊗-assoc, ⊗-idl, ⊗-idr, adj-⊗, det-one, det-adj, det-letter, redo, ≈-sym, _∙≈_, ≈-left, ≈-right}
-use Rattle.symbol.specs.Count.{first, count, those}
-use Rattle.symbol.specs.Table.{numer, denom, pairing, pairingOf, carried}
+use Rattle.basics.specs.Count.{first, count, those}
+use Rattle.symbol.specs.Table.{numer, denom, pairingEntry, pairingOf, carried}
 use Rattle.symbol.specs.Check.{eqZ, sides}
 use Rattle.symbol.specs.Symbol.{ZeroAt, FreeLabel, IsSymbol}
 use Rattle.pairing.specs.Generator.{partner, pairingAt, isLeaderBy, isLeader, leaders, frameAt, generatorBy, generator, generators}
 use Rattle.pairing.specs.Subgroup.{InH}
 use Rattle.symbol.specs.declared.Pairing.{Pairing}
 use Rattle.symbol.specs.declared.Pairing.the-variants.{Even, Odd, Free, Bad}
-use Rattle.symbol.proofs.Choice.{pick-true, pick-false, either, clash, eqZ-true, eq-eqZ, eqZ-refl}
-use Rattle.symbol.proofs.Count.{without, without-at, without-other, count-without, count-none, count-yes, count-mono, length-those, Clear}
+use Rattle.symbol.proofs.Choice.{eqZ-true, eq-eqZ, eqZ-refl}
+use Rattle.basics.proofs.Choice.{pick-true, pick-false, either, clash}
+use Rattle.basics.proofs.Count.{without, without-at, without-other, count-without, count-none, count-yes, count-mono, length-those, Clear}
 use Rattle.symbol.proofs.Pairings.{pairing-free}
 use Rattle.pairing.proofs.Facts.{Partner, partner-of, map-at, generator-at}
 use Rattle.numbering.specs.Find.{find, _∈_}
 use Rattle.numbering.proofs.Find as places
 use Rattle.import_rule.specs.Side.{Vertex, vertex, minusInfinity, infinity, limit}
 use Rattle.import_rule.specs.Rule.{least, free}
-use Rattle.import_rule.specs.Symbol.{labelsOf, tableOf}
+use Rattle.import_rule.specs.Symbol.{labelsOf, symbolTable}
 use Rattle.import_rule.specs.Inner.Placed.{Placed, pts, rowsOf}
 use Rattle.import_rule.specs.Theorem.{Precisely}
 use Rattle.import_rule.proofs.Member.{In, Apart}
@@ -49,7 +50,9 @@ use Rattle.import_rule.proofs.Lead.{S-twice, Q-Q-right, Q-P-right, Turn
 use Rattle.import_rule.proofs.Split.{framed, Closed, AllClosed, in-pts, Pt, pt-of, of-pt, same-side, Turn, t0, t1, t2, turnM, turnX, Corner, Edge}
 use Rattle.import_rule.proofs.Kept.{Inv, corner-spin, corner-free, corner-one, triangles}
 use Rattle.import_rule.proofs.Stabiliser.{in-one, in-gen, in-inv, Reach, stabiliser}
-use Rattle.import_rule.proofs.Table.{At, Numbered, in-at, at-in, Standing, at-get, at-low, at-one, at-place, inner, Chained, chain-den, Ending, inner-at, labels-in, labels-few, mark-free, v-is, table-long, table-num, table-den, pair-even, pair-odd, pair-free, table-frame}
+use Rattle.import_rule.proofs.Table.{At, Numbered, in-at, at-in, Standing, at-get, at-low, at-one, at-place, inner, Chained, chain-den, Ending}
+use Rattle.import_rule.proofs.Table.{inner-at, labels-in, labels-few, mark-free, v-is, table-long, table-num, table-den, pair-even, pair-odd}
+use Rattle.import_rule.proofs.Table.{pair-free, table-frame}
 
 pub record Shape (l : List Placed) : Type 0 where
   pub chained : Chained minusInfinity l
@@ -92,14 +95,16 @@ those-pass test (suc n) j h = elim (decLt j (length (those test n))) [
     last (inl t) k =
         let p : those test (suc n) ≡ those test n ++ (n ∷ []) = ap (λ (b : Bool). those test n ++ pick b (n ∷ []) []) t in
         let z : j ≡ length (those test n) + 0 = omega (arith, ap length p, length-append (those test n) (n ∷ [])) in
-        let e : getD (those test (suc n)) j 0 ≡ n = ap (λ (x : List ℕ). getD x j 0) p ∙ ap (λ (i : ℕ). getD (those test n ++ (n ∷ [])) i 0) z ∙ getD-append-add (those test n) (n ∷ []) 0 0 in
+        let e : getD (those test (suc n)) j 0 ≡ n = ap (λ (x : List ℕ). getD x j 0) p ∙ ap (λ (i : ℕ). getD (those test n ++ (n ∷ [])) i 0) z
+        ∙ getD-append-add (those test n) (n ∷ []) 0 0 in
         record { low = rw e (omega arith); passes = rw e t }
     last (inr f) k =
         let p : those test (suc n) ≡ those test n ++ [] = ap (λ (b : Bool). those test n ++ pick b (n ∷ []) []) f in
         absurd (omega (arith, ap length p, length-append (those test n) []))
 
--- just two pass
-count-two : (test : ℕ → Bool) (n i k : ℕ) → i < n → k < n → ¬ (k ≡ i) → test i ≡ true → test k ≡ true → ((j : ℕ) → j < n → test j ≡ true → (j ≡ i) ⊎ (j ≡ k)) → count test n ≡ 2
+-- exactly two pass
+count-two : (test : ℕ → Bool) (n i k : ℕ) → i < n → k < n → ¬ (k ≡ i) → test i ≡ true → test k ≡ true → ((j : ℕ) → j < n → test j ≡ true → (j ≡ i) ⊎ (j ≡ k))
+    → count test n ≡ 2
 count-two test n i k a b d p q only =
     let one = count-without i test n a p in
     let two = count-without k (without i test) n b (without-other i test k d ∙ q) in
@@ -112,12 +117,13 @@ count-two test n i k a b d p q only =
     clear j h (no e) (no f) (inl t) = elim (only j h t) [ inl z ↦ absurd (f z) | inr z ↦ absurd (e z) ]
     clear j h (no e) (no f) (inr t) = without-other k (without i test) j e ∙ without-other i test j f ∙ t
 
-module _ (σ κ : ℕ → ℕ) (n : ℕ) (T : Turning σ κ n) (top : n ≤ 3066) (C l : List Placed) (inv : Inv σ κ n C l) (all : AllClosed σ κ (pts l) l) (shape : Shape l) (counted : length l ≡ length C + 2) where
+module _ (σ κ : ℕ → ℕ) (n : ℕ) (T : Turning σ κ n) (top : n ≤ 3066) (C l : List Placed) (inv : Inv σ κ n C l) (all : AllClosed σ κ (pts l) l) (shape : Shape l)
+    (counted : length l ≡ length C + 2) where
   abbrev v : ℕ
   v = length (rowsOf σ κ l) - 1
 
   abbrev t : List ℤ
-  t = tableOf (rowsOf σ κ l)
+  t = symbolTable (rowsOf σ κ l)
 
   abbrev L : List ℕ
   L = labelsOf (rowsOf σ κ l)
@@ -164,20 +170,21 @@ module _ (σ κ : ℕ → ℕ) (n : ℕ) (T : Turning σ κ n) (top : n ≤ 3066
       go (yes e) d c = inl e
       go (no e) (yes o) c = inr (inl o)
       go (no e) (no o) (inl c) = absurd (o c)
-      go (no e) (no o) (inr c) = let k = pt-of _ l c in inr (inr (record { side = k .side; among = k .among; mates = record { pt = sym (k .pt); not-even = e; not-odd = o } }))
+      go (no e) (no o) (inr c) = let k = pt-of _ l c in
+          inr (inr (record { side = k .side; among = k .among; mates = record { pt = sym (k .pt); not-even = e; not-odd = o } }))
 
   -- ---- labels
 
   abbrev labelOf : Placed → ℕ
   labelOf u = least (u .pt) (σ (u .pt))
 
-  even-is : (i : ℕ) (u : Placed) → At i u l → σ (u .pt) ≡ u .pt → pairing v t i ≡ negsuc 1
+  even-is : (i : ℕ) (u : Placed) → At i u l → σ (u .pt) ≡ u .pt → pairingEntry v t i ≡ negsuc 1
   even-is i u a e = pair-even σ κ l some i u a e
 
-  odd-is : (i : ℕ) (u : Placed) → At i u l → κ (u .pt) ≡ u .pt → pairing v t i ≡ negsuc 2
+  odd-is : (i : ℕ) (u : Placed) → At i u l → κ (u .pt) ≡ u .pt → pairingEntry v t i ≡ negsuc 2
   odd-is i u a e = pair-odd σ κ l some i u a (not-both u (at-in i u l a) e) e
 
-  free-is : (i : ℕ) (u w : Placed) → At i u l → Mates u w → pairing v t i ≡ pos (suc (find L (labelOf u)))
+  free-is : (i : ℕ) (u w : Placed) → At i u l → Mates u w → pairingEntry v t i ≡ pos (suc (find L (labelOf u)))
   free-is i u w a m = pair-free σ κ l some i u a (m .not-even) (m .not-odd)
 
   listed : (u w : Placed) → In u l → Mates u w → labelOf u ∈ L
@@ -197,18 +204,21 @@ module _ (σ κ : ℕ → ℕ) (n : ℕ) (T : Turning σ κ n) (top : n ≤ 3066
       go (inr a) (inr b) = inl (sym (T .twice (u .pt)) ∙ ap σ (sym a ∙ e ∙ b) ∙ T .twice (w .pt))
 
   -- a side with the pairing of a free side is that side or its partner
-  same-label : (i k j : ℕ) (u w : Placed) → At i u l → At k w l → Mates u w → j ≤ v → pairing v t j ≡ pairing v t i → (j ≡ i) ⊎ (j ≡ k)
+  same-label : (i k j : ℕ) (u w : Placed) → At i u l → At k w l → Mates u w → j ≤ v → pairingEntry v t j ≡ pairingEntry v t i → (j ≡ i) ⊎ (j ≡ k)
   same-label i k j u w a b m h e =
       let g = at-get j l (omega (arith, size)) in
       go (g .side) (g .is) (sorts (g .side) (at-in j (g .side) l (g .is)))
     where
       go : (y : Placed) → At j y l → (σ (y .pt) ≡ y .pt) ⊎ (κ (y .pt) ≡ y .pt) ⊎ Mated y → (j ≡ i) ⊎ (j ≡ k)
-      go y c (inl p) = let q : negsuc 1 ≡ pos (suc (find L (labelOf u))) = sym (even-is j y c p) ∙ e ∙ free-is i u w a m in let z : _≡_ {A = ℕ} 0 1 = cc in absurd (omega arith)
-      go y c (inr (inl p)) = let q : negsuc 2 ≡ pos (suc (find L (labelOf u))) = sym (odd-is j y c p) ∙ e ∙ free-is i u w a m in let z : _≡_ {A = ℕ} 0 1 = cc in absurd (omega arith)
+      go y c (inl p) = let q : negsuc 1 ≡ pos (suc (find L (labelOf u))) = sym (even-is j y c p) ∙ e
+          ∙ free-is i u w a m in let z : _≡_ {A = ℕ} 0 1 = cc in absurd (omega arith)
+      go y c (inr (inl p)) = let q : negsuc 2 ≡ pos (suc (find L (labelOf u))) = sym (odd-is j y c p) ∙ e
+          ∙ free-is i u w a m in let z : _≡_ {A = ℕ} 0 1 = cc in absurd (omega arith)
       go y c (inr (inr p)) =
           let q : pos (suc (find L (labelOf y))) ≡ pos (suc (find L (labelOf u))) = sym (free-is j y (p .side) c (p .mates)) ∙ e ∙ free-is i u w a m in
           let r : find L (labelOf y) ≡ find L (labelOf u) = let s = ap natAbs q in omega arith in
-          let x : labelOf y ≡ labelOf u = sym (places.getD-find L (labelOf y) (listed y (p .side) (at-in j y l c) (p .mates))) ∙ ap (λ (z : ℕ). getD L z 0) r ∙ places.getD-find L (labelOf u) (listed u w (at-in i u l a) m) in
+          let x : labelOf y ≡ labelOf u = sym (places.getD-find L (labelOf y) (listed y (p .side) (at-in j y l c) (p .mates))) ∙ ap (λ (z : ℕ). getD L z 0) r
+          ∙ places.getD-find L (labelOf u) (listed u w (at-in i u l a) m) in
           elim (label-tells y u x) [
             | inl z ↦ inl (at-place j i y u l (inv .apart) c a z)
             | inr z ↦ inr (at-place j k y w l (inv .apart) c b (z ∙ sym (m .pt)))
@@ -217,16 +227,17 @@ module _ (σ κ : ℕ → ℕ) (n : ℕ) (T : Turning σ κ n) (top : n ≤ 3066
   other-place : (i k : ℕ) (u w : Placed) → At i u l → At k w l → Mates u w → ¬ (k ≡ i)
   other-place i k u w a b m z = m .not-even (sym (m .pt) ∙ ap (λ (x : Placed). x .pt) (at-one i w u l (rw z at b) a))
 
-  twice : (i k : ℕ) (u w : Placed) → At i u l → At k w l → Mates u w → sides v t (pairing v t i) ≡ 2
+  twice : (i k : ℕ) (u w : Placed) → At i u l → At k w l → Mates u w → sides v t (pairingEntry v t i) ≡ 2
   twice i k u w a b m =
       let x = at-low i u l a in
       let y = at-low k w l b in
-      let q : pairing v t k ≡ pairing v t i = free-is k w u b (mates-back u w (at-in i u l a) m) ∙ ap (λ (z : ℕ). pos (suc (find L z))) (label-back u w m) ∙ sym (free-is i u w a m) in
-      count-two (λ (j : ℕ). eqZ (pairing v t j) (pairing v t i)) (v + 1) i k (omega (arith, size)) (omega (arith, size)) (other-place i k u w a b m)
-      (eqZ-refl (pairing v t i)) (eq-eqZ (pairing v t k) (pairing v t i) q)
-      (λ j h e. same-label i k j u w a b m (omega arith) (eqZ-true (pairing v t j) (pairing v t i) e))
+      let q : pairingEntry v t k ≡ pairingEntry v t i = free-is k w u b (mates-back u w (at-in i u l a) m)
+      ∙ ap (λ (z : ℕ). pos (suc (find L z))) (label-back u w m) ∙ sym (free-is i u w a m) in
+      count-two (λ (j : ℕ). eqZ (pairingEntry v t j) (pairingEntry v t i)) (v + 1) i k (omega (arith, size)) (omega (arith, size)) (other-place i k u w a b m)
+      (eqZ-refl (pairingEntry v t i)) (eq-eqZ (pairingEntry v t k) (pairingEntry v t i) q)
+      (λ j h e. same-label i k j u w a b m (omega arith) (eqZ-true (pairingEntry v t j) (pairingEntry v t i) e))
 
-  free-label : (i : ℕ) (u : Placed) → At i u l → Mated u → FreeLabel v t (pairing v t i)
+  free-label : (i : ℕ) (u : Placed) → At i u l → Mated u → FreeLabel v t (pairingEntry v t i)
   free-label i u a p =
       let b = in-at (p .side) l (p .among) in
       let h = listed u (p .side) (at-in i u l a) (p .mates) in
@@ -246,12 +257,13 @@ module _ (σ κ : ℕ → ℕ) (n : ℕ) (T : Turning σ κ n) (top : n ≤ 3066
       let g = at-get i l (omega (arith, size)) in
       ap det (table-frame σ κ l some i (g .side) (shape .chained) (g .is)) ∙ inv .dets (g .side) (at-in i (g .side) l (g .is))
 
-  kinds : (i : ℕ) → i ≤ v → (pairing v t i ≡ negsuc 1) ⊎ (pairing v t i ≡ negsuc 2) ⊎ FreeLabel v t (pairing v t i)
+  kinds : (i : ℕ) → i ≤ v → (pairingEntry v t i ≡ negsuc 1) ⊎ (pairingEntry v t i ≡ negsuc 2) ⊎ FreeLabel v t (pairingEntry v t i)
   kinds i h =
       let g = at-get i l (omega (arith, size)) in
       go (g .side) (g .is) (sorts (g .side) (at-in i (g .side) l (g .is)))
     where
-      go : (u : Placed) → At i u l → (σ (u .pt) ≡ u .pt) ⊎ (κ (u .pt) ≡ u .pt) ⊎ Mated u → (pairing v t i ≡ negsuc 1) ⊎ (pairing v t i ≡ negsuc 2) ⊎ FreeLabel v t (pairing v t i)
+      go : (u : Placed) → At i u l → (σ (u .pt) ≡ u .pt) ⊎ (κ (u .pt) ≡ u .pt) ⊎ Mated u → (pairingEntry v t i ≡ negsuc 1) ⊎ (pairingEntry v t i ≡ negsuc 2)
+          ⊎ FreeLabel v t (pairingEntry v t i)
       go u a (inl e) = inl (even-is i u a e)
       go u a (inr (inl e)) = inr (inl (odd-is i u a e))
       go u a (inr (inr m)) = inr (inr (free-label i u a m))
@@ -273,7 +285,8 @@ module _ (σ κ : ℕ → ℕ) (n : ℕ) (T : Turning σ κ n) (top : n ≤ 3066
     some = let h = shape .many in omega (arith, size);
     most = omega (arith, few);
     long = table-long σ κ l some;
-    numers = λ i h. let g = at-get i l (omega (arith, size)) in rw (table-num σ κ l some i (g .side) (g .is) h) (shape .small (g .side) (at-in i (g .side) l (g .is)) .0);
+    numers = λ i h. let g = at-get i l (omega (arith, size)) in
+        rw (table-num σ κ l some i (g .side) (g .is) h) (shape .small (g .side) (at-in i (g .side) l (g .is)) .0);
     denoms = λ i h. let g = at-get i l (omega (arith, size)) in
         rw (table-den σ κ l some i (g .side) (g .is) h)
         (chain-den minusInfinity i (g .side) l (shape .chained) (g .is) (omega (arith, size)), shape .small (g .side) (at-in i (g .side) l (g .is)) .1, refl);
@@ -337,7 +350,8 @@ module _ (σ κ : ℕ → ℕ) (n : ℕ) (T : Turning σ κ n) (top : n ≤ 3066
       go : (u : Placed) → At i u l → (σ (u .pt) ≡ u .pt) ⊎ (κ (u .pt) ≡ u .pt) ⊎ Mated u → Is (generator v t i)
       go u a (inl e) = is-even u (at-in i u l a) e (generator-even i u a e)
       go u a (inr (inl e)) = is-odd u (at-in i u l a) e (generator-odd i u a e)
-      go u a (inr (inr m)) = let b = in-at (m .side) l (m .among) in is-free u (m .side) (at-in i u l a) (m .among) (m .mates .pt) (generator-free i (b .number) u (m .side) a (b .is) (m .mates))
+      go u a (inr (inr m)) = let b = in-at (m .side) l (m .among) in
+          is-free u (m .side) (at-in i u l a) (m .among) (m .mates .pt) (generator-free i (b .number) u (m .side) a (b .is) (m .mates))
 
   abbrev gens : List Mat
   gens = generators v t
@@ -396,7 +410,8 @@ module _ (σ κ : ℕ → ℕ) (n : ℕ) (T : Turning σ κ n) (top : n ≤ 3066
 
   in-first : (i k : ℕ) (u w : Placed) → At i u l → At k w l → Mates u w → i < k → Member (carried (framed w) matS (framed u))
   in-first i k u w a b m h =
-      let lead : isLeader v t i ≡ true = ap (λ (q : Pairing). isLeaderBy q i (partner v t i)) (free-at i u w a (at-in k w l b) m) ∙ ap (ltb i) (partner-is i k u w a b m) ∙ lt-ltb i k h in
+      let lead : isLeader v t i ≡ true = ap (λ (q : Pairing). isLeaderBy q i (partner v t i)) (free-at i u w a (at-in k w l b) m)
+      ∙ ap (ltb i) (partner-is i k u w a b m) ∙ lt-ltb i k h in
       rw (generator-free i k u w a b m) at (leading i (at-most-v i u a) lead)
 
   -- ---- the known frames: the corners', and the odd sides'
@@ -471,7 +486,8 @@ module _ (σ κ : ℕ → ℕ) (n : ℕ) (T : Turning σ κ n) (top : n ≤ 3066
       let p : g ⊗ f ≡ f ⊗ matQ = carried-own f matQ f d in
       let i = in-odd u (e .among) q in
       let k : Known f x = inr (o, record { side = u; among = e .among; frame = inl refl; pt = e .pt }) in
-      let r : adj g ⊗ f ≡ f ⊗ matP = ap (λ (y : Mat). adj g ⊗ y) (sym (Q-P-right f) ∙ ap (λ (y : Mat). y ⊗ matP) (sym p) ∙ ⊗-assoc g f matP) ∙ redo g (f ⊗ matP) (carried-det f matQ f d (det-letter word.Q) d) in (
+      let r : adj g ⊗ f ≡ f ⊗ matP = ap (λ (y : Mat). adj g ⊗ y) (sym (Q-P-right f) ∙ ap (λ (y : Mat). y ⊗ matP) (sym p) ∙ ⊗-assoc g f matP)
+      ∙ redo g (f ⊗ matP) (carried-det f matQ f d (det-letter word.Q) d) in (
         record { by = g; frame = f; pt = x; inH = i .there; known = k; is = ≈-right matQ (e .frame) ∙≈ inl (sym p) },
         record { by = adj g; frame = f; pt = x; inH = i .inverse; known = k; is = ≈-right matP (e .frame) ∙≈ inl (sym r) },
       )
@@ -516,7 +532,8 @@ module _ (σ κ : ℕ → ℕ) (n : ℕ) (T : Turning σ κ n) (top : n ≤ 3066
       go (inl h) (inl k) = is-one (corner-one σ κ n T (inv .tops) k h)
       go (inl h) (inr (o, e)) = absurd (corner-free σ κ n T (inv .tops) h o)
       go (inr (o, h)) (inl k) = absurd (corner-free σ κ n T (inv .tops) k o)
-      go (inr (o, h)) (inr (p, e)) = is-one (e .frame ∙≈ inl (ap framed (same-side (e .side) (h .side) l (inv .apart) (e .among) (h .among) (sym (e .pt) ∙ h .pt))) ∙≈ ≈-sym (h .frame))
+      go (inr (o, h)) (inr (p, e)) = is-one (e .frame ∙≈ inl
+          (ap framed (same-side (e .side) (h .side) l (inv .apart) (e .among) (h .among) (sym (e .pt) ∙ h .pt))) ∙≈ ≈-sym (h .frame))
 
   -- THE GROUP OF THE SYMBOL IS THE STABILISER OF POINT 0
   pub group : (m : Mat) → det m ≡ pos 1 → InH gens m ↔ (at σ κ 0 m ≡ 0)

@@ -13,8 +13,8 @@ use Prim.Native.Nat.{ℕ, zero, suc, _+_, _*_, _-_, _<_, _≤_}
 use native.Mathlib.Omega.{arith}
 use lib.ListN.{length}
 use lib.IntN.{pos}
-use Rattle.matrix.specs.Euclid.{pick}
-use Rattle.symbol.proofs.Choice.{pick-true, pick-false}
+use Rattle.basics.specs.Choice.{pick}
+use Rattle.basics.proofs.Choice.{pick-true, pick-false}
 use Rattle.import_rule.specs.Side.{mediant, fits}
 use Rattle.import_rule.specs.Inner.Placed.{Placed, pts, Cut, closed, parted, over, next, Grew, finished, refused, goOn, lowerAt, upperAt, isClosed, cutIn, grow}
 use Rattle.import_rule.proofs.Member.{In, in-left, in-right, in-either, in-is}
@@ -72,7 +72,8 @@ module _ (σ κ : ℕ → ℕ) (n : ℕ) (start : List Placed) where
     pub going-size : (done todo : List Placed) → Going done todo → 3 * length (done ++ todo) ≤ n + 6
     going-size done todo g = omega (arith, triangles σ κ n T (g .tris) (g .inv .tops), g .kept .count)
 
-    pub going-move : (done : List Placed) (s : Placed) (todo : List Placed) → Going done (s ∷ todo) → Closed σ κ (pts (done ++ (s ∷ todo))) (s .pt) → Going (done ++ (s ∷ [])) todo
+    pub going-move : (done : List Placed) (s : Placed) (todo : List Placed) → Going done (s ∷ todo) → Closed σ κ (pts (done ++ (s ∷ todo))) (s .pt)
+        → Going (done ++ (s ∷ [])) todo
     going-move done s todo g c =
         let e = snoc done s todo in
         record {
@@ -98,19 +99,24 @@ module _ (σ κ : ℕ → ℕ) (n : ℕ) (start : List Placed) where
 
     -- one round of growing at an open side
     round : (done : List Placed) (s : Placed) (todo : List Placed) (g : Going done (s ∷ todo)) → ¬ (Closed σ κ (pts (done ++ (s ∷ todo))) (s .pt))
-        → grow σ κ n start ≡ goOn (grow σ κ (g .left - 1)) (done ++ (s ∷ todo)) (pick (fits (mediant (s .lo) (s .hi))) (parted (done ++ (lowerAt σ κ s ∷ upperAt σ κ s ∷ todo))) (over (length done)))
+        → grow σ κ n start ≡ goOn (grow σ κ (g .left - 1)) (done ++ (s ∷ todo))
+        (pick (fits (mediant (s .lo) (s .hi))) (parted (done ++ (lowerAt σ κ s ∷ upperAt σ κ s ∷ todo))) (over (length done)))
     round done s todo g h =
         let some : suc (g .left - 1) ≡ g .left = omega (arith, triangles σ κ n T (g .tris) (g .inv .tops), g .count, T .some) in
         g .same
         ∙ ap (λ (f : ℕ). grow σ κ f (done ++ (s ∷ todo))) (sym some)
         ∙ ap (goOn (grow σ κ (g .left - 1)) (done ++ (s ∷ todo))) (cut-open σ κ (pts (done ++ (s ∷ todo))) 0 done s todo (g .shut) h)
-        ∙ ap (λ (j : ℕ). goOn (grow σ κ (g .left - 1)) (done ++ (s ∷ todo)) (pick (fits (mediant (s .lo) (s .hi))) (parted (done ++ (lowerAt σ κ s ∷ upperAt σ κ s ∷ todo))) (over j))) (from-zero (length done))
+        ∙ ap (λ (j : ℕ). goOn (grow σ κ (g .left - 1)) (done ++ (s ∷ todo))
+        (pick (fits (mediant (s .lo) (s .hi))) (parted (done ++ (lowerAt σ κ s ∷ upperAt σ κ s ∷ todo))) (over j))) (from-zero (length done))
 
-    pub going-over : (done : List Placed) (s : Placed) (todo : List Placed) → Going done (s ∷ todo) → ¬ (Closed σ κ (pts (done ++ (s ∷ todo))) (s .pt)) → fits (mediant (s .lo) (s .hi)) ≡ false → grow σ κ n start ≡ refused (length done)
+    pub going-over : (done : List Placed) (s : Placed) (todo : List Placed) → Going done (s ∷ todo) → ¬ (Closed σ κ (pts (done ++ (s ∷ todo))) (s .pt))
+        → fits (mediant (s .lo) (s .hi)) ≡ false → grow σ κ n start ≡ refused (length done)
     going-over done s todo g h f =
-        round done s todo g h ∙ ap (λ (b : Bool). goOn (grow σ κ (g .left - 1)) (done ++ (s ∷ todo)) (pick b (parted (done ++ (lowerAt σ κ s ∷ upperAt σ κ s ∷ todo))) (over (length done)))) f
+        round done s todo g h ∙ ap (λ (b : Bool). goOn (grow σ κ (g .left - 1)) (done ++ (s ∷ todo))
+        (pick b (parted (done ++ (lowerAt σ κ s ∷ upperAt σ κ s ∷ todo))) (over (length done)))) f
 
-    pub going-split : (done : List Placed) (s : Placed) (todo : List Placed) → Going done (s ∷ todo) → ¬ (Closed σ κ (pts (done ++ (s ∷ todo))) (s .pt)) → fits (mediant (s .lo) (s .hi)) ≡ true → Going done (lowerAt σ κ s ∷ upperAt σ κ s ∷ todo)
+    pub going-split : (done : List Placed) (s : Placed) (todo : List Placed) → Going done (s ∷ todo) → ¬ (Closed σ κ (pts (done ++ (s ∷ todo))) (s .pt))
+        → fits (mediant (s .lo) (s .hi)) ≡ true → Going done (lowerAt σ κ s ∷ upperAt σ κ s ∷ todo)
     going-split done s todo g h f = record {
       tris = s ∷ g .tris;
       inv = step σ κ n T (g .tris) done s todo (g .inv) h;
@@ -118,14 +124,16 @@ module _ (σ κ : ℕ → ℕ) (n : ℕ) (start : List Placed) where
       shut = λ u i. still u i (g .shut u i);
       left = g .left - 1;
       count = omega (arith, triangles σ κ n T (g .tris) (g .inv .tops), g .count, T .some);
-      same = round done s todo g h ∙ ap (λ (b : Bool). goOn (grow σ κ (g .left - 1)) (done ++ (s ∷ todo)) (pick b (parted (done ++ (lowerAt σ κ s ∷ upperAt σ κ s ∷ todo))) (over (length done)))) f;
+      same = round done s todo g h ∙ ap (λ (b : Bool). goOn (grow σ κ (g .left - 1)) (done ++ (s ∷ todo))
+          (pick b (parted (done ++ (lowerAt σ κ s ∷ upperAt σ κ s ∷ todo))) (over (length done)))) f;
     }
       where
         still : (u : Placed) → In u done → Closed σ κ (pts (done ++ (s ∷ todo))) (u .pt) → Closed σ κ (pts (done ++ (lowerAt σ κ s ∷ upperAt σ κ s ∷ todo))) (u .pt)
         still u i (inl o) = inl o
         still u i (inr j) =
             let u-in = in-pts u (done ++ (s ∷ todo)) (in-left u done (s ∷ todo) i) in
-            inr (stays σ κ n T (g .tris) done s todo (g .inv) h (σ (u .pt)) j (λ e. h (inr (in-is _ _ (pts (done ++ (s ∷ todo))) (sym (T .twice (u .pt)) ∙ ap σ e) u-in))))
+            inr (stays σ κ n T (g .tris) done s todo (g .inv) h (σ (u .pt)) j
+            (λ e. h (inr (in-is _ _ (pts (done ++ (s ∷ todo))) (sym (T .twice (u .pt)) ∙ ap σ e) u-in))))
 
     pub going-end : (done : List Placed) → Going done [] → grow σ κ n start ≡ finished done
     going-end done g =

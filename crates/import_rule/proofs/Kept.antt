@@ -21,13 +21,15 @@ use lib.ListN.{length}
 use lib.IntN.{ℤ, pos}
 use Rattle.matrix.specs.Matrix.{Mat, mat, _⊗_, 𝟙, neg, adj, det, matS, matQ, matP, _≈_}
 use Rattle.matrix.specs.Words as word
-use Rattle.matrix.specs.Euclid.{pick}
+use Rattle.basics.specs.Choice.{pick}
 use Rattle.matrix.proofs.Matrix.{⊗-assoc, ⊗-idl, ⊗-idr, Q-Q, P-Q, ≈-sym, _∙≈_, ≈-left, ≈-right}
 use Rattle.import_rule.specs.Side.{mediant, fits}
 use Rattle.import_rule.specs.Inner.Placed.{Placed, pts, Cut, closed, parted, over, Grew, finished, refused, goOn, lowerAt, upperAt, cutIn, grow}
 use Rattle.import_rule.proofs.Member.{In, in-left, in-right, Apart, at-most}
 use Rattle.import_rule.proofs.Lead.{S-twice, Turning, Leads, leads-one, leads-≈, leads-step}
-use Rattle.import_rule.proofs.Split.{framed, Closed, AllClosed, Shut, Broken, outcome, lower-S, upper-S, lower-det, upper-det, in-pts, Pt, pt-of, of-pt, same-side, split-keep, split-from, beside-in, beside-other, Beside, split-apart, Turn, t0, t1, t2, turnM, turnX, Corner, Edge}
+use Rattle.import_rule.proofs.Split.{framed, Closed, AllClosed, Shut, Broken, outcome, lower-S, upper-S, lower-det, upper-det, in-pts, Pt}
+use Rattle.import_rule.proofs.Split.{pt-of, of-pt, same-side, split-keep, split-from, beside-in, beside-other, Beside, split-apart, Turn, t0}
+use Rattle.import_rule.proofs.Split.{t1, t2, turnM, turnX, Corner, Edge}
 
 module _ (σ κ : ℕ → ℕ) (n : ℕ) where
   -- each triangle brings three new points below n
@@ -63,8 +65,23 @@ module _ (σ κ : ℕ → ℕ) (n : ℕ) where
 
         go : (c : Turn) → m ≈ turnM c (framed (k .tri)) → x ≡ turnX σ κ c (k .tri .pt) → Corner σ κ C (m ⊗ matQ) (κ x)
         go t0 e p = record { tri = k .tri; among = k .among; turn = t1; frame = ≈-right matQ e; pt = ap κ p }
-        go t1 e p = record { tri = k .tri; among = k .among; turn = t2; frame = ≈-right matQ e ∙≈ inl (⊗-assoc (framed (k .tri)) matQ matQ ∙ ap (λ (y : Mat). framed (k .tri) ⊗ y) Q-Q); pt = ap κ p }
-        go t2 e p = record { tri = k .tri; among = k .among; turn = t0; frame = ≈-right matQ e ∙≈ inl (⊗-assoc (framed (k .tri)) matP matQ ∙ ap (λ (y : Mat). framed (k .tri) ⊗ y) P-Q ∙ ⊗-idr (framed (k .tri))); pt = ap κ p ∙ T .thrice (k .tri .pt) }
+        go t1 e p = record {
+          tri = k .tri;
+          among = k .among;
+          turn = t2;
+          frame =
+              ≈-right matQ e ∙≈ inl (⊗-assoc (framed (k .tri)) matQ matQ ∙ ap (λ (y : Mat). framed (k .tri) ⊗ y) Q-Q);
+          pt = ap κ p;
+        }
+        go t2 e p = record {
+          tri = k .tri;
+          among = k .among;
+          turn = t0;
+          frame =
+              ≈-right matQ e ∙≈ inl (⊗-assoc (framed (k .tri)) matP matQ ∙ ap (λ (y : Mat). framed (k .tri) ⊗ y) P-Q ∙ ⊗-idr (framed (k .tri)));
+          pt = ap κ p
+              ∙ T .thrice (k .tri .pt);
+        }
 
     pub corner-pt : {C : List Placed} {m : Mat} {x y : ℕ} → x ≡ y → Corner σ κ C m x → Corner σ κ C m y
     corner-pt e k = record { tri = k .tri; among = k .among; turn = k .turn; frame = k .frame; pt = sym e ∙ k .pt }
@@ -113,13 +130,16 @@ module _ (σ κ : ℕ → ℕ) (n : ℕ) where
     corner-of C t c h = record { tri = t; among = h; turn = c; frame = inl refl; pt = refl }
 
     -- two corners of one point are one
-    one-in : (C : List Placed) → Tops C → (t u : Placed) → In t C → In u C → (c d : Turn) → turnX σ κ c (t .pt) ≡ turnX σ κ d (u .pt) → turnM c (framed t) ≡ turnM d (framed u)
+    one-in : (C : List Placed) → Tops C → (t u : Placed) → In t C → In u C → (c d : Turn) → turnX σ κ c (t .pt) ≡ turnX σ κ d (u .pt)
+        → turnM c (framed t) ≡ turnM d (framed u)
     one-in [] a t u h k c d e = absurd h
     one-in (s ∷ C) a t u (inl h) (inl k) c d e =
         let z : turnX σ κ c (s .pt) ≡ turnX σ κ d (s .pt) = rw (h, k) at e in
         rw (h, k, turn-one (s .pt) (a .0) c d z) refl
-    one-in (s ∷ C) a t u (inl h) (inr k) c d e = absurd (none-turned C (s .pt) (a .2) c _ (corner-pt (sym e ∙ ap (λ (v : Placed). turnX σ κ c (v .pt)) h) (corner-of C u d k)))
-    one-in (s ∷ C) a t u (inr h) (inl k) c d e = absurd (none-turned C (s .pt) (a .2) d _ (corner-pt (e ∙ ap (λ (v : Placed). turnX σ κ d (v .pt)) k) (corner-of C t c h)))
+    one-in (s ∷ C) a t u (inl h) (inr k) c d e =
+        absurd (none-turned C (s .pt) (a .2) c _ (corner-pt (sym e ∙ ap (λ (v : Placed). turnX σ κ c (v .pt)) h) (corner-of C u d k)))
+    one-in (s ∷ C) a t u (inr h) (inl k) c d e =
+        absurd (none-turned C (s .pt) (a .2) d _ (corner-pt (e ∙ ap (λ (v : Placed). turnX σ κ d (v .pt)) k) (corner-of C t c h)))
     one-in (s ∷ C) a t u (inr h) (inr k) c d e = one-in C (a .3) t u h k c d e
 
     pub corner-one : {C : List Placed} {m l : Mat} {x : ℕ} → Tops C → Corner σ κ C m x → Corner σ κ C l x → m ≈ l
@@ -182,7 +202,8 @@ module _ (σ κ : ℕ → ℕ) (n : ℕ) where
     triangles C a = let k = at-most n (spread C) (spread-apart C a) (spread-low C a) in let z = spread-length C in omega arith
 
     -- ---- a split
-    module _ (C before : List Placed) (s : Placed) (after : List Placed) (inv : Inv C (before ++ (s ∷ after))) (none : ¬ (Closed σ κ (pts (before ++ (s ∷ after))) (s .pt))) where
+    module _ (C before : List Placed) (s : Placed) (after : List Placed) (inv : Inv C (before ++ (s ∷ after)))
+        (none : ¬ (Closed σ κ (pts (before ++ (s ∷ after))) (s .pt))) where
       abbrev pub old : List Placed
       old = before ++ (s ∷ after)
 
@@ -212,7 +233,12 @@ module _ (σ κ : ℕ → ℕ) (n : ℕ) where
       pub stays : (x : ℕ) → In x (pts old) → ¬ (x ≡ s .pt) → In x (pts new)
       stays x h e =
           let k = pt-of x old h in
-          of-pt x new (record { side = k .side; among = split-keep s (lowerAt σ κ s) (upperAt σ κ s) after (k .side) before (k .among) (λ z. e (k .pt ∙ ap (λ (v : Placed). v .pt) z)); pt = k .pt })
+          of-pt x new (record {
+            side = k .side;
+            among =
+                split-keep s (lowerAt σ κ s) (upperAt σ κ s) after (k .side) before (k .among) (λ z. e (k .pt ∙ ap (λ (v : Placed). v .pt) z));
+            pt = k .pt;
+          })
 
       -- the point beyond a new corner is no old side's
       pub not-old : (c : Turn) → In (σ (turnX σ κ c (s .pt))) (pts old) → ⊥
@@ -231,7 +257,8 @@ module _ (σ κ : ℕ → ℕ) (n : ℕ) where
           go : (u ≡ lowerAt σ κ s) ⊎ (u ≡ upperAt σ κ s) ⊎ Beside s (lowerAt σ κ s) (upperAt σ κ s) after u before → P u
           go (inl e) = rw e a
           go (inr (inl e)) = rw e b
-          go (inr (inr k)) = o u (beside-in s (lowerAt σ κ s) (upperAt σ κ s) after u before k) (beside-other s (lowerAt σ κ s) (upperAt σ κ s) after u before (inv .apart) k)
+          go (inr (inr k)) = o u (beside-in s (lowerAt σ κ s) (upperAt σ κ s) after u before k)
+              (beside-other s (lowerAt σ κ s) (upperAt σ κ s) after u before (inv .apart) k)
 
       lower-under : framed (lowerAt σ κ s) ⊗ matS ≈ framed s ⊗ matQ
       lower-under = inl (lower-S s σ κ)
@@ -261,18 +288,24 @@ module _ (σ κ : ℕ → ℕ) (n : ℕ) where
           side-is e (yes p) =
               let z : e .side ≡ s = same-side (e .side) s old (inv .apart) (e .among) has-s (sym (e .pt) ∙ p) in
               inl (record { tri = s; among = inl refl; turn = t0; frame = e .frame ∙≈ inl (ap framed z); pt = p })
-          side-is e (no p) = inr (edge-of (e .side) (m ⊗ matS) (σ x) (split-keep s (lowerAt σ κ s) (upperAt σ κ s) after (e .side) before (e .among) (λ z. p (e .pt ∙ ap (λ (v : Placed). v .pt) z))) (e .frame) (e .pt))
+          side-is e (no p) = inr (edge-of (e .side) (m ⊗ matS) (σ x)
+              (split-keep s (lowerAt σ κ s) (upperAt σ κ s) after (e .side) before (e .among) (λ z. p (e .pt ∙ ap (λ (v : Placed). v .pt) z))) (e .frame)
+              (e .pt))
 
           was : Corner σ κ C (m ⊗ matS) (σ x) ⊎ Edge old (m ⊗ matS) (σ x) → Corner σ κ (s ∷ C) (m ⊗ matS) (σ x) ⊎ Edge new (m ⊗ matS) (σ x)
           was (inl c) = inl (corner-more s c)
           was (inr e) = side-is e (ℕ-discrete (σ x) (s .pt))
 
           there : (t : Placed) → t ≡ s → (c : Turn) → m ≈ turnM c (framed t) → x ≡ turnX σ κ c (t .pt) → Corner σ κ (s ∷ C) (m ⊗ matS) (σ x) ⊎ Edge new (m ⊗ matS) (σ x)
-          there t e t0 f p = inl (corner-more s (corner-pt (ap σ (sym (p ∙ ap (λ (v : Placed). v .pt) e))) (corner-≈ (≈-right matS (f ∙≈ inl (ap framed e))) (inv .under s has-s))))
-          there t e t1 f p = inr (edge-of (lowerAt σ κ s) (m ⊗ matS) (σ x) has-l (≈-right matS (f ∙≈ inl (ap (λ (v : Placed). framed v ⊗ matQ) e)) ∙≈ back _ _ lower-under) (ap σ (p ∙ ap (λ (v : Placed). κ (v .pt)) e)))
-          there t e t2 f p = inr (edge-of (upperAt σ κ s) (m ⊗ matS) (σ x) has-r (≈-right matS (f ∙≈ inl (ap (λ (v : Placed). framed v ⊗ matP) e)) ∙≈ back _ _ upper-under) (ap σ (p ∙ ap (λ (v : Placed). κ (κ (v .pt))) e)))
+          there t e t0 f p = inl (corner-more s (corner-pt (ap σ (sym (p ∙ ap (λ (v : Placed). v .pt) e)))
+              (corner-≈ (≈-right matS (f ∙≈ inl (ap framed e))) (inv .under s has-s))))
+          there t e t1 f p = inr (edge-of (lowerAt σ κ s) (m ⊗ matS) (σ x) has-l
+              (≈-right matS (f ∙≈ inl (ap (λ (v : Placed). framed v ⊗ matQ) e)) ∙≈ back _ _ lower-under) (ap σ (p ∙ ap (λ (v : Placed). κ (v .pt)) e)))
+          there t e t2 f p = inr (edge-of (upperAt σ κ s) (m ⊗ matS) (σ x) has-r
+              (≈-right matS (f ∙≈ inl (ap (λ (v : Placed). framed v ⊗ matP) e)) ∙≈ back _ _ upper-under) (ap σ (p ∙ ap (λ (v : Placed). κ (κ (v .pt))) e)))
 
-          go : In (k .tri) (s ∷ C) → (c : Turn) → m ≈ turnM c (framed (k .tri)) → x ≡ turnX σ κ c (k .tri .pt) → Corner σ κ (s ∷ C) (m ⊗ matS) (σ x) ⊎ Edge new (m ⊗ matS) (σ x)
+          go : In (k .tri) (s ∷ C) → (c : Turn) → m ≈ turnM c (framed (k .tri)) → x ≡ turnX σ κ c (k .tri .pt) → Corner σ κ (s ∷ C) (m ⊗ matS) (σ x)
+              ⊎ Edge new (m ⊗ matS) (σ x)
           go (inl e) c f p = there (k .tri) e c f p
           go (inr h) c f p = was (inv .beyond m x (record { tri = k .tri; among = h; turn = c; frame = f; pt = p }))
 
@@ -285,7 +318,8 @@ module _ (σ κ : ℕ → ℕ) (n : ℕ) where
           there t e t1 p = inr (inr (inl (p ∙ ap (λ (v : Placed). κ (v .pt)) e)))
           there t e t2 p = inr (inr (inr (p ∙ ap (λ (v : Placed). κ (κ (v .pt))) e)))
 
-          go : In (k .tri) (s ∷ C) → (c : Turn) → m ≈ turnM c (framed (k .tri)) → x ≡ turnX σ κ c (k .tri .pt) → Corner σ κ C m x ⊎ (x ≡ s .pt) ⊎ (x ≡ κ (s .pt)) ⊎ (x ≡ κ (κ (s .pt)))
+          go : In (k .tri) (s ∷ C) → (c : Turn) → m ≈ turnM c (framed (k .tri)) → x ≡ turnX σ κ c (k .tri .pt) → Corner σ κ C m x ⊎ (x ≡ s .pt)
+              ⊎ (x ≡ κ (s .pt)) ⊎ (x ≡ κ (κ (s .pt)))
           go (inl e) c f p = there (k .tri) e c p
           go (inr h) c f p = inl (record { tri = k .tri; among = h; turn = c; frame = f; pt = p })
 
@@ -296,7 +330,8 @@ module _ (σ κ : ℕ → ℕ) (n : ℕ) where
       pt-r = in-pts (upperAt σ κ s) new has-r
 
       -- a part, y its point's other face
-      part-meets : (c : Turn) → ¬ (turnX σ κ c (s .pt) ≡ s .pt) → (m : Mat) → In (σ (turnX σ κ c (s .pt))) (pts new) → Corner σ κ (s ∷ C) m (σ (turnX σ κ c (s .pt))) → In (turnX σ κ c (s .pt)) (pts new)
+      part-meets : (c : Turn) → ¬ (turnX σ κ c (s .pt) ≡ s .pt) → (m : Mat) → In (σ (turnX σ κ c (s .pt))) (pts new)
+          → Corner σ κ (s ∷ C) m (σ (turnX σ κ c (s .pt))) → In (turnX σ κ c (s .pt)) (pts new)
       part-meets c d m own k = go (sort k)
         where
           y : ℕ
@@ -309,7 +344,8 @@ module _ (σ κ : ℕ → ℕ) (n : ℕ) where
           turn : (z : ℕ) → σ (turnX σ κ c (s .pt)) ≡ z → In (σ z) (pts new) → In (turnX σ κ c (s .pt)) (pts new)
           turn z e h = rw (← T .twice (turnX σ κ c (s .pt)), e) h
 
-          go : Corner σ κ C m (σ (turnX σ κ c (s .pt))) ⊎ (σ (turnX σ κ c (s .pt)) ≡ s .pt) ⊎ (σ (turnX σ κ c (s .pt)) ≡ κ (s .pt)) ⊎ (σ (turnX σ κ c (s .pt)) ≡ κ (κ (s .pt))) → In (turnX σ κ c (s .pt)) (pts new)
+          go : Corner σ κ C m (σ (turnX σ κ c (s .pt))) ⊎ (σ (turnX σ κ c (s .pt)) ≡ s .pt) ⊎ (σ (turnX σ κ c (s .pt)) ≡ κ (s .pt))
+              ⊎ (σ (turnX σ κ c (s .pt)) ≡ κ (κ (s .pt))) → In (turnX σ κ c (s .pt)) (pts new)
           go (inl k) = was (inv .beyond m _ k)
           go (inr (inl e)) = absurd (fresh-turned c _ (corner-pt (ap σ (sym e) ∙ T .twice _) (inv .under s has-s)))
           go (inr (inr (inl e))) = turn _ e pt-l
@@ -335,7 +371,12 @@ module _ (σ κ : ℕ → ℕ) (n : ℕ) where
         where
           go : Corner σ κ C 𝟙 0 ⊎ ((κ 0 ≡ 0) × Edge old 𝟙 0) → Corner σ κ (s ∷ C) 𝟙 0 ⊎ ((κ 0 ≡ 0) × Edge new 𝟙 0)
           go (inl k) = inl (corner-more s k)
-          go (inr (f, e)) = inr (f, edge-of (e .side) 𝟙 0 (split-keep s (lowerAt σ κ s) (upperAt σ κ s) after (e .side) before (e .among) (λ z. moved (rw (← e .pt ∙ ap (λ (v : Placed). v .pt) z) f))) (e .frame) (e .pt))
+          go (inr (f, e)) = inr (
+            f,
+            edge-of (e .side) 𝟙 0
+                (split-keep s (lowerAt σ κ s) (upperAt σ κ s) after (e .side) before (e .among) (λ z. moved (rw (← e .pt ∙ ap (λ (v : Placed). v .pt) z) f)))
+                (e .frame) (e .pt),
+          )
 
       new-tops : Tops (s ∷ C)
       new-tops = (moved, inv .low s has-s, fresh, inv .tops)
@@ -370,12 +411,14 @@ module _ (σ κ : ℕ → ℕ) (n : ℕ) where
       pub kept : P tris l
 
     module _ (P : List Placed → List Placed → Type 0)
-        (keep : (C before : List Placed) (s : Placed) (after : List Placed) → det (framed s) ≡ pos 1 → fits (mediant (s .lo) (s .hi)) ≡ true → P C (before ++ (s ∷ after)) → P (s ∷ C) (before ++ (lowerAt σ κ s ∷ upperAt σ κ s ∷ after))) where
+        (keep : (C before : List Placed) (s : Placed) (after : List Placed) → det (framed s) ≡ pos 1 → fits (mediant (s .lo) (s .hi)) ≡ true
+        → P C (before ++ (s ∷ after)) → P (s ∷ C) (before ++ (lowerAt σ κ s ∷ upperAt σ κ s ∷ after))) where
       pub ends : (f : ℕ) (C l z : List Placed) → Inv C l → P C l → n < 3 * length C + 3 * f → grow σ κ f l ≡ finished z → Ends P z
       ends zero C l z inv p h g = let k = triangles C (inv .tops) in absurd (omega arith)
       ends (suc f) C l z inv p h g = go (outcome σ κ (pts l) 0 l) (λ C l i p k. ends f C l z i p k)
         where
-          go : Shut σ κ (pts l) 0 l ⊎ Broken σ κ (pts l) 0 l → ((C l : List Placed) → Inv C l → P C l → n < 3 * length C + 3 * f → grow σ κ f l ≡ finished z → Ends P z) → Ends P z
+          go : Shut σ κ (pts l) 0 l ⊎ Broken σ κ (pts l) 0 l
+              → ((C l : List Placed) → Inv C l → P C l → n < 3 * length C + 3 * f → grow σ κ f l ≡ finished z → Ends P z) → Ends P z
           go (inl r) ih =
               let e : finished l ≡ finished z = sym (ap (goOn (grow σ κ f) l) (r .is)) ∙ g in
               let q : l ≡ z = cc in
@@ -384,13 +427,18 @@ module _ (σ κ : ℕ → ℕ) (n : ℕ) where
             where
               by-fit : (b : Bool) → fits (mediant (r .side .lo) (r .side .hi)) ≡ b → Ends P z
               by-fit false e =
-                  let q : cutIn σ κ (pts l) 0 l ≡ over (0 + length (r .before)) = r .is ∙ ap (λ (x : Bool). pick x (parted (r .before ++ (lowerAt σ κ (r .side) ∷ upperAt σ κ (r .side) ∷ r .after))) (over (0 + length (r .before)))) e in
+                  let q : cutIn σ κ (pts l) 0 l ≡ over (0 + length (r .before)) = r .is
+                  ∙ ap (λ (x : Bool). pick x (parted (r .before ++ (lowerAt σ κ (r .side) ∷ upperAt σ κ (r .side) ∷ r .after)))
+                  (over (0 + length (r .before)))) e in
                   let y : refused (0 + length (r .before)) ≡ finished z = sym (ap (goOn (grow σ κ f) l) q) ∙ g in
                   let w : _≡_ {A = ℕ} 0 1 = cc in
                   absurd (omega arith)
               by-fit true e =
-                  let q : cutIn σ κ (pts l) 0 l ≡ parted (r .before ++ (lowerAt σ κ (r .side) ∷ upperAt σ κ (r .side) ∷ r .after)) = r .is ∙ ap (λ (x : Bool). pick x (parted (r .before ++ (lowerAt σ κ (r .side) ∷ upperAt σ κ (r .side) ∷ r .after))) (over (0 + length (r .before)))) e in
+                  let q : cutIn σ κ (pts l) 0 l ≡ parted (r .before ++ (lowerAt σ κ (r .side) ∷ upperAt σ κ (r .side) ∷ r .after)) = r .is
+                  ∙ ap (λ (x : Bool). pick x (parted (r .before ++ (lowerAt σ κ (r .side) ∷ upperAt σ κ (r .side) ∷ r .after)))
+                  (over (0 + length (r .before)))) e in
                   let y : grow σ κ f (r .before ++ (lowerAt σ κ (r .side) ∷ upperAt σ κ (r .side) ∷ r .after)) ≡ finished z = sym (ap (goOn (grow σ κ f) l) q) ∙ g in
                   let i : Inv C (r .before ++ (r .side ∷ r .after)) = rw (r .was) at inv in
                   ih (r .side ∷ C) _ (step C (r .before) (r .side) (r .after) i (rw (r .was) at (r .none)))
-                  (keep C (r .before) (r .side) (r .after) (i .dets (r .side) (in-right (r .side) (r .before) (r .side ∷ r .after) (inl refl))) e (rw (r .was) at p)) (omega arith) y
+                  (keep C (r .before) (r .side) (r .after) (i .dets (r .side) (in-right (r .side) (r .before) (r .side ∷ r .after) (inl refl))) e
+                  (rw (r .was) at p)) (omega arith) y

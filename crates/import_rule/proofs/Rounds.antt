@@ -17,25 +17,27 @@ use lib.Dec.{eqb}
 use lib.ListN.{length}
 use lib.IntN.{pos}
 use Rattle.matrix.specs.Matrix.{det}
-use Rattle.matrix.specs.Euclid.{pick}
-use Rattle.symbol.proofs.Choice.{pick-true, pick-false, either, clash}
-use Rattle.import_rule.specs.Side.{Side, frame, mediant, lower, upper, fits}
-use Rattle.import_rule.specs.Rule.{Mark, unpaired, even, odd, free, Row, row, isOpen, Parted, closed, parted, over, after, Grown, finished, refused, goOn, least, pointOf, visitAll, splitFirst, rounds}
+use Rattle.basics.specs.Choice.{pick}
+use Rattle.basics.proofs.Choice.{pick-true, pick-false, either, clash}
+use Rattle.import_rule.specs.Side.{Interval, intervalFrame, mediant, lower, upper, fits}
+use Rattle.import_rule.specs.Rule.{Mark, unpaired, even, odd, free, Row, row, isOpen, Parted, closed, parted, over, after, Grown, finished}
+use Rattle.import_rule.specs.Rule.{refused, goOn, least, pointOf, visitAll, splitFirst, rounds}
 use Rattle.import_rule.specs.Inner.Placed as model
 use Rattle.import_rule.specs.Inner.Placed.{Placed, bare, pts, Grew, grow, cutIn, lowerAt, upperAt, isClosed, markOf, rowsOf}
 use Rattle.import_rule.proofs.Member.{In, in-left, in-right, in-either, Apart, in-is}
 use Rattle.import_rule.proofs.Lead.{Turning, Leads}
-use Rattle.import_rule.proofs.Split.{framed, Closed, AllClosed, closed-true, closed-false, true-closed, false-closed, Shut, Broken, outcome, in-pts, Pt, pt-of, of-pt, split-from, beside-in, Beside, Turn, t0, t1, t2, turnX}
+use Rattle.import_rule.proofs.Split.{framed, Closed, AllClosed, closed-true, closed-false, true-closed, false-closed, Shut, Broken, outcome}
+use Rattle.import_rule.proofs.Split.{in-pts, Pt, pt-of, of-pt, split-from, beside-in, Beside, Turn, t0, t1, t2, turnX}
 use Rattle.import_rule.proofs.Kept.{Inv, step, not-old, moved, stays, corner-pt, corner-free}
 use Rattle.import_rule.proofs.Visit.{pt, points, settle, settles, Vacant, Ready, visits-settle}
 
 -- ---- rows and sides
 
-abbrev pub sidesOf : List Row → List Side
+abbrev pub sidesOf : List Row → List Interval
 sidesOf [] = []
 sidesOf (r ∷ rs) = r .side ∷ sidesOf rs
 
-abbrev pub bares : List Placed → List Side
+abbrev pub bares : List Placed → List Interval
 bares [] = []
 bares (u ∷ l) = bare u ∷ bares l
 
@@ -45,15 +47,15 @@ opened (u ∷ l) = row (bare u) unpaired ∷ opened l
 
 sides-++ : (l r : List Row) → sidesOf (l ++ r) ≡ sidesOf l ++ sidesOf r
 sides-++ [] r = refl
-sides-++ (x ∷ l) r = ap (λ (y : List Side). x .side ∷ y) (sides-++ l r)
+sides-++ (x ∷ l) r = ap (λ (y : List Interval). x .side ∷ y) (sides-++ l r)
 
 bares-++ : (l r : List Placed) → bares (l ++ r) ≡ bares l ++ bares r
 bares-++ [] r = refl
-bares-++ (x ∷ l) r = ap (λ (y : List Side). bare x ∷ y) (bares-++ l r)
+bares-++ (x ∷ l) r = ap (λ (y : List Interval). bare x ∷ y) (bares-++ l r)
 
 sides-opened : (l : List Placed) → sidesOf (opened l) ≡ bares l
 sides-opened [] = refl
-sides-opened (u ∷ l) = ap (λ (y : List Side). bare u ∷ y) (sides-opened l)
+sides-opened (u ∷ l) = ap (λ (y : List Interval). bare u ∷ y) (sides-opened l)
 
 in-sides : (r : Row) (rs : List Row) → In r rs → In (r .side) (sidesOf rs)
 in-sides r [] h = h
@@ -71,12 +73,12 @@ all-open r (x ∷ l) (inl e) = ap (λ (y : Row). isOpen (y .mark)) e
 all-open r (x ∷ l) (inr h) = all-open r l h
 
 -- the placed side of a row
-pub record Owner (s : Side) (l : List Placed) : Type 0 where
+pub record Owner (s : Interval) (l : List Placed) : Type 0 where
   pub side : Placed
   pub among : In side l
   pub is : s ≡ bare side
 
-in-bares : (s : Side) (l : List Placed) → In s (bares l) → Owner s l
+in-bares : (s : Interval) (l : List Placed) → In s (bares l) → Owner s l
 in-bares s [] h = absurd h
 in-bares s (u ∷ l) (inl e) = record { side = u; among = inl refl; is = e }
 in-bares s (u ∷ l) (inr h) = let k = in-bares s l h in record { side = k .side; among = inr (k .among); is = k .is }
@@ -90,21 +92,21 @@ open-is (free x) e = clash e refl
 module _ (σ κ : ℕ → ℕ) where
   -- ---- marks by points
 
-  abbrev pub mk : List ℕ → Side → Row
+  abbrev pub mk : List ℕ → Interval → Row
   mk B s = row s (pick (isClosed σ κ B (pointOf σ κ s)) (markOf σ κ (pointOf σ κ s)) unpaired)
 
-  abbrev pub mks : List ℕ → List Side → List Row
+  abbrev pub mks : List ℕ → List Interval → List Row
   mks B [] = []
   mks B (s ∷ l) = mk B s ∷ mks B l
 
   abbrev pub marked : List Placed → List Row
   marked l = mks (pts l) (bares l)
 
-  sides-mks : (B : List ℕ) (l : List Side) → sidesOf (mks B l) ≡ l
+  sides-mks : (B : List ℕ) (l : List Interval) → sidesOf (mks B l) ≡ l
   sides-mks B [] = refl
-  sides-mks B (s ∷ l) = ap (λ (y : List Side). s ∷ y) (sides-mks B l)
+  sides-mks B (s ∷ l) = ap (λ (y : List Interval). s ∷ y) (sides-mks B l)
 
-  mks-++ : (B : List ℕ) (l r : List Side) → mks B (l ++ r) ≡ mks B l ++ mks B r
+  mks-++ : (B : List ℕ) (l r : List Interval) → mks B (l ++ r) ≡ mks B l ++ mks B r
   mks-++ B [] r = refl
   mks-++ B (x ∷ l) r = ap (λ (y : List Row). mk B x ∷ y) (mks-++ B l r)
 
@@ -132,16 +134,16 @@ module _ (σ κ : ℕ → ℕ) where
       go false true = refl
       go false false = refl
 
-  mk-open : (B : List ℕ) (s : Side) → ¬ (Closed σ κ B (pointOf σ κ s)) → mk B s ≡ row s unpaired
+  mk-open : (B : List ℕ) (s : Interval) → ¬ (Closed σ κ B (pointOf σ κ s)) → mk B s ≡ row s unpaired
   mk-open B s h = ap (row s) (pick-false (isClosed σ κ B (pointOf σ κ s)) _ _ (false-closed σ κ B (pointOf σ κ s) h))
 
-  mk-shut : (B : List ℕ) (s : Side) → Closed σ κ B (pointOf σ κ s) → mk B s ≡ row s (markOf σ κ (pointOf σ κ s))
+  mk-shut : (B : List ℕ) (s : Interval) → Closed σ κ B (pointOf σ κ s) → mk B s ≡ row s (markOf σ κ (pointOf σ κ s))
   mk-shut B s c = ap (row s) (pick-true (isClosed σ κ B (pointOf σ κ s)) _ _ (true-closed σ κ B (pointOf σ κ s) c))
 
-  mk-told : (B : List ℕ) (s : Side) → Closed σ κ B (pointOf σ κ s) → isOpen (mk B s .mark) ≡ false
+  mk-told : (B : List ℕ) (s : Interval) → Closed σ κ B (pointOf σ κ s) → isOpen (mk B s .mark) ≡ false
   mk-told B s c = ap (λ (r : Row). isOpen (r .mark)) (mk-shut B s c) ∙ told (pointOf σ κ s)
 
-  mk-vacant : (B : List ℕ) (s : Side) → isOpen (mk B s .mark) ≡ true → ¬ (Closed σ κ B (pointOf σ κ s))
+  mk-vacant : (B : List ℕ) (s : Interval) → isOpen (mk B s .mark) ≡ true → ¬ (Closed σ κ B (pointOf σ κ s))
   mk-vacant B s e c = clash e (mk-told B s c)
 
   -- ---- marks that are there are right
@@ -196,7 +198,8 @@ module _ (σ κ : ℕ → ℕ) where
   one-before : (i k : ℕ) → suc i + k ≡ i + suc k
   one-before i k = omega arith
 
-  split-at : (B : List ℕ) (i : ℕ) (before : List Placed) (s : Placed) (behind : List Placed) → Points (before ++ (s ∷ behind)) → AllClosed σ κ B before → ¬ (Closed σ κ B (s .pt))
+  split-at : (B : List ℕ) (i : ℕ) (before : List Placed) (s : Placed) (behind : List Placed) → Points (before ++ (s ∷ behind)) → AllClosed σ κ B before
+      → ¬ (Closed σ κ B (s .pt))
       → splitFirst σ κ i (mks B (bares (before ++ (s ∷ behind)))) ≡ pick (fits (mediant (s .lo) (s .hi))) (parted (halves B before s behind)) (over (i + length before))
   split-at B i [] s behind p a h =
       ap (λ (r : Row). splitFirst σ κ i (r ∷ mks B (bares behind))) (mk-open B (bare s) (open-bare B s (p s (inl refl)) h))
@@ -223,7 +226,7 @@ module _ (σ κ : ℕ → ℕ) where
     owner : (C l : List Placed) (rs : List Row) → Fit C l rs → (r : Row) → In r rs → Owner (r .side) l
     owner C l rs f r h = in-bares (r .side) l (rw (f .sides) at (in-sides r rs h))
 
-    owner-pt : (C l : List Placed) → Inv σ κ n C l → (s : Side) (o : Owner s l) → pointOf σ κ s ≡ o .side .pt
+    owner-pt : (C l : List Placed) → Inv σ κ n C l → (s : Interval) (o : Owner s l) → pointOf σ κ s ≡ o .side .pt
     owner-pt C l inv s o = ap (pointOf σ κ) (o .is) ∙ placed-points C l inv (o .side) (o .among)
 
     -- no side's point lies beyond an odd side
@@ -232,7 +235,7 @@ module _ (σ κ : ℕ → ℕ) where
         let k = pt-of (σ (u .pt)) l i in
         corner-free σ κ n T (inv .tops) (corner-pt σ κ n T (ap σ (sym (k .pt)) ∙ T .twice (u .pt)) (inv .under (k .side) (k .among))) o
 
-    abbrev spread : List Side → List ℕ
+    abbrev spread : List Interval → List ℕ
     spread [] = []
     spread (s ∷ l) = pointOf σ κ s ∷ spread l
 
@@ -262,7 +265,8 @@ module _ (σ κ : ℕ → ℕ) where
 
     -- ---- after a split
 
-    module _ (C before : List Placed) (s : Placed) (behind : List Placed) (inv : Inv σ κ n C (before ++ (s ∷ behind))) (none : ¬ (Closed σ κ (pts (before ++ (s ∷ behind))) (s .pt))) where
+    module _ (C before : List Placed) (s : Placed) (behind : List Placed) (inv : Inv σ κ n C (before ++ (s ∷ behind)))
+        (none : ¬ (Closed σ κ (pts (before ++ (s ∷ behind))) (s .pt))) where
       abbrev B : List ℕ
       B = pts (before ++ (s ∷ behind))
 
@@ -318,12 +322,19 @@ module _ (σ κ : ℕ → ℕ) where
 
       -- the partner of x, if it is one of the halves or was open
       partner : (x : ℕ) → ((w : Placed) → Next w → x ≡ w .pt → ¬ (Closed σ κ B (w .pt))) → In x B' → Vacant σ κ n T rows x
-      partner x f i = let k = pt-of x (before ++ (lowerAt σ κ s ∷ upperAt σ κ s ∷ behind)) i in go (k .side) (k .pt) (split-from s (lowerAt σ κ s) (upperAt σ κ s) behind (k .side) before (k .among))
+      partner x f i = let k = pt-of x (before ++ (lowerAt σ κ s ∷ upperAt σ κ s ∷ behind)) i in
+          go (k .side) (k .pt) (split-from s (lowerAt σ κ s) (upperAt σ κ s) behind (k .side) before (k .among))
         where
           go : (w : Placed) → x ≡ w .pt → (w ≡ lowerAt σ κ s) ⊎ (w ≡ upperAt σ κ s) ⊎ Next w → Vacant σ κ n T rows x
           go w p (inl e) = record { row = Lo; among = Lo-in; open-yet = refl; at = Lo-pt ∙ sym (p ∙ ap (λ (y : Placed). y .pt) e) }
           go w p (inr (inl e)) = record { row = Up; among = Up-in; open-yet = refl; at = Up-pt ∙ sym (p ∙ ap (λ (y : Placed). y .pt) e) }
-          go w p (inr (inr h)) = record { row = mk B (bare w); among = mk-in w h; open-yet = ap (λ (y : Row). isOpen (y .mark)) (mk-open B (bare w) (open-bare B w (old-pt w h) (f w h p))); at = old-pt w h ∙ sym p }
+          go w p (inr (inr h)) = record {
+            row = mk B (bare w);
+            among = mk-in w h;
+            open-yet =
+                ap (λ (y : Row). isOpen (y .mark)) (mk-open B (bare w) (open-bare B w (old-pt w h) (f w h p)));
+            at = old-pt w h ∙ sym p;
+          }
 
       -- a side whose point is a new corner's was open
       turned-open : (c : Turn) → ¬ (κ (turnX σ κ c (s .pt)) ≡ turnX σ κ c (s .pt)) → (x : ℕ) → x ≡ turnX σ κ c (s .pt) → ¬ (Closed σ κ B x)
@@ -351,10 +362,12 @@ module _ (σ κ : ℕ → ℕ) where
       still u h (inr i) = inr (stays σ κ n T C before s behind inv none (σ (u .pt)) i (λ e. none (inr (in-is _ _ B (sym (T .twice (u .pt)) ∙ ap σ e) (old-in u h)))))
 
       new-fair : Fair B' rows
-      new-fair = each (λ r. (isOpen (r .mark) ≡ true) ⊎ (Closed σ κ B' (pt σ κ r) × (r .mark ≡ markOf σ κ (pt σ κ r)))) (inl refl) (inl refl) (λ u h. go u h (isClosed σ κ B (pointOf σ κ (bare u))) refl)
+      new-fair = each (λ r. (isOpen (r .mark) ≡ true) ⊎ (Closed σ κ B' (pt σ κ r) × (r .mark ≡ markOf σ κ (pt σ κ r)))) (inl refl) (inl refl)
+          (λ u h. go u h (isClosed σ κ B (pointOf σ κ (bare u))) refl)
         where
           go : (u : Placed) → Next u → (b : Bool) → isClosed σ κ B (pointOf σ κ (bare u)) ≡ b
-              → (isOpen (pick b (markOf σ κ (pointOf σ κ (bare u))) unpaired) ≡ true) ⊎ (Closed σ κ B' (pointOf σ κ (bare u)) × (pick b (markOf σ κ (pointOf σ κ (bare u))) unpaired ≡ markOf σ κ (pointOf σ κ (bare u))))
+              → (isOpen (pick b (markOf σ κ (pointOf σ κ (bare u))) unpaired) ≡ true)
+              ⊎ (Closed σ κ B' (pointOf σ κ (bare u)) × (pick b (markOf σ κ (pointOf σ κ (bare u))) unpaired ≡ markOf σ κ (pointOf σ κ (bare u))))
           go u h true e = inr (rw (old-pt u h) (still u h (rw (old-pt u h) at (closed-true σ κ B (pointOf σ κ (bare u)) e))), refl)
           go u h false e = inl refl
 
@@ -388,14 +401,19 @@ module _ (σ κ : ℕ → ℕ) where
             let e : ¬ (Closed σ κ (pts (r .before ++ (r .side ∷ r .after))) (r .side .pt)) = rw (r .was) at (r .none) in
             let c : AllClosed σ κ (pts (r .before ++ (r .side ∷ r .after))) (r .before) = rw (r .was) at (r .shut) in
             let q = split-at (pts (r .before ++ (r .side ∷ r .after))) 0 (r .before) (r .side) (r .after) (placed-points C _ i) c e in
-            let p : splitFirst σ κ 0 (marked l) ≡ pick (fits (mediant (r .side .lo) (r .side .hi))) (parted (halves (pts (r .before ++ (r .side ∷ r .after))) (r .before) (r .side) (r .after))) (over (0 + length (r .before))) = ap (λ (x : List Placed). splitFirst σ κ 0 (marked x)) (r .was) ∙ q in
+            let p : splitFirst σ κ 0 (marked l) ≡ pick (fits (mediant (r .side .lo) (r .side .hi)))
+            (parted (halves (pts (r .before ++ (r .side ∷ r .after))) (r .before) (r .side) (r .after))) (over (0 + length (r .before))) =
+            ap (λ (x : List Placed). splitFirst σ κ 0 (marked x)) (r .was) ∙ q in
             ap (goOn (rounds σ κ f) (marked l)) p
             ∙ by-fit (fits (mediant (r .side .lo) (r .side .hi))) (ih (r .side ∷ C) _ _ (fit-step C (r .before) (r .side) (r .after) i e))
             ∙ sym (ap (λ (x : model.Cut). ruled (model.goOn (grow σ κ f) l x)) (r .is))
           where
-            by-fit : (b : Bool) → rounds σ κ f (halves (pts (r .before ++ (r .side ∷ r .after))) (r .before) (r .side) (r .after)) ≡ ruled (grow σ κ f (r .before ++ (lowerAt σ κ (r .side) ∷ upperAt σ κ (r .side) ∷ r .after)))
-                → goOn (rounds σ κ f) (marked l) (pick b (parted (halves (pts (r .before ++ (r .side ∷ r .after))) (r .before) (r .side) (r .after))) (over (0 + length (r .before))))
-                ≡ ruled (model.goOn (grow σ κ f) l (pick b (model.parted (r .before ++ (lowerAt σ κ (r .side) ∷ upperAt σ κ (r .side) ∷ r .after))) (model.over (0 + length (r .before)))))
+            by-fit : (b : Bool) → rounds σ κ f (halves (pts (r .before ++ (r .side ∷ r .after))) (r .before) (r .side) (r .after)) ≡ ruled
+                (grow σ κ f (r .before ++ (lowerAt σ κ (r .side) ∷ upperAt σ κ (r .side) ∷ r .after)))
+                → goOn (rounds σ κ f) (marked l) (pick b (parted (halves (pts (r .before ++ (r .side ∷ r .after))) (r .before) (r .side) (r .after)))
+                (over (0 + length (r .before))))
+                ≡ ruled (model.goOn (grow σ κ f) l (pick b (model.parted (r .before ++ (lowerAt σ κ (r .side) ∷ upperAt σ κ (r .side) ∷ r .after)))
+                (model.over (0 + length (r .before)))))
             by-fit true e = e
             by-fit false e = refl
 
@@ -403,7 +421,14 @@ module _ (σ κ : ℕ → ℕ) where
     fit-start C l inv = record {
       inv = inv;
       sides = sides-opened l;
-      partners = λ r h b i. let k = pt-of _ l i in record { row = row (bare (k .side)) unpaired; among = in-opened (k .side) l (k .among); open-yet = refl; at = placed-points C l inv (k .side) (k .among) ∙ sym (k .pt) };
+      partners = λ r h b i. let k = pt-of _ l i in
+          record {
+            row = row (bare (k .side)) unpaired;
+            among = in-opened (k .side) l (k .among);
+            open-yet = refl;
+            at =
+                placed-points C l inv (k .side) (k .among) ∙ sym (k .pt);
+          };
       fair = λ r h. inl (all-open r l h);
     }
 

@@ -15,7 +15,7 @@ use Rattle.matrix.specs.Matrix.{Mat, mat, _⊗_, 𝟙, neg, adj, det, matS, mat
 use Rattle.matrix.specs.Words as word
 use Rattle.matrix.specs.Action.{at}
 use Rattle.matrix.proofs.Matrix.{⊗-assoc, ⊗-idl, ⊗-idr, S-S, T-is, ≈-sym, _∙≈_, ≈-left, ≈-right}
-use Rattle.symbol.specs.Table.{pairing, sideAt, frame, numer, denom, carried}
+use Rattle.symbol.specs.Table.{pairingEntry, sideAt, frame, numer, denom, carried}
 use Rattle.symbol.specs.Symbol.{ZeroAt, FreeLabel, IsSymbol}
 use Rattle.pairing.specs.Generator.{generators}
 use Rattle.pairing.specs.Subgroup.{InH}
@@ -33,7 +33,8 @@ module _ (x : ℤ) (kind : (x ≡ negsuc 1) ⊎ (x ≡ negsuc 2)) where
   small-numers zero h = lit≤ tt
   small-numers (suc i) h = absurd (omega arith)
 
-  small-denoms : (i : ℕ) → i < 1 → (1 ≤ natAbs (denom (smallTable x) i)) × (natAbs (denom (smallTable x) i) ≤ 1000000000) × (denom (smallTable x) i ≡ pos (natAbs (denom (smallTable x) i)))
+  small-denoms : (i : ℕ) → i < 1 → (1 ≤ natAbs (denom (smallTable x) i)) × (natAbs (denom (smallTable x) i) ≤ 1000000000)
+      × (denom (smallTable x) i ≡ pos (natAbs (denom (smallTable x) i)))
   small-denoms zero h = (lit≤ tt, lit≤ tt, refl)
   small-denoms (suc i) h = absurd (omega arith)
 
@@ -43,7 +44,8 @@ module _ (x : ℤ) (kind : (x ≡ negsuc 1) ⊎ (x ≡ negsuc 2)) where
   small-neighbours (suc zero) h = refl
   small-neighbours (suc (suc i)) h = absurd (omega arith)
 
-  small-pairings : (i : ℕ) → i ≤ 1 → (pairing 1 (smallTable x) i ≡ negsuc 1) ⊎ (pairing 1 (smallTable x) i ≡ negsuc 2) ⊎ FreeLabel 1 (smallTable x) (pairing 1 (smallTable x) i)
+  small-pairings : (i : ℕ) → i ≤ 1 → (pairingEntry 1 (smallTable x) i ≡ negsuc 1) ⊎ (pairingEntry 1 (smallTable x) i ≡ negsuc 2)
+      ⊎ FreeLabel 1 (smallTable x) (pairingEntry 1 (smallTable x) i)
   small-pairings zero h = elim kind [ inl e ↦ inl e | inr e ↦ inr (inl e) ]
   small-pairings (suc zero) h = inr (inl refl)
   small-pairings (suc (suc i)) h = absurd (omega arith)
@@ -153,7 +155,8 @@ module _ (σ κ : ℕ → ℕ) (n : ℕ) (T : Turning σ κ n) where
   pub precisely-1 : σ 0 ≡ 0 → κ 0 ≡ 0 → Precisely σ κ n 1 (smallTable (negsuc 1))
   precisely-1 e o = record {
     symbol = small-symbol (negsuc 1) (inl refl);
-    group = stabiliser even-gens σ κ n T (fix-1 e o) Known1 steps-1 (λ m x k. rw (k .1) (leads-≈ σ κ n T (k .0) (leads-𝟙 σ κ n T))) (inl refl, refl) (λ m k. record { word = []; letters = tt; is = k .0 });
+    group = stabiliser even-gens σ κ n T (fix-1 e o) Known1 steps-1 (λ m x k. rw (k .1) (leads-≈ σ κ n T (k .0) (leads-𝟙 σ κ n T))) (inl refl, refl)
+        (λ m k. record { word = []; letters = tt; is = k .0 });
     few = omega arith;
   }
 

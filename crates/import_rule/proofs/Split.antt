@@ -21,15 +21,15 @@ use lib.ListN.{length}
 use lib.IntN.{ℤ, pos, negsuc, _+ℤ_}
 use borrow.Author.Tests.{eq-eqb, ne-eqb, eqb-true, lt-ltb, le-ltb, ltb-true, ltb-false}
 use Rattle.matrix.specs.Matrix.{Mat, mat, _⊗_, 𝟙, neg, adj, det, matS, matQ, matP, _≈_}
-use Rattle.matrix.specs.Euclid.{pick}
+use Rattle.basics.specs.Choice.{pick}
 use Rattle.matrix.proofs.Ring.{Exp, con, var, _⊕_, _⊙_, ⊖_, val, ring, MExp, lit, const, _⊛_, ∼_, valM, ringM, detᵉ, det-val}
 use Rattle.numbering.specs.Find.{find, isIn}
-use Rattle.import_rule.specs.Side.{Vertex, Side, side, frame, mediant, fits}
+use Rattle.import_rule.specs.Side.{Vertex, Interval, interval, intervalFrame, mediant, fits}
 use Rattle.import_rule.specs.Inner.Placed.{Placed, bare, pts, Cut, closed, parted, over, next, lowerAt, upperAt, isClosed, cutIn}
 use Rattle.import_rule.proofs.Member.{In, in-left, in-right, in-either, Apart, in-is}
 
 abbrev pub framed : Placed → Mat
-framed u = frame (bare u)
+framed u = intervalFrame (bare u)
 
 -- ---- the test
 
@@ -127,8 +127,10 @@ module _ (σ κ : ℕ → ℕ) where
   outcome B i (s ∷ l) = go (isClosed σ κ B (s .pt)) refl (outcome B (suc i) l)
     where
       by-test : (b : Bool) → isClosed σ κ B (s .pt) ≡ b
-          → cutIn σ κ B i (s ∷ l) ≡ pick b (next s (cutIn σ κ B (suc i) l)) (pick (fits (mediant (s .lo) (s .hi))) (parted (lowerAt σ κ s ∷ upperAt σ κ s ∷ l)) (over i))
-      by-test b e = ap (λ (z : Bool). pick z (next s (cutIn σ κ B (suc i) l)) (pick (fits (mediant (s .lo) (s .hi))) (parted (lowerAt σ κ s ∷ upperAt σ κ s ∷ l)) (over i))) e
+          → cutIn σ κ B i (s ∷ l) ≡ pick b (next s (cutIn σ κ B (suc i) l))
+          (pick (fits (mediant (s .lo) (s .hi))) (parted (lowerAt σ κ s ∷ upperAt σ κ s ∷ l)) (over i))
+      by-test b e = ap (λ (z : Bool). pick z (next s (cutIn σ κ B (suc i) l))
+          (pick (fits (mediant (s .lo) (s .hi))) (parted (lowerAt σ κ s ∷ upperAt σ κ s ∷ l)) (over i))) e
 
       go : (b : Bool) → isClosed σ κ B (s .pt) ≡ b → Shut B (suc i) l ⊎ Broken B (suc i) l → Shut B i (s ∷ l) ⊎ Broken B i (s ∷ l)
       go false e r = inr (record {
@@ -148,7 +150,10 @@ module _ (σ κ : ℕ → ℕ) where
         was = ap (λ (x : List Placed). s ∷ x) (r .was);
         none = r .none;
         shut = all-more B s (r .before) (closed-true σ κ B (s .pt) e) (r .shut);
-        is = by-test true e ∙ ap (next s) (r .is) ∙ next-pick s (fits (mediant (r .side .lo) (r .side .hi))) (r .before ++ (lowerAt σ κ (r .side) ∷ upperAt σ κ (r .side) ∷ r .after)) (suc i + length (r .before)) ∙ ap (λ (j : ℕ). pick (fits (mediant (r .side .lo) (r .side .hi))) (parted (s ∷ (r .before ++ (lowerAt σ κ (r .side) ∷ upperAt σ κ (r .side) ∷ r .after)))) (over j)) (later i (length (r .before)));
+        is = by-test true e ∙ ap (next s) (r .is)
+            ∙ next-pick s (fits (mediant (r .side .lo) (r .side .hi))) (r .before ++ (lowerAt σ κ (r .side) ∷ upperAt σ κ (r .side) ∷ r .after))
+            (suc i + length (r .before)) ∙ ap (λ (j : ℕ). pick (fits (mediant (r .side .lo) (r .side .hi)))
+            (parted (s ∷ (r .before ++ (lowerAt σ κ (r .side) ∷ upperAt σ κ (r .side) ∷ r .after)))) (over j)) (later i (length (r .before)));
       })
 
 -- ---- the frames of the two parts
@@ -237,7 +242,8 @@ module _ (s l r : Placed) (after : List Placed) where
   beside-other u (b ∷ bs) a (inl (inr h)) e = beside-other u bs (a .1) (inl h) e
   beside-other u (b ∷ bs) a (inr h) e = beside-other u bs (a .1) (inr h) e
 
-  pub split-apart : (before : List Placed) → Apart (pts (before ++ (s ∷ after))) → ¬ (In (l .pt) (pts (before ++ (s ∷ after)))) → ¬ (In (r .pt) (pts (before ++ (s ∷ after)))) → ¬ (l .pt ≡ r .pt) → Apart (pts (before ++ (l ∷ r ∷ after)))
+  pub split-apart : (before : List Placed) → Apart (pts (before ++ (s ∷ after))) → ¬ (In (l .pt) (pts (before ++ (s ∷ after))))
+      → ¬ (In (r .pt) (pts (before ++ (s ∷ after)))) → ¬ (l .pt ≡ r .pt) → Apart (pts (before ++ (l ∷ r ∷ after)))
   split-apart [] a nl nr n = (out, ((λ h. nr (inr h)), a .1))
     where
       out : In (l .pt) (r .pt ∷ pts after) → ⊥

@@ -90,7 +90,8 @@ module _ (gens : List Mat) where
             pt = b .pt;
             inH = in-mul (a .inH) (b .inH);
             known = b .known;
-            is = inl (sym (⊗-assoc m (letter l) (value u))) ∙≈ ≈-right (value u) (a .is) ∙≈ inl (⊗-assoc (a .by) (a .frame) (value u)) ∙≈ ≈-left (a .by) (b .is) ∙≈ inl (sym (⊗-assoc (a .by) (b .by) (b .frame)));
+            is = inl (sym (⊗-assoc m (letter l) (value u))) ∙≈ ≈-right (value u) (a .is) ∙≈ inl (⊗-assoc (a .by) (a .frame) (value u)) ∙≈ ≈-left (a .by)
+                (b .is) ∙≈ inl (sym (⊗-assoc (a .by) (b .by) (b .frame)));
           }
 
       -- THE SUBGROUP IS THE STABILISER OF 0

@@ -23,12 +23,13 @@ use Rattle.matrix.specs.Matrix.{Mat, mat, _⊗_, 𝟙, neg, adj, det, matS, mat
 use Rattle.matrix.specs.Words as word
 use Rattle.matrix.proofs.Ring.{con, var, ring, lit, detᵉ}
 use Rattle.matrix.proofs.Matrix.{⊗-idl, det-𝟙, det-letter, S-S, ≈-sym, _∙≈_, ≈-right}
-use Rattle.symbol.proofs.Choice.{and-left, and-right}
+use Rattle.basics.proofs.Choice.{and-left, and-right}
 use Rattle.import_rule.specs.Side.{Vertex, vertex, minusInfinity, infinity, mediant, limit, fits}
 use Rattle.import_rule.specs.Inner.Placed.{Placed, pts, finished, lowerAt, upperAt, grow}
 use Rattle.import_rule.proofs.Member.{In, in-right, Apart}
 use Rattle.import_rule.proofs.Lead.{S-twice, Turning, Leads, leads-≈, leads-𝟙, leads-step}
-use Rattle.import_rule.proofs.Split.{framed, lower-S, upper-S, lower-det, upper-det, Pt, of-pt, split-from, beside-in, Beside, Turn, t0, t1, t2, turnM, turnX, Corner, Edge}
+use Rattle.import_rule.proofs.Split.{framed, lower-S, upper-S, lower-det, upper-det, Pt, of-pt, split-from, beside-in, Beside, Turn, t0, t1}
+use Rattle.import_rule.proofs.Split.{t2, turnM, turnX, Corner, Edge}
 use Rattle.import_rule.proofs.Kept.{Inv, turn-one, Ends, ends}
 use Rattle.import_rule.proofs.Table.{Chained, inner}
 use Rattle.import_rule.proofs.Finished.{Shape}
@@ -55,7 +56,8 @@ wide s d = go (ℕ-discrete (s .lo .den + s .hi .den) 0)
         let z = ap natAbs r in absurd (omega arith)
 
 module _ (σ κ : ℕ → ℕ) (s : Placed) (after : List Placed) where
-  chained-split : (x : Vertex) (before : List Placed) → 0 < s .lo .den + s .hi .den → Chained x (before ++ (s ∷ after)) → Chained x (before ++ (lowerAt σ κ s ∷ upperAt σ κ s ∷ after))
+  chained-split : (x : Vertex) (before : List Placed) → 0 < s .lo .den + s .hi .den → Chained x (before ++ (s ∷ after))
+      → Chained x (before ++ (lowerAt σ κ s ∷ upperAt σ κ s ∷ after))
   chained-split x [] w c = go after c
     where
       go : (after : List Placed) → Chained x (s ∷ after) → Chained x (lowerAt σ κ s ∷ upperAt σ κ s ∷ after)
@@ -102,7 +104,8 @@ keep σ κ C before s after d f k =
       count = omega arith;
     }
   where
-    small : (u : Placed) → (u ≡ lowerAt σ κ s) ⊎ (u ≡ upperAt σ κ s) ⊎ Beside s (lowerAt σ κ s) (upperAt σ κ s) after u before → (natAbs (u .hi .num) ≤ limit) × (u .hi .den ≤ limit)
+    small : (u : Placed) → (u ≡ lowerAt σ κ s) ⊎ (u ≡ upperAt σ κ s) ⊎ Beside s (lowerAt σ κ s) (upperAt σ κ s) after u before → (natAbs (u .hi .num) ≤ limit)
+        × (u .hi .den ≤ limit)
     small u (inl e) = rw e (fits-tells (mediant (s .lo) (s .hi)) f)
     small u (inr (inl e)) = rw e (k .shape .small s (in-right s before (s ∷ after) (inl refl)))
     small u (inr (inr b)) = k .shape .small u (beside-in s (lowerAt σ κ s) (upperAt σ κ s) after u before b)
@@ -174,11 +177,15 @@ module _ (σ κ : ℕ → ℕ) (n : ℕ) (T : Turning σ κ n) where
       beyond : (m : Mat) (x : ℕ) → Corner σ κ (s ∷ []) m x → Corner σ κ (s ∷ []) (m ⊗ matS) (σ x) ⊎ Edge ss (m ⊗ matS) (σ x)
       beyond m x k = go (k .tri) (k .among) (k .turn) (k .frame) (k .pt)
         where
-          go : (t : Placed) → In t (s ∷ []) → (c : Turn) → m ≈ turnM c (framed t) → x ≡ turnX σ κ c (t .pt) → Corner σ κ (s ∷ []) (m ⊗ matS) (σ x) ⊎ Edge ss (m ⊗ matS) (σ x)
+          go : (t : Placed) → In t (s ∷ []) → (c : Turn) → m ≈ turnM c (framed t) → x ≡ turnX σ κ c (t .pt) → Corner σ κ (s ∷ []) (m ⊗ matS) (σ x)
+              ⊎ Edge ss (m ⊗ matS) (σ x)
           go t (inr h) c f p = absurd h
-          go t (inl e) t0 f p = inr (edge o _ _ (a .has-o) (≈-right matS (f ∙≈ inl (ap framed e)) ∙≈ back _ _ (a .faces)) (ap σ (p ∙ ap (λ (v : Placed). v .pt) e) ∙ sym (a .pt)))
-          go t (inl e) t1 f p = inr (edge (lowerAt σ κ s) _ _ (a .has-l) (≈-right matS (f ∙≈ inl (ap (λ (v : Placed). framed v ⊗ matQ) e)) ∙≈ back _ _ lower-under) (ap σ (p ∙ ap (λ (v : Placed). κ (v .pt)) e)))
-          go t (inl e) t2 f p = inr (edge (upperAt σ κ s) _ _ (a .has-r) (≈-right matS (f ∙≈ inl (ap (λ (v : Placed). framed v ⊗ matP) e)) ∙≈ back _ _ upper-under) (ap σ (p ∙ ap (λ (v : Placed). κ (κ (v .pt))) e)))
+          go t (inl e) t0 f p = inr (edge o _ _ (a .has-o) (≈-right matS (f ∙≈ inl (ap framed e)) ∙≈ back _ _ (a .faces))
+              (ap σ (p ∙ ap (λ (v : Placed). v .pt) e) ∙ sym (a .pt)))
+          go t (inl e) t1 f p = inr (edge (lowerAt σ κ s) _ _ (a .has-l)
+              (≈-right matS (f ∙≈ inl (ap (λ (v : Placed). framed v ⊗ matQ) e)) ∙≈ back _ _ lower-under) (ap σ (p ∙ ap (λ (v : Placed). κ (v .pt)) e)))
+          go t (inl e) t2 f p = inr (edge (upperAt σ κ s) _ _ (a .has-r)
+              (≈-right matS (f ∙≈ inl (ap (λ (v : Placed). framed v ⊗ matP) e)) ∙≈ back _ _ upper-under) (ap σ (p ∙ ap (λ (v : Placed). κ (κ (v .pt))) e)))
 
       meets : (m : Mat) (x : ℕ) → Corner σ κ (s ∷ []) m x → In (σ x) (pts ss)
       meets m x k = go (k .tri) (k .among) (k .turn) (k .pt)
@@ -289,7 +296,16 @@ module _ (σ κ : ℕ → ℕ) (n : ℕ) (T : Turning σ κ n) where
       only u (inr (inr (inr e))) = absurd e
 
   pub kept-1 : Kept (right0 0 ∷ []) (start1 σ κ)
-  kept-1 = record { shape = record { chained = (refl, omega arith, (refl, omega arith, (refl, refl))); zero-in = inl refl; many = omega arith; small = small }; count = refl }
+  kept-1 = record {
+    shape = record {
+      chained = (refl, omega arith, (refl, omega arith, (refl, refl)));
+      zero-in = inl refl;
+      many = omega arith;
+      small =
+          small;
+    };
+    count = refl;
+  }
     where
       small : (u : Placed) → In u (start1 σ κ) → (natAbs (u .hi .num) ≤ limit) × (u .hi .den ≤ limit)
       small u (inl e) = rw e (lit≤ tt, lit≤ tt)
@@ -298,7 +314,16 @@ module _ (σ κ : ℕ → ℕ) (n : ℕ) (T : Turning σ κ n) where
       small u (inr (inr (inr e))) = absurd e
 
   pub kept-2 : Kept (left0 (σ 0) ∷ []) (start2 σ κ)
-  kept-2 = record { shape = record { chained = (refl, omega arith, (refl, omega arith, (refl, refl))); zero-in = inr (inl refl); many = omega arith; small = small }; count = refl }
+  kept-2 = record {
+    shape = record {
+      chained = (refl, omega arith, (refl, omega arith, (refl, refl)));
+      zero-in = inr (inl refl);
+      many = omega arith;
+      small =
+          small;
+    };
+    count = refl;
+  }
     where
       small : (u : Placed) → In u (start2 σ κ) → (natAbs (u .hi .num) ≤ limit) × (u .hi .den ≤ limit)
       small u (inl e) = rw e (lit≤ tt, lit≤ tt)

@@ -21,10 +21,10 @@ use lib.Seq.{drop-at}
 use lib.IntN.{ℤ, pos, negsuc}
 use borrow.Author.Tests.{lt-ltb, le-ltb, eq-eqb, ne-eqb}
 use Rattle.matrix.specs.Matrix.{Mat, mat, nth}
-use Rattle.matrix.specs.Euclid.{pick}
-use Rattle.symbol.specs.Table.{numer, denom, pairings, pairing, leftNum, leftDen, rightNum, rightDen}
+use Rattle.basics.specs.Choice.{pick}
+use Rattle.symbol.specs.Table.{numer, denom, pairingEntries, pairingEntry, leftNum, leftDen, rightNum, rightDen}
 use Rattle.pairing.specs.Generator.{frameAt}
-use Rattle.symbol.proofs.Choice.{pick-true, pick-false}
+use Rattle.basics.proofs.Choice.{pick-true, pick-false}
 use Rattle.symbol.proofs.Sides.{right-inside, right-last}
 use Rattle.numbering.specs.Find.{find, _∈_}
 use Rattle.numbering.specs.Order.{add}
@@ -32,7 +32,7 @@ use Rattle.numbering.proofs.Find as places
 use Rattle.numbering.proofs.Order.{add-old, add-new}
 use Rattle.import_rule.specs.Side.{Vertex, vertex, minusInfinity, infinity}
 use Rattle.import_rule.specs.Rule.{Mark, unpaired, even, odd, free, Row, row, least}
-use Rattle.import_rule.specs.Symbol.{noted, labelsFrom, labelsOf, entry, entries, verticesOf, tableOf}
+use Rattle.import_rule.specs.Symbol.{noted, labelsFrom, labelsOf, entry, rowEntries, verticesOf, symbolTable}
 use Rattle.import_rule.specs.Inner.Placed.{Placed, bare, pts, markOf, rowOf, rowsOf}
 use Rattle.import_rule.proofs.Member.{In, Apart, in-is}
 use Rattle.import_rule.proofs.Split.{framed, in-pts}
@@ -150,7 +150,7 @@ module _ (σ κ : ℕ → ℕ) where
   length-vertices s [] = refl
   length-vertices s (t ∷ l) = let k = length-vertices t l in omega arith
 
-  pub length-entries : (L : List ℕ) (l : List Placed) → length (entries L (rowsOf σ κ l)) ≡ length l
+  pub length-entries : (L : List ℕ) (l : List Placed) → length (rowEntries L (rowsOf σ κ l)) ≡ length l
   length-entries L [] = refl
   length-entries L (u ∷ l) = ap suc (length-entries L l)
 
@@ -172,7 +172,7 @@ module _ (σ κ : ℕ → ℕ) where
   vertex-den zero u (s ∷ t ∷ l) ps h e = ap (λ (y : Placed). pos (y .hi .den)) (sym h)
   vertex-den (suc i) u (s ∷ t ∷ l) ps h e = ap (nth (verticesOf (rowsOf σ κ (s ∷ t ∷ l)) ++ ps)) (three-more i) ∙ vertex-den i u (t ∷ l) ps h (omega arith)
 
-  entry-at : (L : List ℕ) (i : ℕ) (u : Placed) (l : List Placed) → At i u l → nth (entries L (rowsOf σ κ l)) i ≡ entry L (markOf σ κ (u .pt))
+  entry-at : (L : List ℕ) (i : ℕ) (u : Placed) (l : List Placed) → At i u l → nth (rowEntries L (rowsOf σ κ l)) i ≡ entry L (markOf σ κ (u .pt))
   entry-at L i u [] h = absurd h
   entry-at L zero u (s ∷ l) h = ap (λ (y : Placed). entry L (markOf σ κ (y .pt))) (sym h)
   entry-at L (suc i) u (s ∷ l) h = entry-at L i u l h
@@ -244,7 +244,8 @@ module _ (σ κ : ℕ → ℕ) where
   mark-odd m n e = pick-false (eqb (σ m) m) even (pick (eqb (κ m) m) odd (free (least m (σ m)))) (ne-eqb (σ m) m n) ∙ pick-true (eqb (κ m) m) _ _ (eq-eqb (κ m) m e)
 
   pub mark-free : (m : ℕ) → ¬ (σ m ≡ m) → ¬ (κ m ≡ m) → markOf σ κ m ≡ free (least m (σ m))
-  mark-free m n e = pick-false (eqb (σ m) m) even (pick (eqb (κ m) m) odd (free (least m (σ m)))) (ne-eqb (σ m) m n) ∙ pick-false (eqb (κ m) m) odd (free (least m (σ m))) (ne-eqb (κ m) m e)
+  mark-free m n e = pick-false (eqb (σ m) m) even (pick (eqb (κ m) m) odd (free (least m (σ m)))) (ne-eqb (σ m) m n)
+      ∙ pick-false (eqb (κ m) m) odd (free (least m (σ m))) (ne-eqb (κ m) m e)
 
   -- ---- the whole table
 
@@ -253,7 +254,7 @@ module _ (σ κ : ℕ → ℕ) where
     vOf = length (rowsOf σ κ l) - 1
 
     abbrev pub tOf : List ℤ
-    tOf = tableOf (rowsOf σ κ l)
+    tOf = symbolTable (rowsOf σ κ l)
 
     abbrev pub labels : List ℕ
     labels = labelsOf (rowsOf σ κ l)
@@ -269,24 +270,26 @@ module _ (σ κ : ℕ → ℕ) where
         go (s ∷ l') h e = length-vertices s l' ∙ omega arith
 
     pub table-long : length tOf ≡ 3 * vOf + 1
-    table-long = length-append (verticesOf (rowsOf σ κ l)) (entries labels (rowsOf σ κ l)) ∙ omega (arith, vertices-long, length-entries labels l, v-is)
+    table-long = length-append (verticesOf (rowsOf σ κ l)) (rowEntries labels (rowsOf σ κ l)) ∙ omega (arith, vertices-long, length-entries labels l, v-is)
 
     pub table-num : (i : ℕ) (u : Placed) → At i u l → i < vOf → numer tOf i ≡ u .hi .num
-    table-num i u h e = vertex-num i u l (entries labels (rowsOf σ κ l)) h (omega (arith, v-is))
+    table-num i u h e = vertex-num i u l (rowEntries labels (rowsOf σ κ l)) h (omega (arith, v-is))
 
     pub table-den : (i : ℕ) (u : Placed) → At i u l → i < vOf → denom tOf i ≡ pos (u .hi .den)
-    table-den i u h e = vertex-den i u l (entries labels (rowsOf σ κ l)) h (omega (arith, v-is))
+    table-den i u h e = vertex-den i u l (rowEntries labels (rowsOf σ κ l)) h (omega (arith, v-is))
 
-    pub table-pairing : (i : ℕ) (u : Placed) → At i u l → pairing vOf tOf i ≡ entry labels (markOf σ κ (u .pt))
-    table-pairing i u h = ap (λ (p : List ℤ). nth p i) (drop-at (verticesOf (rowsOf σ κ l)) (entries labels (rowsOf σ κ l)) (2 * vOf) vertices-long) ∙ entry-at labels i u l h
+    pub table-pairing : (i : ℕ) (u : Placed) → At i u l → pairingEntry vOf tOf i ≡ entry labels (markOf σ κ (u .pt))
+    table-pairing i u h = ap (λ (p : List ℤ). nth p i) (drop-at (verticesOf (rowsOf σ κ l)) (rowEntries labels (rowsOf σ κ l)) (2 * vOf) vertices-long)
+        ∙ entry-at labels i u l h
 
-    pub pair-even : (i : ℕ) (u : Placed) → At i u l → σ (u .pt) ≡ u .pt → pairing vOf tOf i ≡ negsuc 1
+    pub pair-even : (i : ℕ) (u : Placed) → At i u l → σ (u .pt) ≡ u .pt → pairingEntry vOf tOf i ≡ negsuc 1
     pair-even i u h e = table-pairing i u h ∙ ap (entry labels) (mark-even (u .pt) e)
 
-    pub pair-odd : (i : ℕ) (u : Placed) → At i u l → ¬ (σ (u .pt) ≡ u .pt) → κ (u .pt) ≡ u .pt → pairing vOf tOf i ≡ negsuc 2
+    pub pair-odd : (i : ℕ) (u : Placed) → At i u l → ¬ (σ (u .pt) ≡ u .pt) → κ (u .pt) ≡ u .pt → pairingEntry vOf tOf i ≡ negsuc 2
     pair-odd i u h n e = table-pairing i u h ∙ ap (entry labels) (mark-odd (u .pt) n e)
 
-    pub pair-free : (i : ℕ) (u : Placed) → At i u l → ¬ (σ (u .pt) ≡ u .pt) → ¬ (κ (u .pt) ≡ u .pt) → pairing vOf tOf i ≡ pos (suc (find labels (least (u .pt) (σ (u .pt)))))
+    pub pair-free : (i : ℕ) (u : Placed) → At i u l → ¬ (σ (u .pt) ≡ u .pt) → ¬ (κ (u .pt) ≡ u .pt)
+        → pairingEntry vOf tOf i ≡ pos (suc (find labels (least (u .pt) (σ (u .pt)))))
     pair-free i u h n e = table-pairing i u h ∙ ap (entry labels) (mark-free (u .pt) n e)
 
     -- ---- frames
@@ -309,8 +312,11 @@ module _ (σ κ : ℕ → ℕ) where
     left-end (suc i) u c h =
         let low = at-low (suc i) u l h in
         let w = at-get i l (omega arith) in
-        let e = chain-next minusInfinity i (w .side) u l c (w .is) h in
-        (table-num i (w .side) (w .is) (omega (arith, v-is)) ∙ ap (λ (x : Vertex). x .num) (sym e), table-den i (w .side) (w .is) (omega (arith, v-is)) ∙ ap (λ (x : Vertex). pos (x .den)) (sym e))
+        let e = chain-next minusInfinity i (w .side) u l c (w .is) h in (
+          table-num i (w .side) (w .is) (omega (arith, v-is)) ∙ ap (λ (x : Vertex). x .num) (sym e),
+          table-den i (w .side) (w .is) (omega (arith, v-is))
+              ∙ ap (λ (x : Vertex). pos (x .den)) (sym e),
+        )
 
     pub table-frame : (i : ℕ) (u : Placed) → Chained minusInfinity l → At i u l → frameAt vOf tOf i ≡ framed u
     table-frame i u c h = let r = right-end i u c h in let s = left-end i u c h in mat-eq (r .0) (s .0) (r .1) (s .1)

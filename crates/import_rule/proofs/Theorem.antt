@@ -15,12 +15,12 @@ use lib.ListN.{length}
 use lib.IntN.{ℤ, pos, negsuc}
 use borrow.Author.Tests.{eq-eqb, ne-eqb, eqb-true, eqb-false}
 use Rattle.matrix.specs.Matrix.{matS, matT, matQ}
-use Rattle.matrix.specs.Euclid.{pick}
+use Rattle.basics.specs.Choice.{pick}
 use Rattle.symbol.specs.Table.{carried}
-use Rattle.symbol.proofs.Choice.{pick-true, pick-false, either, clash, and-left, and-right}
+use Rattle.basics.proofs.Choice.{pick-true, pick-false, either, clash, and-left, and-right}
 use Rattle.import_rule.specs.Fixed.{byQ, fixes, Permuting}
 use Rattle.import_rule.specs.Rule.{Row, Grown, finished, refused, rounds, startRows}
-use Rattle.import_rule.specs.Symbol.{tableOf, Ruled, made, over, oneVertex, symbolFrom, ruleOf}
+use Rattle.import_rule.specs.Symbol.{symbolTable, Ruled, made, over, oneVertex, symbolFrom, ruleOf}
 use Rattle.import_rule.specs.Inner.Placed as model
 use Rattle.import_rule.specs.Inner.Placed.{Placed, pts, Grew, grow, rowsOf, startPlaced, symbolBy, quickOf}
 use Rattle.import_rule.specs.Theorem.{Precisely}
@@ -51,7 +51,8 @@ module _ (σ κ : ℕ → ℕ) (n : ℕ) (T : Turning σ κ n) where
   secondTest = eqb (κ 0) 0 && eqb (κ (σ 0)) (σ 0)
 
   first-test : (fixes σ κ matS && fixes σ κ matT) ≡ firstTest
-  first-test = ap (λ (x : ℕ). eqb x 0 && fixes σ κ matT) (S-point σ κ n T) ∙ ap (λ (x : ℕ). eqb (σ 0) 0 && eqb x 0) (T-point σ κ n T) ∙ same-test (eqb (σ 0) 0 && eqb (σ (κ (κ 0))) 0) firstTest there back
+  first-test = ap (λ (x : ℕ). eqb x 0 && fixes σ κ matT) (S-point σ κ n T) ∙ ap (λ (x : ℕ). eqb (σ 0) 0 && eqb x 0) (T-point σ κ n T)
+      ∙ same-test (eqb (σ 0) 0 && eqb (σ (κ (κ 0))) 0) firstTest there back
     where
       there : (eqb (σ 0) 0 && eqb (σ (κ (κ 0))) 0) ≡ true → firstTest ≡ true
       there e =
@@ -117,18 +118,22 @@ module _ (σ κ : ℕ → ℕ) (n : ℕ) (T : Turning σ κ n) where
       go : (g : Grew) → ((z : List Placed) → g ≡ model.finished z → Ends σ κ n T Kept z) → symbolFrom (ruled σ κ n T g) ≡ symbolBy σ κ g
       go (model.finished z) f =
           let e = f z refl in
-          ap (λ (x : List Row). made (length x - 1) (tableOf x)) (marked-closed σ κ n T (e .tris) z (e .inv) (e .all))
-          ∙ ap (λ (x : ℕ). made (x - 1) (tableOf (rowsOf σ κ z))) (length-rows σ κ z)
+          ap (λ (x : List Row). made (length x - 1) (symbolTable x)) (marked-closed σ κ n T (e .tris) z (e .inv) (e .all))
+          ∙ ap (λ (x : ℕ). made (x - 1) (symbolTable (rowsOf σ κ z))) (length-rows σ κ z)
       go (model.refused i) f = refl
 
   -- ---- THE RULE MAY BE FOLLOWED BY POINTS
 
   pub rule-is : ruleOf σ κ n ≡ quickOf σ κ n
   rule-is =
-      ap (λ (b : Bool). pick b (oneVertex (negsuc 1) (negsuc 2)) (pick (fixes σ κ matQ && fixes σ κ (carried matS matQ matS)) (oneVertex (negsuc 2) (negsuc 2)) (symbolFrom (rounds σ κ n (startRows σ κ))))) first-test
-      ∙ ap (pick firstTest (oneVertex (negsuc 1) (negsuc 2))) (ap (λ (b : Bool). pick b (oneVertex (negsuc 2) (negsuc 2)) (symbolFrom (rounds σ κ n (startRows σ κ)))) second-test ∙ go secondTest refl)
+      ap (λ (b : Bool). pick b (oneVertex (negsuc 1) (negsuc 2))
+      (pick (fixes σ κ matQ && fixes σ κ (carried matS matQ matS)) (oneVertex (negsuc 2) (negsuc 2))
+      (symbolFrom (rounds σ κ n (startRows σ κ))))) first-test
+      ∙ ap (pick firstTest (oneVertex (negsuc 1) (negsuc 2)))
+      (ap (λ (b : Bool). pick b (oneVertex (negsuc 2) (negsuc 2)) (symbolFrom (rounds σ κ n (startRows σ κ)))) second-test ∙ go secondTest refl)
     where
-      go : (b : Bool) → secondTest ≡ b → pick b (oneVertex (negsuc 2) (negsuc 2)) (symbolFrom (rounds σ κ n (startRows σ κ))) ≡ pick b (oneVertex (negsuc 2) (negsuc 2)) (symbolBy σ κ (grow σ κ n (startPlaced σ κ)))
+      go : (b : Bool) → secondTest ≡ b → pick b (oneVertex (negsuc 2) (negsuc 2)) (symbolFrom (rounds σ κ n (startRows σ κ))) ≡ pick b
+          (oneVertex (negsuc 2) (negsuc 2)) (symbolBy σ κ (grow σ κ n (startPlaced σ κ)))
       go true e = refl
       go false e = from-start e
 
@@ -151,19 +156,22 @@ module _ (σ κ : ℕ → ℕ) (n : ℕ) (T : Turning σ κ n) where
             by-grown (model.finished z) f q =
                 let k = f z refl in
                 let p = finished-precisely σ κ n T top (k .tris) z (k .inv) (k .all) (k .kept .shape) (k .kept .count) in
-                is-made (length z - 1) (tableOf (rowsOf σ κ z)) q (rw (length-rows σ κ z) at p)
+                is-made (length z - 1) (symbolTable (rowsOf σ κ z)) q (rw (length-rows σ κ z) at p)
             by-grown (model.refused i) f q = let z : _≡_ {A = ℕ} 0 1 = cc in absurd (omega arith)
 
-        by-second : firstTest ≡ false → (b : Bool) → secondTest ≡ b → pick b (oneVertex (negsuc 2) (negsuc 2)) (symbolBy σ κ (grow σ κ n (startPlaced σ κ))) ≡ made v t → Precisely σ κ n v t
+        by-second : firstTest ≡ false → (b : Bool) → secondTest ≡ b
+            → pick b (oneVertex (negsuc 2) (negsuc 2)) (symbolBy σ κ (grow σ κ n (startPlaced σ κ))) ≡ made v t → Precisely σ κ n v t
         by-second f true s q =
             let o = eqb-true (κ 0) 0 (and-left (eqb (κ 0) 0) (eqb (κ (σ 0)) (σ 0)) s) in
             let r = eqb-true (κ (σ 0)) (σ 0) (and-right (eqb (κ 0) 0) (eqb (κ (σ 0)) (σ 0)) s) in
             is-made 1 (smallTable (negsuc 2)) q (precisely-2 σ κ n T (λ z. clash (and-true (eqb (σ 0) 0) (eqb (κ 0) 0) (eq-eqb (σ 0) 0 z) (eq-eqb (κ 0) 0 o)) f) o r)
         by-second f false s q = grown s q
 
-        by-first : (b : Bool) → firstTest ≡ b → pick b (oneVertex (negsuc 1) (negsuc 2)) (pick secondTest (oneVertex (negsuc 2) (negsuc 2)) (symbolBy σ κ (grow σ κ n (startPlaced σ κ)))) ≡ made v t → Precisely σ κ n v t
+        by-first : (b : Bool) → firstTest ≡ b → pick b (oneVertex (negsuc 1) (negsuc 2))
+            (pick secondTest (oneVertex (negsuc 2) (negsuc 2)) (symbolBy σ κ (grow σ κ n (startPlaced σ κ)))) ≡ made v t → Precisely σ κ n v t
         by-first true f q =
-            is-made 1 (smallTable (negsuc 1)) q (precisely-1 σ κ n T (eqb-true (σ 0) 0 (and-left (eqb (σ 0) 0) (eqb (κ 0) 0) f)) (eqb-true (κ 0) 0 (and-right (eqb (σ 0) 0) (eqb (κ 0) 0) f)))
+            is-made 1 (smallTable (negsuc 1)) q (precisely-1 σ κ n T (eqb-true (σ 0) 0 (and-left (eqb (σ 0) 0) (eqb (κ 0) 0) f))
+            (eqb-true (κ 0) 0 (and-right (eqb (σ 0) 0) (eqb (κ 0) 0) f)))
         by-first false f q = by-second f secondTest refl q
 
 -- FOR EVERY PAIR OF PERMUTATIONS

@@ -21,14 +21,15 @@ use lib.IntN.{pos}
 use borrow.Author.Tests.{eq-eqb, ne-eqb, eqb-true, eqb-false}
 use Rattle.matrix.specs.Matrix.{Mat, _⊗_, 𝟙, adj, det, matS, matQ}
 use Rattle.matrix.specs.Words as word
-use Rattle.matrix.specs.Euclid.{pick}
+use Rattle.basics.specs.Choice.{pick}
 use Rattle.matrix.specs.Action.{at}
 use Rattle.matrix.proofs.Matrix.{⊗-assoc, ⊗-idr, adj-⊗, det-one, det-adj}
-use Rattle.symbol.proofs.Choice.{pick-true, pick-false, either, clash, and-left, and-right}
+use Rattle.basics.proofs.Choice.{pick-true, pick-false, either, clash, and-left, and-right}
 use Rattle.symbol.specs.Table.{carried}
 use Rattle.import_rule.specs.Fixed.{fixes}
-use Rattle.import_rule.specs.Side.{Side, frame}
-use Rattle.import_rule.specs.Rule.{Mark, unpaired, even, odd, free, Row, row, isOpen, Sought, nobody, found, behind, Visited, visited, least, pointOf, isEven, isOdd, mates, label, seek, visitBy, visit, visitTo, visitAll}
+use Rattle.import_rule.specs.Side.{Interval, intervalFrame}
+use Rattle.import_rule.specs.Rule.{Mark, unpaired, even, odd, free, Row, row, isOpen, Sought, nobody, found, behind, Visited, visited, least}
+use Rattle.import_rule.specs.Rule.{pointOf, isEven, isOdd, mates, label, seek, visitBy, visit, visitTo, visitAll}
 use Rattle.import_rule.specs.Inner.Placed.{isClosed, markOf}
 use Rattle.import_rule.proofs.Member.{In, in-right, Apart, in-is}
 use Rattle.import_rule.proofs.Lead.{Turning, Leads, leads-one, leads-≈, leads-step, leads-back, leads-fix}
@@ -74,10 +75,10 @@ module _ (σ κ : ℕ → ℕ) where
 module _ (σ κ : ℕ → ℕ) (n : ℕ) (T : Turning σ κ n) where
   -- ---- the tests of the rule are tests of points
 
-  abbrev point : Side → ℕ
+  abbrev point : Interval → ℕ
   point s = pointOf σ κ s
 
-  of-frame : (s : Side) → det (frame s) ≡ pos 1 → Leads σ κ (frame s) (point s)
+  of-frame : (s : Interval) → det (intervalFrame s) ≡ pos 1 → Leads σ κ (intervalFrame s) (point s)
   of-frame s d = record { unit = d; is = refl }
 
   -- m l⁻¹ fixes 0 exactly when m and l lead to one point
@@ -90,27 +91,27 @@ module _ (σ κ : ℕ → ℕ) (n : ℕ) (T : Turning σ κ n) where
   meet-no : (m l : Mat) (x y : ℕ) → Leads σ κ m x → Leads σ κ l y → fixes σ κ (m ⊗ adj l) ≡ false → ¬ (x ≡ y)
   meet-no m l x y p q e z = eqb-false (at σ κ 0 (m ⊗ adj l)) 0 e (leads-back σ κ n T p (record { unit = q .unit; is = q .is ∙ sym z }) .is)
 
-  pub even-yes : (s : Side) → det (frame s) ≡ pos 1 → isEven σ κ s ≡ true → σ (point s) ≡ point s
-  even-yes s d e = meet-yes (frame s ⊗ matS) (frame s) _ _ (leads-step σ κ n T word.S (of-frame s d)) (of-frame s d) e
+  pub even-yes : (s : Interval) → det (intervalFrame s) ≡ pos 1 → isEven σ κ s ≡ true → σ (point s) ≡ point s
+  even-yes s d e = meet-yes (intervalFrame s ⊗ matS) (intervalFrame s) _ _ (leads-step σ κ n T word.S (of-frame s d)) (of-frame s d) e
 
-  pub even-no : (s : Side) → det (frame s) ≡ pos 1 → isEven σ κ s ≡ false → ¬ (σ (point s) ≡ point s)
-  even-no s d e = meet-no (frame s ⊗ matS) (frame s) _ _ (leads-step σ κ n T word.S (of-frame s d)) (of-frame s d) e
+  pub even-no : (s : Interval) → det (intervalFrame s) ≡ pos 1 → isEven σ κ s ≡ false → ¬ (σ (point s) ≡ point s)
+  even-no s d e = meet-no (intervalFrame s ⊗ matS) (intervalFrame s) _ _ (leads-step σ κ n T word.S (of-frame s d)) (of-frame s d) e
 
-  pub odd-yes : (s : Side) → det (frame s) ≡ pos 1 → isOdd σ κ s ≡ true → κ (point s) ≡ point s
-  odd-yes s d e = meet-yes (frame s ⊗ matQ) (frame s) _ _ (leads-step σ κ n T word.Q (of-frame s d)) (of-frame s d) e
+  pub odd-yes : (s : Interval) → det (intervalFrame s) ≡ pos 1 → isOdd σ κ s ≡ true → κ (point s) ≡ point s
+  odd-yes s d e = meet-yes (intervalFrame s ⊗ matQ) (intervalFrame s) _ _ (leads-step σ κ n T word.Q (of-frame s d)) (of-frame s d) e
 
-  pub odd-no : (s : Side) → det (frame s) ≡ pos 1 → isOdd σ κ s ≡ false → ¬ (κ (point s) ≡ point s)
-  odd-no s d e = meet-no (frame s ⊗ matQ) (frame s) _ _ (leads-step σ κ n T word.Q (of-frame s d)) (of-frame s d) e
+  pub odd-no : (s : Interval) → det (intervalFrame s) ≡ pos 1 → isOdd σ κ s ≡ false → ¬ (κ (point s) ≡ point s)
+  odd-no s d e = meet-no (intervalFrame s ⊗ matQ) (intervalFrame s) _ _ (leads-step σ κ n T word.Q (of-frame s d)) (of-frame s d) e
 
-  pub mates-yes : (s q : Side) → det (frame s) ≡ pos 1 → det (frame q) ≡ pos 1 → mates σ κ s q ≡ true → σ (point q) ≡ point s
-  mates-yes s q d e t = meet-yes (frame q ⊗ matS) (frame s) _ _ (leads-step σ κ n T word.S (of-frame q e)) (of-frame s d) t
+  pub mates-yes : (s q : Interval) → det (intervalFrame s) ≡ pos 1 → det (intervalFrame q) ≡ pos 1 → mates σ κ s q ≡ true → σ (point q) ≡ point s
+  mates-yes s q d e t = meet-yes (intervalFrame q ⊗ matS) (intervalFrame s) _ _ (leads-step σ κ n T word.S (of-frame q e)) (of-frame s d) t
 
-  pub mates-no : (s q : Side) → det (frame s) ≡ pos 1 → det (frame q) ≡ pos 1 → mates σ κ s q ≡ false → ¬ (σ (point q) ≡ point s)
-  mates-no s q d e t = meet-no (frame q ⊗ matS) (frame s) _ _ (leads-step σ κ n T word.S (of-frame q e)) (of-frame s d) t
+  pub mates-no : (s q : Interval) → det (intervalFrame s) ≡ pos 1 → det (intervalFrame q) ≡ pos 1 → mates σ κ s q ≡ false → ¬ (σ (point q) ≡ point s)
+  mates-no s q d e t = meet-no (intervalFrame q ⊗ matS) (intervalFrame s) _ _ (leads-step σ κ n T word.S (of-frame q e)) (of-frame s d) t
 
   -- ---- what seeking finds
 
-  pub record Hit (s : Side) (rs : List Row) (x : ℕ) (l : List Row) : Type 0 where
+  pub record Hit (s : Interval) (rs : List Row) (x : ℕ) (l : List Row) : Type 0 where
     pub before : List Row
     pub hit : Row
     pub after : List Row
@@ -120,17 +121,18 @@ module _ (σ κ : ℕ → ℕ) (n : ℕ) (T : Turning σ κ n) where
     pub vacant : isOpen (hit .mark) ≡ true
     pub pairs : σ (pt σ κ hit) ≡ point s
 
-  abbrev pub Nobody : Side → List Row → Type 0
+  abbrev pub Nobody : Interval → List Row → Type 0
   Nobody s rs = (q : Row) → In q rs → isOpen (q .mark) ≡ true → ¬ (σ (pt σ κ q) ≡ point s)
 
-  abbrev Seen : Side → List Row → Sought → Type 0
+  abbrev Seen : Interval → List Row → Sought → Type 0
   Seen s rs nobody = Nobody s rs
   Seen s rs (found x l) = Hit s rs x l
 
   abbrev Dets : List Row → Type 0
-  Dets rs = (r : Row) → In r rs → det (frame (r .side)) ≡ pos 1
+  Dets rs = (r : Row) → In r rs → det (intervalFrame (r .side)) ≡ pos 1
 
-  seen-behind : (s : Side) (r : Row) (rs : List Row) (o : Sought) → (isOpen (r .mark) ≡ true → ¬ (σ (pt σ κ r) ≡ point s)) → Seen s rs o → Seen s (r ∷ rs) (behind r o)
+  seen-behind : (s : Interval) (r : Row) (rs : List Row) (o : Sought) → (isOpen (r .mark) ≡ true → ¬ (σ (pt σ κ r) ≡ point s)) → Seen s rs o
+      → Seen s (r ∷ rs) (behind r o)
   seen-behind s r rs nobody h f = go
     where
       go : (q : Row) → In q (r ∷ rs) → isOpen (q .mark) ≡ true → ¬ (σ (pt σ κ q) ≡ point s)
@@ -147,11 +149,13 @@ module _ (σ κ : ℕ → ℕ) (n : ℕ) (T : Turning σ κ n) where
     pairs = f .pairs;
   }
 
-  sought : (s : Side) (rs : List Row) → det (frame s) ≡ pos 1 → Dets rs → Seen s rs (seek σ κ s rs)
+  sought : (s : Interval) (rs : List Row) → det (intervalFrame s) ≡ pos 1 → Dets rs → Seen s rs (seek σ κ s rs)
   sought s [] d ds = λ q h b p. h
   sought s (r ∷ rs) d ds = go (isOpen (r .mark)) refl (mates σ κ s (r .side)) refl (sought s rs d (λ q h. ds q (inr h)))
     where
-      by-test : (b : Bool) → (isOpen (r .mark) && mates σ κ s (r .side)) ≡ b → Seen s (r ∷ rs) (pick b (found (label σ κ s (r .side)) (row (r .side) (free (label σ κ s (r .side))) ∷ rs)) (behind r (seek σ κ s rs))) → Seen s (r ∷ rs) (seek σ κ s (r ∷ rs))
+      by-test : (b : Bool) → (isOpen (r .mark) && mates σ κ s (r .side)) ≡ b
+          → Seen s (r ∷ rs) (pick b (found (label σ κ s (r .side)) (row (r .side) (free (label σ κ s (r .side))) ∷ rs)) (behind r (seek σ κ s rs)))
+          → Seen s (r ∷ rs) (seek σ κ s (r ∷ rs))
       by-test b e f = rw e f
 
       go : (a : Bool) → isOpen (r .mark) ≡ a → (b : Bool) → mates σ κ s (r .side) ≡ b → Seen s rs (seek σ κ s rs) → Seen s (r ∷ rs) (seek σ κ s (r ∷ rs))
@@ -165,7 +169,8 @@ module _ (σ κ : ℕ → ℕ) (n : ℕ) (T : Turning σ κ n) where
         vacant = p;
         pairs = mates-yes s (r .side) d (ds r (inl refl)) q;
       })
-      go true p false q f = by-test false (ap (λ (x : Bool). x && mates σ κ s (r .side)) p ∙ q) (seen-behind s r rs (seek σ κ s rs) (λ o. mates-no s (r .side) d (ds r (inl refl)) q) f)
+      go true p false q f = by-test false (ap (λ (x : Bool). x && mates σ κ s (r .side)) p ∙ q)
+          (seen-behind s r rs (seek σ κ s rs) (λ o. mates-no s (r .side) d (ds r (inl refl)) q) f)
       go false p b q f = by-test false (ap (λ (x : Bool). x && mates σ κ s (r .side)) p) (seen-behind s r rs (seek σ κ s rs) (λ o. clash o p) f)
 
   -- ---- what the visits need of the rows that are left, B the points of all
@@ -184,8 +189,16 @@ module _ (σ κ : ℕ → ℕ) (n : ℕ) (T : Turning σ κ n) where
     pub dets : Dets rs
 
   -- the first is done with where it is nobody's partner
-  drop-first : (B : List ℕ) (r : Row) (rs : List Row) → Ready B (r ∷ rs) → ((q : Row) → In q rs → isOpen (q .mark) ≡ true → σ (pt σ κ q) ≡ pt σ κ r → isOpen (r .mark) ≡ true → ⊥) → Ready B rs
-  drop-first B r rs a h = record { partners = partners; apart = a .apart .1; odds = λ q i. a .odds q (inr i); within = λ q i. a .within q (inr i); dets = λ q i. a .dets q (inr i) }
+  drop-first : (B : List ℕ) (r : Row) (rs : List Row) → Ready B (r ∷ rs)
+      → ((q : Row) → In q rs → isOpen (q .mark) ≡ true → σ (pt σ κ q) ≡ pt σ κ r → isOpen (r .mark) ≡ true → ⊥) → Ready B rs
+  drop-first B r rs a h = record {
+    partners = partners;
+    apart = a .apart .1;
+    odds = λ q i. a .odds q (inr i);
+    within = λ q i. a .within q (inr i);
+    dets =
+        λ q i. a .dets q (inr i);
+  }
     where
       partners : (q : Row) → In q rs → isOpen (q .mark) ≡ true → In (σ (pt σ κ q)) B → Vacant rs (σ (pt σ κ q))
       partners q i b c = let k = a .partners q (inr i) b c in go (k .row) (k .among) (k .open-yet) (k .at)
@@ -230,7 +243,8 @@ module _ (σ κ : ℕ → ℕ) (n : ℕ) (T : Turning σ κ n) where
   swap-in h k u (b ∷ bs) after (inl e) = inr (inl e)
   swap-in h k u (b ∷ bs) after (inr i) = elim (swap-in h k u bs after i) [ inl e ↦ inl e | inr j ↦ inr (inr j) ]
 
-  module _ (B : List ℕ) (r h : Row) (before after : List Row) (x : ℕ) (a : Ready B (r ∷ (before ++ (h ∷ after)))) (by : x ≡ least (pt σ κ r) (pt σ κ h)) (v : isOpen (h .mark) ≡ true) (p : σ (pt σ κ h) ≡ pt σ κ r) where
+  module _ (B : List ℕ) (r h : Row) (before after : List Row) (x : ℕ) (a : Ready B (r ∷ (before ++ (h ∷ after)))) (by : x ≡ least (pt σ κ r) (pt σ κ h))
+      (v : isOpen (h .mark) ≡ true) (p : σ (pt σ κ h) ≡ pt σ κ r) where
     abbrev rs : List Row
     rs = before ++ (h ∷ after)
 
@@ -250,7 +264,7 @@ module _ (σ κ : ℕ → ℕ) (n : ℕ) (T : Turning σ κ n) where
     l-apart = rw (points-hit h (free x) before after) (a .apart .1)
 
     -- of a new row, what holds of the old ones' sides
-    of-l : (F : Side → Type 0) → ((q : Row) → In q rs → F (q .side)) → (q : Row) → In q l → F (q .side)
+    of-l : (F : Interval → Type 0) → ((q : Row) → In q rs → F (q .side)) → (q : Row) → In q l → F (q .side)
     of-l F f q i = go (swap-in h marked q before after i)
       where
         go : (q ≡ marked) ⊎ In q rs → F (q .side)
@@ -263,7 +277,7 @@ module _ (σ κ : ℕ → ℕ) (n : ℕ) (T : Turning σ κ n) where
       apart = l-apart;
       odds = of-l (λ s. κ (point s) ≡ point s → ¬ (In (σ (point s)) B)) (λ q i. a .odds q (inr i));
       within = of-l (λ s. In (point s) B) (λ q i. a .within q (inr i));
-      dets = of-l (λ s. det (frame s) ≡ pos 1) (λ q i. a .dets q (inr i));
+      dets = of-l (λ s. det (intervalFrame s) ≡ pos 1) (λ q i. a .dets q (inr i));
     }
       where
         partners : (q : Row) → In q l → isOpen (q .mark) ≡ true → In (σ (pt σ κ q)) B → Vacant l (σ (pt σ κ q))
@@ -323,7 +337,7 @@ module _ (σ κ : ℕ → ℕ) (n : ℕ) (T : Turning σ κ n) where
   visits-settle (suc f) B [] a h = refl
   visits-settle (suc f) B (r ∷ rs) a h = by-mark (isOpen (r .mark)) refl (λ l b k. visits-settle f B l b k)
     where
-      d : det (frame (r .side)) ≡ pos 1
+      d : det (intervalFrame (r .side)) ≡ pos 1
       d = a .dets r (inl refl)
 
       cons : {x y : Row} {l m : List Row} → x ≡ y → l ≡ m → x ∷ l ≡ y ∷ m
@@ -350,9 +364,12 @@ module _ (σ κ : ℕ → ℕ) (n : ℕ) (T : Turning σ κ n) where
           let ready = next-ready B r (s .hit) (s .before) (s .after) x a' (s .by) (s .vacant) (s .pairs) in
           let closes = h-closes B r (s .hit) (s .before) (s .after) x a' (s .by) (s .vacant) (s .pairs) in
           let own = own-label B r (s .hit) (s .before) (s .after) x a' (s .by) (s .vacant) (s .pairs) in
-          let m : row (r .side) (free x) ≡ settle σ κ B r = sym (settle-shut B r e (inr closes) ∙ ap (row (r .side)) (mark-free σ κ (pt σ κ r) ne nq ∙ ap free (sym own))) in
-          let k : length (s .before ++ (row (s .hit .side) (free x) ∷ s .after)) ≡ length rs = length-hit (s .hit) (row (s .hit .side) (free x)) (s .before) (s .after) ∙ ap length (sym (s .was)) in
-          cons m (ap (visitTo σ κ f) (s .is) ∙ ih _ ready (omega arith) ∙ settles-same B r (s .hit) (s .before) (s .after) x a' (s .by) (s .vacant) (s .pairs) ∙ ap (settles σ κ B) (sym (s .was)))
+          let m : row (r .side) (free x) ≡ settle σ κ B r =
+          sym (settle-shut B r e (inr closes) ∙ ap (row (r .side)) (mark-free σ κ (pt σ κ r) ne nq ∙ ap free (sym own))) in
+          let k : length (s .before ++ (row (s .hit .side) (free x) ∷ s .after)) ≡ length rs =
+          length-hit (s .hit) (row (s .hit .side) (free x)) (s .before) (s .after) ∙ ap length (sym (s .was)) in
+          cons m (ap (visitTo σ κ f) (s .is) ∙ ih _ ready (omega arith) ∙ settles-same B r (s .hit) (s .before) (s .after) x a' (s .by) (s .vacant) (s .pairs)
+          ∙ ap (settles σ κ B) (sym (s .was)))
 
       by-odd : isOpen (r .mark) ≡ true → ¬ (σ (pt σ κ r) ≡ pt σ κ r) → (b : Bool) → isOdd σ κ (r .side) ≡ b
           → ((l : List Row) → Ready B l → length l ≤ f → visitTo σ κ f l ≡ settles σ κ B l)
@@ -365,13 +382,17 @@ module _ (σ κ : ℕ → ℕ) (n : ℕ) (T : Turning σ κ n) where
 
       by-even : isOpen (r .mark) ≡ true → (b : Bool) → isEven σ κ (r .side) ≡ b
           → ((l : List Row) → Ready B l → length l ≤ f → visitTo σ κ f l ≡ settles σ κ B l)
-          → goOn f (pick b (visited (row (r .side) even) rs) (pick (isOdd σ κ (r .side)) (visited (row (r .side) odd) rs) (visitBy σ κ (seek σ κ (r .side) rs) r rs))) ≡ settle σ κ B r ∷ settles σ κ B rs
+          → goOn f (pick b (visited (row (r .side) even) rs)
+          (pick (isOdd σ κ (r .side)) (visited (row (r .side) odd) rs) (visitBy σ κ (seek σ κ (r .side) rs) r rs))) ≡ settle σ κ B r ∷ settles σ κ B rs
       by-even e true t ih =
           let z = even-yes (r .side) d t in
           cons (sym (settle-shut B r e (inr (rw z (a .within r (inl refl)))) ∙ ap (row (r .side)) (mark-even σ κ (pt σ κ r) z)))
-          (ih rs (drop-first B r rs a (λ q i b p w. a .apart .0 (in-is _ _ (points σ κ rs) (sym (T .twice (pt σ κ q)) ∙ ap σ p ∙ z) (in-points σ κ q rs i)))) (omega arith))
+          (ih rs (drop-first B r rs a (λ q i b p w. a .apart .0 (in-is _ _ (points σ κ rs) (sym (T .twice (pt σ κ q)) ∙ ap σ p ∙ z) (in-points σ κ q rs i))))
+          (omega arith))
       by-even e false t ih = by-odd e (even-no (r .side) d t) (isOdd σ κ (r .side)) refl ih
 
-      by-mark : (b : Bool) → isOpen (r .mark) ≡ b → ((l : List Row) → Ready B l → length l ≤ f → visitTo σ κ f l ≡ settles σ κ B l) → goOn f (visit σ κ r rs) ≡ settle σ κ B r ∷ settles σ κ B rs
+      by-mark : (b : Bool) → isOpen (r .mark) ≡ b → ((l : List Row) → Ready B l → length l ≤ f → visitTo σ κ f l ≡ settles σ κ B l)
+          → goOn f (visit σ κ r rs) ≡ settle σ κ B r ∷ settles σ κ B rs
       by-mark true e ih = ap (goOn f) (pick-true (isOpen (r .mark)) _ (visited r rs) e) ∙ by-even e (isEven σ κ (r .side)) refl ih
-      by-mark false e ih = ap (goOn f) (pick-false (isOpen (r .mark)) _ (visited r rs) e) ∙ cons (sym (settle-marked B r e)) (ih rs (drop-first B r rs a (λ q i b p w. clash w e)) (omega arith))
+      by-mark false e ih = ap (goOn f) (pick-false (isOpen (r .mark)) _ (visited r rs) e)
+          ∙ cons (sym (settle-marked B r e)) (ih rs (drop-first B r rs a (λ q i b p w. clash w e)) (omega arith))

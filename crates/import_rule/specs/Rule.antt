@@ -21,21 +21,21 @@ use lib.Dec.{ltb}
 use lib.ListN.{length}
 use lib.IntN.{pos, negsuc}
 use Rattle.matrix.specs.Matrix.{matS, matQ}
-use Rattle.matrix.specs.Euclid.{pick}
+use Rattle.basics.specs.Choice.{pick}
 use Rattle.matrix.specs.Action.{at}
 use Rattle.symbol.specs.Table.{carried}
 use Rattle.import_rule.specs.Fixed.{fixes}
-use Rattle.import_rule.specs.Side.{Vertex, vertex, minusInfinity, infinity, Side, side, frame, mediant, lower, upper, fits}
+use Rattle.import_rule.specs.Side.{Vertex, vertex, minusInfinity, infinity, Interval, interval, intervalFrame, mediant, lower, upper, fits}
 
 pub data Mark : Type 0 where
   unpaired even odd : Mark
   free : ℕ → Mark
 
 pub record Row : Type 0 where
-  pub side : Side
+  pub side : Interval
   pub mark : Mark
 
-abbrev pub row : Side → Mark → Row
+abbrev pub row : Interval → Mark → Row
 row s m = record { side = s; mark = m }
 
 abbrev pub isOpen : Mark → Bool
@@ -88,24 +88,25 @@ abbrev pub least : ℕ → ℕ → ℕ
 least x y = pick (ltb x y) x y
 
 module _ (σ κ : ℕ → ℕ) where
-  abbrev pub pointOf : Side → ℕ
-  pointOf s = at σ κ 0 (frame s)
+  abbrev pub pointOf : Interval → ℕ
+  pointOf s = at σ κ 0 (intervalFrame s)
 
-  abbrev pub isEven : Side → Bool
-  isEven s = fixes σ κ (carried (frame s) matS (frame s))
+  abbrev pub isEven : Interval → Bool
+  isEven s = fixes σ κ (carried (intervalFrame s) matS (intervalFrame s))
 
-  abbrev pub isOdd : Side → Bool
-  isOdd s = fixes σ κ (carried (frame s) matQ (frame s))
+  abbrev pub isOdd : Interval → Bool
+  isOdd s = fixes σ κ (carried (intervalFrame s) matQ (intervalFrame s))
 
-  abbrev pub mates : Side → Side → Bool
-  mates s q = fixes σ κ (carried (frame q) matS (frame s))
+  abbrev pub mates : Interval → Interval → Bool
+  mates s q = fixes σ κ (carried (intervalFrame q) matS (intervalFrame s))
 
-  abbrev pub label : Side → Side → ℕ
+  abbrev pub label : Interval → Interval → ℕ
   label s q = least (pointOf s) (pointOf q)
 
-  abbrev pub seek : Side → List Row → Sought
+  abbrev pub seek : Interval → List Row → Sought
   seek s [] = nobody
-  seek s (q ∷ rows) = pick (isOpen (q .mark) && mates s (q .side)) (found (label s (q .side)) (row (q .side) (free (label s (q .side))) ∷ rows)) (behind q (seek s rows))
+  seek s (q ∷ rows) = pick (isOpen (q .mark) && mates s (q .side)) (found (label s (q .side)) (row (q .side) (free (label s (q .side))) ∷ rows))
+      (behind q (seek s rows))
 
   abbrev pub visitBy : Sought → Row → List Row → Visited
   visitBy nobody r rows = visited r rows
@@ -130,15 +131,16 @@ module _ (σ κ : ℕ → ℕ) where
   splitFirst i [] = closed
   splitFirst i (r ∷ rows) =
       let s = r .side in
-      pick (isOpen (r .mark)) (pick (fits (mediant (s .lo) (s .hi))) (parted (row (lower s) unpaired ∷ row (upper s) unpaired ∷ rows)) (over i)) (after r (splitFirst (suc i) rows))
+      pick (isOpen (r .mark)) (pick (fits (mediant (s .lo) (s .hi))) (parted (row (lower s) unpaired ∷ row (upper s) unpaired ∷ rows)) (over i))
+      (after r (splitFirst (suc i) rows))
 
   abbrev pub rounds : ℕ → List Row → Grown
   rounds zero rows = finished (visitAll rows)
   rounds (suc n) rows = goOn (rounds n) (visitAll rows) (splitFirst 0 (visitAll rows))
 
 abbrev pub sidesFrom : Vertex → List Vertex → List Row
-sidesFrom x [] = row (side x infinity) unpaired ∷ []
-sidesFrom x (y ∷ l) = row (side x y) unpaired ∷ sidesFrom y l
+sidesFrom x [] = row (interval x infinity) unpaired ∷ []
+sidesFrom x (y ∷ l) = row (interval x y) unpaired ∷ sidesFrom y l
 
 abbrev pub startRows : (σ κ : ℕ → ℕ) → List Row
 startRows σ κ =

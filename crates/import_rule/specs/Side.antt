@@ -2,8 +2,8 @@
 --
 --   Vertex, vertex a b      the vertex a/b; its denominator is a natural number
 --   minusInfinity, infinity -1/0, before the first vertex, and 1/0, after the last
---   Side, side x y          the side from x on the left to y on the right
---   frame s                 its frame: from a/b to a'/b' it is (a' a; b' b)
+--   Interval, interval x y  the side from x on the left to y on the right
+--   intervalFrame s         its frame: from a/b to a'/b' it is (a' a; b' b)
 --   mediant x y             (a + a')/(b + b'), where the side from a/b to a'/b' is split
 --   lower s, upper s        its two parts, left and right of the mediant
 --   limit                   1,000,000,000: no entry of a vertex is larger in size
@@ -27,24 +27,24 @@ minusInfinity = vertex (negsuc 0) 0
 abbrev pub infinity : Vertex
 infinity = vertex (pos 1) 0
 
-pub record Side : Type 0 where
+pub record Interval : Type 0 where
   pub lo : Vertex
   pub hi : Vertex
 
-abbrev pub side : Vertex → Vertex → Side
-side x y = record { lo = x; hi = y }
+abbrev pub interval : Vertex → Vertex → Interval
+interval x y = record { lo = x; hi = y }
 
-abbrev pub frame : Side → Mat
-frame s = mat (s .hi .num) (s .lo .num) (pos (s .hi .den)) (pos (s .lo .den))
+abbrev pub intervalFrame : Interval → Mat
+intervalFrame s = mat (s .hi .num) (s .lo .num) (pos (s .hi .den)) (pos (s .lo .den))
 
 abbrev pub mediant : Vertex → Vertex → Vertex
 mediant x y = vertex (x .num +ℤ y .num) (x .den + y .den)
 
-abbrev pub lower : Side → Side
-lower s = side (s .lo) (mediant (s .lo) (s .hi))
+abbrev pub lower : Interval → Interval
+lower s = interval (s .lo) (mediant (s .lo) (s .hi))
 
-abbrev pub upper : Side → Side
-upper s = side (mediant (s .lo) (s .hi)) (s .hi)
+abbrev pub upper : Interval → Interval
+upper s = interval (mediant (s .lo) (s .hi)) (s .hi)
 
 abbrev pub limit : ℕ
 limit = 1000000000

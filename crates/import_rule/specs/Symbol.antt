@@ -4,7 +4,7 @@
 --   labelsOf rows        the labels of the rows, each once, by their leftmost side
 --   entry labels m       the pairing of a side with the mark m: -2, -3, or the number of its label, from 1
 --   verticesOf rows      the entries of the vertices: the right ends of all sides but the last
---   tableOf rows         the symbol's table, vertex entries before pairings
+--   symbolTable rows     the symbol's table, vertex entries before pairings
 --   Ruled                what the rule gives: v and the table, or refusal 16 with its side
 --   ruleOf σ κ n         THE RULE, whole, for n points
 use mathlib.Core.Bool.{Bool, _&&_}
@@ -13,12 +13,12 @@ use Prim.Native.Nat.{ℕ, suc, _-_}
 use lib.ListN.{length}
 use lib.IntN.{ℤ, pos, negsuc}
 use Rattle.matrix.specs.Matrix.{matS, matT, matQ}
-use Rattle.matrix.specs.Euclid.{pick}
+use Rattle.basics.specs.Choice.{pick}
 use Rattle.symbol.specs.Table.{carried}
 use Rattle.numbering.specs.Find.{find}
 use Rattle.numbering.specs.Order.{add}
 use Rattle.import_rule.specs.Fixed.{fixes}
-use Rattle.import_rule.specs.Side.{Side}
+use Rattle.import_rule.specs.Side.{Interval}
 use Rattle.import_rule.specs.Rule.{Mark, unpaired, even, odd, free, Row, Grown, finished, refused, rounds, startRows}
 
 abbrev pub noted : List ℕ → Mark → List ℕ
@@ -41,24 +41,24 @@ entry labels even = negsuc 1
 entry labels odd = negsuc 2
 entry labels (free x) = pos (suc (find labels x))
 
-abbrev pub entries : List ℕ → List Row → List ℤ
-entries labels [] = []
-entries labels (r ∷ rows) = entry labels (r .mark) ∷ entries labels rows
+abbrev pub rowEntries : List ℕ → List Row → List ℤ
+rowEntries labels [] = []
+rowEntries labels (r ∷ rows) = entry labels (r .mark) ∷ rowEntries labels rows
 
 abbrev pub verticesOf : List Row → List ℤ
 verticesOf [] = []
 verticesOf (r ∷ []) = []
 verticesOf (r ∷ q ∷ rows) = r .side .hi .num ∷ pos (r .side .hi .den) ∷ verticesOf (q ∷ rows)
 
-abbrev pub tableOf : List Row → List ℤ
-tableOf rows = verticesOf rows ++ entries (labelsOf rows) rows
+abbrev pub symbolTable : List Row → List ℤ
+symbolTable rows = verticesOf rows ++ rowEntries (labelsOf rows) rows
 
 pub data Ruled : Type 0 where
   made : ℕ → List ℤ → Ruled
   over : ℕ → Ruled
 
 abbrev pub symbolFrom : Grown → Ruled
-symbolFrom (finished rows) = made (length rows - 1) (tableOf rows)
+symbolFrom (finished rows) = made (length rows - 1) (symbolTable rows)
 symbolFrom (refused i) = over i
 
 -- the vertex 0/1 with two pairings

@@ -15,22 +15,29 @@ use borrow.Author.Tests.{lt-ltb, le-ltb, eq-eqb, ne-eqb}
 use Rattle.refusal.specs.Refusal.{tooShort, entryTooLarge}
 use Rattle.refusal.specs.declared.Filled.{Filled}
 use Rattle.refusal.specs.declared.Filled.the-variants.{Made, Refused}
-use Rattle.matrix.specs.Euclid.{pick}
+use Rattle.basics.specs.Choice.{pick}
 use Rattle.workspace.specs.Space.{zeros}
 use Rattle.workspace.proofs.Zeros.{length-zeros, getD-zeros}
-use Rattle.symbol.proofs.Choice.{pick-true, pick-false, clash}
+use Rattle.basics.proofs.Choice.{pick-true, pick-false, clash}
 use Rattle.import_rule.specs.Fixed.{image, byQ, Pair}
-use Rattle.import_rule.specs.Symbol.{Ruled, made, over, oneVertex, tableOf, ruleOf}
+use Rattle.import_rule.specs.Symbol.{Ruled, made, over, oneVertex, symbolTable, ruleOf}
 use Rattle.import_rule.specs.Inner.Placed.{Grew, finished, refused, grow, rowsOf, startPlaced, symbolBy, quickOf}
-use Rattle.import_walk.specs.Inner.Work.{Ground, Whole, Walked, halted, whole, doneIn}
+use Rattle.import_walk.specs.Inner.Work.{Ground, Whole, WalkLeaves, halted, whole, doneIn}
 use Rattle.import_table.specs.Inner.Writing.{written}
-use Rattle.import_table.specs.Answer.{grownOf, tableIn, leftBy}
+use Rattle.import_table.specs.Answer.{grownOf, ruledTable, ruledLeft}
 use Rattle.import_rule.proofs.Lead.{Turning, turning}
 use Rattle.import_rule.proofs.Theorem.{rule-is}
 use Rattle.import_walk.proofs.Walking.{length-done}
 
-pub ground : (s r w w' : List ℕ) → Pair s r → 32768 ≤ length w → w' ≡ zeros (length w) → (eqb (byQ (image s) (image r) 0) 0 && eqb (byQ (image s) (image r) (image s 0)) (image s 0)) ≡ false → Ground s r w'
-ground s r w w' p h e l = record { pair = p; long = rw (e, length-zeros (length w)) h; clear = λ j. ap (λ (x : List ℕ). getD x j 0) e ∙ getD-zeros (length w) j; large = l }
+pub ground : (s r w w' : List ℕ) → Pair s r → 32768 ≤ length w → w' ≡ zeros (length w)
+    → (eqb (byQ (image s) (image r) 0) 0 && eqb (byQ (image s) (image r) (image s 0)) (image s 0)) ≡ false → Ground s r w'
+ground s r w w' p h e l = record {
+  pair = p;
+  long = rw (e, length-zeros (length w)) h;
+  clear = λ j. ap (λ (x : List ℕ). getD x j 0) e
+      ∙ getD-zeros (length w) j;
+  large = l;
+}
 
 module _ (s r : List ℕ) where
   abbrev σ : ℕ → ℕ
@@ -42,24 +49,31 @@ module _ (s r : List ℕ) where
   abbrev large : Ruled
   large = symbolBy σ κ (grow σ κ (length s) (startPlaced σ κ))
 
-  pub whole-of : (w : List ℕ) (stop : Bool) (d : ℕ) → Walked s r w stop d → stop ≡ false → Whole s r w d
+  pub whole-of : (w : List ℕ) (stop : Bool) (d : ℕ) → WalkLeaves s r w stop d → stop ≡ false → Whole s r w d
   whole-of w stop d (halted e g) f = clash e f
   whole-of w stop d (whole e g) f = g
 
-  pub large-over : (w : List ℕ) (stop : Bool) (d : ℕ) (o : List ℤ) → Walked s r w stop d → stop ≡ true → (Refused (entryTooLarge d) ≡ grownOf large (length o)) × (o ≡ leftBy large (Refused (entryTooLarge d)) o)
+  pub large-over : (w : List ℕ) (stop : Bool) (d : ℕ) (o : List ℤ) → WalkLeaves s r w stop d → stop ≡ true
+      → (Refused (entryTooLarge d) ≡ grownOf large (length o)) × (o ≡ ruledLeft large (Refused (entryTooLarge d)) o)
   large-over w stop d o (halted e g) f = (sym (ap (λ (x : Grew). grownOf (symbolBy σ κ x) (length o)) g), refl)
   large-over w stop d o (whole e g) f = clash f e
 
-  made-is : (w : List ℕ) (d : ℕ) → Whole s r w d → large ≡ made (d - 1) (tableOf (rowsOf σ κ (doneIn w d)))
-  made-is w d g = ap (symbolBy σ κ) (g .is) ∙ ap (λ (k : ℕ). made (k - 1) (tableOf (rowsOf σ κ (doneIn w d)))) (length-done w d)
+  made-is : (w : List ℕ) (d : ℕ) → Whole s r w d → large ≡ made (d - 1) (symbolTable (rowsOf σ κ (doneIn w d)))
+  made-is w d g = ap (symbolBy σ κ) (g .is) ∙ ap (λ (k : ℕ). made (k - 1) (symbolTable (rowsOf σ κ (doneIn w d)))) (length-done w d)
 
-  pub large-short : (w : List ℕ) (d : ℕ) (o : List ℤ) → Whole s r w d → length o < 3 * (d - 1) + 1 → (Refused (tooShort (3 * (d - 1) + 1)) ≡ grownOf large (length o)) × (o ≡ leftBy large (Refused (tooShort (3 * (d - 1) + 1))) o)
-  large-short w d o g h = (sym (ap (λ (x : Ruled). grownOf x (length o)) (made-is w d g) ∙ pick-true (ltb (length o) (3 * (d - 1) + 1)) _ _ (lt-ltb (length o) (3 * (d - 1) + 1) h)), refl)
+  pub large-short : (w : List ℕ) (d : ℕ) (o : List ℤ) → Whole s r w d → length o < 3 * (d - 1) + 1
+      → (Refused (tooShort (3 * (d - 1) + 1)) ≡ grownOf large (length o)) × (o ≡ ruledLeft large (Refused (tooShort (3 * (d - 1) + 1))) o)
+  large-short w d o g h = (
+    sym (ap (λ (x : Ruled). grownOf x (length o)) (made-is w d g)
+        ∙ pick-true (ltb (length o) (3 * (d - 1) + 1)) _ _ (lt-ltb (length o) (3 * (d - 1) + 1) h)),
+    refl,
+  )
 
-  pub large-made : (w : List ℕ) (d : ℕ) (o y : List ℤ) → Whole s r w d → 3 * (d - 1) + 1 ≤ length o → y ≡ written σ κ w d o → (Made (d - 1) ≡ grownOf large (length o)) × (y ≡ leftBy large (Made (d - 1)) o)
+  pub large-made : (w : List ℕ) (d : ℕ) (o y : List ℤ) → Whole s r w d → 3 * (d - 1) + 1 ≤ length o → y ≡ written σ κ w d o
+      → (Made (d - 1) ≡ grownOf large (length o)) × (y ≡ ruledLeft large (Made (d - 1)) o)
   large-made w d o y g h e = (
     sym (ap (λ (x : Ruled). grownOf x (length o)) (made-is w d g) ∙ pick-false (ltb (length o) (3 * (d - 1) + 1)) _ _ (le-ltb (length o) (3 * (d - 1) + 1) h)),
-    e ∙ sym (ap (λ (x : Ruled). leftBy x (Made (d - 1)) o) (made-is w d g)),
+    e ∙ sym (ap (λ (x : Ruled). ruledLeft x (Made (d - 1)) o) (made-is w d g)),
   )
 
   -- ---- the cases of the rule
@@ -77,7 +91,8 @@ module _ (s r : List ℕ) where
     pub rule-second : κ 0 ≡ 0 → (o x : ℕ) → o ≡ σ 0 → (o ≡ 0 → ⊥) → x ≡ κ o → x ≡ o → ruleOf σ κ (length s) ≡ oneVertex (negsuc 2) (negsuc 2)
     rule-second q o x e n f g =
         by-points ∙ pick-false (eqb (σ 0) 0 && eqb (κ 0) 0) _ _ (not-first (λ z. n (e ∙ z)))
-        ∙ pick-true (eqb (κ 0) 0 && eqb (κ (σ 0)) (σ 0)) _ _ (ap (λ (b : Bool). b && eqb (κ (σ 0)) (σ 0)) (eq-eqb (κ 0) 0 q) ∙ eq-eqb (κ (σ 0)) (σ 0) (ap κ (sym e) ∙ sym f ∙ g ∙ e))
+        ∙ pick-true (eqb (κ 0) 0 && eqb (κ (σ 0)) (σ 0)) _ _
+        (ap (λ (b : Bool). b && eqb (κ (σ 0)) (σ 0)) (eq-eqb (κ 0) 0 q) ∙ eq-eqb (κ (σ 0)) (σ 0) (ap κ (sym e) ∙ sym f ∙ g ∙ e))
 
     -- none of the small groups
     pub neither : (o x : ℕ) → o ≡ σ 0 → x ≡ κ o → (x ≡ o → ⊥) → (eqb (κ 0) 0 && eqb (κ (σ 0)) (σ 0)) ≡ false
@@ -104,15 +119,18 @@ module _ (s r : List ℕ) where
         and-false false b t = refl
 
 -- an answer for what the rule gives
-pub answers : (g g' : Ruled) (a : Filled) (o y : List ℤ) → g ≡ g' → (a ≡ grownOf g' (length o)) → (y ≡ leftBy g' a o) → (a ≡ grownOf g (length o)) × (y ≡ leftBy g a o)
-answers g g' a o y e p q = (p ∙ ap (λ (x : Ruled). grownOf x (length o)) (sym e), q ∙ ap (λ (x : Ruled). leftBy x a o) (sym e))
+pub answers : (g g' : Ruled) (a : Filled) (o y : List ℤ) → g ≡ g' → (a ≡ grownOf g' (length o)) → (y ≡ ruledLeft g' a o) → (a ≡ grownOf g (length o))
+    × (y ≡ ruledLeft g a o)
+answers g g' a o y e p q = (p ∙ ap (λ (x : Ruled). grownOf x (length o)) (sym e), q ∙ ap (λ (x : Ruled). ruledLeft x a o) (sym e))
 
 -- ---- a small symbol
 
-pub small-short : (x : ℤ) (o : List ℤ) → length o < 4 → (Refused (tooShort 4) ≡ grownOf (oneVertex x (negsuc 2)) (length o)) × (o ≡ leftBy (oneVertex x (negsuc 2)) (Refused (tooShort 4)) o)
+pub small-short : (x : ℤ) (o : List ℤ) → length o < 4 → (Refused (tooShort 4) ≡ grownOf (oneVertex x (negsuc 2)) (length o))
+    × (o ≡ ruledLeft (oneVertex x (negsuc 2)) (Refused (tooShort 4)) o)
 small-short x o h = (sym (pick-true (ltb (length o) 4) (Refused (tooShort 4)) (Made 1) (lt-ltb (length o) 4 h)), refl)
 
-pub small-made : (x : ℤ) (o y : List ℤ) → 4 ≤ length o → y ≡ (pos 0 ∷ pos 1 ∷ x ∷ negsuc 2 ∷ []) ++ drop 4 o → (Made 1 ≡ grownOf (oneVertex x (negsuc 2)) (length o)) × (y ≡ leftBy (oneVertex x (negsuc 2)) (Made 1) o)
+pub small-made : (x : ℤ) (o y : List ℤ) → 4 ≤ length o → y ≡ (pos 0 ∷ pos 1 ∷ x ∷ negsuc 2 ∷ []) ++ drop 4 o
+    → (Made 1 ≡ grownOf (oneVertex x (negsuc 2)) (length o)) × (y ≡ ruledLeft (oneVertex x (negsuc 2)) (Made 1) o)
 small-made x o y h e = (sym (pick-false (ltb (length o) 4) (Refused (tooShort 4)) (Made 1) (le-ltb (length o) 4 h)), e)
 
 pub four-stores : (o : List ℤ) (x : ℤ) → 4 ≤ length o → set (set (set (set o 0 (pos 0)) 1 (pos 1)) 2 x) 3 (negsuc 2) ≡ (pos 0 ∷ pos 1 ∷ x ∷ negsuc 2 ∷ []) ++ drop 4 o

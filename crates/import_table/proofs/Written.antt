@@ -19,19 +19,19 @@ use mir.Syntax.{w64}
 use mir.Val.{SFits, toZ, ofZ}
 use mir.Facts.{toZ-pos}
 use borrow.Author.Tests.{lt-ltb, le-ltb, ne-eqb, eq-eqb}
-use Rattle.matrix.specs.Euclid.{pick}
+use Rattle.basics.specs.Choice.{pick}
 use Rattle.matrix.proofs.Bounds.{fits, kept}
-use Rattle.symbol.proofs.Choice.{pick-true, pick-false}
+use Rattle.basics.proofs.Choice.{pick-true, pick-false}
 use Rattle.numbering.specs.Find.{find, _∈_, _∉_, isIn}
 use Rattle.numbering.specs.Order.{add}
 use Rattle.numbering.proofs.Find as places
 use Rattle.numbering.proofs.Order.{add-old, add-new}
 use Rattle.import_rule.specs.Fixed.{image, byQ}
 use Rattle.import_rule.specs.Rule.{Mark, unpaired, even, odd, free, Row, least}
-use Rattle.import_rule.specs.Symbol.{noted, labelsFrom, labelsOf, entry, entries, verticesOf, tableOf}
-use Rattle.import_rule.specs.Inner.Placed.{Placed, placed, markOf, rowOf, rowsOf}
-use Rattle.import_walk.specs.Inner.Work.{LABEL, DONE, TODO, cell, numberAt, endAt, pointAt, lastIn, doneIn, Whole}
-use Rattle.import_table.specs.Inner.Writing.{verticesTo, Paired, is-even, is-odd, is-new, is-old, pairingsIn, paired, written, Side}
+use Rattle.import_rule.specs.Symbol.{noted, labelsFrom, labelsOf, entry, rowEntries, verticesOf, symbolTable}
+use Rattle.import_rule.specs.Inner.Placed.{Placed, placedSide, markOf, rowOf, rowsOf}
+use Rattle.import_walk.specs.Inner.Work.{LABEL, DONE, TODO, cellPlace, twoCells, endAt, pointAt, lastIn, doneIn, Whole}
+use Rattle.import_table.specs.Inner.Writing.{verticesTo, Paired, is-even, is-odd, is-new, is-old, pairingsIn, paired, written, SideToWrite}
 use Rattle.import_rule.proofs.Member.{In}
 use Rattle.import_walk.proofs.Decode.{abs-diff}
 use Rattle.import_rule.proofs.Table.{length-rows, length-entries, labels-in, labels-few, mark-even, mark-odd, mark-free}
@@ -75,18 +75,23 @@ one-store F o j x e h =
     let next : j + 1 ≡ suc j = omega arith in
     sets-eq (x ∷ []) (F ++ drop j o) j room
     ∙ ap (λ (l : List ℤ). l ++ (x ∷ []) ++ drop (j + 1) (F ++ drop j o)) (take-at F (drop j o) j e)
-    ∙ ap (λ (l : List ℤ). F ++ (x ∷ []) ++ l) (sym (drop-drop 1 j (F ++ drop j o)) ∙ ap (drop 1) (drop-at F (drop j o) j e) ∙ drop-drop 1 j o ∙ ap (λ (k : ℕ). drop k o) next)
+    ∙ ap (λ (l : List ℤ). F ++ (x ∷ []) ++ l)
+    (sym (drop-drop 1 j (F ++ drop j o)) ∙ ap (drop 1) (drop-at F (drop j o) j e) ∙ drop-drop 1 j o ∙ ap (λ (k : ℕ). drop k o) next)
 
 -- ---- what the stores come to
 
-pub vertex-stored : (w : List ℕ) (at i e c : ℕ) (a b : ℤ) (out x y : List ℤ) → e ≡ numberAt w at → c ≡ numberAt w (at + 2) → a ≡ pos e -ℤ pos 1000000000 → b ≡ pos c → mag a < 2 ^ 63 → mag b < 2 ^ 63
-    → x ≡ set out (2 * i) (toZ w64 (ofZ w64 a)) → y ≡ set x (2 * i + 1) (toZ w64 (ofZ w64 b)) → y ≡ set (set out (2 * i) (endAt w at .num)) (2 * i + 1) (pos (endAt w at .den))
+pub vertex-stored : (w : List ℕ) (at i e c : ℕ) (a b : ℤ) (out x y : List ℤ) → e ≡ twoCells w at → c ≡ twoCells w (at + 2) → a ≡ pos e -ℤ pos 1000000000
+    → b ≡ pos c → mag a < 2 ^ 63 → mag b < 2 ^ 63
+    → x ≡ set out (2 * i) (toZ w64 (ofZ w64 a)) → y ≡ set x (2 * i + 1) (toZ w64 (ofZ w64 b))
+    → y ≡ set (set out (2 * i) (endAt w at .num)) (2 * i + 1) (pos (endAt w at .den))
 vertex-stored w at i e c a b out x y ee ec ea eb ma mb ex ey =
-    let fa : toZ w64 (ofZ w64 a) ≡ pos (numberAt w at) -ℤ pos 1000000000 = kept a ma ∙ ea ∙ ap (λ (k : ℕ). pos k -ℤ pos 1000000000) ee in
-    let fb : toZ w64 (ofZ w64 b) ≡ pos (numberAt w (at + 2)) = kept b mb ∙ eb ∙ ap pos ec in
-    ey ∙ ap (λ (l : List ℤ). set l (2 * i + 1) (toZ w64 (ofZ w64 b))) (ex ∙ ap (set out (2 * i)) fa) ∙ ap (set (set out (2 * i) (pos (numberAt w at) -ℤ pos 1000000000)) (2 * i + 1)) fb
+    let fa : toZ w64 (ofZ w64 a) ≡ pos (twoCells w at) -ℤ pos 1000000000 = kept a ma ∙ ea ∙ ap (λ (k : ℕ). pos k -ℤ pos 1000000000) ee in
+    let fb : toZ w64 (ofZ w64 b) ≡ pos (twoCells w (at + 2)) = kept b mb ∙ eb ∙ ap pos ec in
+    ey ∙ ap (λ (l : List ℤ). set l (2 * i + 1) (toZ w64 (ofZ w64 b))) (ex ∙ ap (set out (2 * i)) fa)
+    ∙ ap (set (set out (2 * i) (pos (twoCells w at) -ℤ pos 1000000000)) (2 * i + 1)) fb
 
-module _ (σ κ : ℕ → ℕ) (w : List ℕ) (out : List ℤ) (j c m₀ m x q l k : ℕ) (em : m ≡ m₀) (ex : x ≡ σ m) (nx : x ≡ m → ⊥) (eq : q ≡ κ m) (nq : q ≡ m → ⊥) (el : l ≡ least m x) (ek : k ≡ getD w (LABEL + l) 0) where
+module _ (σ κ : ℕ → ℕ) (w : List ℕ) (out : List ℤ) (j c m₀ m x q l k : ℕ) (em : m ≡ m₀) (ex : x ≡ σ m) (nx : x ≡ m → ⊥) (eq : q ≡ κ m) (nq : q ≡ m → ⊥)
+    (el : l ≡ least m x) (ek : k ≡ getD w (LABEL + l) 0) where
   label-is : l ≡ least m₀ (σ m₀)
   label-is = el ∙ ap (least m) (ex ∙ ap σ em) ∙ ap (λ (y : ℕ). least y (σ m₀)) em
 
@@ -99,8 +104,10 @@ module _ (σ κ : ℕ → ℕ) (w : List ℕ) (out : List ℤ) (j c m₀ m x q l
   found : k ≡ getD w (LABEL + least m₀ (σ m₀)) 0
   found = ek ∙ ap (λ (y : ℕ). getD w (LABEL + y) 0) label-is
 
-  pub pair-new : k ≡ 0 → (z : ℤ) (out' : List ℤ) → z ≡ pos (c + 1) → mag z < 2 ^ 63 → out' ≡ set out j (toZ w64 (ofZ w64 z)) → Paired σ κ w out m₀ j c (set w (LABEL + l) (c + 1)) out' (c + 1)
-  pair-new k0 z out' ez mz eo = is-new not-even not-odd (sym found ∙ k0) (ap (λ (y : ℕ). set w (LABEL + y) (c + 1)) label-is) (eo ∙ ap (set out j) (kept z mz ∙ ez)) refl
+  pub pair-new : k ≡ 0 → (z : ℤ) (out' : List ℤ) → z ≡ pos (c + 1) → mag z < 2 ^ 63 → out' ≡ set out j (toZ w64 (ofZ w64 z))
+      → Paired σ κ w out m₀ j c (set w (LABEL + l) (c + 1)) out' (c + 1)
+  pair-new k0 z out' ez mz eo = is-new not-even not-odd (sym found ∙ k0) (ap (λ (y : ℕ). set w (LABEL + y) (c + 1)) label-is)
+      (eo ∙ ap (set out j) (kept z mz ∙ ez)) refl
 
   pub pair-old : (k ≡ 0 → ⊥) → (z : ℤ) (out' : List ℤ) → z ≡ pos k → mag z < 2 ^ 63 → out' ≡ set out j (toZ w64 (ofZ w64 z)) → Paired σ κ w out m₀ j c w out' c
   pair-old k0 z out' ez mz eo = is-old not-even not-odd (λ t. k0 (found ∙ t)) refl (eo ∙ ap (set out j) (kept z mz ∙ ez ∙ ap pos found)) refl
@@ -109,14 +116,16 @@ module _ (σ κ : ℕ → ℕ) (w : List ℕ) (out : List ℤ) (j c m₀ m x q l
 
 pub length-vertices-to : (w : List ℕ) (i : ℕ) → length (verticesTo w i) ≡ 2 * i
 length-vertices-to w zero = refl
-length-vertices-to w (suc i) = length-append (verticesTo w i) (endAt w (cell DONE i) .num ∷ pos (endAt w (cell DONE i) .den) ∷ []) ∙ omega (arith, length-vertices-to w i)
+length-vertices-to w (suc i) = length-append (verticesTo w i) (endAt w (cellPlace DONE i) .num ∷ pos (endAt w (cellPlace DONE i) .den) ∷ [])
+    ∙ omega (arith, length-vertices-to w i)
 
 pub vertices-more : (w : List ℕ) (o out out' : List ℤ) (i : ℕ) → out ≡ verticesTo w i ++ drop (2 * i) o → 2 * i + 2 ≤ length o
-    → out' ≡ set (set out (2 * i) (endAt w (cell DONE i) .num)) (2 * i + 1) (pos (endAt w (cell DONE i) .den)) → out' ≡ verticesTo w (suc i) ++ drop (2 * suc i) o
+    → out' ≡ set (set out (2 * i) (endAt w (cellPlace DONE i) .num)) (2 * i + 1) (pos (endAt w (cellPlace DONE i) .den)) → out' ≡ verticesTo w (suc i)
+    ++ drop (2 * suc i) o
 vertices-more w o out out' i e h s =
     let F = verticesTo w i in
-    let a = endAt w (cell DONE i) .num in
-    let b = pos (endAt w (cell DONE i) .den) in
+    let a = endAt w (cellPlace DONE i) .num in
+    let b = pos (endAt w (cellPlace DONE i) .den) in
     let l : 2 * i + 1 ≡ suc (2 * i) = omega arith in
     let l2 : suc (suc (2 * i)) ≡ 2 * suc i = omega arith in
     let len : length (F ++ (a ∷ [])) ≡ suc (2 * i) = length-append F (a ∷ []) ∙ omega (arith, length-vertices-to w i) in
@@ -135,7 +144,8 @@ module _ (σ κ : ℕ → ℕ) where
   rows-snoc [] u = refl
   rows-snoc (x ∷ l) u = ap (λ (y : List Row). rowOf σ κ x ∷ y) (rows-snoc l u)
 
-  entries-more : (L : List ℕ) (y : ℕ) (l : List Placed) → ((u : Placed) → In u l → (x : ℕ) → markOf σ κ (u .pt) ≡ free x → x ∈ L) → entries (L ++ (y ∷ [])) (rowsOf σ κ l) ≡ entries L (rowsOf σ κ l)
+  entries-more : (L : List ℕ) (y : ℕ) (l : List Placed) → ((u : Placed) → In u l → (x : ℕ) → markOf σ κ (u .pt) ≡ free x → x ∈ L)
+      → rowEntries (L ++ (y ∷ [])) (rowsOf σ κ l) ≡ rowEntries L (rowsOf σ κ l)
   entries-more L y [] f = refl
   entries-more L y (u ∷ l) f =
       let a = same (markOf σ κ (u .pt)) refl in
@@ -152,7 +162,7 @@ labels-snoc : (L : List ℕ) (rows : List Row) (r : Row) → labelsFrom L (rows 
 labels-snoc L [] r = refl
 labels-snoc L (q ∷ rows) r = labels-snoc (noted L (q .mark)) rows r
 
-entries-snoc : (L : List ℕ) (rows : List Row) (r : Row) → entries L (rows ++ (r ∷ [])) ≡ entries L rows ++ (entry L (r .mark) ∷ [])
+entries-snoc : (L : List ℕ) (rows : List Row) (r : Row) → rowEntries L (rows ++ (r ∷ [])) ≡ rowEntries L rows ++ (entry L (r .mark) ∷ [])
 entries-snoc L [] r = refl
 entries-snoc L (q ∷ rows) r = ap (λ (y : List ℤ). entry L (q .mark) ∷ y) (entries-snoc L rows r)
 
@@ -174,7 +184,8 @@ find-one y x n = rw (ne-eqb y x (λ q. n (sym q))) refl
 number-old : (L : List ℕ) (y x : ℕ) → ¬ (x ≡ y) → numberIn (L ++ (y ∷ [])) x ≡ numberIn L x
 number-old L y x n = elim (decLt (find L x) (length L)) [
   | yes h ↦ number-in (L ++ (y ∷ [])) x (places.in-left L (y ∷ []) x h) ∙ ap suc (places.find-left L (y ∷ []) x h) ∙ sym (number-in L x h)
-  | no h ↦ number-out (L ++ (y ∷ [])) x (omega (arith, places.find-right L (y ∷ []) x (omega arith), length-append L (y ∷ []), find-one y x n)) ∙ sym (number-out L x (omega arith))
+  | no h ↦ number-out (L ++ (y ∷ [])) x (omega (arith, places.find-right L (y ∷ []) x (omega arith), length-append L (y ∷ []), find-one y x n))
+      ∙ sym (number-out L x (omega arith))
 ]
 
 pub vertices-length : (w : List ℕ) (o out : List ℤ) (i : ℕ) → out ≡ verticesTo w i ++ drop (2 * i) o → 2 * i ≤ length o → length out ≡ length o
@@ -187,7 +198,7 @@ module _ (σ κ : ℕ → ℕ) (w₀ : List ℕ) (o : List ℤ) (d : ℕ) where
   labelsTo i = labelsOf (rowsOf σ κ (doneIn w₀ i))
 
   abbrev entriesTo : ℕ → List ℤ
-  entriesTo i = entries (labelsTo i) (rowsOf σ κ (doneIn w₀ i))
+  entriesTo i = rowEntries (labelsTo i) (rowsOf σ κ (doneIn w₀ i))
 
   pub record Labelled (w : List ℕ) (out : List ℤ) (i c : ℕ) : Type 0 where
     pub same : Same DONE TODO w₀ w
@@ -202,7 +213,8 @@ module _ (σ κ : ℕ → ℕ) (w₀ : List ℕ) (o : List ℤ) (d : ℕ) where
     long = refl;
     count = refl;
     table = λ x h. clear x h ∙ sym (number-out [] x (omega arith));
-    front = sym (ap (λ (l : List ℤ). l ++ drop (2 * (d - 1) + 0) o) (append-nil (take (2 * (d - 1)) o)) ∙ ap (λ (k : ℕ). take (2 * (d - 1)) o ++ drop k o) nought ∙ take-drop (2 * (d - 1)) o);
+    front = sym (ap (λ (l : List ℤ). l ++ drop (2 * (d - 1) + 0) o) (append-nil (take (2 * (d - 1)) o))
+        ∙ ap (λ (k : ℕ). take (2 * (d - 1)) o ++ drop k o) nought ∙ take-drop (2 * (d - 1)) o);
   }
     where
       nought : 2 * (d - 1) + 0 ≡ 2 * (d - 1)
@@ -219,40 +231,52 @@ module _ (σ κ : ℕ → ℕ) (w₀ : List ℕ) (o : List ℤ) (d : ℕ) where
   pub labelled-length : (w : List ℕ) (out : List ℤ) (i c : ℕ) → Labelled w out i c → 2 * (d - 1) + i ≤ length o → length out ≡ length o
   labelled-length w out i c t h =
       ap length (t .front) ∙ length-append (take (2 * (d - 1)) o ++ entriesTo i) (drop (2 * (d - 1) + i) o)
-      ∙ omega (arith, length-append (take (2 * (d - 1)) o) (entriesTo i), length-take-le (2 * (d - 1)) o (omega arith), length-entries σ κ (labelsTo i) (doneIn w₀ i), length-done w₀ i, length-drop (2 * (d - 1) + i) o)
+      ∙ omega (
+        arith,
+        length-append (take (2 * (d - 1)) o) (entriesTo i),
+        length-take-le (2 * (d - 1)) o (omega arith),
+        length-entries σ κ (labelsTo i)
+            (doneIn w₀ i),
+        length-done w₀ i,
+        length-drop (2 * (d - 1) + i) o,
+      )
 
-  module _ (small : (j : ℕ) → j < d → pointAt w₀ (cell DONE j) < 4096) (σ-small : (x : ℕ) → x < 4096 → σ x < 4096) (most : d ≤ 1024) (w : List ℕ) (out : List ℤ) (i c : ℕ) (t : Labelled w out i c) (next : i < d) (room : 3 * (d - 1) + 1 ≤ length o) (long : 32768 ≤ length w₀) where
+  module _ (small : (j : ℕ) → j < d → pointAt w₀ (cellPlace DONE j) < 4096) (σ-small : (x : ℕ) → x < 4096 → σ x < 4096) (most : d ≤ 1024) (w : List ℕ)
+      (out : List ℤ) (i c : ℕ) (t : Labelled w out i c) (next : i < d) (room : 3 * (d - 1) + 1 ≤ length o) (long : 32768 ≤ length w₀) where
     abbrev L : List ℕ
     L = labelsTo i
 
     abbrev u : Placed
-    u = placed (lastIn w₀ i) (endAt w₀ (cell DONE i)) (pointAt w₀ (cell DONE i))
+    u = placedSide (lastIn w₀ i) (endAt w₀ (cellPlace DONE i)) (pointAt w₀ (cellPlace DONE i))
 
     abbrev m : ℕ
-    m = pointAt w₀ (cell DONE i)
+    m = pointAt w₀ (cellPlace DONE i)
 
-    point-kept : pointAt w (cell DONE i) ≡ m
-    point-kept = t .same .each (cell DONE i + 4) (omega arith) (omega arith)
+    point-kept : pointAt w (cellPlace DONE i) ≡ m
+    point-kept = t .same .each (cellPlace DONE i + 4) (omega arith) (omega arith)
 
     F-long : length (take (2 * (d - 1)) o ++ entriesTo i) ≡ 2 * (d - 1) + i
-    F-long = length-append (take (2 * (d - 1)) o) (entriesTo i) ∙ omega (arith, length-take-le (2 * (d - 1)) o (omega arith), length-entries σ κ (labelsTo i) (doneIn w₀ i), length-done w₀ i)
+    F-long = length-append (take (2 * (d - 1)) o) (entriesTo i)
+        ∙ omega (arith, length-take-le (2 * (d - 1)) o (omega arith), length-entries σ κ (labelsTo i) (doneIn w₀ i), length-done w₀ i)
 
     -- one more entry, where the labels become L'
-    stored : (L' : List ℕ) (x : ℤ) (out' : List ℤ) → labelsTo (suc i) ≡ L' → entries L' (rowsOf σ κ (doneIn w₀ i)) ≡ entriesTo i → entry L' (markOf σ κ m) ≡ x → out' ≡ set out (2 * (d - 1) + i) x
+    stored : (L' : List ℕ) (x : ℤ) (out' : List ℤ) → labelsTo (suc i) ≡ L' → rowEntries L' (rowsOf σ κ (doneIn w₀ i)) ≡ entriesTo i
+        → entry L' (markOf σ κ m) ≡ x → out' ≡ set out (2 * (d - 1) + i) x
         → out' ≡ (take (2 * (d - 1)) o ++ entriesTo (suc i)) ++ drop (2 * (d - 1) + suc i) o
     stored L' x out' el ee ex es =
         let more : suc (2 * (d - 1) + i) ≡ 2 * (d - 1) + suc i = omega arith in
         let rows = rowsOf σ κ (doneIn w₀ i) in
         let en : entriesTo (suc i) ≡ entriesTo i ++ (x ∷ []) =
-        ap (λ (l : List ℕ). entries l (rowsOf σ κ (doneIn w₀ (suc i)))) el
-        ∙ ap (entries L') (rows-snoc σ κ (doneIn w₀ i) u)
+        ap (λ (l : List ℕ). rowEntries l (rowsOf σ κ (doneIn w₀ (suc i)))) el
+        ∙ ap (rowEntries L') (rows-snoc σ κ (doneIn w₀ i) u)
         ∙ entries-snoc L' rows (rowOf σ κ u)
         ∙ ap (λ (l : List ℤ). l ++ (entry L' (markOf σ κ m) ∷ [])) ee
         ∙ ap (λ (y : ℤ). entriesTo i ++ (y ∷ [])) ex in
         es
         ∙ ap (λ (l : List ℤ). set l (2 * (d - 1) + i) x) (t .front)
         ∙ one-store (take (2 * (d - 1)) o ++ entriesTo i) o (2 * (d - 1) + i) x F-long (omega arith)
-        ∙ ap (λ (l : List ℤ). l ++ drop (suc (2 * (d - 1) + i)) o) (append-assoc (take (2 * (d - 1)) o) (entriesTo i) (x ∷ []) ∙ ap (λ (l : List ℤ). take (2 * (d - 1)) o ++ l) (sym en))
+        ∙ ap (λ (l : List ℤ). l ++ drop (suc (2 * (d - 1) + i)) o)
+        (append-assoc (take (2 * (d - 1)) o) (entriesTo i) (x ∷ []) ∙ ap (λ (l : List ℤ). take (2 * (d - 1)) o ++ l) (sym en))
         ∙ ap (λ (k : ℕ). (take (2 * (d - 1)) o ++ entriesTo (suc i)) ++ drop k o) more
 
     labels-next : labelsTo (suc i) ≡ noted L (markOf σ κ m)
@@ -274,7 +298,8 @@ module _ (σ κ : ℕ → ℕ) (w₀ : List ℕ) (o : List ℤ) (d : ℕ) where
     label-low : least m (σ m) < 4096
     label-low = least-low m (σ m) 4096 m-low (σ-small m m-low)
 
-    pub labelled-more : (w' : List ℕ) (out' : List ℤ) (c' : ℕ) → Paired σ κ w out (pointAt w (cell DONE i)) (2 * (d - 1) + i) c w' out' c' → Labelled w' out' (suc i) c'
+    pub labelled-more : (w' : List ℕ) (out' : List ℤ) (c' : ℕ) → Paired σ κ w out (pointAt w (cellPlace DONE i)) (2 * (d - 1) + i) c w' out' c'
+        → Labelled w' out' (suc i) c'
     labelled-more w' out' c' p = go (rw point-kept at p)
       where
         go : Paired σ κ w out m (2 * (d - 1) + i) c w' out' c' → Labelled w' out' (suc i) c'
@@ -285,7 +310,8 @@ module _ (σ κ : ℕ → ℕ) (w₀ : List ℕ) (o : List ℤ) (d : ℕ) where
             let mk = mark-free σ κ m ne nq in
             let n = t .table x label-low in
             let inside : x ∈ L = elim (decLt (find L x) (length L)) [ yes q ↦ q | no q ↦ absurd (h (n ∙ number-out L x (omega arith))) ] in
-            rw (a, k) (keep (pos (getD w (LABEL + x) 0)) out' (labels-next ∙ ap (noted L) mk ∙ add-old L x inside) (ap (entry L) mk ∙ ap pos (sym (n ∙ number-in L x inside))) b)
+            rw (a, k) (keep (pos (getD w (LABEL + x) 0)) out' (labels-next ∙ ap (noted L) mk ∙ add-old L x inside)
+            (ap (entry L) mk ∙ ap pos (sym (n ∙ number-in L x inside))) b)
         go (is-new ne nq h a b k) =
             let x = least m (σ m) in
             let mk = mark-free σ κ m ne nq in
@@ -294,14 +320,19 @@ module _ (σ κ : ℕ → ℕ) (w₀ : List ℕ) (o : List ℤ) (d : ℕ) where
             let el : labelsTo (suc i) ≡ L ++ (x ∷ []) = labels-next ∙ ap (noted L) mk ∙ add-new L x outside in
             let cc1 : suc (find (L ++ (x ∷ [])) x) ≡ c + 1 = omega (arith, places.find-last L x outside, t .count) in
             record {
-              same = record { each = λ j p q. ap (λ (l : List ℕ). getD l j 0) a ∙ getD-set-other w (LABEL + x) j (c + 1) 0 (λ z. omega (arith, label-low)) ∙ t .same .each j p q };
+              same = record {
+                each = λ j p q. ap (λ (l : List ℕ). getD l j 0) a ∙ getD-set-other w (LABEL + x) j (c + 1) 0 (λ z. omega (arith, label-low))
+                    ∙ t .same .each j p q;
+              };
               long = ap length a ∙ length-set w (LABEL + x) (c + 1) ∙ t .long;
               count = k ∙ omega (arith, t .count, ap length el, length-append L (x ∷ []));
               table = λ y q. ap (λ (l : List ℕ). getD l (LABEL + y) 0) a ∙ at-label x el cc1 outside y q (ℕ-discrete y x);
-              front = stored (L ++ (x ∷ [])) (pos (c + 1)) out' el (entries-more σ κ L x (doneIn w₀ i) (λ v h z e. labels-in σ κ v (doneIn w₀ i) z h e)) (ap (entry (L ++ (x ∷ []))) mk ∙ ap pos cc1) b;
+              front = stored (L ++ (x ∷ [])) (pos (c + 1)) out' el (entries-more σ κ L x (doneIn w₀ i) (λ v h z e. labels-in σ κ v (doneIn w₀ i) z h e))
+                  (ap (entry (L ++ (x ∷ []))) mk ∙ ap pos cc1) b;
             }
           where
-            at-label : (x : ℕ) → labelsTo (suc i) ≡ L ++ (x ∷ []) → suc (find (L ++ (x ∷ [])) x) ≡ c + 1 → x ∉ L → (y : ℕ) → y < 4096 → Dec (y ≡ x) → getD (set w (LABEL + x) (c + 1)) (LABEL + y) 0 ≡ numberIn (labelsTo (suc i)) y
+            at-label : (x : ℕ) → labelsTo (suc i) ≡ L ++ (x ∷ []) → suc (find (L ++ (x ∷ [])) x) ≡ c + 1 → x ∉ L → (y : ℕ) → y < 4096 → Dec (y ≡ x)
+                → getD (set w (LABEL + x) (c + 1)) (LABEL + y) 0 ≡ numberIn (labelsTo (suc i)) y
             at-label x el cc1 outside y q (yes e) =
                 ap (λ (z : ℕ). getD (set w (LABEL + x) (c + 1)) (LABEL + z) 0) e
                 ∙ getD-set-same w (LABEL + x) (c + 1) 0 (omega (arith, t .long))
@@ -327,14 +358,17 @@ module _ (σ κ : ℕ → ℕ) where
   vertices-are : (w : List ℕ) (i : ℕ) → verticesOf (rowsOf σ κ (doneIn w (suc i))) ≡ verticesTo w i
   vertices-are w zero = refl
   vertices-are w (suc i) =
-      let u = placed (lastIn w i) (endAt w (cell DONE i)) (pointAt w (cell DONE i)) in
-      let v = placed (lastIn w (suc i)) (endAt w (cell DONE (suc i))) (pointAt w (cell DONE (suc i))) in
+      let u = placedSide (lastIn w i) (endAt w (cellPlace DONE i)) (pointAt w (cellPlace DONE i)) in
+      let v = placedSide (lastIn w (suc i)) (endAt w (cellPlace DONE (suc i))) (pointAt w (cellPlace DONE (suc i))) in
       let rows = rowsOf σ κ (doneIn w i) in
-      ap verticesOf (rows-snoc σ κ (doneIn w (suc i)) v ∙ ap (λ (l : List Row). l ++ (rowOf σ κ v ∷ [])) (rows-snoc σ κ (doneIn w i) u) ∙ append-assoc rows (rowOf σ κ u ∷ []) (rowOf σ κ v ∷ []))
+      ap verticesOf (rows-snoc σ κ (doneIn w (suc i)) v ∙ ap (λ (l : List Row). l ++ (rowOf σ κ v ∷ [])) (rows-snoc σ κ (doneIn w i) u)
+      ∙ append-assoc rows (rowOf σ κ u ∷ []) (rowOf σ κ v ∷ []))
       ∙ vertices-last rows (rowOf σ κ u) (rowOf σ κ v)
-      ∙ ap (λ (l : List ℤ). l ++ (endAt w (cell DONE i) .num ∷ pos (endAt w (cell DONE i) .den) ∷ [])) (ap verticesOf (sym (rows-snoc σ κ (doneIn w i) u)) ∙ vertices-are w i)
+      ∙ ap (λ (l : List ℤ). l ++ (endAt w (cellPlace DONE i) .num ∷ pos (endAt w (cellPlace DONE i) .den) ∷ []))
+      (ap verticesOf (sym (rows-snoc σ κ (doneIn w i) u)) ∙ vertices-are w i)
 
-  pub table-written : (w : List ℕ) (o x y : List ℤ) (d : ℕ) → 1 ≤ d → 3 * (d - 1) + 1 ≤ length o → x ≡ verticesTo w (d - 1) ++ drop (2 * (d - 1)) o → y ≡ paired σ κ w d x → y ≡ written σ κ w d o
+  pub table-written : (w : List ℕ) (o x y : List ℤ) (d : ℕ) → 1 ≤ d → 3 * (d - 1) + 1 ≤ length o → x ≡ verticesTo w (d - 1) ++ drop (2 * (d - 1)) o
+      → y ≡ paired σ κ w d x → y ≡ written σ κ w d o
   table-written w o x y d some room ex ey =
       let v = d - 1 in
       let vs = verticesTo w (d - 1) in
@@ -342,7 +376,8 @@ module _ (σ κ : ℕ → ℕ) where
       let a : take (2 * v) x ≡ vs = ap (take (2 * v)) ex ∙ take-at vs (drop (2 * v) o) (2 * v) len in
       let e : 2 * v + (v + 1) ≡ 3 * v + 1 = omega arith in
       let b : drop (3 * v + 1) x ≡ drop (3 * v + 1) o =
-      ap (λ (k : ℕ). drop k x) (sym e) ∙ sym (drop-drop (v + 1) (2 * v) x) ∙ ap (λ (l : List ℤ). drop (v + 1) (drop (2 * v) l)) ex ∙ ap (drop (v + 1)) (drop-at vs (drop (2 * v) o) (2 * v) len) ∙ drop-drop (v + 1) (2 * v) o ∙ ap (λ (k : ℕ). drop k o) e in
+      ap (λ (k : ℕ). drop k x) (sym e) ∙ sym (drop-drop (v + 1) (2 * v) x) ∙ ap (λ (l : List ℤ). drop (v + 1) (drop (2 * v) l)) ex
+      ∙ ap (drop (v + 1)) (drop-at vs (drop (2 * v) o) (2 * v) len) ∙ drop-drop (v + 1) (2 * v) o ∙ ap (λ (k : ℕ). drop k o) e in
       let f : suc (d - 1) ≡ d = omega arith in
       let g : verticesOf (rowsOf σ κ (doneIn w d)) ≡ vs = ap (λ (k : ℕ). verticesOf (rowsOf σ κ (doneIn w k))) (sym f) ∙ vertices-are w (d - 1) in
       ey
@@ -365,14 +400,15 @@ module _ (s r w₀ : List ℕ) (o : List ℤ) (d : ℕ) (whole : Whole s r w₀ 
   ]
 
   pub pairs-more : (w : List ℕ) (out : List ℤ) (i c : ℕ) → Labelled σ κ w₀ o d w out i c → i < d → (w' : List ℕ) (out' : List ℤ) (c' : ℕ)
-      → Paired σ κ w out (pointAt w (cell DONE i)) (2 * (d - 1) + i) c w' out' c' → Labelled σ κ w₀ o d w' out' (suc i) c'
+      → Paired σ κ w out (pointAt w (cellPlace DONE i)) (2 * (d - 1) + i) c w' out' c' → Labelled σ κ w₀ o d w' out' (suc i) c'
   pairs-more w out i c t h w' out' c' p =
-      labelled-more σ κ w₀ o d (λ j k. let a = whole .points j k in let b = whole .pair .most in omega arith) image-small (whole .most) w out i c t h room (whole .long) w' out' c' p
+      labelled-more σ κ w₀ o d (λ j k. let a = whole .points j k in let b = whole .pair .most in omega arith) image-small (whole .most) w out i c t h room
+      (whole .long) w' out' c' p
 
-  pub pairs-side : (w : List ℕ) (out : List ℤ) (i c : ℕ) → Labelled σ κ w₀ o d w out i c → i < d → Side s r w out i (2 * (d - 1) + i) c
+  pub pairs-side : (w : List ℕ) (out : List ℤ) (i c : ℕ) → Labelled σ κ w₀ o d w out i c → i < d → SideToWrite s r w out i (2 * (d - 1) + i) c
   pairs-side w out i c t h =
       let m = whole .most in
-      let e : pointAt w (cell DONE i) ≡ pointAt w₀ (cell DONE i) = t .same .each (cell DONE i + 4) (omega arith) (omega arith) in
+      let e : pointAt w (cellPlace DONE i) ≡ pointAt w₀ (cellPlace DONE i) = t .same .each (cellPlace DONE i + 4) (omega arith) (omega arith) in
       record {
         pair = whole .pair;
         long = rw (t .long) (whole .long);

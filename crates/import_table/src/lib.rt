@@ -18,14 +18,14 @@ ghost use lib.ListN.{length};
 ghost use Rattle.import_rule.specs.Fixed.{image, byQ, Pair};
 ghost use Rattle.import_rule.specs.Symbol.{oneVertex, ruleOf};
 ghost use Rattle.import_rule.specs.Inner.Placed.{grow, startPlaced, symbolBy};
-ghost use Rattle.import_table.specs.Answer.{grownOf, leftBy};
+ghost use Rattle.import_table.specs.Answer.{grownOf, ruledLeft};
 
 mod write;
 
 // The symbol of one vertex, with the pairings x and -3.
 fn grow_small(out: &mut [i64], x: i64) -> Filled
     ensures { λ a. ⌜ a ≡ grownOf (oneVertex x (negsuc 2)) (length (now (out .entry))) ⌝ }
-    ensures { λ a. ⌜ now (out .exit) ≡ leftBy (oneVertex x (negsuc 2)) a (now (out .entry)) ⌝ }
+    ensures { λ a. ⌜ now (out .exit) ≡ ruledLeft (oneVertex x (negsuc 2)) a (now (out .entry)) ⌝ }
 {
     if out.len() < 4 {
         return Filled::Refused(Refusal {
@@ -41,7 +41,7 @@ fn grow_small(out: &mut [i64], x: i64) -> Filled
 fn grow_large(s: &[u32], r: &[u32], w: &mut [u16], out: &mut [i64]) -> Filled
     requires { ⌜ Pair (now s) (now r) × (32768 ≤ length (now w)) × ((eqb (byQ (image (now s)) (image (now r)) 0) 0 && eqb (byQ (image (now s)) (image (now r)) (image (now s) 0)) (image (now s) 0)) ≡ false) ⌝ }
     ensures { λ a. ⌜ a ≡ grownOf (symbolBy (image (now (s .entry))) (byQ (image (now (s .entry))) (image (now (r .entry)))) (grow (image (now (s .entry))) (byQ (image (now (s .entry))) (image (now (r .entry)))) (length (now (s .entry))) (startPlaced (image (now (s .entry))) (byQ (image (now (s .entry))) (image (now (r .entry))))))) (length (now (out .entry))) ⌝ }
-    ensures { λ a. ⌜ now (out .exit) ≡ leftBy (symbolBy (image (now (s .entry))) (byQ (image (now (s .entry))) (image (now (r .entry)))) (grow (image (now (s .entry))) (byQ (image (now (s .entry))) (image (now (r .entry)))) (length (now (s .entry))) (startPlaced (image (now (s .entry))) (byQ (image (now (s .entry))) (image (now (r .entry))))))) a (now (out .entry)) ⌝ }
+    ensures { λ a. ⌜ now (out .exit) ≡ ruledLeft (symbolBy (image (now (s .entry))) (byQ (image (now (s .entry))) (image (now (r .entry)))) (grow (image (now (s .entry))) (byQ (image (now (s .entry))) (image (now (r .entry)))) (length (now (s .entry))) (startPlaced (image (now (s .entry))) (byQ (image (now (s .entry))) (image (now (r .entry))))))) a (now (out .entry)) ⌝ }
 {
     workspace::clear(w);
     let t = walk(s, r, w);
@@ -68,7 +68,7 @@ fn grow_large(s: &[u32], r: &[u32], w: &mut [u16], out: &mut [i64]) -> Filled
 fn grow_fixed(s: &[u32], r: &[u32], w: &mut [u16], out: &mut [i64]) -> Filled
     requires { ⌜ Pair (now s) (now r) × (32768 ≤ length (now w)) × (byQ (image (now s)) (image (now r)) 0 ≡ 0) ⌝ }
     ensures { λ a. ⌜ a ≡ grownOf (ruleOf (image (now (s .entry))) (byQ (image (now (s .entry))) (image (now (r .entry)))) (length (now (s .entry)))) (length (now (out .entry))) ⌝ }
-    ensures { λ a. ⌜ now (out .exit) ≡ leftBy (ruleOf (image (now (s .entry))) (byQ (image (now (s .entry))) (image (now (r .entry)))) (length (now (s .entry)))) a (now (out .entry)) ⌝ }
+    ensures { λ a. ⌜ now (out .exit) ≡ ruledLeft (ruleOf (image (now (s .entry))) (byQ (image (now (s .entry))) (image (now (r .entry)))) (length (now (s .entry)))) a (now (out .entry)) ⌝ }
 {
     let o = image(s, 0);
     if o == 0 {
@@ -86,7 +86,7 @@ fn grow_fixed(s: &[u32], r: &[u32], w: &mut [u16], out: &mut [i64]) -> Filled
 pub fn grow(s: &[u32], r: &[u32], w: &mut [u16], out: &mut [i64]) -> Filled
     requires { ⌜ Pair (now s) (now r) × (32768 ≤ length (now w)) ⌝ }
     ensures { λ a. ⌜ a ≡ grownOf (ruleOf (image (now (s .entry))) (byQ (image (now (s .entry))) (image (now (r .entry)))) (length (now (s .entry)))) (length (now (out .entry))) ⌝ }
-    ensures { λ a. ⌜ now (out .exit) ≡ leftBy (ruleOf (image (now (s .entry))) (byQ (image (now (s .entry))) (image (now (r .entry)))) (length (now (s .entry)))) a (now (out .entry)) ⌝ }
+    ensures { λ a. ⌜ now (out .exit) ≡ ruledLeft (ruleOf (image (now (s .entry))) (byQ (image (now (s .entry))) (image (now (r .entry)))) (length (now (s .entry)))) a (now (out .entry)) ⌝ }
 {
     let q = turned(s, r, 0);
     if q == 0 {

@@ -13,8 +13,8 @@ ghost use lib.ListN.{length, getD, set, drop};
 ghost use lib.IntN.{pos, negsuc, _-ℤ_};
 ghost use Rattle.import_rule.specs.Fixed.{image, byQ};
 ghost use Rattle.import_rule.specs.Rule.{least};
-ghost use Rattle.import_walk.specs.Inner.Work.{LABEL, DONE, Whole, cell, endAt, pointAt};
-ghost use Rattle.import_table.specs.Inner.Writing.{verticesTo, Paired, paired, written, Side};
+ghost use Rattle.import_walk.specs.Inner.Work.{LABEL, DONE, Whole, cellPlace, endAt, pointAt};
+ghost use Rattle.import_table.specs.Inner.Writing.{verticesTo, Paired, paired, written, SideToWrite};
 
 // Puts x at j.
 fn put(out: &mut [i64], j: usize, x: i64)
@@ -55,7 +55,7 @@ pub(crate) fn write_four(out: &mut [i64], x: i64)
 // Writes vertex i.
 fn write_vertex(w: &[u16], i: usize, out: &mut [i64])
     requires { ⌜ (i ≤ 1024) × (32768 ≤ length (now w)) × (2 * i + 2 ≤ length (now out)) ⌝ }
-    ensures { λ _. ⌜ now (out .exit) ≡ set (set (now (out .entry)) (2 * i) (endAt (now (w .entry)) (cell DONE i) .num)) (2 * i + 1) (pos (endAt (now (w .entry)) (cell DONE i) .den)) ⌝ }
+    ensures { λ _. ⌜ now (out .exit) ≡ set (set (now (out .entry)) (2 * i) (endAt (now (w .entry)) (cellPlace DONE i) .num)) (2 * i + 1) (pos (endAt (now (w .entry)) (cellPlace DONE i) .den)) ⌝ }
 {
     let at = DONE + 5 * i;
     let e = number_at(w, at);
@@ -106,8 +106,8 @@ fn write_pairing(
     c: usize,
     out: &mut [i64],
 ) -> usize
-    requires { ⌜ Side (now s) (now r) (now w) (now out) i j c ⌝ }
-    ensures { λ k. ⌜ Paired (image (now (s .entry))) (byQ (image (now (s .entry))) (image (now (r .entry)))) (now (w .entry)) (now (out .entry)) (pointAt (now (w .entry)) (cell DONE i)) j c (now (w .exit)) (now (out .exit)) k ⌝ }
+    requires { ⌜ SideToWrite (now s) (now r) (now w) (now out) i j c ⌝ }
+    ensures { λ k. ⌜ Paired (image (now (s .entry))) (byQ (image (now (s .entry))) (image (now (r .entry)))) (now (w .entry)) (now (out .entry)) (pointAt (now (w .entry)) (cellPlace DONE i)) j c (now (w .exit)) (now (out .exit)) k ⌝ }
 {
     let m = point_at(w, DONE + 5 * i);
     let x = image(s, m);

@@ -26,11 +26,12 @@ use Rattle.text.specs.Reading.{inputOf, leftBy}
 use Rattle.text.specs.declared.Reading.{Reading}
 use Rattle.text.specs.declared.Reading.the-variants.{Numbers}
 use Rattle.text_line.specs.Line.{Puts}
-use Rattle.import_table.specs.Answer.{tableIn}
-use Rattle.permutations.specs.Check.{checkOf}
-use Rattle.permutations.specs.Import.{importOf, ruleFor, tableLeft, workLeft}
-use Rattle.import_text.specs.Answer.{tableOf, Asked, tables, refused, tablesIn, importFormat, askedBy, asked, madeOf, linesBy, answered, linesFor, importedOf}
-use Rattle.import_text.specs.Spaces.{filled, numbersLeft, leftOfS, leftOfR, leftOfWork, leftOfTable, Leaves}
+use Rattle.import_table.specs.Answer.{ruledTable}
+use Rattle.permutations.specs.Check.{pairCheck}
+use Rattle.permutations.specs.Import.{importOf, ruleFor, importTable, importWork}
+use Rattle.import_text.specs.Answer.{pointsFrom, Request, tables, refused, tablesIn, importFormat, requestBy, requestOf, madeOf, linesBy}
+use Rattle.import_text.specs.Answer.{importLines, linesFor, importedOf}
+use Rattle.import_text.specs.Spaces.{filled, numbersLeft, leftOfS, leftOfR, leftOfWork, leftOfTable, ImportLeaves}
 
 pub front-is : (k : ℕ) (t out out' : List ℤ) → out' ≡ t ++ drop k out → length out' ≡ length out → k ≤ length out → take k out' ≡ t
 front-is k t out out' e l h =
@@ -41,29 +42,30 @@ module _ (s r : List ℕ) (a : Filled) (work room : ℕ) (h : work ≡ workLengt
   pub made-is : a ≡ madeOf s r
   made-is = e ∙ ap (λ (n : ℕ). importOf s r n room) h ∙ ap (importOf s r workLength) k
 
-  pub lines-are : linesBy a (tableIn (ruleFor s r)) ≡ answered s r
-  unfolding answered
-  lines-are = ap (λ (x : Filled). linesBy x (tableIn (ruleFor s r))) made-is
+  pub lines-are : linesBy a (ruledTable (ruleFor s r)) ≡ importLines s r
+  unfolding importLines
+  lines-are = ap (λ (x : Filled). linesBy x (ruledTable (ruleFor s r))) made-is
 
 pub few-numbers : (ns : List ℤ) → length ns < 3 → refused pointCount ≡ tablesIn ns
 unfolding tablesIn
 few-numbers ns h = rw (lt-ltb (length ns) 3 h)
 
-pub enough-numbers : (ns : List ℤ) → 3 ≤ length ns → tables (tableOf 1 ((length ns - 1) / 2) ns) (tableOf ((length ns - 1) / 2 + 1) ((length ns - 1) / 2) ns) ≡ tablesIn ns
+pub enough-numbers : (ns : List ℤ) → 3 ≤ length ns
+    → tables (pointsFrom 1 ((length ns - 1) / 2) ns) (pointsFrom ((length ns - 1) / 2 + 1) ((length ns - 1) / 2) ns) ≡ tablesIn ns
 unfolding tablesIn
 enough-numbers ns h = rw (le-ltb (length ns) 3 h) refl
 
 module _ (longer : Bool) (text : List ℕ) where
   module _ (r : Reading) (e : r ≡ inputOf longer importFormat text 6133) where
-    pub asked-by : askedBy r (numbers (pieces text)) ≡ asked longer text
-    unfolding asked
-    asked-by = ap (λ (x : Reading). askedBy x (numbers (pieces text))) e
+    pub asked-by : requestBy r (numbers (pieces text)) ≡ requestOf longer text
+    unfolding requestOf
+    asked-by = ap (λ (x : Reading). requestBy x (numbers (pieces text))) e
 
     pub numbers-by : (ns : List ℤ) → leftBy r (numbers (pieces text)) ns ≡ numbersLeft longer text ns
     unfolding numbersLeft
     numbers-by ns = ap (λ (x : Reading). leftBy x (numbers (pieces text)) ns) e
 
-  pub lines-as : {a : Asked} → a ≡ asked longer text → linesFor a ≡ importedOf longer text
+  pub lines-as : {a : Request} → a ≡ requestOf longer text → linesFor a ≡ importedOf longer text
   unfolding importedOf
   lines-as e = ap linesFor e
 
@@ -73,18 +75,18 @@ handed-numbers k ns out h = take-at (take k ns) (drop k out) k (length-take-le k
 
 -- ---- the other slices
 
-pub untouched : (f : Refusal) (s r w : List ℕ) (t : List ℤ) → Leaves (refused f) s r w t s r w t
+pub untouched : (f : Refusal) (s r w : List ℕ) (t : List ℤ) → ImportLeaves (refused f) s r w t s r w t
 untouched f s r w t = record { for-S = refl; for-R = refl; work = refl; result = refl }
 
-pub leaves-as : {a b : Asked} {s r w s' r' w' : List ℕ} {t t' : List ℤ} → a ≡ b → Leaves a s r w t s' r' w' t' → Leaves b s r w t s' r' w' t'
+pub leaves-as : {a b : Request} {s r w s' r' w' : List ℕ} {t t' : List ℤ} → a ≡ b → ImportLeaves a s r w t s' r' w' t' → ImportLeaves b s r w t s' r' w' t'
 leaves-as {a} {b} {s} {r} {w} {s'} {r'} {w'} {t} {t'} e l = rw (← e) l
 
 -- the code asks for tables S and R that are those of the numbers
-pub leaves : (S R S' R' s r w s' r' w' : List ℕ) (t t' : List ℤ) → S ≡ S' → R ≡ R' → s' ≡ filled S' s → r' ≡ filled R' r → w' ≡ workLeft (checkOf S R) w
-    → t' ≡ tableLeft (ruleFor S R) (madeOf S R) t → Leaves (tables S' R') s r w t s' r' w' t'
+pub leaves : (S R S' R' s r w s' r' w' : List ℕ) (t t' : List ℤ) → S ≡ S' → R ≡ R' → s' ≡ filled S' s → r' ≡ filled R' r → w' ≡ importWork (pairCheck S R) w
+    → t' ≡ importTable (ruleFor S R) (madeOf S R) t → ImportLeaves (tables S' R') s r w t s' r' w' t'
 leaves S R S' R' s r w s' r' w' t t' e f p q u v = record {
   for-S = p;
   for-R = q;
-  work = u ∙ ap (λ (x : List ℕ). workLeft (checkOf x R) w) e ∙ ap (λ (x : List ℕ). workLeft (checkOf S' x) w) f;
-  result = v ∙ ap (λ (x : List ℕ). tableLeft (ruleFor x R) (madeOf x R) t) e ∙ ap (λ (x : List ℕ). tableLeft (ruleFor S' x) (madeOf S' x) t) f;
+  work = u ∙ ap (λ (x : List ℕ). importWork (pairCheck x R) w) e ∙ ap (λ (x : List ℕ). importWork (pairCheck S' x) w) f;
+  result = v ∙ ap (λ (x : List ℕ). importTable (ruleFor x R) (madeOf x R) t) e ∙ ap (λ (x : List ℕ). importTable (ruleFor S' x) (madeOf S' x) t) f;
 }

@@ -18,7 +18,7 @@ use lib.Seq.{take-suc, drop-cons, set-append-seam, take-at, length-take-le}
 use lib.Signed.{ltZ, nonNeg}
 use borrow.Author.Tests.{ltb-true, ltb-false, lt-ltb, le-ltb}
 use Rattle.text.proofs.Clash.{clash}
-use Rattle.import_text.specs.Answer.{pointOf, tableOf}
+use Rattle.import_text.specs.Answer.{pointOf, pointsFrom}
 use Rattle.import_text.specs.Spaces.{filled}
 
 pub negative-point : (x : ℤ) → ltZ x (pos 0) ≡ true → 4294967295 ≡ pointOf x
@@ -73,18 +73,20 @@ points-more ns out out' i h k e =
     ap (λ (o : List ℕ). set o i (pointOf z)) e
     ∙ ap (λ (j : ℕ). set (filled (map pointOf (take i ns)) out) j (pointOf z)) (sym l)
     ∙ filled-more (map pointOf (take i ns)) (pointOf z) out (omega (arith, l))
-    ∙ ap (λ (t : List ℕ). filled t out) (sym (map-last (take i ns) z) ∙ ap (map pointOf) (sym (take-suc ns i (pos 0) h)) ∙ ap (λ (j : ℕ). map pointOf (take j ns)) (sym (add-one i)))
+    ∙ ap (λ (t : List ℕ). filled t out) (sym (map-last (take i ns) z) ∙ ap (map pointOf) (sym (take-suc ns i (pos 0) h))
+    ∙ ap (λ (j : ℕ). map pointOf (take j ns)) (sym (add-one i)))
 
 -- a part of the numbers, as the code takes it, and a table that is filled from it
 pub part-length : (from k n : ℕ) (ns : List ℤ) → k ≡ n → from + n ≤ length ns → length (take k (drop from ns)) ≡ n
 part-length from k n ns e h = ap (λ (j : ℕ). length (take j (drop from ns))) e ∙ length-take-le n (drop from ns) (omega (arith, length-drop from ns))
 
-table-length : (from n : ℕ) (ns : List ℤ) → from + n ≤ length ns → length (tableOf from n ns) ≡ n
+table-length : (from n : ℕ) (ns : List ℤ) → from + n ≤ length ns → length (pointsFrom from n ns) ≡ n
 table-length from n ns h = length-map (take n (drop from ns)) pointOf ∙ part-length from n n ns refl h
 
-pub part-filled : (from k n : ℕ) (ns : List ℤ) (out out' : List ℕ) → k ≡ n → out' ≡ filled (map pointOf (take k (drop from ns))) out → out' ≡ filled (tableOf from n ns) out
+pub part-filled : (from k n : ℕ) (ns : List ℤ) (out out' : List ℕ) → k ≡ n → out' ≡ filled (map pointOf (take k (drop from ns))) out
+    → out' ≡ filled (pointsFrom from n ns) out
 part-filled from k n ns out out' e f = f ∙ ap (λ (j : ℕ). filled (map pointOf (take j (drop from ns))) out) e
 
-pub filled-take : (from n : ℕ) (ns : List ℤ) (out out' : List ℕ) → out' ≡ filled (tableOf from n ns) out → from + n ≤ length ns → take n out' ≡ tableOf from n ns
+pub filled-take : (from n : ℕ) (ns : List ℤ) (out out' : List ℕ) → out' ≡ filled (pointsFrom from n ns) out → from + n ≤ length ns → take n out' ≡ pointsFrom from n ns
 unfolding filled
-filled-take from n ns out out' f h = ap (take n) f ∙ take-at (tableOf from n ns) (drop (length (tableOf from n ns)) out) n (table-length from n ns h)
+filled-take from n ns out out' f h = ap (take n) f ∙ take-at (pointsFrom from n ns) (drop (length (pointsFrom from n ns)) out) n (table-length from n ns h)

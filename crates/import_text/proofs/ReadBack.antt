@@ -27,12 +27,12 @@ use Rattle.text.specs.Reading.{symbolFormat, textMost, wanted}
 use Rattle.text.proofs.Says.{Says, says-none, says-number, says-numbers, says-reading}
 use Rattle.text_line.specs.Line.{natural, spaced}
 use Rattle.text_line.proofs.Spacing.{decimal-most}
-use Rattle.symbol.specs.Table.{numer, denom, pairing}
+use Rattle.symbol.specs.Table.{numer, denom, pairingEntry}
 use Rattle.symbol.specs.Symbol.{FreeLabel, IsSymbol}
-use Rattle.import_table.specs.Answer.{tableIn}
+use Rattle.import_table.specs.Answer.{ruledTable}
 use Rattle.permutations.specs.Import.{importOf, ruleFor}
 use Rattle.permutations.proofs.Means.{made-means}
-use Rattle.import_text.specs.Answer.{numberLine, symbolLines, Asked, tables, asked, madeOf, linesBy, answered, linesFor, importedOf}
+use Rattle.import_text.specs.Answer.{numberLine, symbolLines, Request, tables, requestOf, madeOf, linesBy, importLines, linesFor, importedOf}
 use Rattle.import_text.specs.ReadBack.{ReadBack, LinesReadBack, SymbolReadBack, Printed, PrintMeans}
 
 -- ---- what the lines say
@@ -154,7 +154,7 @@ entry-size : (v : ℕ) (t : List ℤ) → IsSymbol v t → EachSmall t
 entry-size v t s i h = elim (decLt i (2 * v)) [
   | yes l ↦ vertex (ℕ-discrete (i % 2) 0) l
   | no l ↦ let k : 2 * v + (i - 2 * v) ≡ i = omega arith in
-      let g = pairing-size v t (pairing v t (i - 2 * v)) (s .most) (s .pairings (i - 2 * v) (omega (arith, s .long))) in
+      let g = pairing-size v t (pairingEntry v t (i - 2 * v)) (s .most) (s .pairings (i - 2 * v) (omega (arith, s .long))) in
       rw (getD-drop (2 * v) t (i - 2 * v) (pos 0), k) at g
 ]
   where
@@ -169,9 +169,9 @@ symbol-read-back v t s =
 
 -- ---- what `import` prints
 
-pub print-means : (a : Asked) (bytes : List ℕ) → bytes ≡ linesFor a → PrintMeans a bytes
-unfolding answered
+pub print-means : (a : Request) (bytes : List ℕ) → bytes ≡ linesFor a → PrintMeans a bytes
+unfolding importLines
 print-means a bytes e s r v f m =
     let g = made-means s r workLength 3070 v m in
-    let b : bytes ≡ symbolLines v (tableIn (ruleFor s r)) = e ∙ ap linesFor f ∙ ap (λ (x : Filled). linesBy x (tableIn (ruleFor s r))) m in
-    record { symbol = g; read-back = rw b (symbol-read-back v (tableIn (ruleFor s r)) (g .precisely .symbol)) }
+    let b : bytes ≡ symbolLines v (ruledTable (ruleFor s r)) = e ∙ ap linesFor f ∙ ap (λ (x : Filled). linesBy x (ruledTable (ruleFor s r))) m in
+    record { symbol = g; read-back = rw b (symbol-read-back v (ruledTable (ruleFor s r)) (g .precisely .symbol)) }

@@ -1,7 +1,8 @@
 -- WHAT `import` PRINTS IS READ AS THE SYMBOL THAT IT MADE.
 --
---   ReadBack v t bytes     read by the rule of 19 in the form of a symbol's text (`symbolFormat`, which the listing program reads), `bytes` is no refusal: it is short enough, its numbers are v and then the table t, and all of
---                          them are handed on to any space that has room for them
+--   ReadBack v t bytes     read by the rule of 19 in the form of a symbol's text (`symbolFormat`, which the listing program reads), `bytes` is no
+--                          refusal: it is short enough, its numbers are v and then the table t, and all of them are handed on to any space that
+--                          has room for them
 --   LinesReadBack          the lines of v and t are, where v is in range, the numbers fit 64 signed bits and the lines are short enough
 --   SymbolReadBack         the lines of a symbol always are
 --   Printed s r v bytes    for the tables s and r a symbol of v vertices is made, as `import` promises, and `bytes` is read back as it
@@ -21,9 +22,9 @@ use Rattle.text.specs.Reading.{textMost, symbolFormat, readingOf}
 use Rattle.text.specs.declared.Reading.the-variants as reading
 use Rattle.text_line.specs.Line.{natural}
 use Rattle.symbol.specs.Symbol.{IsSymbol}
-use Rattle.import_table.specs.Answer.{tableIn}
+use Rattle.import_table.specs.Answer.{ruledTable}
 use Rattle.permutations.specs.Import.{ruleFor, Symbolised}
-use Rattle.import_text.specs.Answer.{Asked, tables, symbolLines, madeOf}
+use Rattle.import_text.specs.Answer.{Request, tables, symbolLines, madeOf}
 
 pub record ReadBack (v : ℕ) (t : List ℤ) (bytes : List ℕ) : Type 0 where
   pub short : length bytes ≤ textMost
@@ -38,8 +39,8 @@ abbrev pub SymbolReadBack : Type 0
 SymbolReadBack = (v : ℕ) (t : List ℤ) → IsSymbol v t → ReadBack v t (symbolLines v t)
 
 pub record Printed (s r : List ℕ) (v : ℕ) (bytes : List ℕ) : Type 0 where
-  pub symbol : Symbolised s r v (tableIn (ruleFor s r))
-  pub read-back : ReadBack v (tableIn (ruleFor s r)) bytes
+  pub symbol : Symbolised s r v (ruledTable (ruleFor s r))
+  pub read-back : ReadBack v (ruledTable (ruleFor s r)) bytes
 
-abbrev pub PrintMeans : Asked → (bytes : List ℕ) → Type 0
+abbrev pub PrintMeans : Request → (bytes : List ℕ) → Type 0
 PrintMeans a bytes = (s r : List ℕ) (v : ℕ) → a ≡ tables s r → madeOf s r ≡ filled.Made v → Printed s r v bytes

@@ -15,10 +15,10 @@ ghost use mathlib.Core.List.{[], _∷_, map};
 ghost use Prim.Native.Nat.{_+_, _*_, _≤_};
 ghost use lib.ListN.{length, take};
 ghost use Rattle.text_line.specs.Line.{natural, Puts};
-ghost use Rattle.permutations.specs.Check.{checkOf};
-ghost use Rattle.permutations.specs.Import.{ruleFor, tableLeft, workLeft};
-ghost use Rattle.import_text.specs.Answer.{numberLine, symbolLines, pointOf, tablesIn, asked, madeOf, answered, linesFor, importedOf};
-ghost use Rattle.import_text.specs.Spaces.{Spaces, filled, numbersLeft, Leaves};
+ghost use Rattle.permutations.specs.Check.{pairCheck};
+ghost use Rattle.permutations.specs.Import.{ruleFor, importTable, importWork};
+ghost use Rattle.import_text.specs.Answer.{numberLine, symbolLines, pointOf, tablesIn, requestOf, madeOf, importLines, linesFor, importedOf};
+ghost use Rattle.import_text.specs.Spaces.{ImportSpaces, filled, numbersLeft, ImportLeaves};
 ghost use Rattle.import_text.specs.ReadBack.{PrintMeans};
 
 // A line of numbers.
@@ -82,9 +82,9 @@ fn fill_points(numbers: &[i64], out: &mut [u32])
 // The lines for two tables.
 fn import_lines(s: &[u32], r: &[u32], w: &mut [u16], table: &mut [i64], out: &mut [u8]) -> usize
     requires { ⌜ (length (now w) ≡ 32768) × (length (now table) ≡ 3070) × (65536 ≤ length (now out)) ⌝ }
-    ensures { λ e. ⌜ Puts (answered (now (s .entry)) (now (r .entry))) 0 e (now (out .entry)) (now (out .exit)) ⌝ }
-    ensures { λ _. ⌜ now (w .exit) ≡ workLeft (checkOf (now (s .entry)) (now (r .entry))) (now (w .entry)) ⌝ }
-    ensures { λ _. ⌜ now (table .exit) ≡ tableLeft (ruleFor (now (s .entry)) (now (r .entry))) (madeOf (now (s .entry)) (now (r .entry))) (now (table .entry)) ⌝ }
+    ensures { λ e. ⌜ Puts (importLines (now (s .entry)) (now (r .entry))) 0 e (now (out .entry)) (now (out .exit)) ⌝ }
+    ensures { λ _. ⌜ now (w .exit) ≡ importWork (pairCheck (now (s .entry)) (now (r .entry))) (now (w .entry)) ⌝ }
+    ensures { λ _. ⌜ now (table .exit) ≡ importTable (ruleFor (now (s .entry)) (now (r .entry))) (madeOf (now (s .entry)) (now (r .entry))) (now (table .entry)) ⌝ }
 {
     let made = import(s, r, w, table);
     match made {
@@ -105,9 +105,9 @@ fn import_numbers(
     table: &mut [i64],
     out: &mut [u8],
 ) -> usize
-    requires { ⌜ (1 ≤ length (now numbers)) × (length (now numbers) ≤ 6133) × Spaces (now s) (now r) (now w) (now table) (now out) ⌝ }
+    requires { ⌜ (1 ≤ length (now numbers)) × (length (now numbers) ≤ 6133) × ImportSpaces (now s) (now r) (now w) (now table) (now out) ⌝ }
     ensures { λ e. ⌜ Puts (linesFor (tablesIn (now (numbers .entry)))) 0 e (now (out .entry)) (now (out .exit)) ⌝ }
-    ensures { λ _. ⌜ Leaves (tablesIn (now (numbers .entry))) (now (s .entry)) (now (r .entry)) (now (w .entry)) (now (table .entry)) (now (s .exit)) (now (r .exit)) (now (w .exit)) (now (table .exit)) ⌝ }
+    ensures { λ _. ⌜ ImportLeaves (tablesIn (now (numbers .entry))) (now (s .entry)) (now (r .entry)) (now (w .entry)) (now (table .entry)) (now (s .exit)) (now (r .exit)) (now (w .exit)) (now (table .exit)) ⌝ }
 {
     let k = numbers.len();
     if k < 3 {
@@ -138,10 +138,10 @@ fn import_text(
     table: &mut [i64],
     out: &mut [u8],
 ) -> usize
-    requires { ⌜ (length (now numbers) ≡ 6133) × Spaces (now s) (now r) (now w) (now table) (now out) ⌝ }
+    requires { ⌜ (length (now numbers) ≡ 6133) × ImportSpaces (now s) (now r) (now w) (now table) (now out) ⌝ }
     ensures { λ e. ⌜ Puts (importedOf longer (now (text .entry))) 0 e (now (out .entry)) (now (out .exit)) ⌝ }
     ensures { λ _. ⌜ now (numbers .exit) ≡ numbersLeft longer (now (text .entry)) (now (numbers .entry)) ⌝ }
-    ensures { λ _. ⌜ Leaves (asked longer (now (text .entry))) (now (s .entry)) (now (r .entry)) (now (w .entry)) (now (table .entry)) (now (s .exit)) (now (r .exit)) (now (w .exit)) (now (table .exit)) ⌝ }
+    ensures { λ _. ⌜ ImportLeaves (requestOf longer (now (text .entry))) (now (s .entry)) (now (r .entry)) (now (w .entry)) (now (table .entry)) (now (s .exit)) (now (r .exit)) (now (w .exit)) (now (table .exit)) ⌝ }
 {
     let read = read_input(
         text,
@@ -173,8 +173,8 @@ pub fn answer(
 ) -> usize
     ensures { λ e. ⌜ Puts (importedOf longer (now (text .entry))) 0 e (now (out .entry)) (now (out .exit)) × (e ≤ length (now (out .exit))) ⌝ }
     ensures { λ _. ⌜ now (numbers .exit) ≡ numbersLeft longer (now (text .entry)) (now (numbers .entry)) ⌝ }
-    ensures { λ _. ⌜ Leaves (asked longer (now (text .entry))) (now (s .entry)) (now (r .entry)) (now (w .entry)) (now (table .entry)) (now (s .exit)) (now (r .exit)) (now (w .exit)) (now (table .exit)) ⌝ }
-    ensures { λ e. ⌜ PrintMeans (asked longer (now (text .entry))) (take e (now (out .exit))) ⌝ }
+    ensures { λ _. ⌜ ImportLeaves (requestOf longer (now (text .entry))) (now (s .entry)) (now (r .entry)) (now (w .entry)) (now (table .entry)) (now (s .exit)) (now (r .exit)) (now (w .exit)) (now (table .exit)) ⌝ }
+    ensures { λ e. ⌜ PrintMeans (requestOf longer (now (text .entry))) (take e (now (out .exit))) ⌝ }
 {
     import_text(text, longer, numbers, s, r, w, table, out)
 }

@@ -12,12 +12,13 @@ use lib.ListN.{length, getD, set, length-set}
 use lib.Seq.{getD-set-same, getD-set-other}
 use lib.IntN.{ℤ, pos, negsuc, _-ℤ_}
 use borrow.Author.Tests.{eq-eqb, ne-eqb}
-use Rattle.matrix.specs.Euclid.{pick}
-use Rattle.symbol.proofs.Choice.{pick-true, pick-false}
+use Rattle.basics.specs.Choice.{pick}
+use Rattle.basics.proofs.Choice.{pick-true, pick-false}
 use Rattle.import_rule.specs.Fixed.{image, byQ, Pair}
 use Rattle.import_rule.specs.Side.{Vertex, vertex, minusInfinity, infinity, limit}
-use Rattle.import_rule.specs.Inner.Placed.{Placed, placed, pts, startPlaced}
-use Rattle.import_walk.specs.Inner.Work.{LABEL, HELD, DONE, TODO, cell, endAt, pointAt, lastIn, doneIn, todoIn, cellSet, heldSet, startBy, startIn, Ground, Whole}
+use Rattle.import_rule.specs.Inner.Placed.{Placed, placedSide, pts, startPlaced}
+use Rattle.import_walk.specs.Inner.Work.{LABEL, HELD, DONE, TODO, cellPlace, endAt, pointAt, lastIn, doneIn, todoIn, cellSet, heldSet, startBy}
+use Rattle.import_walk.specs.Inner.Work.{startIn, Ground, Whole}
 use Rattle.import_rule.proofs.Member.{In, in-left, in-right}
 use Rattle.import_rule.proofs.Kept.{Inv}
 use Rattle.import_rule.proofs.Theorem.{Started, started}
@@ -67,19 +68,22 @@ module _ (w : List ℕ) (long : 32768 ≤ length w) (clear : (j : ℕ) → getD 
 
   end-2 : endAt W 20490 ≡ code e2 1
   unfolding code
-  end-2 = vertex-eq (ap (λ (x : ℕ). pos x -ℤ pos limit) (cell-num B (TODO + 10) e2 1 p2 (rw B-long (omega arith)))) (cell-den B (TODO + 10) e2 1 p2 (rw B-long (omega arith)))
+  end-2 = vertex-eq (ap (λ (x : ℕ). pos x -ℤ pos limit) (cell-num B (TODO + 10) e2 1 p2 (rw B-long (omega arith))))
+      (cell-den B (TODO + 10) e2 1 p2 (rw B-long (omega arith)))
 
   end-1 : endAt W 20485 ≡ code e1 1
   unfolding code
   end-1 =
       end-same 0 20490 20485 B W in-B (omega arith) (omega arith)
-      ∙ vertex-eq (ap (λ (x : ℕ). pos x -ℤ pos limit) (cell-num A (TODO + 5) e1 1 p1 (rw A-long (omega arith)))) (cell-den A (TODO + 5) e1 1 p1 (rw A-long (omega arith)))
+      ∙ vertex-eq (ap (λ (x : ℕ). pos x -ℤ pos limit) (cell-num A (TODO + 5) e1 1 p1 (rw A-long (omega arith))))
+      (cell-den A (TODO + 5) e1 1 p1 (rw A-long (omega arith)))
 
   end-0 : endAt W 20480 ≡ code 1000000001 0
   unfolding code
   end-0 =
       end-same 0 20490 20480 B W in-B (omega arith) (omega arith) ∙ end-same 0 20485 20480 A B in-A (omega arith) (omega arith)
-      ∙ vertex-eq (ap (λ (x : ℕ). pos x -ℤ pos limit) (cell-num H TODO 1000000001 0 p0 (rw H-long (omega arith)))) (cell-den H TODO 1000000001 0 p0 (rw H-long (omega arith)))
+      ∙ vertex-eq (ap (λ (x : ℕ). pos x -ℤ pos limit) (cell-num H TODO 1000000001 0 p0 (rw H-long (omega arith))))
+      (cell-den H TODO 1000000001 0 p0 (rw H-long (omega arith)))
 
   pt-2 : pointAt W 20490 ≡ p2
   pt-2 = cell-pt B (TODO + 10) e2 1 p2 (rw B-long (omega arith))
@@ -88,10 +92,11 @@ module _ (w : List ℕ) (long : 32768 ≤ length w) (clear : (j : ℕ) → getD 
   pt-1 = point-same 0 20490 20485 B W in-B (omega arith) (omega arith) ∙ cell-pt A (TODO + 5) e1 1 p1 (rw A-long (omega arith))
 
   pt-0 : pointAt W 20480 ≡ p0
-  pt-0 = point-same 0 20490 20480 B W in-B (omega arith) (omega arith) ∙ point-same 0 20485 20480 A B in-A (omega arith) (omega arith) ∙ cell-pt H TODO 1000000001 0 p0 (rw H-long (omega arith))
+  pt-0 = point-same 0 20490 20480 B W in-B (omega arith) (omega arith) ∙ point-same 0 20485 20480 A B in-A (omega arith) (omega arith)
+      ∙ cell-pt H TODO 1000000001 0 p0 (rw H-long (omega arith))
 
   pub three-sides : (x2 x1 : Vertex) → vertex (pos e2 -ℤ pos limit) 1 ≡ x2 → vertex (pos e1 -ℤ pos limit) 1 ≡ x1
-      → todoIn minusInfinity W 3 ≡ placed minusInfinity x2 p2 ∷ placed x2 x1 p1 ∷ placed x1 infinity p0 ∷ []
+      → todoIn minusInfinity W 3 ≡ placedSide minusInfinity x2 p2 ∷ placedSide x2 x1 p1 ∷ placedSide x1 infinity p0 ∷ []
   unfolding code
   three-sides x2 x1 a b =
       let q2 = end-2 ∙ a in
@@ -115,7 +120,9 @@ module _ (w : List ℕ) (long : 32768 ≤ length w) (clear : (j : ℕ) → getD 
       ∙ clear (LABEL + x)
 
   at-0 : (x : ℕ) → x ≡ p0 → getD H (HELD + x) 0 ≡ 1
-  at-0 x e = ap (λ (y : ℕ). getD H (HELD + y) 0) e ∙ getD-set-same (set (set w (HELD + p2) 1) (HELD + p1) 1) (HELD + p0) 1 0 (rw (length-set (set w (HELD + p2) 1) (HELD + p1) 1, length-set w (HELD + p2) 1) (omega arith))
+  at-0 x e = ap (λ (y : ℕ). getD H (HELD + y) 0) e
+      ∙ getD-set-same (set (set w (HELD + p2) 1) (HELD + p1) 1) (HELD + p0) 1 0
+      (rw (length-set (set w (HELD + p2) 1) (HELD + p1) 1, length-set w (HELD + p2) 1) (omega arith))
 
   at-1 : (x : ℕ) → ¬ (x ≡ p0) → x ≡ p1 → getD H (HELD + x) 0 ≡ 1
   at-1 x f e =
@@ -188,7 +195,7 @@ module _ (s r w : List ℕ) (g : Ground s r w) where
   low x h = let t = g .pair .most in omega arith
 
   walking-by : (e2 e1 p2 p1 p0 : ℕ) (x2 x1 : Vertex) → p2 < n → p1 < n → p0 < n → vertex (pos e2 -ℤ pos limit) 1 ≡ x2 → vertex (pos e1 -ℤ pos limit) 1 ≡ x1
-      → start ≡ placed minusInfinity x2 p2 ∷ placed x2 x1 p1 ∷ placed x1 infinity p0 ∷ [] → Walking s r start (startBy w e2 e1 p2 p1 p0) 0 3
+      → start ≡ placedSide minusInfinity x2 p2 ∷ placedSide x2 x1 p1 ∷ placedSide x1 infinity p0 ∷ [] → Walking s r start (startBy w e2 e1 p2 p1 p0) 0 3
   walking-by e2 e1 p2 p1 p0 x2 x1 a b c p q e =
       let l2 = low p2 a in
       let l1 = low p1 b in
@@ -216,20 +223,24 @@ module _ (s r w : List ℕ) (g : Ground s r w) where
       kl = turn-of s r start (g .pair) .κ-low
 
       go : (b : Bool) → eqb (κ 0) 0 ≡ b → Walking s r start (startIn σ κ w) 0 3
-      go true e = rw (pick-true (eqb (κ 0) 0) (startBy w 999999999 1000000000 (σ (κ (σ 0))) (σ (κ (κ (σ 0)))) 0) (startBy w 1000000000 1000000001 (σ 0) (σ (κ 0)) (σ (κ (κ 0)))) e)
-          (walking-by 999999999 1000000000 (σ (κ (σ 0))) (σ (κ (κ (σ 0)))) 0 (vertex (negsuc 0) 1) (vertex (pos 0) 1) (sl _ (kl _ (sl _ z))) (sl _ (kl _ (kl _ (sl _ z)))) z
+      go true e = rw (pick-true (eqb (κ 0) 0) (startBy w 999999999 1000000000 (σ (κ (σ 0))) (σ (κ (κ (σ 0)))) 0)
+          (startBy w 1000000000 1000000001 (σ 0) (σ (κ 0)) (σ (κ (κ 0)))) e)
+          (walking-by 999999999 1000000000 (σ (κ (σ 0))) (σ (κ (κ (σ 0)))) 0 (vertex (negsuc 0) 1) (vertex (pos 0) 1) (sl _ (kl _ (sl _ z)))
+          (sl _ (kl _ (kl _ (sl _ z)))) z
           (vertex-eq (diff-below 999999999 limit (lit≤ tt)) refl) (vertex-eq (diff-above 1000000000 limit (lit≤ tt)) refl) (pick-true (eqb (κ 0) 0) _ _ e))
-      go false e = rw (pick-false (eqb (κ 0) 0) (startBy w 999999999 1000000000 (σ (κ (σ 0))) (σ (κ (κ (σ 0)))) 0) (startBy w 1000000000 1000000001 (σ 0) (σ (κ 0)) (σ (κ (κ 0)))) e)
+      go false e = rw (pick-false (eqb (κ 0) 0) (startBy w 999999999 1000000000 (σ (κ (σ 0))) (σ (κ (κ (σ 0)))) 0)
+          (startBy w 1000000000 1000000001 (σ 0) (σ (κ 0)) (σ (κ (κ 0)))) e)
           (walking-by 1000000000 1000000001 (σ 0) (σ (κ 0)) (σ (κ (κ 0))) (vertex (pos 0) 1) (vertex (pos 1) 1) (sl _ z) (sl _ (kl _ z)) (sl _ (kl _ (kl _ z)))
           (vertex-eq (diff-above 1000000000 limit (lit≤ tt)) refl) (vertex-eq (diff-above 1000000001 limit (lit≤ tt)) refl) (pick-false (eqb (κ 0) 0) _ _ e))
 
 -- ---- the end
 
-done-in : (w : List ℕ) (d i : ℕ) → i < d → In (placed (lastIn w i) (endAt w (cell DONE i)) (pointAt w (cell DONE i))) (doneIn w d)
+done-in : (w : List ℕ) (d i : ℕ) → i < d → In (placedSide (lastIn w i) (endAt w (cellPlace DONE i)) (pointAt w (cellPlace DONE i))) (doneIn w d)
 done-in w zero i h = absurd (omega arith)
 done-in w (suc d) i h = elim (decLt i d) [
   | yes k ↦ in-left _ (doneIn w d) _ (done-in w d i k)
-  | no k ↦ (let e : i ≡ d = omega arith in rw e (in-right _ (doneIn w d) (placed (lastIn w d) (endAt w (cell DONE d)) (pointAt w (cell DONE d)) ∷ []) (inl refl)))
+  | no k ↦ (let e : i ≡ d = omega arith in
+      rw e (in-right _ (doneIn w d) (placedSide (lastIn w d) (endAt w (cellPlace DONE d)) (pointAt w (cellPlace DONE d)) ∷ []) (inl refl)))
 ]
 
 pub walk-whole : (s r w : List ℕ) (d k : ℕ) → Walking s r (startPlaced (image s) (byQ (image s) (image r))) w d k → k ≡ 0 → Whole s r w d

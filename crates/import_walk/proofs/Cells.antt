@@ -14,24 +14,26 @@ use lib.Dec.{eqb}
 use lib.ListN.{length, getD, set, length-set, List·getD-eq-default}
 use lib.Seq.{getD-set-same, getD-set-other}
 use borrow.Author.Tests.{eq-eqb, ne-eqb}
-use Rattle.matrix.specs.Euclid.{pick}
-use Rattle.symbol.proofs.Choice.{pick-true, pick-false}
+use Rattle.basics.specs.Choice.{pick}
+use Rattle.basics.proofs.Choice.{pick-true, pick-false}
 use Rattle.import_rule.specs.Fixed.{image, byQ}
-use Rattle.import_walk.specs.Inner.Work.{HELD, DONE, TODO, cell, numberAt, pointAt, cellSet, leftNum, leftDen, closedIn}
+use Rattle.import_walk.specs.Inner.Work.{HELD, DONE, TODO, cellPlace, twoCells, pointAt, cellSet, leftEndNum, leftEndDen, closedIn}
 
 -- ---- numbers in two cells
 
-pub number-is : (w : List ℕ) (at high low : ℕ) → high ≡ getD w at 0 → low ≡ getD w (at + 1) 0 → high < 65536 → low < 65536 → (high * 65536 + low ≡ numberAt w at) × (high * 65536 + low < 4294967296)
-unfolding numberAt
+pub number-is : (w : List ℕ) (at high low : ℕ) → high ≡ getD w at 0 → low ≡ getD w (at + 1) 0 → high < 65536 → low < 65536
+    → (high * 65536 + low ≡ twoCells w at) × (high * 65536 + low < 4294967296)
+unfolding twoCells
 number-is w at high low a b h k = (cc, omega arith)
 
-pub number-same : (w w' : List ℕ) (at : ℕ) → getD w' at 0 ≡ getD w at 0 → getD w' (at + 1) 0 ≡ getD w (at + 1) 0 → numberAt w' at ≡ numberAt w at
-unfolding numberAt
+pub number-same : (w w' : List ℕ) (at : ℕ) → getD w' at 0 ≡ getD w at 0 → getD w' (at + 1) 0 ≡ getD w (at + 1) 0 → twoCells w' at ≡ twoCells w at
+unfolding twoCells
 number-same w w' at a b = cc
 
 -- ---- the five numbers of a side
 
-pub cell-set : (w y x : List ℕ) (at e d m : ℕ) → y ≡ set (set w at (e / 65536)) (at + 1) (e % 65536) → x ≡ set (set y (at + 2) (d / 65536)) (at + 2 + 1) (d % 65536) → set x (at + 4) m ≡ cellSet w at e d m
+pub cell-set : (w y x : List ℕ) (at e d m : ℕ) → y ≡ set (set w at (e / 65536)) (at + 1) (e % 65536)
+    → x ≡ set (set y (at + 2) (d / 65536)) (at + 2 + 1) (d % 65536) → set x (at + 4) m ≡ cellSet w at e d m
 unfolding cellSet
 cell-set w y x at e d m p q = cc (p, q)
 
@@ -83,13 +85,15 @@ module _ (w : List ℕ) (at e d m : ℕ) (room : at + 5 ≤ length w) where
   at-0 : getD (cellSet w at e d m) at 0 ≡ e / 65536
   unfolding cellSet
   at-0 =
-      getD-set-other w4 (at + 4) at m 0 (λ q. omega arith) ∙ getD-set-other w3 (at + 2 + 1) at (d % 65536) 0 (λ q. omega arith) ∙ getD-set-other w2 (at + 2) at (d / 65536) 0 (λ q. omega arith)
+      getD-set-other w4 (at + 4) at m 0 (λ q. omega arith) ∙ getD-set-other w3 (at + 2 + 1) at (d % 65536) 0 (λ q. omega arith)
+      ∙ getD-set-other w2 (at + 2) at (d / 65536) 0 (λ q. omega arith)
       ∙ getD-set-other w1 (at + 1) at (e % 65536) 0 (λ q. omega arith) ∙ getD-set-same w at (e / 65536) 0 (omega arith)
 
   at-1 : getD (cellSet w at e d m) (at + 1) 0 ≡ e % 65536
   unfolding cellSet
   at-1 =
-      getD-set-other w4 (at + 4) (at + 1) m 0 (λ q. omega arith) ∙ getD-set-other w3 (at + 2 + 1) (at + 1) (d % 65536) 0 (λ q. omega arith) ∙ getD-set-other w2 (at + 2) (at + 1) (d / 65536) 0 (λ q. omega arith)
+      getD-set-other w4 (at + 4) (at + 1) m 0 (λ q. omega arith) ∙ getD-set-other w3 (at + 2 + 1) (at + 1) (d % 65536) 0 (λ q. omega arith)
+      ∙ getD-set-other w2 (at + 2) (at + 1) (d / 65536) 0 (λ q. omega arith)
       ∙ getD-set-same w1 (at + 1) (e % 65536) 0 (rw (length-set w at (e / 65536)) (omega arith))
 
   at-2 : getD (cellSet w at e d m) (at + 2) 0 ≡ d / 65536
@@ -102,27 +106,38 @@ module _ (w : List ℕ) (at e d m : ℕ) (room : at + 5 ≤ length w) where
   unfolding cellSet
   at-3 =
       getD-set-other w4 (at + 4) (at + 2 + 1) m 0 (λ q. omega arith)
-      ∙ getD-set-same w3 (at + 2 + 1) (d % 65536) 0 (rw (length-set w2 (at + 2) (d / 65536), length-set w1 (at + 1) (e % 65536), length-set w at (e / 65536)) (omega arith))
+      ∙ getD-set-same w3 (at + 2 + 1) (d % 65536) 0
+      (rw (length-set w2 (at + 2) (d / 65536), length-set w1 (at + 1) (e % 65536), length-set w at (e / 65536)) (omega arith))
 
-  pub cell-num : numberAt (cellSet w at e d m) at ≡ e
-  unfolding numberAt
+  pub cell-num : twoCells (cellSet w at e d m) at ≡ e
+  unfolding twoCells
   cell-num = omega (arith, at-0, at-1)
 
-  pub cell-den : numberAt (cellSet w at e d m) (at + 2) ≡ d
-  unfolding numberAt
+  pub cell-den : twoCells (cellSet w at e d m) (at + 2) ≡ d
+  unfolding twoCells
   cell-den = omega (arith, at-2, at-3)
 
   pub cell-pt : pointAt (cellSet w at e d m) at ≡ m
   unfolding cellSet
-  cell-pt = getD-set-same w4 (at + 4) m 0 (rw (length-set w3 (at + 2 + 1) (d % 65536), length-set w2 (at + 2) (d / 65536), length-set w1 (at + 1) (e % 65536), length-set w at (e / 65536)) (omega arith))
+  cell-pt = getD-set-same w4 (at + 4) m 0 (rw
+      (length-set w3 (at + 2 + 1) (d % 65536), length-set w2 (at + 2) (d / 65536), length-set w1 (at + 1) (e % 65536), length-set w at (e / 65536))
+      (omega arith))
 
 -- ---- the left end of the first side to do
 
-pub left-none : (w : List ℕ) (d : ℕ) → d ≡ 0 → (999999999 ≡ leftNum w d) × (0 ≡ leftDen w d)
-left-none w d e = (sym (pick-true (eqb d 0) 999999999 (numberAt w (cell DONE (d - 1))) (eq-eqb d 0 e)), sym (pick-true (eqb d 0) 0 (numberAt w (cell DONE (d - 1) + 2)) (eq-eqb d 0 e)))
+pub left-none : (w : List ℕ) (d : ℕ) → d ≡ 0 → (999999999 ≡ leftEndNum w d) × (0 ≡ leftEndDen w d)
+left-none w d e = (
+  sym (pick-true (eqb d 0) 999999999 (twoCells w (cellPlace DONE (d - 1))) (eq-eqb d 0 e)),
+  sym
+      (pick-true (eqb d 0) 0 (twoCells w (cellPlace DONE (d - 1) + 2)) (eq-eqb d 0 e)),
+)
 
-pub left-some : (w : List ℕ) (d : ℕ) → (d ≡ 0 → ⊥) → (numberAt w (cell DONE (d - 1)) ≡ leftNum w d) × (numberAt w (cell DONE (d - 1) + 2) ≡ leftDen w d)
-left-some w d h = (sym (pick-false (eqb d 0) 999999999 (numberAt w (cell DONE (d - 1))) (ne-eqb d 0 h)), sym (pick-false (eqb d 0) 0 (numberAt w (cell DONE (d - 1) + 2)) (ne-eqb d 0 h)))
+pub left-some : (w : List ℕ) (d : ℕ) → (d ≡ 0 → ⊥) → (twoCells w (cellPlace DONE (d - 1)) ≡ leftEndNum w d) × (twoCells w (cellPlace DONE (d - 1) + 2) ≡ leftEndDen w d)
+left-some w d h = (
+  sym (pick-false (eqb d 0) 999999999 (twoCells w (cellPlace DONE (d - 1))) (ne-eqb d 0 h)),
+  sym
+      (pick-false (eqb d 0) 0 (twoCells w (cellPlace DONE (d - 1) + 2)) (ne-eqb d 0 h)),
+)
 
 -- ---- the test of a side
 
@@ -131,4 +146,5 @@ module _ (σ κ : ℕ → ℕ) (w : List ℕ) (m q : ℕ) (e : q ≡ κ m) where
   closed-odd t = sym (ap (λ (b : Bool). b || not (eqb (getD w (HELD + σ m) 0) 0)) (eq-eqb (κ m) m (sym e ∙ t)))
 
   pub closed-held : (q ≡ m → ⊥) → (x : ℕ) → x ≡ σ m → not (eqb (getD w (HELD + x) 0) 0) ≡ closedIn σ κ w m
-  closed-held f x d = ap (λ (y : ℕ). not (eqb (getD w (HELD + y) 0) 0)) d ∙ sym (ap (λ (b : Bool). b || not (eqb (getD w (HELD + σ m) 0) 0)) (ne-eqb (κ m) m (λ z. f (e ∙ z))))
+  closed-held f x d = ap (λ (y : ℕ). not (eqb (getD w (HELD + y) 0) 0)) d
+      ∙ sym (ap (λ (b : Bool). b || not (eqb (getD w (HELD + σ m) 0) 0)) (ne-eqb (κ m) m (λ z. f (e ∙ z))))

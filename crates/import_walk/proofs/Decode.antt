@@ -11,9 +11,9 @@ use lib.IntN.{ℤ, pos, negsuc, negℤ, natAbs, _+ℤ_, _-ℤ_, +ℤ-negℤ-canc
 use borrow.Author.Tests.{le-leb, leb-true}
 use Rattle.matrix.proofs.Integer.{abs-neg}
 use Rattle.matrix.proofs.Ring.{Exp, con, var, _⊕_, _⊙_, ⊖_, ring}
-use Rattle.symbol.proofs.Choice.{and-left, and-right}
+use Rattle.basics.proofs.Choice.{and-left, and-right}
 use Rattle.import_rule.specs.Side.{Vertex, vertex, mediant, fits, limit, minusInfinity}
-use Rattle.import_walk.specs.Inner.Work.{numberAt, endAt, lastIn, leftNum, leftDen, sumNum, sumDen, fitsIn, cell, DONE, TODO}
+use Rattle.import_walk.specs.Inner.Work.{twoCells, endAt, lastIn, leftEndNum, leftEndDen, sumNum, sumDen, fitsIn, cellPlace, DONE, TODO}
 use Rattle.import_walk.proofs.Cells.{left-none, left-some}
 use Rattle.import_rule.proofs.Theorem.{same-test}
 
@@ -71,16 +71,17 @@ fits-code l a b d = ap (λ (x : Bool). x && leb d l) (three l (a + b)) ∙ ap (�
 vertex-eq : {a a' : ℤ} {b b' : ℕ} → a ≡ a' → b ≡ b' → vertex a b ≡ vertex a' b'
 vertex-eq p q = λ i. vertex (p i) (q i)
 
-pub last-code : (w : List ℕ) (d : ℕ) → lastIn w d ≡ vertex (pos (leftNum w d) -ℤ pos limit) (leftDen w d)
+pub last-code : (w : List ℕ) (d : ℕ) → lastIn w d ≡ vertex (pos (leftEndNum w d) -ℤ pos limit) (leftEndDen w d)
 last-code w zero =
     let k = left-none w 0 refl in
     vertex-eq (sym (diff-below 999999999 limit (lit≤ tt)) ∙ ap (λ (x : ℕ). pos x -ℤ pos limit) (k .0)) (k .1)
 last-code w (suc d) =
     let k = left-some w (suc d) (λ e. omega arith) in
     let e : suc d - 1 ≡ d = omega arith in
-    vertex-eq (ap (λ (x : ℕ). pos (numberAt w (cell DONE x)) -ℤ pos limit) (sym e) ∙ ap (λ (x : ℕ). pos x -ℤ pos limit) (k .0)) (ap (λ (x : ℕ). numberAt w (cell DONE x + 2)) (sym e) ∙ k .1)
+    vertex-eq (ap (λ (x : ℕ). pos (twoCells w (cellPlace DONE x)) -ℤ pos limit) (sym e) ∙ ap (λ (x : ℕ). pos x -ℤ pos limit) (k .0))
+    (ap (λ (x : ℕ). twoCells w (cellPlace DONE x + 2)) (sym e) ∙ k .1)
 
-pub fits-in : (w : List ℕ) (d k : ℕ) → fitsIn w d k ≡ fits (mediant (lastIn w d) (endAt w (cell TODO (k - 1))))
+pub fits-in : (w : List ℕ) (d k : ℕ) → fitsIn w d k ≡ fits (mediant (lastIn w d) (endAt w (cellPlace TODO (k - 1))))
 fits-in w d k =
-    fits-code limit (leftNum w d) (numberAt w (cell TODO (k - 1))) (sumDen w d k)
-    ∙ ap (λ (x : Vertex). fits (mediant x (endAt w (cell TODO (k - 1))))) (sym (last-code w d))
+    fits-code limit (leftEndNum w d) (twoCells w (cellPlace TODO (k - 1))) (sumDen w d k)
+    ∙ ap (λ (x : Vertex). fits (mediant x (endAt w (cellPlace TODO (k - 1))))) (sym (last-code w d))

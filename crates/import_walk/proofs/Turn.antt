@@ -11,8 +11,8 @@ use native.Mathlib.Omega.{arith}
 use lib.Dec.{leb, eqb}
 use lib.ListN.{length, set, length-set}
 use borrow.Author.Tests.{le-leb, lt-leb, leb-true, eq-eqb, ne-eqb}
-use Rattle.matrix.specs.Euclid.{pick}
-use Rattle.symbol.proofs.Choice.{and-left, and-right, pick-true, pick-false}
+use Rattle.basics.specs.Choice.{pick}
+use Rattle.basics.proofs.Choice.{and-left, and-right, pick-true, pick-false}
 use Rattle.import_walk.specs.Inner.Work.{heldSet, cellSet, topPoint, splitBy, startBy, startIn}
 use Rattle.import_walk.proofs.Cells.{cell-length}
 
@@ -31,12 +31,17 @@ module _ (e c : ℕ) where
   within-high h = sym (ap (λ (b : Bool). b && leb c 1000000000) (and-false (leb 1000000000 e) (leb e 3000000000) (lt-leb e 3000000000 h)))
 
   pub within-both : 1000000000 ≤ e → e ≤ 3000000000 → leb c 1000000000 ≡ Test
-  within-both h k = sym (ap (λ (b : Bool). b && leb e 3000000000 && leb c 1000000000) (le-leb 1000000000 e h) ∙ ap (λ (b : Bool). b && leb c 1000000000) (le-leb e 3000000000 k))
+  within-both h k = sym (ap (λ (b : Bool). b && leb e 3000000000 && leb c 1000000000) (le-leb 1000000000 e h)
+      ∙ ap (λ (b : Bool). b && leb c 1000000000) (le-leb e 3000000000 k))
 
   pub within-tells : Test ≡ true → (1000000000 ≤ e) × (e ≤ 3000000000) × (c ≤ 1000000000)
   within-tells t =
-      let a = and-left (leb 1000000000 e && leb e 3000000000) (leb c 1000000000) t in
-      (leb-true 1000000000 e (and-left (leb 1000000000 e) (leb e 3000000000) a), leb-true e 3000000000 (and-right (leb 1000000000 e) (leb e 3000000000) a), leb-true c 1000000000 (and-right (leb 1000000000 e && leb e 3000000000) (leb c 1000000000) t))
+      let a = and-left (leb 1000000000 e && leb e 3000000000) (leb c 1000000000) t in (
+        leb-true 1000000000 e (and-left (leb 1000000000 e) (leb e 3000000000) a),
+        leb-true e 3000000000
+            (and-right (leb 1000000000 e) (leb e 3000000000) a),
+        leb-true c 1000000000 (and-right (leb 1000000000 e && leb e 3000000000) (leb c 1000000000) t),
+      )
 
 pub held-length : (w : List ℕ) (x m a b : ℕ) → length (heldSet w x m a b) ≡ length w
 held-length w x m a b = simp length-set
@@ -74,18 +79,23 @@ module _ (σ κ : ℕ → ℕ) (w w' : List ℕ) (o q : ℕ) (eo : o ≡ σ 0) (
       let f2 : p2 ≡ σ (κ (σ 0)) = e2 ∙ ap σ (ex ∙ ap κ eo) in
       let f1 : p1 ≡ σ (κ (κ (σ 0))) = e1 ∙ ap σ (ey ∙ ap κ (ex ∙ ap κ eo)) in
       e ∙ ap (λ (a : ℕ). startBy w 999999999 1000000000 a p1 0) f2 ∙ ap (λ (a : ℕ). startBy w 999999999 1000000000 (σ (κ (σ 0))) a 0) f1
-      ∙ sym (pick-true (eqb (κ 0) 0) (startBy w 999999999 1000000000 (σ (κ (σ 0))) (σ (κ (κ (σ 0)))) 0) (startBy w 1000000000 1000000001 (σ 0) (σ (κ 0)) (σ (κ (κ 0)))) (eq-eqb (κ 0) 0 (sym eq ∙ z)))
+      ∙ sym (pick-true (eqb (κ 0) 0) (startBy w 999999999 1000000000 (σ (κ (σ 0))) (σ (κ (κ (σ 0)))) 0)
+      (startBy w 1000000000 1000000001 (σ 0) (σ (κ 0)) (σ (κ (κ 0)))) (eq-eqb (κ 0) 0 (sym eq ∙ z)))
 
   pub start-high : (q ≡ 0 → ⊥) → (y p1 p0 : ℕ) → y ≡ κ q → p1 ≡ σ q → p0 ≡ σ y → w' ≡ startBy w 1000000000 1000000001 o p1 p0 → w' ≡ startIn σ κ w
   start-high z y p1 p0 ey e1 e0 e =
       let f1 : p1 ≡ σ (κ 0) = e1 ∙ ap σ eq in
       let f0 : p0 ≡ σ (κ (κ 0)) = e0 ∙ ap σ (ey ∙ ap κ eq) in
-      e ∙ ap (λ (a : ℕ). startBy w 1000000000 1000000001 a p1 p0) eo ∙ ap (λ (a : ℕ). startBy w 1000000000 1000000001 (σ 0) a p0) f1 ∙ ap (λ (a : ℕ). startBy w 1000000000 1000000001 (σ 0) (σ (κ 0)) a) f0
-      ∙ sym (pick-false (eqb (κ 0) 0) (startBy w 999999999 1000000000 (σ (κ (σ 0))) (σ (κ (κ (σ 0)))) 0) (startBy w 1000000000 1000000001 (σ 0) (σ (κ 0)) (σ (κ (κ 0)))) (ne-eqb (κ 0) 0 (λ t. z (eq ∙ t))))
+      e ∙ ap (λ (a : ℕ). startBy w 1000000000 1000000001 a p1 p0) eo ∙ ap (λ (a : ℕ). startBy w 1000000000 1000000001 (σ 0) a p0) f1
+      ∙ ap (λ (a : ℕ). startBy w 1000000000 1000000001 (σ 0) (σ (κ 0)) a) f0
+      ∙ sym (pick-false (eqb (κ 0) 0) (startBy w 999999999 1000000000 (σ (κ (σ 0))) (σ (κ (κ (σ 0)))) 0)
+      (startBy w 1000000000 1000000001 (σ 0) (σ (κ 0)) (σ (κ (κ 0)))) (ne-eqb (κ 0) 0 (λ t. z (eq ∙ t))))
 
-pub three-cells : (w h x y z : List ℕ) (e2 e1 p2 p1 p0 : ℕ) → h ≡ heldSet w 1 p2 p1 p0 → x ≡ cellSet h 20480 1000000001 0 p0 → y ≡ cellSet x (20480 + 5) e1 1 p1 → z ≡ cellSet y (20480 + 10) e2 1 p2 → z ≡ startBy w e2 e1 p2 p1 p0
+pub three-cells : (w h x y z : List ℕ) (e2 e1 p2 p1 p0 : ℕ) → h ≡ heldSet w 1 p2 p1 p0 → x ≡ cellSet h 20480 1000000001 0 p0 → y ≡ cellSet x (20480 + 5) e1 1 p1
+    → z ≡ cellSet y (20480 + 10) e2 1 p2 → z ≡ startBy w e2 e1 p2 p1 p0
 three-cells w h x y z e2 e1 p2 p1 p0 a b c d =
-    d ∙ ap (λ (t : List ℕ). cellSet t (20480 + 10) e2 1 p2) (c ∙ ap (λ (t : List ℕ). cellSet t (20480 + 5) e1 1 p1) (b ∙ ap (λ (t : List ℕ). cellSet t 20480 1000000001 0 p0) a))
+    d ∙ ap (λ (t : List ℕ). cellSet t (20480 + 10) e2 1 p2)
+    (c ∙ ap (λ (t : List ℕ). cellSet t (20480 + 5) e1 1 p1) (b ∙ ap (λ (t : List ℕ). cellSet t 20480 1000000001 0 p0) a))
 
 -- what the loop's turn keeps of the length
 pub low-less : (x n m : ℕ) → x < n → n ≤ 3066 → m ≡ 4096 → x < m
@@ -101,6 +111,7 @@ start-length σ κ w w' e = ap length e ∙ go (eqb (κ 0) 0)
         ∙ cell-length (heldSet w 1 p2 p1 p0) 20480 1000000001 0 p0
         ∙ simp length-set
 
-    go : (b : Bool) → length (pick b (startBy w 999999999 1000000000 (σ (κ (σ 0))) (σ (κ (κ (σ 0)))) 0) (startBy w 1000000000 1000000001 (σ 0) (σ (κ 0)) (σ (κ (κ 0))))) ≡ length w
+    go : (b : Bool) → length (pick b (startBy w 999999999 1000000000 (σ (κ (σ 0))) (σ (κ (κ (σ 0)))) 0)
+        (startBy w 1000000000 1000000001 (σ 0) (σ (κ 0)) (σ (κ (κ 0))))) ≡ length w
     go true = by 999999999 1000000000 (σ (κ (σ 0))) (σ (κ (κ (σ 0)))) 0
     go false = by 1000000000 1000000001 (σ 0) (σ (κ 0)) (σ (κ (κ 0)))

@@ -18,12 +18,14 @@ use lib.ListN.{length, getD, set, length-set, length-append}
 use lib.Seq.{getD-set-same, getD-set-other}
 use lib.IntN.{ℤ, pos, _-ℤ_, _+ℤ_}
 use borrow.Author.Tests.{eq-eqb, ne-eqb, eqb-true}
-use Rattle.matrix.specs.Euclid.{pick}
-use Rattle.symbol.proofs.Choice.{either, clash, and-left, and-right}
+use Rattle.basics.specs.Choice.{pick}
+use Rattle.basics.proofs.Choice.{either, clash, and-left, and-right}
 use Rattle.import_rule.specs.Fixed.{image, byQ, Pair}
 use Rattle.import_rule.specs.Side.{Vertex, vertex, minusInfinity, mediant, fits, limit}
-use Rattle.import_rule.specs.Inner.Placed.{Placed, placed, pts, finished, refused, lowerAt, upperAt, grow}
-use Rattle.import_walk.specs.Inner.Work.{LABEL, HELD, DONE, TODO, cell, numberAt, endAt, pointAt, lastIn, doneIn, todoIn, cellSet, leftNum, leftDen, sumNum, sumDen, fitsIn, topPoint, movedIn, heldSet, closedIn, splitBy, splitIn, Turned, moved, over, parted, Top}
+use Rattle.import_rule.specs.Inner.Placed.{Placed, placedSide, pts, finished, refused, lowerAt, upperAt, grow}
+use Rattle.import_walk.specs.Inner.Work.{LABEL, HELD, DONE, TODO, cellPlace, twoCells, endAt, pointAt, lastIn, doneIn, todoIn, cellSet}
+use Rattle.import_walk.specs.Inner.Work.{leftEndNum, leftEndDen, sumNum, sumDen, fitsIn, topPoint, movedIn, heldSet, closedIn, splitBy, splitIn}
+use Rattle.import_walk.specs.Inner.Work.{SideTaken, moved, over, parted, Top}
 use Rattle.import_rule.proofs.Member.{In, in-left, in-right, in-is}
 use Rattle.import_rule.proofs.Lead.{Turning, turning}
 use Rattle.import_rule.proofs.Split.{Closed, in-pts, Pt, pt-of, split-from, beside-in, beside-other, Beside, t1, t2}
@@ -50,36 +52,38 @@ end-same a b at w w' s h k =
 pub point-same : (a b at : ℕ) (w w' : List ℕ) → Same a b w w' → a ≤ at → at + 5 ≤ b → pointAt w' at ≡ pointAt w at
 point-same a b at w w' s h k = s .each (at + 4) (omega arith) (omega arith)
 
-last-same : (w w' : List ℕ) (d e : ℕ) → d ≤ e → Same DONE (cell DONE e) w w' → lastIn w' d ≡ lastIn w d
+last-same : (w w' : List ℕ) (d e : ℕ) → d ≤ e → Same DONE (cellPlace DONE e) w w' → lastIn w' d ≡ lastIn w d
 last-same w w' zero e h s = refl
-last-same w w' (suc d) e h s = end-same DONE (cell DONE e) (cell DONE d) w w' s (omega arith) (omega arith)
+last-same w w' (suc d) e h s = end-same DONE (cellPlace DONE e) (cellPlace DONE d) w w' s (omega arith) (omega arith)
 
-pub placed-eq : {x x' y y' : Vertex} {m m' : ℕ} → x ≡ x' → y ≡ y' → m ≡ m' → placed x y m ≡ placed x' y' m'
-placed-eq p q r = λ i. placed (p i) (q i) (r i)
+pub placed-eq : {x x' y y' : Vertex} {m m' : ℕ} → x ≡ x' → y ≡ y' → m ≡ m' → placedSide x y m ≡ placedSide x' y' m'
+placed-eq p q r = λ i. placedSide (p i) (q i) (r i)
 
-done-same : (w w' : List ℕ) (d e : ℕ) → d ≤ e → Same DONE (cell DONE e) w w' → doneIn w' d ≡ doneIn w d
+done-same : (w w' : List ℕ) (d e : ℕ) → d ≤ e → Same DONE (cellPlace DONE e) w w' → doneIn w' d ≡ doneIn w d
 done-same w w' zero e h s = refl
 done-same w w' (suc d) e h s =
     let a = done-same w w' d e (omega arith) s in
-    let b = placed-eq (last-same w w' d e (omega arith) s) (end-same DONE (cell DONE e) (cell DONE d) w w' s (omega arith) (omega arith)) (point-same DONE (cell DONE e) (cell DONE d) w w' s (omega arith) (omega arith)) in
+    let b = placed-eq (last-same w w' d e (omega arith) s) (end-same DONE (cellPlace DONE e) (cellPlace DONE d) w w' s (omega arith) (omega arith))
+    (point-same DONE (cellPlace DONE e) (cellPlace DONE d) w w' s (omega arith) (omega arith)) in
     λ i. a i ++ (b i ∷ [])
 
-todo-same : (w w' : List ℕ) (k e : ℕ) (x : Vertex) → k ≤ e → Same TODO (cell TODO e) w w' → todoIn x w' k ≡ todoIn x w k
+todo-same : (w w' : List ℕ) (k e : ℕ) (x : Vertex) → k ≤ e → Same TODO (cellPlace TODO e) w w' → todoIn x w' k ≡ todoIn x w k
 todo-same w w' zero e x h s = refl
 todo-same w w' (suc k) e x h s =
-    let p = end-same TODO (cell TODO e) (cell TODO k) w w' s (omega arith) (omega arith) in
-    let q = point-same TODO (cell TODO e) (cell TODO k) w w' s (omega arith) (omega arith) in
+    let p = end-same TODO (cellPlace TODO e) (cellPlace TODO k) w w' s (omega arith) (omega arith) in
+    let q = point-same TODO (cellPlace TODO e) (cellPlace TODO k) w w' s (omega arith) (omega arith) in
     let a = placed-eq {x = x} refl p q in
-    let b = ap (λ (y : Vertex). todoIn y w' k) p ∙ todo-same w w' k e (endAt w (cell TODO k)) (omega arith) s in
+    let b = ap (λ (y : Vertex). todoIn y w' k) p ∙ todo-same w w' k e (endAt w (cellPlace TODO k)) (omega arith) s in
     λ i. a i ∷ b i
 
 pub length-done : (w : List ℕ) (d : ℕ) → length (doneIn w d) ≡ d
 length-done w zero = refl
-length-done w (suc d) = length-append (doneIn w d) (placed (lastIn w d) (endAt w (cell DONE d)) (pointAt w (cell DONE d)) ∷ []) ∙ omega (arith, length-done w d)
+length-done w (suc d) = length-append (doneIn w d) (placedSide (lastIn w d) (endAt w (cellPlace DONE d)) (pointAt w (cellPlace DONE d)) ∷ [])
+    ∙ omega (arith, length-done w d)
 
 pub length-todo : (x : Vertex) (w : List ℕ) (k : ℕ) → length (todoIn x w k) ≡ k
 length-todo x w zero = refl
-length-todo x w (suc k) = ap suc (length-todo (endAt w (cell TODO k)) w k)
+length-todo x w (suc k) = ap suc (length-todo (endAt w (cellPlace TODO k)) w k)
 
 -- ---- HELD
 
@@ -113,7 +117,8 @@ held-same n w w' l top s h low = record {
 }
 
 -- after a split: m is gone, a and b are there
-module _ (σ κ : ℕ → ℕ) (n : ℕ) (T : Turning σ κ n) (top : n ≤ 4096) (C before : List Placed) (s : Placed) (after : List Placed) (inv : Inv σ κ n C (before ++ (s ∷ after)))
+module _ (σ κ : ℕ → ℕ) (n : ℕ) (T : Turning σ κ n) (top : n ≤ 4096) (C before : List Placed) (s : Placed) (after : List Placed)
+    (inv : Inv σ κ n C (before ++ (s ∷ after)))
     (none : ¬ (Closed σ κ (pts (before ++ (s ∷ after))) (s .pt))) (w w' : List ℕ) (long : 12288 ≤ length w) (held : HeldIn n w (before ++ (s ∷ after)))
     (is : (x : ℕ) → x < n → getD w' (HELD + x) 0 ≡ getD (heldSet w 0 (s .pt) (σ (κ (s .pt))) (σ (κ (κ (s .pt))))) (HELD + x) 0) where
   abbrev m : ℕ
@@ -143,7 +148,8 @@ module _ (σ κ : ℕ → ℕ) (n : ℕ) (T : Turning σ κ n) (top : n ≤ 4096
   at-b : (x : ℕ) → x ≡ b → getD (heldSet w 0 m a b) (HELD + x) 0 ≡ 1
   at-b x e =
       ap (λ (y : ℕ). getD (heldSet w 0 m a b) (HELD + y) 0) e
-      ∙ getD-set-same (set (set w (HELD + m) 0) (HELD + a) 1) (HELD + b) 1 0 (rw (length-set (set w (HELD + m) 0) (HELD + a) 1, length-set w (HELD + m) 0) (omega (arith, b-low)))
+      ∙ getD-set-same (set (set w (HELD + m) 0) (HELD + a) 1) (HELD + b) 1 0
+      (rw (length-set (set w (HELD + m) 0) (HELD + a) 1, length-set w (HELD + m) 0) (omega (arith, b-low)))
 
   at-a : (x : ℕ) → ¬ (x ≡ b) → x ≡ a → getD (heldSet w 0 m a b) (HELD + x) 0 ≡ 1
   at-a x nb e =
@@ -180,10 +186,16 @@ module _ (σ κ : ℕ → ℕ) (n : ℕ) (T : Turning σ κ n) (top : n ≤ 4096
   was : (x : ℕ) → In x (pts new) → (x ≡ a) ⊎ (x ≡ b) ⊎ (In x (pts old) × ¬ (x ≡ m))
   was x i = let k = pt-of x new i in go (k .side) (k .pt) (split-from s (lowerAt σ κ s) (upperAt σ κ s) after (k .side) before (k .among))
     where
-      go : (v : Placed) → x ≡ v .pt → (v ≡ lowerAt σ κ s) ⊎ (v ≡ upperAt σ κ s) ⊎ Beside s (lowerAt σ κ s) (upperAt σ κ s) after v before → (x ≡ a) ⊎ (x ≡ b) ⊎ (In x (pts old) × ¬ (x ≡ m))
+      go : (v : Placed) → x ≡ v .pt → (v ≡ lowerAt σ κ s) ⊎ (v ≡ upperAt σ κ s) ⊎ Beside s (lowerAt σ κ s) (upperAt σ κ s) after v before → (x ≡ a) ⊎ (x ≡ b)
+          ⊎ (In x (pts old) × ¬ (x ≡ m))
       go v p (inl e) = inl (p ∙ ap (λ (y : Placed). y .pt) e)
       go v p (inr (inl e)) = inr (inl (p ∙ ap (λ (y : Placed). y .pt) e))
-      go v p (inr (inr h)) = inr (inr (in-is _ _ (pts old) (sym p) (in-pts v old (beside-in s (lowerAt σ κ s) (upperAt σ κ s) after v before h)), (λ e. beside-other s (lowerAt σ κ s) (upperAt σ κ s) after v before (inv .apart) h (sym p ∙ e))))
+      go v p (inr (inr h)) = inr (inr (
+        in-is _ _ (pts old) (sym p)
+            (in-pts v old (beside-in s (lowerAt σ κ s) (upperAt σ κ s) after v before h)),
+        (λ e. beside-other s (lowerAt σ κ s) (upperAt σ κ s) after v before
+            (inv .apart) h (sym p ∙ e)),
+      ))
 
   pub held-split : HeldIn n w' new
   held-split = record { yes = yes'; no = no' }
@@ -252,12 +264,12 @@ module _ (s r : List ℕ) (start : List Placed) where
 
   -- the first side to do
   abbrev first : List ℕ → (d k : ℕ) → Placed
-  first w d k = placed (lastIn w d) (endAt w (cell TODO k)) (pointAt w (cell TODO k))
+  first w d k = placedSide (lastIn w d) (endAt w (cellPlace TODO k)) (pointAt w (cellPlace TODO k))
 
   abbrev rest : List ℕ → (k : ℕ) → List Placed
-  rest w k = todoIn (endAt w (cell TODO k)) w k
+  rest w k = todoIn (endAt w (cellPlace TODO k)) w k
 
-  first-low : (w : List ℕ) (d k : ℕ) → Walking s r start w d (suc k) → pointAt w (cell TODO k) < n
+  first-low : (w : List ℕ) (d k : ℕ) → Walking s r start w d (suc k) → pointAt w (cellPlace TODO k) < n
   first-low w d k g = g .going .inv .low (first w d k) (in-right (first w d k) (doneIn w d) (first w d k ∷ rest w k) (inl refl))
 
   pub walk-top : (w : List ℕ) (d k : ℕ) → Walking s r start w d k → 1 ≤ k → Top s r w d k
@@ -270,10 +282,10 @@ module _ (s r : List ℕ) (start : List Placed) where
 
   module _ (w : List ℕ) (d k : ℕ) (g : Walking s r start w d (suc k)) where
     abbrev at : ℕ
-    at = cell DONE d
+    at = cellPlace DONE d
 
     abbrev w' : List ℕ
-    w' = cellSet w (cell DONE d) (numberAt w (cell TODO k)) (numberAt w (cell TODO k + 2)) (pointAt w (cell TODO k))
+    w' = cellSet w (cellPlace DONE d) (twoCells w (cellPlace TODO k)) (twoCells w (cellPlace TODO k + 2)) (pointAt w (cellPlace TODO k))
 
     size : d + suc k ≤ 1024
     size = walk-size w d (suc k) g
@@ -282,68 +294,74 @@ module _ (s r : List ℕ) (start : List Placed) where
     room = omega (arith, size, g .long)
 
     same : (a b : ℕ) → (b ≤ at) ⊎ (at + 5 ≤ a) → Same a b w w'
-    same a b o = record { each = λ j x y. cell-other w at (numberAt w (cell TODO k)) (numberAt w (cell TODO k + 2)) (pointAt w (cell TODO k)) j (side j x y o) }
+    same a b o = record {
+      each = λ j x y. cell-other w at (twoCells w (cellPlace TODO k)) (twoCells w (cellPlace TODO k + 2)) (pointAt w (cellPlace TODO k)) j
+          (side j x y o);
+    }
       where
         side : (j : ℕ) → a ≤ j → j < b → (b ≤ at) ⊎ (at + 5 ≤ a) → (j < at) ⊎ (at + 5 ≤ j)
         side j x y (inl h) = inl (omega arith)
         side j x y (inr h) = inr (omega arith)
 
-    end-is : endAt w' at ≡ endAt w (cell TODO k)
+    end-is : endAt w' at ≡ endAt w (cellPlace TODO k)
     end-is = vertex-eq
-        (ap (λ (x : ℕ). pos x -ℤ pos limit) (cell-num w at (numberAt w (cell TODO k)) (numberAt w (cell TODO k + 2)) (pointAt w (cell TODO k)) room))
-        (cell-den w at (numberAt w (cell TODO k)) (numberAt w (cell TODO k + 2)) (pointAt w (cell TODO k)) room)
+        (ap (λ (x : ℕ). pos x -ℤ pos limit) (cell-num w at (twoCells w (cellPlace TODO k)) (twoCells w (cellPlace TODO k + 2)) (pointAt w (cellPlace TODO k)) room))
+        (cell-den w at (twoCells w (cellPlace TODO k)) (twoCells w (cellPlace TODO k + 2)) (pointAt w (cellPlace TODO k)) room)
 
     done-is : doneIn w' (suc d) ≡ doneIn w d ++ (first w d k ∷ [])
     done-is =
-        let a = done-same w w' d d (omega arith) (same DONE (cell DONE d) (inl (omega arith))) in
-        let b = placed-eq (last-same w w' d d (omega arith) (same DONE (cell DONE d) (inl (omega arith)))) end-is (cell-pt w at (numberAt w (cell TODO k)) (numberAt w (cell TODO k + 2)) (pointAt w (cell TODO k)) room) in
+        let a = done-same w w' d d (omega arith) (same DONE (cellPlace DONE d) (inl (omega arith))) in
+        let b = placed-eq (last-same w w' d d (omega arith) (same DONE (cellPlace DONE d) (inl (omega arith)))) end-is
+        (cell-pt w at (twoCells w (cellPlace TODO k)) (twoCells w (cellPlace TODO k + 2)) (pointAt w (cellPlace TODO k)) room) in
         λ i. a i ++ (b i ∷ [])
 
     todo-is : todoIn (lastIn w' (suc d)) w' k ≡ rest w k
-    todo-is = ap (λ (x : Vertex). todoIn x w' k) end-is ∙ todo-same w w' k k (endAt w (cell TODO k)) (omega arith) (same TODO (cell TODO k) (inr (omega (arith, size))))
+    todo-is = ap (λ (x : Vertex). todoIn x w' k) end-is
+        ∙ todo-same w w' k k (endAt w (cellPlace TODO k)) (omega arith) (same TODO (cellPlace TODO k) (inr (omega (arith, size))))
 
     both-is : doneIn w' (suc d) ++ todoIn (lastIn w' (suc d)) w' k ≡ doneIn w d ++ (first w d k ∷ rest w k)
     both-is = (λ i. done-is i ++ todo-is i) ∙ snoc (doneIn w d) (first w d k) (rest w k)
 
-    pub walk-move : closedIn σ κ w (pointAt w (cell TODO k)) ≡ true → Walking s r start w' (suc d) k
+    pub walk-move : closedIn σ κ w (pointAt w (cellPlace TODO k)) ≡ true → Walking s r start w' (suc d) k
     walk-move e =
         let T = turn-of (g .pair) in
         let low = T .σ-low _ (first-low w d k g) in
-        let c = held-closed σ κ n w (doneIn w d ++ (first w d k ∷ rest w k)) (pointAt w (cell TODO k)) (g .held) low e in
+        let c = held-closed σ κ n w (doneIn w d ++ (first w d k ∷ rest w k)) (pointAt w (cellPlace TODO k)) (g .held) low e in
         record {
           pair = g .pair;
-          long = rw (cell-length w at (numberAt w (cell TODO k)) (numberAt w (cell TODO k + 2)) (pointAt w (cell TODO k))) (g .long);
+          long = rw (cell-length w at (twoCells w (cellPlace TODO k)) (twoCells w (cellPlace TODO k + 2)) (pointAt w (cellPlace TODO k))) (g .long);
           going = rw (done-is, todo-is) (going-move σ κ n start T (doneIn w d) (first w d k) (rest w k) (g .going) c);
-          held = rw both-is (held-same n w w' (doneIn w d ++ (first w d k ∷ rest w k)) (omega (arith, g .pair .most)) (same HELD DONE (inl (omega arith))) (g .held) (points-low w d (suc k) g));
+          held = rw both-is (held-same n w w' (doneIn w d ++ (first w d k ∷ rest w k)) (omega (arith, g .pair .most)) (same HELD DONE (inl (omega arith)))
+              (g .held) (points-low w d (suc k) g));
           labels = λ x h. same LABEL HELD (inl (omega arith)) .each (LABEL + x) (omega arith) (omega arith) ∙ g .labels x h;
         }
 
   -- ---- a side split
 
-  module _ (w : List ℕ) (d k : ℕ) (g : Walking s r start w d (suc k)) (e : closedIn σ κ w (pointAt w (cell TODO k)) ≡ false) where
+  module _ (w : List ℕ) (d k : ℕ) (g : Walking s r start w d (suc k)) (e : closedIn σ κ w (pointAt w (cellPlace TODO k)) ≡ false) where
     abbrev pm : ℕ
-    pm = pointAt w (cell TODO k)
+    pm = pointAt w (cellPlace TODO k)
 
     abbrev pa : ℕ
-    pa = σ (κ (pointAt w (cell TODO k)))
+    pa = σ (κ (pointAt w (cellPlace TODO k)))
 
     abbrev pb : ℕ
-    pb = σ (κ (κ (pointAt w (cell TODO k))))
+    pb = σ (κ (κ (pointAt w (cellPlace TODO k))))
 
     abbrev num : ℕ
-    num = leftNum w d + numberAt w (cell TODO k)
+    num = leftEndNum w d + twoCells w (cellPlace TODO k)
 
     abbrev den : ℕ
-    den = leftDen w d + numberAt w (cell TODO k + 2)
+    den = leftEndDen w d + twoCells w (cellPlace TODO k + 2)
 
     abbrev w1 : List ℕ
     w1 = heldSet w 0 pm pa pb
 
     abbrev w2 : List ℕ
-    w2 = set (heldSet w 0 pm pa pb) (cell TODO k + 4) pb
+    w2 = set (heldSet w 0 pm pa pb) (cellPlace TODO k + 4) pb
 
     abbrev w3 : List ℕ
-    w3 = cellSet (set (heldSet w 0 pm pa pb) (cell TODO k + 4) pb) (cell TODO (suc k)) (num - 1000000000) den pa
+    w3 = cellSet (set (heldSet w 0 pm pa pb) (cellPlace TODO k + 4) pb) (cellPlace TODO (suc k)) (num - 1000000000) den pa
 
     sized : d + suc k ≤ 1024
     sized = walk-size w d (suc k) g
@@ -351,7 +369,7 @@ module _ (s r : List ℕ) (start : List Placed) where
     none : ¬ (Closed σ κ (pts (doneIn w d ++ (first w d k ∷ rest w k))) pm)
     none = held-open σ κ n w (doneIn w d ++ (first w d k ∷ rest w k)) pm (g .held) e
 
-    pub walk-over : fits (mediant (lastIn w d) (endAt w (cell TODO k))) ≡ false → grow σ κ n start ≡ refused d
+    pub walk-over : fits (mediant (lastIn w d) (endAt w (cellPlace TODO k))) ≡ false → grow σ κ n start ≡ refused d
     walk-over f = going-over σ κ n start (turn-of (g .pair)) (doneIn w d) (first w d k) (rest w k) (g .going) none f ∙ ap refused (length-done w d)
 
     lows : (pm < 4096) × (pa < 4096) × (pb < 4096)
@@ -367,7 +385,7 @@ module _ (s r : List ℕ) (start : List Placed) where
     long1 = held-length w 0 pm pa pb
 
     long2 : length w2 ≡ length w
-    long2 = length-set (heldSet w 0 pm pa pb) (cell TODO k + 4) pb ∙ long1
+    long2 = length-set (heldSet w 0 pm pa pb) (cellPlace TODO k + 4) pb ∙ long1
 
     -- outside HELD nothing changed but the point and the new cell
     read1 : (j : ℕ) → (j < HELD) ⊎ (DONE ≤ j) → getD w1 j 0 ≡ getD w j 0
@@ -380,57 +398,62 @@ module _ (s r : List ℕ) (start : List Placed) where
         away : (x : ℕ) → x < 4096 → j ≡ HELD + x → ⊥
         away x h q = elim o [ inl y ↦ omega arith | inr y ↦ omega arith ]
 
-    read3 : (j : ℕ) → ¬ (j ≡ cell TODO k + 4) → j < cell TODO (suc k) → getD w3 j 0 ≡ getD w1 j 0
-    read3 j h l = cell-other w2 (cell TODO (suc k)) (num - 1000000000) den pa j (inl l) ∙ getD-set-other (heldSet w 0 pm pa pb) (cell TODO k + 4) j pb 0 h
+    read3 : (j : ℕ) → ¬ (j ≡ cellPlace TODO k + 4) → j < cellPlace TODO (suc k) → getD w3 j 0 ≡ getD w1 j 0
+    read3 j h l = cell-other w2 (cellPlace TODO (suc k)) (num - 1000000000) den pa j (inl l) ∙ getD-set-other (heldSet w 0 pm pa pb) (cellPlace TODO k + 4) j pb 0 h
 
-    kept-same : (x y : ℕ) → (y ≤ HELD) ⊎ (DONE ≤ x) → y ≤ cell TODO k + 4 → Same x y w w3
+    kept-same : (x y : ℕ) → (y ≤ HELD) ⊎ (DONE ≤ x) → y ≤ cellPlace TODO k + 4 → Same x y w w3
     kept-same x y o h = record { each = λ j p q. read3 j (λ z. omega arith) (omega arith) ∙ read1 j (side j p q o) }
       where
         side : (j : ℕ) → x ≤ j → j < y → (y ≤ HELD) ⊎ (DONE ≤ x) → (j < HELD) ⊎ (DONE ≤ j)
         side j p q (inl z) = inl (omega arith)
         side j p q (inr z) = inr (omega arith)
 
-    room2 : cell TODO (suc k) + 5 ≤ length w2
+    room2 : cellPlace TODO (suc k) + 5 ≤ length w2
     room2 = rw long2 (omega (arith, sized, g .long))
 
-    new-end : 1000000000 ≤ num → endAt w3 (cell TODO (suc k)) ≡ mediant (lastIn w d) (endAt w (cell TODO k))
+    new-end : 1000000000 ≤ num → endAt w3 (cellPlace TODO (suc k)) ≡ mediant (lastIn w d) (endAt w (cellPlace TODO k))
     new-end h =
         vertex-eq
-        (ap (λ (x : ℕ). pos x -ℤ pos limit) (cell-num w2 (cell TODO (suc k)) (num - 1000000000) den pa room2) ∙ sum-code limit (leftNum w d) (numberAt w (cell TODO k)) h)
-        (cell-den w2 (cell TODO (suc k)) (num - 1000000000) den pa room2)
-        ∙ ap (λ (x : Vertex). mediant x (endAt w (cell TODO k))) (sym (last-code w d))
+        (ap (λ (x : ℕ). pos x -ℤ pos limit) (cell-num w2 (cellPlace TODO (suc k)) (num - 1000000000) den pa room2)
+        ∙ sum-code limit (leftEndNum w d) (twoCells w (cellPlace TODO k)) h)
+        (cell-den w2 (cellPlace TODO (suc k)) (num - 1000000000) den pa room2)
+        ∙ ap (λ (x : Vertex). mediant x (endAt w (cellPlace TODO k))) (sym (last-code w d))
 
-    new-point : pointAt w3 (cell TODO (suc k)) ≡ pa
-    new-point = cell-pt w2 (cell TODO (suc k)) (num - 1000000000) den pa room2
+    new-point : pointAt w3 (cellPlace TODO (suc k)) ≡ pa
+    new-point = cell-pt w2 (cellPlace TODO (suc k)) (num - 1000000000) den pa room2
 
-    old-end : endAt w3 (cell TODO k) ≡ endAt w (cell TODO k)
+    old-end : endAt w3 (cellPlace TODO k) ≡ endAt w (cellPlace TODO k)
     old-end =
-        let s' = kept-same (cell TODO k) (cell TODO k + 4) (inr (omega arith)) (omega arith) in
+        let s' = kept-same (cellPlace TODO k) (cellPlace TODO k + 4) (inr (omega arith)) (omega arith) in
         vertex-eq
-        (ap (λ (x : ℕ). pos x -ℤ pos limit) (number-same w w3 (cell TODO k) (s' .each (cell TODO k) (omega arith) (omega arith)) (s' .each (cell TODO k + 1) (omega arith) (omega arith))))
-        (number-same w w3 (cell TODO k + 2) (s' .each (cell TODO k + 2) (omega arith) (omega arith)) (s' .each (cell TODO k + 2 + 1) (omega arith) (omega arith)))
+        (ap (λ (x : ℕ). pos x -ℤ pos limit) (number-same w w3 (cellPlace TODO k) (s' .each (cellPlace TODO k) (omega arith) (omega arith))
+        (s' .each (cellPlace TODO k + 1) (omega arith) (omega arith))))
+        (number-same w w3 (cellPlace TODO k + 2) (s' .each (cellPlace TODO k + 2) (omega arith) (omega arith))
+        (s' .each (cellPlace TODO k + 2 + 1) (omega arith) (omega arith)))
 
-    old-point : pointAt w3 (cell TODO k) ≡ pb
-    old-point = cell-other w2 (cell TODO (suc k)) (num - 1000000000) den pa (cell TODO k + 4) (inl (omega arith)) ∙ getD-set-same (heldSet w 0 pm pa pb) (cell TODO k + 4) pb 0 (rw long1 (omega (arith, sized, g .long)))
+    old-point : pointAt w3 (cellPlace TODO k) ≡ pb
+    old-point = cell-other w2 (cellPlace TODO (suc k)) (num - 1000000000) den pa (cellPlace TODO k + 4) (inl (omega arith))
+        ∙ getD-set-same (heldSet w 0 pm pa pb) (cellPlace TODO k + 4) pb 0 (rw long1 (omega (arith, sized, g .long)))
 
-    done-kept : Same DONE (cell DONE d) w w3
-    done-kept = kept-same DONE (cell DONE d) (inr (omega arith)) (omega (arith, sized))
+    done-kept : Same DONE (cellPlace DONE d) w w3
+    done-kept = kept-same DONE (cellPlace DONE d) (inr (omega arith)) (omega (arith, sized))
 
     parted-is : 1000000000 ≤ num → todoIn (lastIn w3 d) w3 (suc (suc k)) ≡ lowerAt σ κ (first w d k) ∷ upperAt σ κ (first w d k) ∷ rest w k
     parted-is h =
         let p = placed-eq (last-same w w3 d d (omega arith) done-kept) (new-end h) new-point in
         let q = placed-eq (new-end h) old-end old-point in
-        let t = ap (λ (x : Vertex). todoIn x w3 k) old-end ∙ todo-same w w3 k k (endAt w (cell TODO k)) (omega arith) (kept-same TODO (cell TODO k) (inr (omega arith)) (omega arith)) in
+        let t = ap (λ (x : Vertex). todoIn x w3 k) old-end
+        ∙ todo-same w w3 k k (endAt w (cellPlace TODO k)) (omega arith) (kept-same TODO (cellPlace TODO k) (inr (omega arith)) (omega arith)) in
         λ i. p i ∷ q i ∷ t i
 
     done-parted : doneIn w3 d ≡ doneIn w d
     done-parted = done-same w w3 d d (omega arith) done-kept
 
-    pub walk-split : fitsIn w d (suc k) ≡ true → fits (mediant (lastIn w d) (endAt w (cell TODO k))) ≡ true → Walking s r start w3 d (suc (suc k))
+    pub walk-split : fitsIn w d (suc k) ≡ true → fits (mediant (lastIn w d) (endAt w (cellPlace TODO k))) ≡ true → Walking s r start w3 d (suc (suc k))
     walk-split t f =
         let T = turn-of (g .pair) in
         let wide = within-tells num den (rw (pred k) at t) .0 in
-        let long3 = cell-length w2 (cell TODO (suc k)) (num - 1000000000) den pa ∙ long2 in
+        let long3 = cell-length w2 (cellPlace TODO (suc k)) (num - 1000000000) den pa ∙ long2 in
         let i = g .going .inv in
         let hs = held-split σ κ n T (omega (arith, g .pair .most)) (g .going .tris) (doneIn w d) (first w d k) (rest w k) i none w w3 (omega (arith, g .long)) (g .held)
         (λ x h. let z = g .pair .most in read3 (HELD + x) (λ q. omega arith) (omega arith)) in
@@ -444,43 +467,48 @@ module _ (s r : List ℕ) (start : List Placed) where
 
   -- ---- one turn, and the end
 
-  pub walk-turn : (w w' : List ℕ) (d k d' k' : ℕ) (stop : Bool) → Walking s r start w d k → 1 ≤ k → Turned σ κ w d k w' stop d' k' → stop ≡ false → Walking s r start w' d' k'
+  pub walk-turn : (w w' : List ℕ) (d k d' k' : ℕ) (stop : Bool) → Walking s r start w d k → 1 ≤ k → SideTaken σ κ w d k w' stop d' k' → stop ≡ false
+      → Walking s r start w' d' k'
   walk-turn w w' d zero d' k' stop g h t e = absurd (omega arith)
   walk-turn w w' d (suc k) d' k' stop g h (moved c p q u v) e =
       let dd : d' ≡ suc d = u ∙ more d in
       let kk : k' ≡ k = v ∙ pred k in
-      let ww : w' ≡ cellSet w (cell DONE d) (numberAt w (cell TODO k)) (numberAt w (cell TODO k + 2)) (pointAt w (cell TODO k)) = rw (pred k) at p in
+      let ww : w' ≡ cellSet w (cellPlace DONE d) (twoCells w (cellPlace TODO k)) (twoCells w (cellPlace TODO k + 2)) (pointAt w (cellPlace TODO k)) =
+      rw (pred k) at p in
       rw (dd, kk, ww) (walk-move w d k g (rw (pred k) at c))
   walk-turn w w' d (suc k) d' k' stop g h (over c f p q u) e = clash q e
   walk-turn w w' d (suc k) d' k' stop g h (parted c f p q u v) e =
       let dd : d' ≡ d = u in
       let kk : k' ≡ suc (suc k) = v ∙ more (suc k) in
-      let c' : closedIn σ κ w (pointAt w (cell TODO k)) ≡ false = rw (pred k) at c in
+      let c' : closedIn σ κ w (pointAt w (cellPlace TODO k)) ≡ false = rw (pred k) at c in
       let ww = rw (pred k) at p in
-      let f' : fits (mediant (lastIn w d) (endAt w (cell TODO k))) ≡ true = rw (pred k) at (sym (fits-in w d (suc k)) ∙ f) in
+      let f' : fits (mediant (lastIn w d) (endAt w (cellPlace TODO k))) ≡ true = rw (pred k) at (sym (fits-in w d (suc k)) ∙ f) in
       rw (dd, kk, ww) (walk-split w d k g c' f f')
 
-  pub walk-stop : (w w' : List ℕ) (d k d' k' : ℕ) (stop : Bool) → Walking s r start w d k → 1 ≤ k → Turned σ κ w d k w' stop d' k' → stop ≡ true → grow σ κ n start ≡ refused d'
+  pub walk-stop : (w w' : List ℕ) (d k d' k' : ℕ) (stop : Bool) → Walking s r start w d k → 1 ≤ k → SideTaken σ κ w d k w' stop d' k' → stop ≡ true
+      → grow σ κ n start ≡ refused d'
   walk-stop w w' d zero d' k' stop g h t e = absurd (omega arith)
   walk-stop w w' d (suc k) d' k' stop g h (moved c p q u v) e = clash e q
   walk-stop w w' d (suc k) d' k' stop g h (over c f p q u) e =
-      let c' : closedIn σ κ w (pointAt w (cell TODO k)) ≡ false = rw (pred k) at c in
-      let f' : fits (mediant (lastIn w d) (endAt w (cell TODO k))) ≡ false = rw (pred k) at (sym (fits-in w d (suc k)) ∙ f) in
+      let c' : closedIn σ κ w (pointAt w (cellPlace TODO k)) ≡ false = rw (pred k) at c in
+      let f' : fits (mediant (lastIn w d) (endAt w (cellPlace TODO k))) ≡ false = rw (pred k) at (sym (fits-in w d (suc k)) ∙ f) in
       walk-over w d k g c' f' ∙ ap refused (sym u)
   walk-stop w w' d (suc k) d' k' stop g h (parted c f p q u v) e = clash e q
 
   -- the measure falls
-  pub walk-less : (w w' : List ℕ) (d k d' k' : ℕ) (stop : Bool) → d + k ≤ 1024 → d' + k' ≤ 1024 → 1 ≤ k → Turned σ κ w d k w' stop d' k' → stop ≡ false → 2 * (1024 - (d' + k')) + k' < 2 * (1024 - (d + k)) + k
+  pub walk-less : (w w' : List ℕ) (d k d' k' : ℕ) (stop : Bool) → d + k ≤ 1024 → d' + k' ≤ 1024 → 1 ≤ k → SideTaken σ κ w d k w' stop d' k' → stop ≡ false
+      → 2 * (1024 - (d' + k')) + k' < 2 * (1024 - (d + k)) + k
   walk-less w w' d k d' k' stop a b h (moved c p q u v) e = omega arith
   walk-less w w' d k d' k' stop a b h (over c f p q u) e = clash q e
   walk-less w w' d k d' k' stop a b h (parted c f p q u v) e = omega arith
 
-  pub turned-length : (w w' : List ℕ) (d k d' k' : ℕ) (stop : Bool) → Turned σ κ w d k w' stop d' k' → length w' ≡ length w
-  turned-length w w' d k d' k' stop (moved c p q u v) = ap length p ∙ cell-length w (cell DONE d) _ _ _
+  pub turned-length : (w w' : List ℕ) (d k d' k' : ℕ) (stop : Bool) → SideTaken σ κ w d k w' stop d' k' → length w' ≡ length w
+  turned-length w w' d k d' k' stop (moved c p q u v) = ap length p ∙ cell-length w (cellPlace DONE d) _ _ _
   turned-length w w' d k d' k' stop (over c f p q u) = ap length p
   turned-length w w' d k d' k' stop (parted c f p q u v) =
       let t = topPoint w k in
-      ap length p ∙ cell-length (set (heldSet w 0 t (σ (κ t)) (σ (κ (κ t)))) (cell TODO (k - 1) + 4) (σ (κ (κ t)))) (cell TODO k) _ _ _ ∙ length-set (heldSet w 0 t (σ (κ t)) (σ (κ (κ t)))) (cell TODO (k - 1) + 4) (σ (κ (κ t))) ∙ held-length w 0 t (σ (κ t)) (σ (κ (κ t)))
+      ap length p ∙ cell-length (set (heldSet w 0 t (σ (κ t)) (σ (κ (κ t)))) (cellPlace TODO (k - 1) + 4) (σ (κ (κ t)))) (cellPlace TODO k) _ _ _
+      ∙ length-set (heldSet w 0 t (σ (κ t)) (σ (κ (κ t)))) (cellPlace TODO (k - 1) + 4) (σ (κ (κ t))) ∙ held-length w 0 t (σ (κ t)) (σ (κ (κ t)))
 
   pub walk-end : (w : List ℕ) (d k : ℕ) → Walking s r start w d k → k ≡ 0 → grow σ κ n start ≡ finished (doneIn w d)
   walk-end w d k g e =

@@ -2,7 +2,7 @@
 ghost use mathlib.Core.Path.{_≡_};
 ghost use Prim.Native.Nat.{_+_, _≤_, _<_, _/_, _%_};
 ghost use lib.ListN.{length, set};
-ghost use Rattle.import_walk.specs.Inner.Work.{numberAt, pointAt, cellSet};
+ghost use Rattle.import_walk.specs.Inner.Work.{twoCells, pointAt, cellSet};
 
 // A 16-bit number among those of 64 bits.
 pub fn long(x: u16) -> u64
@@ -29,7 +29,7 @@ pub fn point_at(w: &[u16], at: usize) -> usize
 // The number that stands in two cells.
 pub fn number_at(w: &[u16], at: usize) -> u64
     requires { ⌜ (at + 2 ≤ length (now w)) × (at < 32768) ⌝ }
-    ensures { λ r. ⌜ (r ≡ numberAt (now (w .entry)) at) × (r < 4294967296) ⌝ }
+    ensures { λ r. ⌜ (r ≡ twoCells (now (w .entry)) at) × (r < 4294967296) ⌝ }
 {
     let high = long(w[at]);
     let low = long(w[at + 1]);

@@ -13,7 +13,7 @@ ghost use mathlib.Core.Bool.{_&&_};
 ghost use lib.Dec.{leb};
 ghost use lib.ListN.{length};
 ghost use Rattle.import_rule.specs.Fixed.{image, byQ, Pair};
-ghost use Rattle.import_walk.specs.Inner.Work.{Top, leftNum, leftDen, closedIn, fitsIn, sumNum, sumDen, topPoint, movedIn, splitBy, heldSet, Turned, startBy, startIn, Ground, Walked};
+ghost use Rattle.import_walk.specs.Inner.Work.{Top, leftEndNum, leftEndDen, closedIn, fitsIn, sumNum, sumDen, topPoint, movedIn, splitBy, heldSet, SideTaken, startBy, startIn, Ground, WalkLeaves};
 
 // How one turn of the walk ends: whether it stops, and how many sides are done and to do.
 pub struct Progress {
@@ -44,7 +44,7 @@ fn is_closed(s: &[u32], r: &[u32], w: &[u16], m: usize) -> bool
 // The numerator plus 10^9 of the left end of the first side to do.
 fn left_num(w: &[u16], d: usize) -> u64
     requires { ⌜ (d ≤ 1024) × (32768 ≤ length (now w)) ⌝ }
-    ensures { λ x. ⌜ (x ≡ leftNum (now (w .entry)) d) × (x < 4294967296) ⌝ }
+    ensures { λ x. ⌜ (x ≡ leftEndNum (now (w .entry)) d) × (x < 4294967296) ⌝ }
 {
     if d == 0 {
         return 999999999;
@@ -55,7 +55,7 @@ fn left_num(w: &[u16], d: usize) -> u64
 // Its denominator.
 fn left_den(w: &[u16], d: usize) -> u64
     requires { ⌜ (d ≤ 1024) × (32768 ≤ length (now w)) ⌝ }
-    ensures { λ x. ⌜ (x ≡ leftDen (now (w .entry)) d) × (x < 4294967296) ⌝ }
+    ensures { λ x. ⌜ (x ≡ leftEndDen (now (w .entry)) d) × (x < 4294967296) ⌝ }
 {
     if d == 0 {
         return 0;
@@ -117,7 +117,7 @@ fn split_top(s: &[u32], r: &[u32], w: &mut [u16], k: usize, e: u64, c: u64)
 // One turn of the walk, with d sides done and k to do.
 fn turn(s: &[u32], r: &[u32], w: &mut [u16], d: usize, k: usize) -> Progress
     requires { ⌜ Top (now s) (now r) (now w) d k ⌝ }
-    ensures { λ t. ⌜ Turned (image (now (s .entry))) (byQ (image (now (s .entry))) (image (now (r .entry)))) (now (w .entry)) d k (now (w .exit)) (t .stop) (t .d) (t .k) ⌝ }
+    ensures { λ t. ⌜ SideTaken (image (now (s .entry))) (byQ (image (now (s .entry))) (image (now (r .entry)))) (now (w .entry)) d k (now (w .exit)) (t .stop) (t .d) (t .k) ⌝ }
 {
     let top = TODO + 5 * (k - 1);
     let m = point_at(w, top);
@@ -177,7 +177,7 @@ fn start(s: &[u32], r: &[u32], w: &mut [u16])
 // The walk, from a clear work space: whether it stops at a side that can't be split, and how many sides are done.
 pub fn walk(s: &[u32], r: &[u32], w: &mut [u16]) -> Outcome
     requires { ⌜ Ground (now s) (now r) (now w) ⌝ }
-    ensures { λ o. ⌜ Walked (now (s .entry)) (now (r .entry)) (now (w .exit)) (o .stop) (o .d) ⌝ }
+    ensures { λ o. ⌜ WalkLeaves (now (s .entry)) (now (r .entry)) (now (w .exit)) (o .stop) (o .d) ⌝ }
 {
     start(s, r, w);
     let mut d: usize = 0;

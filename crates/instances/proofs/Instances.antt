@@ -18,7 +18,8 @@ use Rattle.matrix.specs.Action.{at}
 use Rattle.refusal.specs.Refusal.{refusal, noWord}
 use Rattle.workspace.specs.Space.{workLength}
 use Rattle.symbol.specs.Check.{eqZ}
-use Rattle.symbol.proofs.Choice.{clash, and-left, and-right, eqZ-true}
+use Rattle.symbol.proofs.Choice.{eqZ-true}
+use Rattle.basics.proofs.Choice.{clash, and-left, and-right}
 use Rattle.numbering.specs.Find.{find}
 use Rattle.numbering.specs.Order.{add, orderTo}
 use Rattle.numbering.specs.Table.{renamed}
@@ -26,11 +27,12 @@ use Rattle.polygon.specs.Cut.{flipOf, underZero}
 use Rattle.polygon.specs.Step.{real, stepS, turnQ, written, startOf, originOf}
 use Rattle.polygon.specs.Walk.{followed}
 use Rattle.coset.specs.Tables.{stepR, cosets, tableS, tableR, tableT}
-use Rattle.word.specs.Answer.{queryOf, queryRefusal, home, foundWord}
-use Rattle.instances.specs.Instances.{Answer, refuses, gives, answerTo, tables, Γ2, Γ0-2, I, S, lentTable, Instance, instances, instanceAt, sameList, sameAnswer, holds, allHold, Holds}
+use Rattle.word.specs.Answer.{queryOf, queryRefusal, closes, foundWord}
+use Rattle.instances.specs.Instances.{Answer, refuses, gives, answerTo, tables, Γ2, Γ0-2, I, S, lentTable, Instance, instances, instanceAt}
+use Rattle.instances.specs.Instances.{sameList, sameAnswer, holds, allHold, Holds}
 
 pub all-hold : allHold instances ≡ true
-unfolding _⊗_ adj det matS matQ at find add orderTo renamed flipOf underZero real stepS turnQ written startOf originOf followed stepR cosets tableS tableR tableT home foundWord
+unfolding _⊗_ adj det matS matQ at find add orderTo renamed flipOf underZero real stepS turnQ written startOf originOf followed stepR cosets tableS tableR tableT closes foundWord
 all-hold = refl
 
 -- ---- from the test to the instances
@@ -63,7 +65,8 @@ each i h = holds-at instances _ all-hold i h
 
 -- ---- two of them
 
-pub Γ2-tables : answerTo (tables 3 Γ2 workLength (lentTable 6) (lentTable 6) (lentTable 6)) ≡ gives (map pos (1 ∷ 0 ∷ 4 ∷ 5 ∷ 2 ∷ 3 ∷ []) ∷ map pos (2 ∷ 3 ∷ 5 ∷ 4 ∷ 1 ∷ 0 ∷ []) ∷ map pos (3 ∷ 2 ∷ 1 ∷ 0 ∷ 5 ∷ 4 ∷ []) ∷ [])
+pub Γ2-tables : answerTo (tables 3 Γ2 workLength (lentTable 6) (lentTable 6) (lentTable 6)) ≡ gives
+    (map pos (1 ∷ 0 ∷ 4 ∷ 5 ∷ 2 ∷ 3 ∷ []) ∷ map pos (2 ∷ 3 ∷ 5 ∷ 4 ∷ 1 ∷ 0 ∷ []) ∷ map pos (3 ∷ 2 ∷ 1 ∷ 0 ∷ 5 ∷ 4 ∷ []) ∷ [])
 Γ2-tables = each 8 (lit< tt)
 
 pub Γ0-2-none : queryRefusal (queryOf 2 Γ0-2 I S workLength 1 0) ≡ noWord

@@ -35,8 +35,9 @@ use Rattle.refusal.specs.declared.Refusal.{Refusal}
 use Rattle.refusal.specs.declared.Filled.{Filled}
 use Rattle.refusal.specs.declared.Filled.the-variants as filled
 use Rattle.coset.specs.Tables.{tableS, tableR, tableT}
-use Rattle.coset.specs.Answer as coset
-use Rattle.coset.specs.Answer.{Says, tabledOf, columnLeft, figuredOf}
+use Rattle.coset.specs.Answer.{tabledOf, columnLeft, figuredOf}
+use Rattle.coset.specs.declared.Figured.{Figured}
+use Rattle.coset.specs.declared.Figured.the-variants as figured
 use Rattle.word.specs.Answer.{queryOf, queryRefusal, foundWord, wordLeft, partOf}
 use Rattle.word.specs.declared.Queried.{Queried}
 use Rattle.word.specs.declared.Queried.the-variants as queried
@@ -82,9 +83,9 @@ word l = gives (l ∷ l ∷ [])
 abbrev pub says : Refusal → List (List ℤ) → Answer
 says f l = refuses (f .number) (f .place) l
 
-abbrev pub indexSays : Says → Answer
-indexSays (coset.made n e2 e3 cusps genus level) = indexIs n
-indexSays (coset.refused f) = says f []
+abbrev pub indexSays : Figured → Answer
+indexSays (figured.Made f) = indexIs (f .index)
+indexSays (figured.Refused f) = says f []
 
 -- the word that an answer names, in the word space that the call leaves
 abbrev pub wordIn : Queried → List ℤ → List ℤ
@@ -97,7 +98,7 @@ verticesIn (filled.Made v) = pos v ∷ []
 verticesIn (filled.Refused f) = []
 
 abbrev pub answerTo : Question → Answer
-answerTo (check v t) = says (checkedRefusal (symbol.checkOf v t)) []
+answerTo (check v t) = says (checkedRefusal (symbol.symbolCheck v t)) []
 answerTo (index v t work) = indexSays (figuredOf v t work)
 answerTo (generators v t work out) =
     let r = generatedOf v t work (length out) in
@@ -111,7 +112,7 @@ answerTo (query v t a b work out start) =
     says (queryRefusal r) (wordIn r left ∷ left ∷ [])
 answerTo (import s r work out) =
     let a = importOf s r work (length out) in
-    says (filledRefusal a) (verticesIn a ∷ passport.tableLeft (ruleFor s r) a out ∷ [])
+    says (filledRefusal a) (verticesIn a ∷ passport.importTable (ruleFor s r) a out ∷ [])
 
 -- ---- the symbols and matrices of the table
 
@@ -183,7 +184,8 @@ instances =
     ∷ (index 3 Γ2 workLength answers indexIs 6)
     ∷ (generators 3 Γ2 workLength (lent 10) answers gives ((pos 1 ∷ pos 1 ∷ pos 2 ∷ pos 0 ∷ pos 1 ∷ pos 1 ∷ pos 3 ∷ negsuc 1 ∷ pos 2 ∷ negsuc 0 ∷ []) ∷ []))
     -- S 1 0 4 5 2 3, R 2 3 5 4 1 0, T 3 2 1 0 5 4
-    ∷ (tables 3 Γ2 workLength (lentTable 6) (lentTable 6) (lentTable 6) answers gives (map pos (1 ∷ 0 ∷ 4 ∷ 5 ∷ 2 ∷ 3 ∷ []) ∷ map pos (2 ∷ 3 ∷ 5 ∷ 4 ∷ 1 ∷ 0 ∷ []) ∷ map pos (3 ∷ 2 ∷ 1 ∷ 0 ∷ 5 ∷ 4 ∷ []) ∷ []))
+    ∷ (tables 3 Γ2 workLength (lentTable 6) (lentTable 6) (lentTable 6) answers gives
+    (map pos (1 ∷ 0 ∷ 4 ∷ 5 ∷ 2 ∷ 3 ∷ []) ∷ map pos (2 ∷ 3 ∷ 5 ∷ 4 ∷ 1 ∷ 0 ∷ []) ∷ map pos (3 ∷ 2 ∷ 1 ∷ 0 ∷ 5 ∷ 4 ∷ []) ∷ []))
     -- in Γ0(2), I to T: word 1
     ∷ (query 2 Γ0-2 I T workLength (lent 1) 0 answers word (pos 1 ∷ []))
     -- I to (1 0; 2 1): 2 1

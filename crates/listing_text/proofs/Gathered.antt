@@ -15,7 +15,7 @@ use lib.ListN.{length, take, drop}
 use lib.Seq.{take-at}
 use borrow.Author.Tests.{le-ltb}
 use Rattle.workspace.specs.Space.{workLength}
-use Rattle.symbol.specs.Check.{checkOf}
+use Rattle.symbol.specs.Check.{symbolCheck}
 use Rattle.symbol.specs.Symbol.{IsSymbol}
 use Rattle.pairing.specs.Generator.{isLeader, leaders, generatorTable, roomOf, byWork, generatedOf, tableLeft}
 use Rattle.refusal.specs.Refusal.{tooShort, filledBy}
@@ -25,8 +25,8 @@ use Rattle.refusal.specs.declared.Checked.the-variants.{Accepted, Refused}
 use Rattle.refusal.specs.declared.Filled.{Filled}
 use Rattle.refusal.specs.declared.Filled.the-variants as filled
 use Rattle.symbol.proofs.Accepted.{accepted}
-use Rattle.symbol.proofs.Choice.{pick-false}
-use Rattle.symbol.proofs.Count.{length-those}
+use Rattle.basics.proofs.Choice.{pick-false}
+use Rattle.basics.proofs.Count.{length-those}
 use Rattle.pairing.proofs.Rows.{length-rows}
 use Rattle.polygon.proofs.SymbolFacts.{count-most}
 
@@ -37,13 +37,13 @@ pub rows-long : (v : ℕ) (t : List ℤ) → length (generatorTable v t) ≡ 5 *
 rows-long v t = length-rows v t (leaders v t)
 
 pub data Gathered (v : ℕ) (t : List ℤ) (r : Filled) : Type 0 where
-  all : checkOf v t ≡ Accepted → IsSymbol v t → r ≡ filled.Made (length (leaders v t)) → Gathered v t r
-  none : (f : Refusal) → checkOf v t ≡ Refused f → r ≡ filled.Refused f → Gathered v t r
+  all : symbolCheck v t ≡ Accepted → IsSymbol v t → r ≡ filled.Made (length (leaders v t)) → Gathered v t r
+  none : (f : Refusal) → symbolCheck v t ≡ Refused f → r ≡ filled.Refused f → Gathered v t r
 
 pub gathered : (v : ℕ) (t : List ℤ) (work room : ℕ) (r : Filled) → workLength ≤ work → 5120 ≤ room → r ≡ generatedOf v t work room → Gathered v t r
-gathered v t work room r h k e = go (checkOf v t) refl
+gathered v t work room r h k e = go (symbolCheck v t) refl
   where
-    go : (c : Checked) → checkOf v t ≡ c → Gathered v t r
+    go : (c : Checked) → symbolCheck v t ≡ c → Gathered v t r
     go (Refused f) q = none f q (e ∙ ap (λ (c : Checked). filledBy c (byWork work (roomOf (length (leaders v t)) room))) q)
     go Accepted q =
         let ok = accepted v t .0 q in
@@ -56,15 +56,16 @@ gathered v t work room r h k e = go (checkOf v t) refl
         )
 
 module _ {v : ℕ} {t : List ℤ} {r : Filled} where
-  pub gathered-made : Gathered v t r → (k : ℕ) → r ≡ filled.Made k → (checkOf v t ≡ Accepted) × IsSymbol v t × (k ≡ length (leaders v t))
+  pub gathered-made : Gathered v t r → (k : ℕ) → r ≡ filled.Made k → (symbolCheck v t ≡ Accepted) × IsSymbol v t × (k ≡ length (leaders v t))
   gathered-made (all q ok e) k m = (q, ok, cc)
   gathered-made (none f q e) k m = let z : _≡_ {A = ℕ} 0 1 = cc in absurd (omega arith)
 
-  pub gathered-refused : Gathered v t r → (f : Refusal) → r ≡ filled.Refused f → checkOf v t ≡ Refused f
+  pub gathered-refused : Gathered v t r → (f : Refusal) → r ≡ filled.Refused f → symbolCheck v t ≡ Refused f
   gathered-refused (all q ok e) f m = let z : _≡_ {A = ℕ} 0 1 = cc in absurd (omega arith)
   gathered-refused (none g q e) f m = cc
 
-pub rows-filled : (v : ℕ) (t : List ℤ) (k : ℕ) (out : List ℤ) {r : Filled} {out' : List ℤ} → k ≡ length (leaders v t) → r ≡ filled.Made k → out' ≡ tableLeft r (generatorTable v t) out
+pub rows-filled : (v : ℕ) (t : List ℤ) (k : ℕ) (out : List ℤ) {r : Filled} {out' : List ℤ} → k ≡ length (leaders v t) → r ≡ filled.Made k
+    → out' ≡ tableLeft r (generatorTable v t) out
     → take (5 * k) out' ≡ generatorTable v t
 rows-filled v t k out {r} {out'} n f l =
     let table = generatorTable v t in

@@ -5,6 +5,7 @@
 --     listed-refused, listed-accepted         what is listed by the answer of the checks
 --     parts-listed                            the parts in the slices of a symbol that was surveyed are its listing
 --     listing-by                              what is listed for an answer of `read_input`, and `leaves-by` what is left
+--     listing-means                           what the bytes mean
 -- Assumes nothing.
 use mathlib.Core.Path.{_≡_, refl, sym, ap, _∙_}
 use mathlib.Core.Bool.{Bool, true, false}
@@ -18,27 +19,32 @@ use lib.ListN.{length, getD, take, drop, length-drop}
 use lib.Seq.{take-all}
 use mir.Syntax.{w64}
 use mir.Val.{SFits, ofZ}
-use Rattle.matrix.specs.Euclid.{pick}
+use Rattle.basics.specs.Choice.{pick}
 use Rattle.symbol.specs.Check.{eqZ}
-use Rattle.symbol.proofs.Choice.{either, eqZ-true}
+use Rattle.symbol.proofs.Choice.{eqZ-true}
+use Rattle.basics.proofs.Choice.{either}
 use Rattle.symbol.proofs.Signed.{bits-positive}
 use Rattle.text.specs.Decimal.{digits}
 use Rattle.text_line.specs.Line.{line, refusalLine, Puts}
 use Rattle.text_line.proofs.Placing.{puts-as, puts-then}
 use Rattle.workspace.specs.Space.{workLength}
 use Rattle.text.specs.Piece.{pieces, numbers}
-use Rattle.text.specs.Reading.{symbolFormat, inputOf, leftBy}
+use Rattle.text.specs.Reading.{symbolFormat, inputOf, leftBy, vertexCount}
 use Rattle.text.specs.declared.Reading.{Reading}
-use Rattle.symbol.specs.Check.{checkOf}
+use Rattle.symbol.specs.Check.{symbolCheck}
+use Rattle.symbol.proofs.Accepted.{accepted}
+use Rattle.pairing.proofs.Meaning.{generates}
 use Rattle.pairing.specs.Generator.{leaders, generatorTable}
 use Rattle.refusal.specs.declared.Refusal.{Refusal}
 use Rattle.refusal.specs.declared.Checked.the-variants.{Accepted, Refused}
-use Rattle.coset.specs.Answer.{saidBy, figuresOf}
+use Rattle.coset.specs.Answer.{figuresOf}
 use Rattle.coset.specs.Inner.Survey.{Surveyed}
-use Rattle.coset.specs.declared.FigureRecord.{FigureRecord}
+use Rattle.figures.specs.declared.FigureRecord.{FigureRecord}
 use Rattle.coset.specs.declared.Figured.the-variants as figured
-use Rattle.coset.proofs.Answer.{figures-refused, figures-long}
-use Rattle.listing_text.specs.Listing.{listedBy, listed, readBy, listingOf, workBy, tableBy, Leaves, freeWord, evenWord, oddWord, kindWord, generatorLine, generatorLines}
+use Rattle.pairing.proofs.Admitted.{admit-refused, admit-both}
+use Rattle.coset.proofs.Answer.{figured-by, meaning}
+use Rattle.listing_text.specs.Listing.{listedBy, listingLines, readBy, listingOf, listingWork, listingTable, ListingLeaves, Listed}
+use Rattle.listing_text.specs.Listing.{ListingMeans, freeWord, evenWord, oddWord, kindWord, generatorLine, generatorLines}
 use Rattle.listing_text.specs.Inner.Parts.{partsOf}
 
 module _ (z : ℤ) where
@@ -63,35 +69,46 @@ pub row-put : (j : ℕ) (row : List ℤ) {word : List ℕ} {at m e : ℕ} {out o
 unfolding generatorLine
 row-put j row {word} k f g h =
     let all : take (length row - 1) (drop 1 row) ≡ drop 1 row = take-all (length row - 1) (drop 1 row) (omega (arith, length-drop 1 row)) in
-    let same : line word (take (length row - 1) (drop 1 row)) ≡ line (kindWord (getD row 0 (pos 0))) (drop 1 row) = ap (line word) all ∙ ap (λ (l : List ℕ). line l (drop 1 row)) (sym k) in
+    let same : line word (take (length row - 1) (drop 1 row)) ≡ line (kindWord (getD row 0 (pos 0))) (drop 1 row) = ap (line word) all
+    ∙ ap (λ (l : List ℕ). line l (drop 1 row)) (sym k) in
     puts-then f (puts-as same g) h
 
 module _ (v : ℕ) (t : List ℤ) where
-  pub listed-refused : (f : Refusal) → checkOf v t ≡ Refused f → refusalLine f ≡ listed v t
-  unfolding listed
-  listed-refused f q = ap (listedBy v t) (figures-refused v t workLength f q)
+  pub listed-refused : (f : Refusal) → symbolCheck v t ≡ Refused f → refusalLine f ≡ listingLines v t
+  unfolding listingLines
+  listed-refused f q = ap (listedBy v t) (figured-by v t workLength (Refused f) (admit-refused v t workLength f q))
 
-  pub listed-accepted : checkOf v t ≡ Accepted → listedBy v t (figuresOf v t) ≡ listed v t
-  unfolding listed
-  listed-accepted q = ap (listedBy v t) (figures-long v t workLength q (omega arith))
+  pub listed-accepted : symbolCheck v t ≡ Accepted → listedBy v t (figured.Made (figuresOf v t)) ≡ listingLines v t
+  unfolding listingLines
+  listed-accepted q = ap (listedBy v t) (figured-by v t workLength Accepted (admit-both v t workLength q (omega arith)))
 
 -- the parts in the slices are those of the symbol
-pub parts-listed : {v : ℕ} {t : List ℤ} {w w' : List ℕ} {f : FigureRecord} (g : ℕ) (rows : List ℤ) → Surveyed v t w w' f → g ≡ length (leaders v t) → rows ≡ generatorTable v t
-    → partsOf f g rows w' ≡ listedBy v t (figuresOf v t)
+pub parts-listed : {v : ℕ} {t : List ℤ} {w w' : List ℕ} {f : FigureRecord} (g : ℕ) (rows : List ℤ) → Surveyed v t w w' f → g ≡ length (leaders v t)
+    → rows ≡ generatorTable v t
+    → partsOf f g rows w' ≡ listedBy v t (figured.Made (figuresOf v t))
 parts-listed {v} {t} {w} {w'} {f} g rows s n r =
-    let same : partsOf f g rows w' ≡ listedBy v t (saidBy (figured.Made f)) = cc (s .widths-are, s .S-is, s .R-is, s .T-is, n, r) in
-    same ∙ ap (listedBy v t) (s .figures)
+    let same : partsOf f g rows w' ≡ listedBy v t (figured.Made f) = cc (s .widths-are, s .S-is, s .R-is, s .T-is, n, r) in
+    same ∙ ap (λ (x : FigureRecord). listedBy v t (figured.Made x)) (s .figures)
 
 pub listing-by : (longer : Bool) (text : List ℕ) (r : Reading) → r ≡ inputOf longer symbolFormat text 3071 → readBy r (numbers (pieces text)) ≡ listingOf longer text
 unfolding listingOf
 listing-by longer text r e = ap (λ (x : Reading). readBy x (numbers (pieces text))) e
 
 -- what is left, by the answer of `read_input`
-pub leaves-by : {longer : Bool} {text : List ℕ} {ns table : List ℤ} {w : List ℕ} {ns' table' : List ℤ} {w' : List ℕ} (r : Reading) → r ≡ inputOf longer symbolFormat text 3071
-    → ns' ≡ leftBy r (numbers (pieces text)) ns → w' ≡ workBy r (numbers (pieces text)) w → table' ≡ tableBy r (numbers (pieces text)) (length w) table
-    → Leaves longer text ns table w ns' table' w'
+pub leaves-by : {longer : Bool} {text : List ℕ} {ns table : List ℤ} {w : List ℕ} {ns' table' : List ℤ} {w' : List ℕ} (r : Reading)
+    → r ≡ inputOf longer symbolFormat text 3071
+    → ns' ≡ leftBy r (numbers (pieces text)) ns → w' ≡ listingWork r (numbers (pieces text)) w → table' ≡ listingTable r (numbers (pieces text)) (length w) table
+    → ListingLeaves longer text ns table w ns' table' w'
 leaves-by {longer} {text} {ns} {table} {w} r e a b d = record {
   numbers-left = a ∙ ap (λ (x : Reading). leftBy x (numbers (pieces text)) ns) e;
-  work-left = b ∙ ap (λ (x : Reading). workBy x (numbers (pieces text)) w) e;
-  table-left = d ∙ ap (λ (x : Reading). tableBy x (numbers (pieces text)) (length w) table) e;
+  work-left = b ∙ ap (λ (x : Reading). listingWork x (numbers (pieces text)) w) e;
+  table-left = d ∙ ap (λ (x : Reading). listingTable x (numbers (pieces text)) (length w) table) e;
+}
+
+pub listing-means : (longer : Bool) (text : List ℕ) {bytes : List ℕ} → bytes ≡ listingOf longer text → ListingMeans longer text bytes
+unfolding listingOf
+listing-means longer text b k e ok = record {
+  lines = b ∙ ap (λ (x : Reading). readBy x (numbers (pieces text))) e ∙ sym (listed-accepted _ _ (accepted _ _ .1 ok));
+  meaning = meaning ok;
+  generates = generates _ _ ok;
 }

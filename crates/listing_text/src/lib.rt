@@ -1,6 +1,6 @@
 // What the program `listing` writes for a text: all of it, byte for byte, as specs/Listing.antt says (docs/CONVENTIONS.md, 10.5).
-use coset::FigureRecord;
 use coset::survey;
+use figures::FigureRecord;
 use lines::figure_lines;
 use lines::generator_part;
 use lines::table_lines;
@@ -13,15 +13,16 @@ use text::vertex_count;
 use text_line::refusal_line;
 ghost use mathlib.Core.Path.{_≡_};
 ghost use Prim.Native.Nat.{_*_, _≤_};
-ghost use lib.ListN.{length};
+ghost use lib.ListN.{length, take};
 ghost use Rattle.workspace.specs.Space.{workLength, zeros};
 ghost use Rattle.text_line.specs.Line.{Puts};
-ghost use Rattle.symbol.specs.Check.{checkOf};
+ghost use Rattle.symbol.specs.Check.{symbolCheck};
 ghost use Rattle.symbol.specs.Symbol.{IsSymbol};
 ghost use Rattle.pairing.specs.Generator.{leaders, generatorTable, workAfter};
 ghost use Rattle.coset.specs.Answer.{figuresOf};
-ghost use Rattle.listing_text.specs.Listing.{listedBy, listed, listingOf, tableIn, Leaves};
-ghost use Rattle.listing_text.specs.Inner.Parts.{Spaces, partsOf};
+ghost use Rattle.coset.specs.declared.Figured.the-variants as figured;
+ghost use Rattle.listing_text.specs.Listing.{listedBy, listingLines, listingOf, generatorsLeft, ListingLeaves, ListingMeans};
+ghost use Rattle.listing_text.specs.Inner.Parts.{ListingSpaces, partsOf};
 
 mod lines;
 
@@ -45,7 +46,7 @@ fn list_accepted(
     out: &mut [u8],
 ) -> usize
     requires { ⌜ IsSymbol v (now t) × (g ≡ length (leaders v (now t))) × (now rows ≡ generatorTable v (now t)) × (workLength ≤ length (now w)) × (212992 ≤ length (now out)) ⌝ }
-    ensures { λ e. ⌜ Puts (listedBy v (now (t .entry)) (figuresOf v (now (t .entry)))) 0 e (now (out .entry)) (now (out .exit)) ⌝ }
+    ensures { λ e. ⌜ Puts (listedBy v (now (t .entry)) (figured.Made (figuresOf v (now (t .entry))))) 0 e (now (out .entry)) (now (out .exit)) ⌝ }
     ensures { λ e. ⌜ now (w .exit) ≡ zeros (length (now (w .entry))) ⌝ }
 {
     let f = survey(v, t, w);
@@ -56,10 +57,10 @@ fn list_accepted(
 
 // The listing of the symbol in t, or its refusal.
 fn list_symbol(v: usize, t: &[i64], w: &mut [u16], table: &mut [i64], out: &mut [u8]) -> usize
-    requires { ⌜ Spaces (now w) (now table) (now out) ⌝ }
-    ensures { λ e. ⌜ Puts (listed v (now (t .entry))) 0 e (now (out .entry)) (now (out .exit)) ⌝ }
-    ensures { λ e. ⌜ now (w .exit) ≡ workAfter (checkOf v (now (t .entry))) (now (w .entry)) ⌝ }
-    ensures { λ e. ⌜ now (table .exit) ≡ tableIn v (now (t .entry)) (length (now (w .entry))) (now (table .entry)) ⌝ }
+    requires { ⌜ ListingSpaces (now w) (now table) (now out) ⌝ }
+    ensures { λ e. ⌜ Puts (listingLines v (now (t .entry))) 0 e (now (out .entry)) (now (out .exit)) ⌝ }
+    ensures { λ e. ⌜ now (w .exit) ≡ workAfter (symbolCheck v (now (t .entry))) (now (w .entry)) ⌝ }
+    ensures { λ e. ⌜ now (table .exit) ≡ generatorsLeft v (now (t .entry)) (length (now (w .entry))) (now (table .entry)) ⌝ }
 {
     let made = generators(v, t, w, table);
     match made {
@@ -80,9 +81,9 @@ fn list_text(
     table: &mut [i64],
     out: &mut [u8],
 ) -> usize
-    requires { ⌜ (length (now numbers) ≡ 3071) × Spaces (now w) (now table) (now out) ⌝ }
+    requires { ⌜ (length (now numbers) ≡ 3071) × ListingSpaces (now w) (now table) (now out) ⌝ }
     ensures { λ e. ⌜ Puts (listingOf longer (now (text .entry))) 0 e (now (out .entry)) (now (out .exit)) ⌝ }
-    ensures { λ e. ⌜ Leaves longer (now (text .entry)) (now (numbers .entry)) (now (table .entry)) (now (w .entry)) (now (numbers .exit)) (now (table .exit)) (now (w .exit)) ⌝ }
+    ensures { λ e. ⌜ ListingLeaves longer (now (text .entry)) (now (numbers .entry)) (now (table .entry)) (now (w .entry)) (now (numbers .exit)) (now (table .exit)) (now (w .exit)) ⌝ }
 {
     let read = read_input(
         text,
@@ -114,7 +115,8 @@ pub fn list(
     out: &mut [u8; 212992],
 ) -> usize
     ensures { λ e. ⌜ Puts (listingOf longer (now (text .entry))) 0 e (now (out .entry)) (now (out .exit)) × (e ≤ length (now (out .exit))) ⌝ }
-    ensures { λ e. ⌜ Leaves longer (now (text .entry)) (now (numbers .entry)) (now (table .entry)) (now (w .entry)) (now (numbers .exit)) (now (table .exit)) (now (w .exit)) ⌝ }
+    ensures { λ e. ⌜ ListingLeaves longer (now (text .entry)) (now (numbers .entry)) (now (table .entry)) (now (w .entry)) (now (numbers .exit)) (now (table .exit)) (now (w .exit)) ⌝ }
+    ensures { λ e. ⌜ ListingMeans longer (now (text .entry)) (take e (now (out .exit))) ⌝ }
 {
     list_text(text, longer, numbers, w, table, out)
 }

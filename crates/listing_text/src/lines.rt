@@ -1,47 +1,42 @@
 // The lines of a listing, as bytes in a lent slice.
-use coset::FigureRecord;
-use figures::Genus;
-use figures::Level;
+use figures::Figure;
+use figures::FigureRecord;
 use numbering::R_TABLE;
 use numbering::S_TABLE;
 use numbering::T_TABLE;
 use numbering::WIDTHS;
-use refusal::LEVEL_TOO_LARGE;
-use refusal::NO_GENUS;
 use text_line::line_of_cells;
 use text_line::line_of_integers;
 use text_line::line_of_one;
 use text_line::line_of_two;
+use text_line::put;
 use text_line::put_digits;
 ghost use mathlib.Core.Path.{_≡_};
 ghost use mathlib.Core.List.{map};
 ghost use Prim.Native.Nat.{_+_, _*_, _≤_};
 ghost use lib.ListN.{length};
-ghost use Rattle.workspace.specs.Space.{workLength};
-ghost use Rattle.numbering.specs.Inner.Space.{S-TABLE, WIDTHS, R-TABLE, T-TABLE, entries};
+ghost use Rattle.workspace.specs.Space.{workLength, entries};
+ghost use Rattle.numbering.specs.Inner.Space.{S-TABLE, WIDTHS, R-TABLE, T-TABLE};
 ghost use Rattle.text_line.specs.Line.{natural, line, Puts};
-ghost use Rattle.figures.specs.Figure.{genusSays, levelSays};
-ghost use Rattle.listing_text.specs.Listing.{genusWord, levelWord, figureLine, countLines, cuspLines, figureLines, generatorLine, generatorLines, generatorPart, tableLines};
+ghost use Rattle.listing_text.specs.Listing.{figureLine, countLines, cuspLines, figureLines, generatorLine, generatorLines, generatorPart, tableLines};
 
-// The genus, or refusal 18.
-fn genus_line(genus: Genus, out: &mut [u8], at: usize) -> usize
-    requires { ⌜ at + 56 ≤ length (now out) ⌝ }
-    ensures { λ r. ⌜ Puts (figureLine genusWord (genusSays genus)) at r (now (out .entry)) (now (out .exit)) × (r ≤ at + 56) ⌝ }
+// A figure's value, or its refusal.
+fn figure_line(name: &[u8], figure: Figure, out: &mut [u8], at: usize) -> usize
+    requires { ⌜ at + (length (now name) + 51) ≤ length (now out) ⌝ }
+    ensures { λ r. ⌜ Puts (figureLine (now (name .entry)) figure) at r (now (out .entry)) (now (out .exit)) × (r ≤ at + (length (now (name .entry)) + 51)) ⌝ }
 {
-    match genus {
-        Genus::Genus(g) => line_of_one(b"genus", g, out, at),
-        Genus::NoGenus => line_of_two(b"genus refused", NO_GENUS, 0, out, at),
-    }
-}
-
-// The level, or refusal 17.
-fn level_line(level: Level, out: &mut [u8], at: usize) -> usize
-    requires { ⌜ at + 56 ≤ length (now out) ⌝ }
-    ensures { λ r. ⌜ Puts (figureLine levelWord (levelSays level)) at r (now (out .entry)) (now (out .exit)) × (r ≤ at + 56) ⌝ }
-{
-    match level {
-        Level::Level(m) => line_of_one(b"level", m, out, at),
-        Level::TooLarge => line_of_two(b"level refused", LEVEL_TOO_LARGE, 0, out, at),
+    match figure {
+        Figure::Value(x) => line_of_one(name, x, out, at),
+        Figure::Refused(refusal) => {
+            let first = put(name, out, at);
+            line_of_two(
+                b" refused",
+                refusal.number,
+                refusal.place as u64,
+                out,
+                first,
+            )
+        }
     }
 }
 
@@ -65,13 +60,13 @@ fn table_line(name: &[u8], w: &[u16], off: usize, n: usize, out: &mut [u8], at: 
 }
 
 // The widths of the k cusps, which are in the work space, genus and level.
-fn cusp_lines(w: &[u16], k: usize, genus: Genus, level: Level, out: &mut [u8], at: usize) -> usize
+fn cusp_lines(w: &[u16], k: usize, genus: Figure, level: Figure, out: &mut [u8], at: usize) -> usize
     requires { ⌜ (WIDTHS + k ≤ length (now w)) × (at + (6 * k + 150) ≤ length (now out)) ⌝ }
-    ensures { λ r. ⌜ Puts (cuspLines (entries WIDTHS k (now (w .entry))) (genusSays genus) (levelSays level)) at r (now (out .entry)) (now (out .exit)) × (r ≤ at + (6 * k + 150)) ⌝ }
+    ensures { λ r. ⌜ Puts (cuspLines (entries WIDTHS k (now (w .entry))) genus level) at r (now (out .entry)) (now (out .exit)) × (r ≤ at + (6 * k + 150)) ⌝ }
 {
     let first = table_line(b"widths", w, WIDTHS, k, out, at);
-    let second = genus_line(genus, out, first);
-    level_line(level, out, second)
+    let second = figure_line(b"genus", genus, out, first);
+    figure_line(b"level", level, out, second)
 }
 
 // The generator with the number j, from its row in the table: its kind and its entries.
@@ -128,7 +123,7 @@ pub(crate) fn table_lines(w: &[u16], n: usize, out: &mut [u8], at: usize) -> usi
 // Index to level, with the widths that are in the work space.
 pub(crate) fn figure_lines(f: FigureRecord, w: &[u16], out: &mut [u8]) -> usize
     requires { ⌜ (f .cusps ≤ 4096) × (workLength ≤ length (now w)) × (24831 ≤ length (now out)) ⌝ }
-    ensures { λ r. ⌜ Puts (figureLines (f .index) (f .e2) (f .e3) (f .cusps) (genusSays (f .genus)) (levelSays (f .level)) (entries WIDTHS (f .cusps) (now (w .entry)))) 0 r (now (out .entry)) (now (out .exit)) × (r ≤ 24831) ⌝ }
+    ensures { λ r. ⌜ Puts (figureLines f (entries WIDTHS (f .cusps) (now (w .entry)))) 0 r (now (out .entry)) (now (out .exit)) × (r ≤ 24831) ⌝ }
 {
     let genus = f.genus;
     let level = f.level;

@@ -14,7 +14,7 @@ use mir.Val.{SFits, toZ, ofZ}
 use mir.Facts.{toZ-ofZ}
 use lib.Signed.{mag}
 use Rattle.matrix.specs.Matrix.{Mat, _⊗_, neg, adj}
-use Rattle.matrix.specs.Bounds.{Small, Adds, Room, Roomy}
+use Rattle.matrix.specs.Bounds.{Small, Adds, ProductFits, DetFits}
 use Rattle.matrix.proofs.Integer.{abs-neg, abs-*, abs-+}
 
 pub fits : (z : ℤ) → natAbs z < 2 ^ 63 → SFits w64 z
@@ -67,7 +67,7 @@ small-⊗ h k m n s t = record {
 }
 
 -- small entries leave room for the product and the determinant
-pub room : (h k : ℕ) (m n : Mat) → 2 * (h * k) < 2 ^ 63 → Small h m → Small k n → Room m n
+pub room : (h k : ℕ) (m n : Mat) → 2 * (h * k) < 2 ^ 63 → Small h m → Small k n → ProductFits m n
 room h k m n l s t = record {
   in-a = omega (arith, small-sum h k (m .a) (n .a) (m .b) (n .c) (s .in-a) (t .in-a) (s .in-b) (t .in-c));
   in-b = omega (arith, small-sum h k (m .a) (n .b) (m .b) (n .d) (s .in-a) (t .in-b) (s .in-b) (t .in-d));
@@ -75,7 +75,7 @@ room h k m n l s t = record {
   in-d = omega (arith, small-sum h k (m .c) (n .b) (m .d) (n .d) (s .in-c) (t .in-b) (s .in-d) (t .in-d));
 }
 
-pub roomy : (h : ℕ) (m : Mat) → 2 * (h * h) < 2 ^ 63 → Small h m → Roomy m
+pub roomy : (h : ℕ) (m : Mat) → 2 * (h * h) < 2 ^ 63 → Small h m → DetFits m
 roomy h m l s = omega (arith, small-sum h h (m .a) (m .d) (m .b) (m .c) (s .in-a) (s .in-d) (s .in-b) (s .in-c))
 
 -- ---- what the code's needs come to

@@ -12,7 +12,6 @@ use mathlib.Core.List.{List, [], _∷_}
 use Prim.Native.Nat.{ℕ, zero, suc, _+_, _*_, _<_, _≤_}
 use native.Mathlib.Omega.{arith}
 use native.Mathlib.Decide.{decLe}
-use lib.Dec.{T}
 use lib.IntN.{ℤ, pos, negsuc, negℤ, natAbs, _+ℤ_, _-ℤ_, _*ℤ_, negℤ-+ℤ, negℤ-negℤ, -ℤ-+ℤ-cancel, +ℤ-comm, pos-ne-negsuc}
 use Rattle.matrix.specs.Matrix.{Mat, mat, neg, det, _≈_}
 use Rattle.matrix.specs.Words.{Letter, S, Q, P, value, Alternating}
@@ -20,8 +19,10 @@ use Rattle.matrix.specs.Euclid.{Form, form, sizes, total, swap, agree, s
 use Rattle.matrix.specs.Theorems.{Existence}
 use Rattle.matrix.proofs.Ring.{Exp, con, var, _⊕_, _⊙_, ⊖_, val, ring, mat-eq}
 use Rattle.matrix.proofs.Matrix.{neg-neg, det-neg, det-≈, ≈-sym, _∙≈_}
-use Rattle.matrix.proofs.Form.{Tail, stop, last, sq, sp, letters, upper, lower, tailForm, Unimodular, unimodular-swap, Rows, Proper, rows, down, upper-down, unimodular-down, Formed, formed}
-use Rattle.matrix.proofs.Sign.{flip, signed, sign, tail-value, head-value-Q, head-value-P, sizes-neg, agree-neg, agree-≈, agree-tail, agree-head, same-sign, det-value}
+use Rattle.matrix.proofs.Form.{Tail, stop, last, sq, sp, letters, upper, lower, tailForm, Unimodular, unimodular-swap, Rows, Proper, rows}
+use Rattle.matrix.proofs.Form.{down, upper-down, unimodular-down, Formed, formed}
+use Rattle.matrix.proofs.Sign.{flip, signed, sign, tail-value, head-value-Q, head-value-P, sizes-neg, agree-neg, agree-≈, agree-tail}
+use Rattle.matrix.proofs.Sign.{agree-head, same-sign, det-value}
 use Rattle.matrix.proofs.Uniqueness.{Word, tail, head-Q, head-P, spelled, word-back, wordOf-≈}
 
 -- ---- a matrix of determinant 1 is its form with two signs

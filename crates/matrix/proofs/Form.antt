@@ -19,7 +19,8 @@ use native.Mathlib.Decide.{decLe, decLt}
 use lib.Dec.{leb, eqb}
 use borrow.Author.Tests.{le-leb, lt-leb, eq-eqb, ne-eqb}
 use Rattle.matrix.specs.Words.{Letter, S, Q, P}
-use Rattle.matrix.specs.Euclid.{Form, form, total, swap, pick, turn, tailOf}
+use Rattle.matrix.specs.Euclid.{Form, form, total, swap, turn, tailOf}
+use Rattle.basics.specs.Choice.{pick}
 
 -- ---- words as blocks
 
@@ -197,7 +198,8 @@ pub tail-last : (n : ℕ) (f : Form) → 0 < f .q + f .r → f .p + f .t ≡ 0 �
 tail-last n f k h = pick-false (eqb (f .q + f .r) 0) _ _ (ne-eqb (f .q + f .r) 0 (λ e. omega arith)) ∙ pick-true (eqb (f .p + f .t) 0) _ _ (eq-eqb (f .p + f .t) 0 h)
 
 pub tail-more : (n : ℕ) (f : Form) → Proper f → tailOf (suc n) f ≡ S ∷ turn (tailOf n) (swap f)
-tail-more n f k = pick-false (eqb (f .q + f .r) 0) _ _ (ne-eqb (f .q + f .r) 0 (λ e. omega arith)) ∙ pick-false (eqb (f .p + f .t) 0) _ _ (ne-eqb (f .p + f .t) 0 (λ e. omega arith))
+tail-more n f k = pick-false (eqb (f .q + f .r) 0) _ _ (ne-eqb (f .q + f .r) 0 (λ e. omega arith))
+    ∙ pick-false (eqb (f .p + f .t) 0) _ _ (ne-eqb (f .p + f .t) 0 (λ e. omega arith))
 
 pub turn-Q : (next : Form → List Letter) (f : Form) → f .p + f .q ≤ f .r + f .t → turn next f ≡ Q ∷ next (down (swap f))
 turn-Q next f h = pick-true (leb (f .p + f .q) (f .r + f .t)) _ _ (le-leb (f .p + f .q) (f .r + f .t) h)
@@ -217,13 +219,15 @@ read-back (sq w) (suc n) h =
     let k = whole w in
     let f = tailForm w in
     tail-more n (upper f) (record { not-one = omega arith; not-S = omega arith })
-    ∙ ap (λ (l : List Letter). S ∷ l) (turn-Q (tailOf n) (swap (upper f)) (omega arith) ∙ ap (λ (l : List Letter). Q ∷ l) (ap (tailOf n) (down-upper f) ∙ read-back w n (omega arith)))
+    ∙ ap (λ (l : List Letter). S ∷ l) (turn-Q (tailOf n) (swap (upper f)) (omega arith)
+    ∙ ap (λ (l : List Letter). Q ∷ l) (ap (tailOf n) (down-upper f) ∙ read-back w n (omega arith)))
 read-back (sp w) zero h = let k = whole w in absurd (omega arith)
 read-back (sp w) (suc n) h =
     let k = whole w in
     let f = tailForm w in
     tail-more n (lower f) (record { not-one = omega arith; not-S = omega arith })
-    ∙ ap (λ (l : List Letter). S ∷ l) (turn-P (tailOf n) (swap (lower f)) (omega arith) ∙ ap (λ (l : List Letter). P ∷ l) (ap (λ (g : Form). tailOf n (swap g)) (down-upper (swap f)) ∙ read-back w n (omega arith)))
+    ∙ ap (λ (l : List Letter). S ∷ l) (turn-P (tailOf n) (swap (lower f)) (omega arith)
+    ∙ ap (λ (l : List Letter). P ∷ l) (ap (λ (g : Form). tailOf n (swap g)) (down-upper (swap f)) ∙ read-back w n (omega arith)))
 
 -- any fuel from the total on gives the same word
 pub tail-is : (n : ℕ) (f : Form) (w : Formed f) → total f ≤ n → tailOf n f ≡ letters (w .word)

@@ -11,7 +11,8 @@ use mathlib.Core.Bool.{Bool, true, false, cond}
 use Prim.Native.Nat.{ℕ, zero, suc, _+_, _*_, _-_, _≤_, _<_}
 use native.Mathlib.Omega.{arith}
 use lib.Dec.{ltb}
-use lib.IntN.{ℤ, pos, negsuc, sucℤ, predℤ, negℤ, natAbs, subℕ, one, _+ℤ_, _*ℤ_, _-ℤ_, sucℤ-+ℤ, predℤ-+ℤ, sucℤ-*ℤ, predℤ-*ℤ, +ℤ-idl, +ℤ-idr, +ℤ-assoc, +ℤ-comm, +ℤ-invl, +ℤ-invr, zero-*ℤ, *ℤ-zero, *ℤ-one, *ℤ-comm, -ℤ-+ℤ-cancel, +ℤ-negℤ-cancel}
+use lib.IntN.{ℤ, pos, negsuc, sucℤ, predℤ, negℤ, natAbs, subℕ, one, _+ℤ_, _*ℤ_, _-ℤ_, sucℤ-+ℤ, predℤ-+ℤ, sucℤ-*ℤ, predℤ-*ℤ, +ℤ-idl, +ℤ-idr, +ℤ-assoc}
+use lib.IntN.{+ℤ-comm, +ℤ-invl, +ℤ-invr, zero-*ℤ, *ℤ-zero, *ℤ-one, *ℤ-comm, -ℤ-+ℤ-cancel, +ℤ-negℤ-cancel}
 
 module _ (f : ℤ → ℤ) (k : ℤ) (up : (x : ℤ) → f (sucℤ x) ≡ f x +ℤ k) (down : (x : ℤ) → f (predℤ x) ≡ f x -ℤ k) where
   abbrev line : ℤ → ℤ

@@ -144,7 +144,8 @@ module _ (r : List ℤ) where
   put-sum c m [] = refl
   put-sum c m (term d n ∷ p) =
       case (λ (q : List Term). sum q ≡ c *ℤ worth m +ℤ (d *ℤ worth n +ℤ sum p)) (same m n) (term (c +ℤ d) n ∷ p) (term d n ∷ put c m p)
-      (λ t. ap (λ (x : ℤ). x +ℤ sum p) (*-+-right c d (worth n)) ∙ +ℤ-assoc (c *ℤ worth n) (d *ℤ worth n) (sum p) ∙ ap (λ (l : List ℕ). c *ℤ worth l +ℤ (d *ℤ worth n +ℤ sum p)) (sym (same-eq m n t)))
+      (λ t. ap (λ (x : ℤ). x +ℤ sum p) (*-+-right c d (worth n)) ∙ +ℤ-assoc (c *ℤ worth n) (d *ℤ worth n) (sum p)
+      ∙ ap (λ (l : List ℕ). c *ℤ worth l +ℤ (d *ℤ worth n +ℤ sum p)) (sym (same-eq m n t)))
       (ap (λ (x : ℤ). d *ℤ worth n +ℤ x) (put-sum c m p) ∙ +-left-comm (d *ℤ worth n) (c *ℤ worth m) (sum p))
 
   plus-sum : (p q : List Term) → sum (plus p q) ≡ sum p +ℤ sum q
@@ -248,7 +249,8 @@ module _ (r : List ℤ) where
   abbrev valE : Entries → Mat
   valE m = mat (val r (m .a)) (val r (m .b)) (val r (m .c)) (val r (m .d))
 
-  product-is : (m n : Entries) → valE m ⊗ valE n ≡ valE (record { a = m .a ⊙ n .a ⊕ m .b ⊙ n .c; b = m .a ⊙ n .b ⊕ m .b ⊙ n .d; c = m .c ⊙ n .a ⊕ m .d ⊙ n .c; d = m .c ⊙ n .b ⊕ m .d ⊙ n .d })
+  product-is : (m n : Entries) → valE m ⊗ valE n ≡ valE
+      (record { a = m .a ⊙ n .a ⊕ m .b ⊙ n .c; b = m .a ⊙ n .b ⊕ m .b ⊙ n .d; c = m .c ⊙ n .a ⊕ m .d ⊙ n .c; d = m .c ⊙ n .b ⊕ m .d ⊙ n .d })
   unfolding _⊗_
   product-is m n = refl
 

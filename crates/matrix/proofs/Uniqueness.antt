@@ -95,7 +95,8 @@ word-back (head-P w) =
     wordOf-signed (value (P ∷ letters w)) true (sign w) (swap (lower f)) (head-value-P w)
     (agree-head (sign w) (swap (lower f)) (omega (arith, squares (f .p) (f .q) (k .top))))
     ∙ turn-P (tailOf (total (swap (lower f)))) (swap (lower f)) (omega arith)
-    ∙ ap (λ (l : List Letter). P ∷ l) (ap (λ (g : Form). tailOf (total (swap (lower f))) (swap g)) (down-upper (swap f)) ∙ read-back w (total (swap (lower f))) (omega arith))
+    ∙ ap (λ (l : List Letter). P ∷ l) (ap (λ (g : Form). tailOf (total (swap (lower f))) (swap g)) (down-upper (swap f))
+    ∙ read-back w (total (swap (lower f))) (omega arith))
 
 pub read-word : (l : List Letter) → Alternating l → wordOf (value l) ≡ l
 read-word l a = let k = view l a in ap (λ (r : List Letter). wordOf (value r)) (sym (k .is)) ∙ word-back (k .word) ∙ k .is

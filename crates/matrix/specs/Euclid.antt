@@ -23,6 +23,7 @@ use lib.Dec.{leb, eqb}
 use lib.IntN.{ℤ, pos, negsuc, natAbs, _*ℤ_}
 use Rattle.matrix.specs.Matrix.{Mat}
 use Rattle.matrix.specs.Words.{Letter, S, Q, P}
+use Rattle.basics.specs.Choice.{pick}
 
 pub record Form : Type 0 where
   pub p : ℕ
@@ -49,10 +50,6 @@ positive (negsuc n) = false
 
 abbrev pub agree : Mat → Bool
 agree m = positive (m .a *ℤ m .c) || positive (m .b *ℤ m .d)
-
-abbrev pub pick : {A : Type 0} → Bool → A → A → A
-pick true x y = x
-pick false x y = y
 
 abbrev pub turn : (Form → List Letter) → Form → List Letter
 turn next f =

@@ -7,7 +7,7 @@
 --   Alternating l      no two S and no two powers of Q stand side by side in l
 use mathlib.Core.Bool.{Bool, true, false}
 use mathlib.Core.List.{List, [], _∷_}
-use lib.Dec.{T}
+use Rattle.basics.specs.Choice.{IsTrue}
 use Rattle.matrix.specs.Matrix.{Mat, _⊗_, 𝟙, matS, matQ, matP}
 
 pub data Letter : Type 0 where
@@ -34,6 +34,6 @@ alternate P Q = false
 alternate P P = false
 
 abbrev pub Alternating : List Letter → Type 0
-Alternating [] = T true
-Alternating (x ∷ []) = T true
-Alternating (x ∷ y ∷ l) = T (alternate x y) × Alternating (y ∷ l)
+Alternating [] = IsTrue true
+Alternating (x ∷ []) = IsTrue true
+Alternating (x ∷ y ∷ l) = IsTrue (alternate x y) × Alternating (y ∷ l)

@@ -6,7 +6,7 @@ ghost use mathlib.Core.Path.{_≡_};
 ghost use Prim.Native.Nat.{_+_, _-_, _^_, _≤_};
 ghost use lib.IntN.{_+ℤ_, _-ℤ_, _*ℤ_};
 ghost use Rattle.matrix.specs.Matrix.{nth, ofList, toList, _⊗_, 𝟙, adj, det, matS, matT, matR, matQ};
-ghost use Rattle.matrix.specs.Bounds.{Adds, Room, Roomy, Small};
+ghost use Rattle.matrix.specs.Bounds.{Adds, ProductFits, DetFits, Small};
 
 // The identity.
 pub fn identity() -> [i64; 4]
@@ -69,7 +69,7 @@ fn entry(m: [i64; 4], n: [i64; 4], i: usize, j: usize) -> i64
 
 // The product of two matrices whose entries leave room for it.
 pub fn product(m: [i64; 4], n: [i64; 4]) -> [i64; 4]
-    requires { ⌜ Room (ofList m) (ofList n) ⌝ }
+    requires { ⌜ ProductFits (ofList m) (ofList n) ⌝ }
     ensures { λ r. ⌜ r ≡ toList (ofList m ⊗ ofList n) ⌝ }
 {
     [
@@ -90,7 +90,7 @@ pub fn inverse(m: [i64; 4]) -> [i64; 4]
 
 // The determinant of a matrix whose entries leave room for it.
 pub fn determinant(m: [i64; 4]) -> i64
-    requires { ⌜ Roomy (ofList m) ⌝ }
+    requires { ⌜ DetFits (ofList m) ⌝ }
     ensures { λ r. ⌜ r ≡ det (ofList m) ⌝ }
 {
     difference_of_products(m[0], m[3], m[1], m[2])

@@ -15,7 +15,8 @@ use lib.ListN.{length, getD, length-append, List·getD-append}
 use lib.Seq.{getD-append-add}
 use lib.Dec.{eqb}
 use borrow.Author.Tests.{eq-eqb, ne-eqb}
-use Rattle.numbering.specs.Find.{pick, find, _∈_, _∉_, Once}
+use Rattle.numbering.specs.Find.{find, _∈_, _∉_, Once}
+use Rattle.basics.specs.Choice.{pick}
 
 -- ---- small change
 pub none-below : {X : Type 0} {j : ℕ} → j < 0 → X

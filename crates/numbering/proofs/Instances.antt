@@ -5,7 +5,7 @@ use mathlib.Core.List.{List, [], _∷_}
 use Prim.Native.Nat.{ℕ}
 use Rattle.numbering.specs.Find.{find}
 use Rattle.numbering.specs.Order.{add, orderTo, orderOf}
-use Rattle.numbering.specs.Table.{at, _then_, renamed}
+use Rattle.numbering.specs.Table.{imageAt, _then_, renamed}
 
 -- ---- Γ0(2): S 1 0 2, R 2 0 1, T 0 2 1
 abbrev s2 : List ℕ
@@ -14,11 +14,11 @@ s2 = 1 ∷ 0 ∷ 2 ∷ []
 abbrev r2 : List ℕ
 r2 = 2 ∷ 0 ∷ 1 ∷ []
 
-gamma0-2-order : orderOf (at s2) (at r2) 0 3 ≡ (0 ∷ 1 ∷ 2 ∷ [])
+gamma0-2-order : orderOf (imageAt s2) (imageAt r2) 0 3 ≡ (0 ∷ 1 ∷ 2 ∷ [])
 unfolding orderTo add find
 gamma0-2-order = refl
 
-gamma0-2-T : renamed (orderOf (at s2) (at r2) 0 3) (at s2 then at r2) ≡ (0 ∷ 2 ∷ 1 ∷ [])
+gamma0-2-T : renamed (orderOf (imageAt s2) (imageAt r2) 0 3) (imageAt s2 then imageAt r2) ≡ (0 ∷ 2 ∷ 1 ∷ [])
 unfolding orderTo add find renamed
 gamma0-2-T = refl
 
@@ -29,28 +29,28 @@ s4 = 1 ∷ 0 ∷ 4 ∷ 5 ∷ 2 ∷ 3 ∷ []
 abbrev r4 : List ℕ
 r4 = 2 ∷ 3 ∷ 5 ∷ 4 ∷ 1 ∷ 0 ∷ []
 
-gamma2-S : renamed (orderOf (at s4) (at r4) 0 6) (at s4) ≡ s4
+gamma2-S : renamed (orderOf (imageAt s4) (imageAt r4) 0 6) (imageAt s4) ≡ s4
 unfolding orderTo add find renamed
 gamma2-S = refl
 
-gamma2-R : renamed (orderOf (at s4) (at r4) 0 6) (at r4) ≡ r4
+gamma2-R : renamed (orderOf (imageAt s4) (imageAt r4) 0 6) (imageAt r4) ≡ r4
 unfolding orderTo add find renamed
 gamma2-R = refl
 
-gamma2-T : renamed (orderOf (at s4) (at r4) 0 6) (at s4 then at r4) ≡ (3 ∷ 2 ∷ 1 ∷ 0 ∷ 5 ∷ 4 ∷ [])
+gamma2-T : renamed (orderOf (imageAt s4) (imageAt r4) 0 6) (imageAt s4 then imageAt r4) ≡ (3 ∷ 2 ∷ 1 ∷ 0 ∷ 5 ∷ 4 ∷ [])
 unfolding orderTo add find renamed
 gamma2-T = refl
 
-from-3 : orderOf (at s4) (at r4) 3 6 ≡ (3 ∷ 5 ∷ 4 ∷ 0 ∷ 2 ∷ 1 ∷ [])
+from-3 : orderOf (imageAt s4) (imageAt r4) 3 6 ≡ (3 ∷ 5 ∷ 4 ∷ 0 ∷ 2 ∷ 1 ∷ [])
 unfolding orderTo add find
 from-3 = refl
 
 -- ---- the symbol 0/1 with pairings -3 -3: index 2, S 1 0, R 0 1
-index-2 : orderOf (at (1 ∷ 0 ∷ [])) (at (0 ∷ 1 ∷ [])) 0 2 ≡ (0 ∷ 1 ∷ [])
+index-2 : orderOf (imageAt (1 ∷ 0 ∷ [])) (imageAt (0 ∷ 1 ∷ [])) 0 2 ≡ (0 ∷ 1 ∷ [])
 unfolding orderTo add find
 index-2 = refl
 
 -- points that the start does not reach get no number
-not-reached : orderOf (at (0 ∷ 2 ∷ 1 ∷ [])) (at (0 ∷ 1 ∷ 2 ∷ [])) 0 3 ≡ (0 ∷ [])
+not-reached : orderOf (imageAt (0 ∷ 2 ∷ 1 ∷ [])) (imageAt (0 ∷ 1 ∷ 2 ∷ [])) 0 3 ≡ (0 ∷ [])
 unfolding orderTo add find
 not-reached = refl

@@ -4,7 +4,7 @@ pub mod Find
 pub mod Order
 pub mod Table
 pub mod Numbered
-pub mod Select
+pub mod Those
 pub mod Space
 pub mod Marks
 pub mod Filled

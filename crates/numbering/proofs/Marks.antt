@@ -1,28 +1,30 @@
 -- Laws of the sparse set that NUMBER and ORDER hold, and one law for each place in the code of the numbering.
--- In order: what is listed; `has`; `push` and `enter`; `visit`; the loop of `number`; `rename` and `compose`; `tables`.
+-- In order: what is listed; `has`; `push` and `enter`; `visit`; the loop of `number`; `compose`; a whole table put; `rename`; `tables`.
 -- Assumes nothing.
 use mathlib.Core.Path.{_≡_, refl, sym, ap, _∙_}
 use mathlib.Core.Logic.{_≢_, inl, inr}
 use mathlib.Core.Bool.{false}
 use mathlib.Core.List.{List, [], _∷_, _++_}
-use Prim.Native.Nat.{ℕ, _+_, _≤_, _<_}
+use Prim.Native.Nat.{ℕ, _+_, _-_, _≤_, _<_}
 use native.Mathlib.Numerals.{add-one}
 use native.Mathlib.Omega.{arith}
 use native.Mathlib.Decide.{decLt, ℕ-discrete}
 use lib.ListN.{length, getD, set, length-set, length-append}
-use lib.Seq.{getD-set-same, getD-set-other}
+use lib.Seq.{getD-set-same, getD-set-other, ext-getD}
 use lib.Dec.{eqb}
 use borrow.Author.Tests.{lt-ltb, le-ltb, eq-eqb, ne-eqb}
 use borrow.Author.Count.{below-more}
 use Rattle.numbering.specs.Find.{find, _∈_, _∉_, isIn, Once}
 use Rattle.numbering.specs.Order.{add, visit, orderTo}
-use Rattle.numbering.specs.Table.{at, _then_, renamed, _thenTable_}
-use Rattle.numbering.specs.Inner.Space.{WORK, ROOM, S-TABLE, SIGMA, RHO, NUMBER, ORDER, R-TABLE, T-TABLE, entries, putTo, Apart, Within}
-use Rattle.numbering.specs.Inner.Marks.{listed, Sparse, Marked, Fresh, Visit, Images, orderIn, Renames, Composes, Tables}
+use Rattle.numbering.specs.Table.{imageAt, _then_, renamed, _thenTable_}
+use Rattle.numbering.specs.Inner.Space.{WORK, ROOM, S-TABLE, SIGMA, RHO, NUMBER, ORDER, R-TABLE, T-TABLE, putTo, Apart, ChangedWithin}
+use Rattle.workspace.specs.Space.{entries}
+use Rattle.numbering.specs.Inner.Marks.{listed, Sparse, NowListed, Fresh, Visit, Images, orderIn, Renames, Composes, TablesLeft}
 use Rattle.numbering.proofs.Find.{none-below, getD-find, getD-in, in-all, once-last, once-below, all-last}
 use Rattle.numbering.proofs.Order.{add-old, add-new, visit-grows, to-more, numbering, order-stop}
 use Rattle.numbering.proofs.Table.{renamed-length, renamed-at, then-length, then-at, renaming}
-use Rattle.numbering.proofs.Space.{entries-length, entries-at, entries-push, entries-set, within-refl, within-trans, within-set, within-entries, put-more, put-length, put-below, put-above, put-other, put-entries-other, put-entries, apart-part}
+use Rattle.numbering.proofs.Space.{entries-length, entries-at, entries-push, entries-set, within-refl, within-trans, within-set, within-entries}
+use Rattle.numbering.proofs.Space.{put-more, put-length, put-below, put-in, put-above, put-other, put-entries-other, put-entries, apart-part}
 
 -- a work space of the same length has room too
 still : {m n : ℕ} → n ≡ m → WORK ≤ m → WORK ≤ n
@@ -36,7 +38,7 @@ module _ {size n : ℕ} {w : List ℕ} (g : Sparse size n w) where
   at-listed : (j : ℕ) → j < n → getD w (ORDER + j) 0 ≡ getD (listed n w) j 0
   at-listed j h = sym (entries-at ORDER n w j h)
 
-  -- NUMBER knows each listed position
+  -- NUMBER knows each listed point
   listed-old : (x k : ℕ) → k < n → getD w (ORDER + k) 0 ≡ x → x ∈ listed n w
   listed-old x k h e = let l = listed-length in rw (sym (at-listed k h) ∙ e) at (getD-in (listed n w) k (omega arith))
 
@@ -80,15 +82,15 @@ module _ {size n : ℕ} {w : List ℕ} (g : Sparse size n w) where
       ]
 
   -- ---- `enter`
-  pub enter-old : (x : ℕ) → x ∈ listed n w → Marked size w w (add (listed n w) x) n
+  pub enter-old : (x : ℕ) → x ∈ listed n w → NowListed size w w (add (listed n w) x) n
   enter-old x i = record { sparse = g; frame = within-refl NUMBER R-TABLE w; list = sym (add-old (listed n w) x i) }
 
-  pub enter-new : (x : ℕ) → x ∉ listed n w → {w' : List ℕ} {r : ℕ} → Marked size w w' (listed n w ++ (x ∷ [])) r → Marked size w w' (add (listed n w) x) r
+  pub enter-new : (x : ℕ) → x ∉ listed n w → {w' : List ℕ} {r : ℕ} → NowListed size w w' (listed n w ++ (x ∷ [])) r → NowListed size w w' (add (listed n w) x) r
   enter-new x i p = record { sparse = p .sparse; frame = p .frame; list = p .list ∙ sym (add-new (listed n w) x i) }
 
 -- ---- `push`
 module _ {size n x : ℕ} {w : List ℕ} (f : Fresh size n x w) where
-  -- a new position leaves room for it, by the pigeonhole
+  -- a new point leaves room for it, by the pigeonhole
   pub push-room : n + 1 ≤ size
   push-room =
       let l = listed n w in
@@ -99,7 +101,7 @@ module _ {size n x : ℕ} {w : List ℕ} (f : Fresh size n x w) where
         length-append l (x ∷ []),
       )
 
-  pub pushed : Marked size w (set (set w (NUMBER + x) n) (ORDER + n) x) (listed n w ++ (x ∷ [])) (n + 1)
+  pub pushed : NowListed size w (set (set w (NUMBER + x) n) (ORDER + n) x) (listed n w ++ (x ∷ [])) (n + 1)
   pushed =
       let g = f .sparse in
       let r = push-room in
@@ -121,7 +123,8 @@ module _ {size n x : ℕ} {w : List ℕ} (f : Fresh size n x w) where
               let y = getD w (ORDER + j) 0 in
               let ly = g .low j k in
               let ne : y ≢ x = λ e. let i = listed-old g x j k e in omega (arith, f .new) in
-              rw (old j k) (getD-set-other w1 (ORDER + n) (NUMBER + y) x 0 (λ e. omega arith) ∙ getD-set-other w (NUMBER + x) (NUMBER + y) n 0 (λ e. ne (omega arith)) ∙ g .number j k))
+              rw (old j k) (getD-set-other w1 (ORDER + n) (NUMBER + y) x 0 (λ e. omega arith)
+              ∙ getD-set-other w (NUMBER + x) (NUMBER + y) n 0 (λ e. ne (omega arith)) ∙ g .number j k))
               (rw new (getD-set-other w1 (ORDER + n) (NUMBER + x) x 0 (λ e. omega arith) ∙ getD-set-same w (NUMBER + x) n 0 (omega arith)));
         };
         frame = within-set (ORDER + n) x (within-set (NUMBER + x) n (within-refl NUMBER R-TABLE w) (omega arith) (omega arith)) (omega arith) (omega arith);
@@ -140,17 +143,17 @@ sparse-set {size} {n} {w} i x g h =
       number = λ j l. rw (kept (ORDER + j) (omega arith), kept (NUMBER + getD w (ORDER + j) 0) (omega arith)) (g .number j l);
     }
 
--- ---- `visit`: two positions in a row; the images are read before the first is entered
-pub marked-then : {size k r : ℕ} {a b c l : List ℕ} (y : ℕ) → Marked size a b l k → Marked size b c (add (listed k b) y) r → Marked size a c (add l y) r
+-- ---- `visit`: two points in a row; the images are read before the first is entered
+pub marked-then : {size k r : ℕ} {a b c l : List ℕ} (y : ℕ) → NowListed size a b l k → NowListed size b c (add (listed k b) y) r → NowListed size a c (add l y) r
 marked-then y p q = record { sparse = q .sparse; frame = within-trans (p .frame) (q .frame); list = q .list ∙ ap (λ (l : List ℕ). add l y) (p .list) }
 
 module _ {size n i : ℕ} {w : List ℕ} (v : Visit size n i w) where
   pub visit-low : {x : ℕ} → x ≡ getD w (ORDER + i) 0 → x < size
   visit-low ex = rw ex (v .sparse .low i (v .low))
 
-  -- the image in the table at off of the position with the number i
-  pub visit-image : (off : ℕ) {x y : ℕ} → x ≡ getD w (ORDER + i) 0 → y ≡ getD w (off + x) 0 → y ≡ at (entries off size w) (getD (listed n w) i 0)
-  visit-image off {x} {y} ex ey = ey ∙ sym (entries-at off size w x (visit-low ex)) ∙ ap (at (entries off size w)) (ex ∙ at-listed (v .sparse) i (v .low))
+  -- the image in the table at off of the point with the number i
+  pub visit-image : (off : ℕ) {x y : ℕ} → x ≡ getD w (ORDER + i) 0 → y ≡ getD w (off + x) 0 → y ≡ imageAt (entries off size w) (getD (listed n w) i 0)
+  visit-image off {x} {y} ex ey = ey ∙ sym (entries-at off size w x (visit-low ex)) ∙ ap (imageAt (entries off size w)) (ex ∙ at-listed (v .sparse) i (v .low))
 
   visit-point : getD (listed n w) i 0 < size
   visit-point = rw (at-listed (v .sparse) i (v .low)) at (visit-low refl)
@@ -163,10 +166,10 @@ module _ {size n i : ℕ} {w : List ℕ} (v : Visit size n i w) where
 
 -- ---- `number`
 -- the tables of images lie below what the numbering changes
-image-kept : (off size : ℕ) {a b : List ℕ} → Within NUMBER R-TABLE a b → off + size ≤ NUMBER → WORK ≤ length a → entries off size b ≡ entries off size a
+image-kept : (off size : ℕ) {a b : List ℕ} → ChangedWithin NUMBER R-TABLE a b → off + size ≤ NUMBER → WORK ≤ length a → entries off size b ≡ entries off size a
 image-kept off size f h long = within-entries f off size (inl h) (omega arith) (omega arith)
 
-images-kept : {start size : ℕ} {a b : List ℕ} → Within NUMBER R-TABLE a b → Images start size a → Images start size b
+images-kept : {start size : ℕ} {a b : List ℕ} → ChangedWithin NUMBER R-TABLE a b → Images start size a → Images start size b
 images-kept {start} {size} {a} {b} f p = record {
   long = still (f .same) (p .long);
   room = p .room;
@@ -180,13 +183,13 @@ number-fresh p = record {
   new = omega arith;
 }
 
--- the loop: i positions have been visited
+-- the loop: i points have been visited
 pub record Part (start size : ℕ) (w₀ w : List ℕ) (n i : ℕ) : Type 0 where
   pub images : Images start size w₀
-  pub marked : Marked size w₀ w (orderTo (at (entries SIGMA size w₀)) (at (entries RHO size w₀)) start i) n
+  pub marked : NowListed size w₀ w (orderTo (imageAt (entries SIGMA size w₀)) (imageAt (entries RHO size w₀)) start i) n
   pub done : i ≤ n
 
-pub part-start : {start size : ℕ} {w w₀ : List ℕ} → Images start size w → Marked size w w₀ (listed 0 w ++ (start ∷ [])) 1 → Part start size w₀ w₀ 1 0
+pub part-start : {start size : ℕ} {w w₀ : List ℕ} → Images start size w → NowListed size w w₀ (listed 0 w ++ (start ∷ [])) 1 → Part start size w₀ w₀ 1 0
 unfolding orderTo
 part-start {w₀ = w₀} p m = record {
   images = images-kept (m .frame) p;
@@ -195,20 +198,27 @@ part-start {w₀ = w₀} p m = record {
 }
 
 module _ {start size n i : ℕ} {w₀ w : List ℕ} (p : Part start size w₀ w n i) where
-  part-long : length (orderTo (at (entries SIGMA size w₀)) (at (entries RHO size w₀)) start i) ≡ n
+  part-long : length (orderTo (imageAt (entries SIGMA size w₀)) (imageAt (entries RHO size w₀)) start i) ≡ n
   part-long = rw (p .marked .list) at (listed-length (p .marked .sparse))
 
   pub part-visit : i < n → Visit size n i w
   part-visit h = let q = images-kept (p .marked .frame) (p .images) in record { sparse = p .marked .sparse; low = h; σ-low = q .maps .σ-low; ρ-low = q .maps .ρ-low }
 
-  pub part-more : i < n → {w' : List ℕ} {r : ℕ} → Marked size w w' (visit (at (entries SIGMA size w)) (at (entries RHO size w)) (listed n w) i) r → Part start size w₀ w' r (i + 1)
+  pub part-more : i < n → {w' : List ℕ} {r : ℕ} → NowListed size w w' (visit (imageAt (entries SIGMA size w)) (imageAt (entries RHO size w)) (listed n w) i) r
+      → Part start size w₀ w' r (i + 1)
   part-more h {w'} {r} v =
       let m = p .marked in
       let q = p .images in
-      let σ = at (entries SIGMA size w₀) in
-      let ρ = at (entries RHO size w₀) in
+      let σ = imageAt (entries SIGMA size w₀) in
+      let ρ = imageAt (entries RHO size w₀) in
       let l = orderTo σ ρ start i in
-      let e : listed r w' ≡ visit σ ρ l i = v .list ∙ (rw (image-kept SIGMA size (m .frame) (omega (arith, q .room)) (q .long), image-kept RHO size (m .frame) (omega (arith, q .room)) (q .long), m .list)) in
+      let e : listed r w' ≡ visit σ ρ l i = v .list
+      ∙ (rw (
+        image-kept SIGMA size (m .frame) (omega (arith, q .room)) (q .long),
+        image-kept RHO size (m .frame) (omega (arith, q .room))
+            (q .long),
+        m .list,
+      )) in
       let more = visit-grows σ ρ l i .long in
       let len = part-long in
       let len' = rw e at (listed-length (v .sparse)) in
@@ -218,7 +228,7 @@ module _ {start size n i : ℕ} {w₀ w : List ℕ} (p : Part start size w₀ w 
         done = omega arith;
       }
 
-  pub part-end : n ≤ i → Marked size w₀ w (orderIn start size w₀) n
+  pub part-end : n ≤ i → NowListed size w₀ w (orderIn start size w₀) n
   part-end h =
       let m = p .marked in
       let len = part-long in
@@ -229,101 +239,48 @@ module _ {start size n i : ℕ} {w₀ w : List ℕ} (p : Part start size w₀ w 
       }
 
 -- seen from before the start was entered
-pub numbered-from : {start size r : ℕ} {a b c : List ℕ} → Images start size a → Within NUMBER R-TABLE a b → Marked size b c (orderIn start size b) r → Marked size a c (orderIn start size a) r
+pub numbered-from : {start size r : ℕ} {a b c : List ℕ} → Images start size a → ChangedWithin NUMBER R-TABLE a b → NowListed size b c (orderIn start size b) r
+    → NowListed size a c (orderIn start size a) r
 numbered-from {start} {size} {r} {a} {b} {c} p f m = record {
   sparse = m .sparse;
   frame = within-trans f (m .frame);
   list = rw (image-kept SIGMA size f (omega (arith, p .room)) (p .long), image-kept RHO size f (omega (arith, p .room)) (p .long)) at (m .list);
 }
 
--- ---- `rename` and `compose`: after j turns the first j entries of the table l stand at `to`
-record Filling (to n j : ℕ) (l w₀ w : List ℕ) : Type 0 where
-  pub is : w ≡ putTo w₀ to l j
-  pub long : length l ≡ n
-  pub fits : to + n ≤ length w₀
-  pub low : j < n
-
-module _ {to n j : ℕ} {l w₀ w : List ℕ} (f : Filling to n j l w₀ w) where
-  -- tables apart are as before
-  filling-kept : (a m i : ℕ) → Apart a m to n → i < m → getD w (a + i) 0 ≡ getD w₀ (a + i) 0
-  filling-kept a m i apart g = rw (f .is) (put-other w₀ to l j (omega arith) (omega arith) a m i (apart-part m j apart (omega arith) (omega arith)) g)
-
-  -- the next entry is stored
-  filling-more : (x : ℕ) → x ≡ getD l j 0 → set w (to + j) x ≡ putTo w₀ to l (j + 1)
-  filling-more x d = rw (f .is) (put-more w₀ to l j x (omega arith) (omega arith) d)
-
-module _ {from to size n : ℕ} {w₀ : List ℕ} (p : Renames from to size n w₀) where
-  abbrev renamedIn : List ℕ
-  renamedIn = renamed (listed n w₀) (at (entries from size w₀))
-
-  rename-long : length renamedIn ≡ n
-  rename-long = renamed-length (listed n w₀) (at (entries from size w₀)) ∙ listed-length (p .sparse)
-
-  module _ {w : List ℕ} {j : ℕ} (e : w ≡ putTo w₀ to renamedIn j) (h : j < n) where
-    renaming-now : Filling to n j renamedIn w₀ w
-    renaming-now = record { is = e; long = rename-long; fits = omega (arith, p .fits-to, p .sparse .long); low = h }
-
-    module _ {x : ℕ} (ex : x ≡ getD w (ORDER + j) 0) where
-      rename-point : x ≡ getD (listed n w₀) j 0
-      rename-point =
-          ex ∙ filling-kept renaming-now ORDER ROOM j (p .apart-order) (omega (arith, p .sparse .few, p .sparse .room)) ∙ at-listed (p .sparse) j h
-
-      rename-in : x ∈ listed n w₀
-      rename-in = let l = listed-length (p .sparse) in rw rename-point (getD-in (listed n w₀) j (omega arith))
-
-      pub rename-low : x < size
-      rename-low = listed-low (p .sparse) x rename-in
-
-      module _ {y : ℕ} (ey : y ≡ getD w (from + x) 0) where
-        rename-image : y ≡ at (entries from size w₀) x
-        rename-image = ey ∙ filling-kept renaming-now from size x (p .apart-from) rename-low ∙ sym (entries-at from size w₀ x rename-low)
-
-        rename-image-in : y ∈ listed n w₀
-        rename-image-in = rw rename-image (p .closed x rename-in)
-
-        pub rename-image-low : y < size
-        rename-image-low = listed-low (p .sparse) y rename-image-in
-
-        pub rename-more : set w (to + j) (getD w (NUMBER + y) 0) ≡ putTo w₀ to renamedIn (j + 1)
-        rename-more =
-            let low = rename-image-low in
-            let len = listed-length (p .sparse) in
-            filling-more renaming-now _
-            (filling-kept renaming-now NUMBER ROOM y (p .apart-number) (omega (arith, p .sparse .room))
-            ∙ listed-number (p .sparse) y rename-image-in
-            ∙ ap (find (listed n w₀)) (rename-image ∙ ap (at (entries from size w₀)) rename-point)
-            ∙ sym (renamed-at (listed n w₀) (at (entries from size w₀)) j (omega arith)))
-
-module _ {a b to n : ℕ} {w₀ : List ℕ} (p : Composes a b to n w₀) where
+-- ---- `compose`: after j turns the first j entries stand at `to`
+module _ {a b to n m : ℕ} {w₀ : List ℕ} (p : Composes a b to n m w₀) where
   abbrev composedIn : List ℕ
-  composedIn = entries a n w₀ thenTable entries b n w₀
+  composedIn = entries a n w₀ thenTable entries b m w₀
 
   compose-long : length composedIn ≡ n
-  compose-long = then-length (entries a n w₀) (entries b n w₀) ∙ entries-length a n w₀ (omega arith)
+  compose-long = then-length (entries a n w₀) (entries b m w₀) ∙ entries-length a n w₀ (omega arith)
 
   module _ {w : List ℕ} {j : ℕ} (e : w ≡ putTo w₀ to composedIn j) (h : j < n) where
-    composing-now : Filling to n j composedIn w₀ w
-    composing-now = record { is = e; long = compose-long; fits = omega (arith, p .fits-to, p .long); low = h }
+    -- a table apart is as before, and so is what stands past the entries that were put
+    compose-kept : (c k i : ℕ) → Apart c k to n → i < k → getD w (c + i) 0 ≡ getD w₀ (c + i) 0
+    compose-kept c k i apart g =
+        let l = compose-long in
+        rw e (put-other w₀ to composedIn j (omega arith) (omega arith) c k i (apart-part k j apart (omega arith) (omega arith)) g)
 
-    compose-entry : (c i : ℕ) → Apart c n to n → i < n → getD w (c + i) 0 ≡ getD (entries c n w₀) i 0
-    compose-entry c i apart g = filling-kept composing-now c n i apart g ∙ sym (entries-at c n w₀ i g)
+    compose-past : a ≡ to → getD w (a + j) 0 ≡ getD w₀ (a + j) 0
+    compose-past d = let l = compose-long in rw e (put-above w₀ to composedIn j (omega arith) (omega arith) (a + j) (omega arith))
 
     module _ {x : ℕ} (ex : x ≡ getD w (a + j) 0) where
-      compose-point : x ≡ at (entries a n w₀) j
-      compose-point = ex ∙ compose-entry a j (p .apart-a) h
+      compose-point : x ≡ imageAt (entries a n w₀) j
+      compose-point = ex ∙ elim (p .apart-a) [ inl d ↦ compose-kept a n j d h | inr d ↦ compose-past d ] ∙ sym (entries-at a n w₀ j h)
 
-      pub compose-low : x < n
+      pub compose-low : x < m
       compose-low = rw compose-point (p .low j h)
 
       pub compose-more : set w (to + j) (getD w (b + x) 0) ≡ putTo w₀ to composedIn (j + 1)
       compose-more =
-          let len = entries-length a n w₀ (omega arith) in
-          filling-more composing-now _
-          (compose-entry b x (p .apart-b) compose-low
-          ∙ ap (at (entries b n w₀)) compose-point
-          ∙ sym (then-at (entries a n w₀) (entries b n w₀) j (omega arith)))
+          let l = compose-long in
+          let k = entries-length a n w₀ (omega arith) in
+          let d = compose-kept b m x (p .apart-b) compose-low ∙ sym (entries-at b m w₀ x compose-low)
+          ∙ ap (imageAt (entries b m w₀)) compose-point ∙ sym (then-at (entries a n w₀) (entries b m w₀) j (omega arith)) in
+          rw e (put-more w₀ to composedIn j _ (omega arith) (omega arith) (rw e at d))
 
--- ---- `tables`: three tables put one after another
+-- ---- a whole table put
 -- w' is w with the table l, of n entries, at off
 record Put (off n : ℕ) (l w w' : List ℕ) : Type 0 where
   pub is : w' ≡ putTo w off l n
@@ -357,18 +314,108 @@ module _ {off n : ℕ} {l w w' : List ℕ} (p : Put off n l w w') where
         low = λ j h. rw (at-order j h) (g .low j h);
         number = λ j h.
             let x = g .low j h in
-            rw (at-order j h, p .is) (put-other w off l n (p .fits) (omega (arith, p .long)) NUMBER ROOM (getD w (ORDER + j) 0) an (omega (arith, g .room)) ∙ g .number j h);
+            rw (at-order j h, p .is) (put-other w off l n (p .fits) (omega (arith, p .long)) NUMBER ROOM (getD w (ORDER + j) 0) an (omega (arith, g .room))
+            ∙ g .number j h);
       }
 
-module _ {start size n : ℕ} {w w1 : List ℕ} (p : Images start size w) (m : Marked size w w1 (orderIn start size w) n) where
+  -- another table put over it
+  put-again : (l' : List ℕ) {w'' : List ℕ} → length l' ≡ n → w'' ≡ putTo w' off l' n → w'' ≡ putTo w off l' n
+  put-again l' d e =
+      let fits = p .fits in
+      let same = put-same in
+      let one = put-length w' off l' n (omega arith) (omega arith) in
+      let other = put-length w off l' n fits (omega arith) in
+      e ∙ ext-getD 0 (putTo w' off l' n) (putTo w off l' n) (omega arith) (λ i h. elim (decLt i off) [
+        | yes b ↦ put-below w' off l' n (omega arith) (omega arith) i b ∙ put-under i b ∙ sym (put-below w off l' n fits (omega arith) i b)
+        | no b ↦ elim (decLt i (off + n)) [
+          | yes k ↦
+              let g : off + (i - off) ≡ i = omega arith in
+              let x = put-in w' off l' n (omega arith) (omega arith) (i - off) (omega arith) in
+              let y = put-in w off l' n fits (omega arith) (i - off) (omega arith) in
+              rw g at (x ∙ sym y)
+          | no k ↦
+              let x = put-above w' off l' n (omega arith) (omega arith) i (omega arith) in
+              x ∙ put-over i (omega arith) ∙ sym (put-above w off l' n fits (omega arith) i (omega arith))
+        ]
+      ])
+
+-- ---- `rename`: the images of what is listed, and then their numbers
+module _ {from to size n : ℕ} {w₀ : List ℕ} (p : Renames from to size n w₀) where
+  abbrev points : List ℕ
+  points = listed n w₀
+
+  abbrev table : List ℕ
+  table = entries from size w₀
+
+  abbrev images : List ℕ
+  images = points thenTable table
+
+  points-long : length points ≡ n
+  points-long = listed-length (p .sparse)
+
+  image-at : (j : ℕ) → j < n → imageAt images j ≡ imageAt table (imageAt points j)
+  image-at j h = let l = points-long in then-at points table j (omega arith)
+
+  image-in : (j : ℕ) → j < n → imageAt images j ∈ points
+  image-in j h = let l = points-long in rw (image-at j h) (p .closed (imageAt points j) (getD-in points j (omega arith)))
+
+  pub rename-first : Composes ORDER from to n size w₀
+  rename-first = let l = points-long in record {
+    long = p .sparse .long;
+    fits-a = omega (arith, p .sparse .few, p .sparse .room);
+    fits-b = p .fits-from;
+    fits-to = p .fits-to;
+    apart-a = inl (apart-part {m = ROOM} n n (p .apart-order) (omega (arith, p .sparse .few, p .sparse .room)) (omega arith));
+    apart-b = p .apart-from;
+    low = λ j h. listed-low (p .sparse) (imageAt points j) (getD-in points j (omega arith));
+  }
+
+  module _ {w : List ℕ} (e : w ≡ putTo w₀ to images n) where
+    images-put : Put to n images w₀ w
+    images-put = record { is = e; long = then-length points table ∙ points-long; fits = omega (arith, p .fits-to, p .sparse .long) }
+
+    apart-numbers : Apart NUMBER size to n
+    apart-numbers = apart-part {m = ROOM} size n (p .apart-number) (p .sparse .room) (omega arith)
+
+    pub rename-second : Composes to NUMBER to n size w
+    rename-second = record {
+      long = still (put-same images-put) (p .sparse .long);
+      fits-a = p .fits-to;
+      fits-b = omega (arith, p .sparse .room);
+      fits-to = p .fits-to;
+      apart-a = inr refl;
+      apart-b = apart-numbers;
+      low = λ j h. rw (put-table images-put) (listed-low (p .sparse) (imageAt images j) (image-in j h));
+    }
+
+    numbers : images thenTable entries NUMBER size w₀ ≡ renamed points (imageAt table)
+    numbers =
+        let numbers-in = entries NUMBER size w₀ in
+        let l = points-long in
+        let k = then-length points table in
+        let long = then-length images numbers-in ∙ k ∙ sym (renamed-length points (imageAt table)) in
+        ext-getD 0 (images thenTable numbers-in) (renamed points (imageAt table)) long (λ j h.
+        let i : j < n = omega (arith, then-length images numbers-in) in
+        let y = imageAt images j in
+        then-at images numbers-in j (omega arith) ∙ entries-at NUMBER size w₀ y (listed-low (p .sparse) y (image-in j i))
+        ∙ listed-number (p .sparse) y (image-in j i)
+        ∙ ap (find points) (image-at j i) ∙ sym (renamed-at points (imageAt table) j (omega arith)))
+
+    pub rename-both : {w' : List ℕ} → w' ≡ putTo w to (entries to n w thenTable entries NUMBER size w) n → w' ≡ putTo w₀ to (renamed points (imageAt table)) n
+    rename-both d =
+        let kept = put-apart images-put NUMBER size apart-numbers (omega (arith, p .sparse .room, p .sparse .long)) in
+        put-again images-put (renamed points (imageAt table)) (renamed-length points (imageAt table) ∙ points-long) (rw (put-table images-put, kept, numbers) at d)
+
+-- ---- `tables`: three tables put one after another
+module _ {start size n : ℕ} {w w1 : List ℕ} (p : Images start size w) (m : NowListed size w w1 (orderIn start size w) n) where
   abbrev L : List ℕ
   L = orderIn start size w
 
   abbrev σ : ℕ → ℕ
-  σ = at (entries SIGMA size w)
+  σ = imageAt (entries SIGMA size w)
 
   abbrev ρ : ℕ → ℕ
-  ρ = at (entries RHO size w)
+  ρ = imageAt (entries RHO size w)
 
   tables-count : n ≡ length L
   tables-count = sym (rw (m .list) at (listed-length (m .sparse)))
@@ -396,7 +443,7 @@ module _ {start size n : ℕ} {w w1 : List ℕ} (p : Images start size w) (m : M
     closed = rw (m .list, σ-is) (numbering σ ρ start size (p .maps) .σ-closed);
   }
 
-  module _ {w2 : List ℕ} (e2 : w2 ≡ putTo w1 S-TABLE (renamed (listed n w1) (at (entries SIGMA size w1))) n) where
+  module _ {w2 : List ℕ} (e2 : w2 ≡ putTo w1 S-TABLE (renamed (listed n w1) (imageAt (entries SIGMA size w1))) n) where
     put-S : Put S-TABLE n (renamed L σ) w1 w2
     put-S = let f = tables-few in record {
       is = rw (m .list, σ-is) at e2;
@@ -424,7 +471,7 @@ module _ {start size n : ℕ} {w w1 : List ℕ} (p : Images start size w) (m : M
       closed = rw (list2, ρ-is2) (numbering σ ρ start size (p .maps) .ρ-closed);
     }
 
-    module _ {w3 : List ℕ} (e3 : w3 ≡ putTo w2 R-TABLE (renamed (listed n w2) (at (entries RHO size w2))) n) where
+    module _ {w3 : List ℕ} (e3 : w3 ≡ putTo w2 R-TABLE (renamed (listed n w2) (imageAt (entries RHO size w2))) n) where
       put-R : Put R-TABLE n (renamed L ρ) w2 w3
       put-R = let f = tables-few in record {
         is = rw (list2, ρ-is2) at e3;
@@ -444,13 +491,13 @@ module _ {start size n : ℕ} {w w1 : List ℕ} (p : Images start size w) (m : M
       R-is3 : entries R-TABLE n w3 ≡ renamed L ρ
       R-is3 = put-table put-R
 
-      pub tables-T : Composes S-TABLE R-TABLE T-TABLE n w3
+      pub tables-T : Composes S-TABLE R-TABLE T-TABLE n n w3
       tables-T = let f = tables-few in let c = tables-count in record {
         long = w3-long;
         fits-a = omega arith;
         fits-b = omega arith;
         fits-to = omega arith;
-        apart-a = inl (omega arith);
+        apart-a = inl (inl (omega arith));
         apart-b = inl (omega arith);
         low = λ j h. rw S-is3 (omega (arith, renaming σ ρ start size (p .maps) .S .low j (omega arith)));
       }
@@ -463,7 +510,7 @@ module _ {start size n : ℕ} {w w1 : List ℕ} (p : Images start size w) (m : M
           fits = omega (arith, w3-long);
         }
 
-        pub tables-are : Tables start size w w4 n
+        pub tables-are : TablesLeft start size w w4 n
         tables-are = let f = tables-few in record {
           tables = record {
             count = tables-count;

@@ -13,7 +13,7 @@ use lib.ListN.{length, getD, length-append, length-map, List·getD-append}
 use lib.Seq.{ext-getD, getD-append-add}
 use Rattle.numbering.specs.Find.{find, _∈_}
 use Rattle.numbering.specs.Order.{add, visit, orderTo, orderOf, upTo, Maps}
-use Rattle.numbering.specs.Table.{at, renamed, Injective}
+use Rattle.numbering.specs.Table.{imageAt, renamed, Injective}
 use Rattle.numbering.proofs.Find.{none-below, getD-find, getD-in, find-map, once-le}
 use Rattle.numbering.proofs.Order.{add-old, add-new, All, add-all, to-more, to-done, to-once, to-in, numbering, order-stop}
 use Rattle.numbering.proofs.Table.{getD-map, map-last, renaming}
@@ -61,10 +61,10 @@ module _ (σ ρ : ℕ → ℕ) (start size : ℕ) (maps : Maps σ ρ start size)
   to = orderTo σ ρ start
 
   abbrev S : ℕ → ℕ
-  S = at (renamed order σ)
+  S = imageAt (renamed order σ)
 
   abbrev R : ℕ → ℕ
-  R = at (renamed order ρ)
+  R = imageAt (renamed order ρ)
 
   -- a visit in the tables is a visit to the points
   visit-map : (l : List ℕ) (i : ℕ) → All (λ (y : ℕ). y ∈ order) l → i < length l → visit S R (map (find order) l) i ≡ map (find order) (visit σ ρ l i)
@@ -111,5 +111,5 @@ module _ (σ ρ : ℕ → ℕ) (start size : ℕ) (maps : Maps σ ρ start size)
       let k : j < n = omega arith in
       getD-map (find order) order j k ∙ numbering σ ρ start size maps .once .place j k ∙ sym (upTo-at n j k))
 
-  pub numbered : orderOf (at (renamed order σ)) (at (renamed order ρ)) 0 (length order) ≡ upTo (length order)
+  pub numbered : orderOf (imageAt (renamed order σ)) (imageAt (renamed order ρ)) 0 (length order) ≡ upTo (length order)
   numbered = to-map (length order) ∙ ap (map (find order)) to-end ∙ numbers

@@ -1,5 +1,5 @@
 -- Laws of tables in the work space.
--- In order: the entries of a table; `Within`, and the tables outside it; `putTo`: none, one more, what it holds, what it
+-- In order: the entries of a table; `ChangedWithin`, and the tables outside it; `putTo`: none, one more, what it holds, what it
 -- keeps; a copy.
 -- Assumes nothing.
 use mathlib.Core.Path.{_≡_, refl, sym, ap, _∙_}
@@ -9,8 +9,10 @@ use Prim.Native.Nat.{ℕ, suc, _+_, _-_, _≤_, _<_}
 use native.Mathlib.Numerals.{add-one}
 use native.Mathlib.Omega.{arith}
 use lib.ListN.{length, getD, set, take, drop, length-set, length-drop, List·getD-append}
-use lib.Seq.{paste-zero, paste-suc, length-paste, length-paste-head, getD-append-add, getD-set-other, drop-set-add, take-suc-set, take-suc, drop-cons, set-at, getD-take, getD-drop, length-take-le, ext-getD}
-use Rattle.numbering.specs.Inner.Space.{entries, putTo, Apart, Within}
+use lib.Seq.{paste-zero, paste-suc, length-paste, length-paste-head, getD-append-add, getD-set-other, drop-set-add, take-suc-set, take-suc, drop-cons}
+use lib.Seq.{set-at, getD-take, getD-drop, length-take-le, ext-getD}
+use Rattle.numbering.specs.Inner.Space.{putTo, Apart, ChangedWithin}
+use Rattle.workspace.specs.Space.{entries}
 
 -- ---- entries
 pub entries-length : (off n : ℕ) (w : List ℕ) → off + n ≤ length w → length (entries off n w) ≡ n
@@ -25,7 +27,8 @@ entries-ext off n w l h e same =
     let len = entries-length off n w h in
     ext-getD 0 (entries off n w) l (len ∙ sym e) (λ j k. let i : j < n = omega arith in entries-at off n w j i ∙ same j i)
 
-pub entries-same : (off n : ℕ) (w w' : List ℕ) → length w' ≡ length w → off + n ≤ length w → ((k : ℕ) → off ≤ k → k < off + n → getD w' k 0 ≡ getD w k 0) → entries off n w' ≡ entries off n w
+pub entries-same : (off n : ℕ) (w w' : List ℕ) → length w' ≡ length w → off + n ≤ length w → ((k : ℕ) → off ≤ k → k < off + n → getD w' k 0 ≡ getD w k 0)
+    → entries off n w' ≡ entries off n w
 entries-same off n w w' e h same = entries-ext off n w' (entries off n w) (omega arith) (entries-length off n w h)
     (λ j k. same (off + j) (omega arith) (omega arith) ∙ sym (entries-at off n w j k))
 
@@ -40,20 +43,21 @@ pub entries-set : (off n : ℕ) (w : List ℕ) (i x : ℕ) → off + n ≤ lengt
 entries-set off n w i x h apart = entries-same off n w (set w i x) (length-set w i x) h (λ k lo hi. getD-set-other w i k x 0 (λ e. elim apart [ inl p ↦ omega arith | inr p ↦ omega arith ]))
 
 -- ---- all but a part is as before
-pub within-refl : (a b : ℕ) (w : List ℕ) → Within a b w w
+pub within-refl : (a b : ℕ) (w : List ℕ) → ChangedWithin a b w w
 within-refl a b w = record { same = refl; below = λ k h. refl; above = λ k h. refl }
 
-pub within-trans : {a b : ℕ} {u v w : List ℕ} → Within a b u v → Within a b v w → Within a b u w
+pub within-trans : {a b : ℕ} {u v w : List ℕ} → ChangedWithin a b u v → ChangedWithin a b v w → ChangedWithin a b u w
 within-trans f g = record { same = g .same ∙ f .same; below = λ k h. g .below k h ∙ f .below k h; above = λ k h. g .above k h ∙ f .above k h }
 
-pub within-set : {a b : ℕ} {u v : List ℕ} (i x : ℕ) → Within a b u v → a ≤ i → i < b → Within a b u (set v i x)
+pub within-set : {a b : ℕ} {u v : List ℕ} (i x : ℕ) → ChangedWithin a b u v → a ≤ i → i < b → ChangedWithin a b u (set v i x)
 within-set {a} {b} {u} {v} i x f l h = record {
   same = length-set v i x ∙ f .same;
   below = λ k p. getD-set-other v i k x 0 (λ e. omega arith) ∙ f .below k p;
   above = λ k p. getD-set-other v i k x 0 (λ e. omega arith) ∙ f .above k p;
 }
 
-pub within-entries : {a b : ℕ} {w w' : List ℕ} → Within a b w w' → (off n : ℕ) → Apart off n a (b - a) → a ≤ b → off + n ≤ length w → entries off n w' ≡ entries off n w
+pub within-entries : {a b : ℕ} {w w' : List ℕ} → ChangedWithin a b w w' → (off n : ℕ) → Apart off n a (b - a) → a ≤ b → off + n ≤ length w
+    → entries off n w' ≡ entries off n w
 within-entries {a} {b} {w} {w'} f off n apart ab h = entries-same off n w w' (f .same) h (λ k lo hi. elim apart [
   | inl p ↦ f .below k (omega arith)
   | inr p ↦ f .above k (omega arith)
@@ -95,9 +99,10 @@ module _ (w : List ℕ) (off : ℕ) (l : List ℕ) where
     put-above i g =
         let e : off + j + (i - (off + j)) ≡ i = omega arith in
         let b = length-paste-head w off l j (omega arith) k in
-        rw (b, e) at (getD-append-add (take off w ++ take j l) (drop (off + j) w) (i - (off + j)) 0) ∙ getD-drop (off + j) w (i - (off + j)) 0 ∙ ap (λ (z : ℕ). getD w z 0) e
+        rw (b, e) at (getD-append-add (take off w ++ take j l) (drop (off + j) w) (i - (off + j)) 0) ∙ getD-drop (off + j) w (i - (off + j)) 0
+        ∙ ap (λ (z : ℕ). getD w z 0) e
 
-    pub put-within : Within off (off + j) w (putTo w off l j)
+    pub put-within : ChangedWithin off (off + j) w (putTo w off l j)
     put-within = record { same = put-length; below = put-below; above = put-above }
 
     -- a table that lies apart is as before, at each place and whole
@@ -116,8 +121,10 @@ pub apart-part : {a m b n : ℕ} (i j : ℕ) → Apart a m b n → i ≤ m → j
 apart-part i j apart h k = elim apart [ inl p ↦ inl (omega arith) | inr p ↦ inr (omega arith) ]
 
 -- ---- a table copied out, entry by entry
-pub copy-more : (off j x : ℕ) (w out : List ℕ) → off + j < length w → j < length out → x ≡ getD w (off + j) 0 → set (entries off j w ++ drop j out) j x ≡ entries off (j + 1) w ++ drop (j + 1) out
+pub copy-more : (off j x : ℕ) (w out : List ℕ) → off + j < length w → j < length out → x ≡ getD w (off + j) 0
+    → set (entries off j w ++ drop j out) j x ≡ entries off (j + 1) w ++ drop (j + 1) out
 copy-more off j x w out h k e =
     let l = entries-length off j w (omega arith) in
     let g : j < length (drop off w) = simp length-drop (omega arith) in
-    rw (add-one, take-suc (drop off w) j 0 g, drop-cons out j 0 k, set-at (entries off j w) (getD out j 0) (drop (suc j) out) x j l, e, getD-drop off w j 0) (sym (append-assoc (entries off j w) (getD w (off + j) 0 ∷ []) (drop (suc j) out)))
+    rw (add-one, take-suc (drop off w) j 0 g, drop-cons out j 0 k, set-at (entries off j w) (getD out j 0) (drop (suc j) out) x j l, e, getD-drop off w j 0)
+    (sym (append-assoc (entries off j w) (getD w (off + j) 0 ∷ []) (drop (suc j) out)))

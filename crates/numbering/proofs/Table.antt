@@ -11,7 +11,7 @@ use lib.ListN.{length, getD, length-map}
 use lib.Seq.{ext-getD}
 use Rattle.numbering.specs.Find.{find, _∈_, Once}
 use Rattle.numbering.specs.Order.{orderOf, Maps}
-use Rattle.numbering.specs.Table.{at, _then_, numberOf, renamed, _thenTable_, Permutes, Injective, Natural, Renaming, Permutations}
+use Rattle.numbering.specs.Table.{imageAt, _then_, imageNumber, renamed, _thenTable_, Permutes, Injective, Natural, Renaming, Permutations}
 use Rattle.numbering.proofs.Find.{none-below, getD-find, getD-in, once-inj}
 use Rattle.numbering.proofs.Order.{numbering}
 
@@ -33,22 +33,22 @@ map-ext f g l e = ext-getD 0 (map f l) (map g l) (length-map l f ∙ sym (length
 module _ (l : List ℕ) (f : ℕ → ℕ) where
   pub renamed-length : length (renamed l f) ≡ length l
   unfolding renamed
-  renamed-length = length-map l (numberOf l f)
+  renamed-length = length-map l (imageNumber l f)
 
-  pub renamed-at : (j : ℕ) → j < length l → at (renamed l f) j ≡ find l (f (getD l j 0))
+  pub renamed-at : (j : ℕ) → j < length l → imageAt (renamed l f) j ≡ find l (f (getD l j 0))
   unfolding renamed
-  renamed-at j h = getD-map (numberOf l f) l j h
+  renamed-at j h = getD-map (imageNumber l f) l j h
 
   -- maps that agree on the points have one table
   pub renamed-ext : (g : ℕ → ℕ) → ((x : ℕ) → x ∈ l → g x ≡ f x) → renamed l g ≡ renamed l f
   unfolding renamed
-  renamed-ext g e = map-ext (numberOf l g) (numberOf l f) l (λ j h. ap (find l) (e (getD l j 0) (getD-in l j h)))
+  renamed-ext g e = map-ext (imageNumber l g) (imageNumber l f) l (λ j h. ap (find l) (e (getD l j 0) (getD-in l j h)))
 
   pub natural : ((x : ℕ) → x ∈ l → f x ∈ l) → Natural l f (renamed l f)
   natural closed = record {
     long = renamed-length;
     low = λ j h. rw (renamed-at j h) (closed (getD l j 0) (getD-in l j h));
-    step = λ x h. renamed-at (find l x) h ∙ ap (numberOf l f) (getD-find l x h);
+    step = λ x h. renamed-at (find l x) h ∙ ap (imageNumber l f) (getD-find l x h);
     back = λ j h. ap (λ (k : ℕ). getD l k 0) (renamed-at j h) ∙ getD-find l (f (getD l j 0)) (closed (getD l j 0) (getD-in l j h));
   }
 
@@ -70,11 +70,11 @@ permutes l f t o n i = record {
 -- ---- composites
 pub then-length : (s r : List ℕ) → length (s thenTable r) ≡ length s
 unfolding _thenTable_
-then-length s r = length-map s (at r)
+then-length s r = length-map s (imageAt r)
 
-pub then-at : (s r : List ℕ) (j : ℕ) → j < length s → at (s thenTable r) j ≡ at r (at s j)
+pub then-at : (s r : List ℕ) (j : ℕ) → j < length s → imageAt (s thenTable r) j ≡ imageAt r (imageAt s j)
 unfolding _thenTable_
-then-at s r j h = getD-map (at r) s j h
+then-at s r j h = getD-map (imageAt r) s j h
 
 pub renamed-then : (l : List ℕ) (f g : ℕ → ℕ) → ((x : ℕ) → x ∈ l → f x ∈ l) → renamed l (f then g) ≡ renamed l f thenTable renamed l g
 renamed-then l f g closed =
@@ -84,28 +84,28 @@ renamed-then l f g closed =
     let len = renamed-length l f in
     ext-getD 0 (renamed l (f then g)) (s thenTable r) (renamed-length l (f then g) ∙ sym len ∙ sym (then-length s r)) (λ j h.
     let k : j < length l = rw (renamed-length l (f then g)) at h in
-    renamed-at l (f then g) j k ∙ ap (numberOf l g) (sym (n .back j k))
-    ∙ sym (renamed-at l g (at s j) (n .low j k)) ∙ sym (then-at s r j (omega arith)))
+    renamed-at l (f then g) j k ∙ ap (imageNumber l g) (sym (n .back j k))
+    ∙ sym (renamed-at l g (imageAt s j) (n .low j k)) ∙ sym (then-at s r j (omega arith)))
 
 -- ---- what a table keeps of its map: composites, fixed points, and so relations such as S S = 1
 pub natural-then : {l s r : List ℕ} {f g : ℕ → ℕ} → Natural l f s → Natural l g r → Natural l (f then g) (s thenTable r)
 natural-then {l} {s} {r} {f} {g} a b =
-    let here : (j : ℕ) → j < length l → at (s thenTable r) j ≡ at r (at s j) = λ j h. then-at s r j (omega (arith, a .long)) in
+    let here : (j : ℕ) → j < length l → imageAt (s thenTable r) j ≡ imageAt r (imageAt s j) = λ j h. then-at s r j (omega (arith, a .long)) in
     record {
       long = then-length s r ∙ a .long;
-      low = λ j h. rw (here j h) (b .low (at s j) (a .low j h));
+      low = λ j h. rw (here j h) (b .low (imageAt s j) (a .low j h));
       step = λ x h.
           let e = a .step x h in
           let k : f x ∈ l = rw e at (a .low (find l x) h) in
-          here (find l x) h ∙ ap (at r) e ∙ b .step (f x) k;
-      back = λ j h. rw (here j h) (b .back (at s j) (a .low j h) ∙ ap g (a .back j h));
+          here (find l x) h ∙ ap (imageAt r) e ∙ b .step (f x) k;
+      back = λ j h. rw (here j h) (b .back (imageAt s j) (a .low j h) ∙ ap g (a .back j h));
     }
 
 module _ {l t : List ℕ} {f : ℕ → ℕ} (o : Once l) (n : Natural l f t) (j : ℕ) (h : j < length l) where
-  pub natural-fixed : f (getD l j 0) ≡ getD l j 0 → at t j ≡ j
-  natural-fixed e = once-inj l o (at t j) j (n .low j h) h (n .back j h ∙ e)
+  pub natural-fixed : f (getD l j 0) ≡ getD l j 0 → imageAt t j ≡ j
+  natural-fixed e = once-inj l o (imageAt t j) j (n .low j h) h (n .back j h ∙ e)
 
-  pub fixed-natural : at t j ≡ j → f (getD l j 0) ≡ getD l j 0
+  pub fixed-natural : imageAt t j ≡ j → f (getD l j 0) ≡ getD l j 0
   fixed-natural e = sym (n .back j h) ∙ ap (λ (k : ℕ). getD l k 0) e
 
 -- ---- the tables of a numbering

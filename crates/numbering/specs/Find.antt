@@ -1,5 +1,4 @@
 -- The place of a number in a list. One notion carries all of the numbering: being listed, being new, and having no repeats.
---     pick b x y    x where the test b passes, else y
 --     find l x      the first place of x in l; the length of l where x is not there
 --     x ∈ l         x is in l
 --     x ∉ l         x is not in l, as a fact that `omega` reads
@@ -12,12 +11,9 @@ use mathlib.Core.List.{List, [], _∷_}
 use Prim.Native.Nat.{ℕ, suc, _≤_, _<_}
 use lib.ListN.{length, getD}
 use lib.Dec.{eqb, ltb}
+use Rattle.basics.specs.Choice.{pick}
 
 infix 4 _∈_ _∉_
-abbrev pub pick : {A : Type 0} → Bool → A → A → A
-pick true x y = x
-pick false x y = y
-
 unfoldable pub find : List ℕ → ℕ → ℕ
 find [] x = 0
 find (y ∷ l) x = pick (eqb y x) 0 (suc (find l x))

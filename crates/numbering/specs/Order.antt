@@ -15,7 +15,8 @@ use mathlib.Core.List.{List, [], _∷_, _++_}
 use Prim.Native.Nat.{ℕ, zero, suc, _≤_, _<_}
 use lib.ListN.{length, getD}
 use lib.Dec.{ltb}
-use Rattle.numbering.specs.Find.{pick, _∈_, isIn, Once}
+use Rattle.numbering.specs.Find.{_∈_, isIn, Once}
+use Rattle.basics.specs.Choice.{pick}
 
 unfoldable pub add : List ℕ → ℕ → List ℕ
 add l x = pick (isIn l x) l (l ++ (x ∷ []))

@@ -7,9 +7,10 @@ ghost use Prim.Native.Nat.{_+_, _<_};
 ghost use lib.ListN.{length, drop};
 ghost use Rattle.numbering.specs.Find.{isIn};
 ghost use Rattle.numbering.specs.Order.{add, visit};
-ghost use Rattle.numbering.specs.Table.{at, renamed, _thenTable_};
-ghost use Rattle.numbering.specs.Inner.Space.{SIGMA, RHO, entries, putTo};
-ghost use Rattle.numbering.specs.Inner.Marks.{listed, Sparse, Marked, Fresh, Visit, Images, orderIn, Renames, Composes, Tables, Copies};
+ghost use Rattle.numbering.specs.Table.{imageAt, renamed, _thenTable_};
+ghost use Rattle.numbering.specs.Inner.Space.{SIGMA, RHO, putTo};
+ghost use Rattle.workspace.specs.Space.{entries};
+ghost use Rattle.numbering.specs.Inner.Marks.{listed, Sparse, NowListed, Fresh, Visit, Images, orderIn, Renames, Composes, TablesLeft, Copies};
 
 // The places of the tables in the work space (specs/Space.antt says what each holds).
 pub const S_TABLE: usize = 4096;
@@ -28,7 +29,7 @@ pub const R_TABLE: usize = 24576;
 
 pub const T_TABLE: usize = 28672;
 
-// Whether the position x has a number. What stands at an x without one does not matter: it is looked up and looked back.
+// Whether the point x has a number. What stands at an x without one does not matter: it is looked up and looked back.
 pub fn has(w: &[u16], size: usize, x: usize, n: usize) -> bool
     requires { ⌜ Sparse size n (now w) ⌝ }
     requires { ⌜ x < size ⌝ }
@@ -42,20 +43,20 @@ pub fn has(w: &[u16], size: usize, x: usize, n: usize) -> bool
     y == x
 }
 
-// The position x, which has no number, takes the number n.
+// The point x, which has no number, takes the number n.
 pub fn push(w: &mut [u16], size: usize, x: usize, n: usize)
     requires { ⌜ Fresh size n x (now w) ⌝ }
-    ensures { λ _. ⌜ Marked size (now (w .entry)) (now (w .exit)) (listed n (now (w .entry)) ++ (x ∷ [])) (n + 1) ⌝ }
+    ensures { λ _. ⌜ NowListed size (now (w .entry)) (now (w .exit)) (listed n (now (w .entry)) ++ (x ∷ [])) (n + 1) ⌝ }
 {
     w[NUMBER + x] = n as u16;
     w[ORDER + n] = x as u16;
 }
 
-// The position x takes the next free number if it is new. How many have a number now.
+// The point x takes the next free number if it is new. How many have a number now.
 fn enter(w: &mut [u16], size: usize, x: usize, n: usize) -> usize
     requires { ⌜ Sparse size n (now w) ⌝ }
     requires { ⌜ x < size ⌝ }
-    ensures { λ r. ⌜ Marked size (now (w .entry)) (now (w .exit)) (add (listed n (now (w .entry))) x) r ⌝ }
+    ensures { λ r. ⌜ NowListed size (now (w .entry)) (now (w .exit)) (add (listed n (now (w .entry))) x) r ⌝ }
 {
     if has(w, size, x, n) {
         return n;
@@ -64,10 +65,10 @@ fn enter(w: &mut [u16], size: usize, x: usize, n: usize) -> usize
     n + 1
 }
 
-// The S image and next the R image of the position with the number i take the next free number if new.
+// The S image and next the R image of the point with the number i take the next free number if new.
 fn visit_at(w: &mut [u16], size: usize, i: usize, n: usize) -> usize
     requires { ⌜ Visit size n i (now w) ⌝ }
-    ensures { λ r. ⌜ Marked size (now (w .entry)) (now (w .exit)) (visit (at (entries SIGMA size (now (w .entry)))) (at (entries RHO size (now (w .entry)))) (listed n (now (w .entry))) i) r ⌝ }
+    ensures { λ r. ⌜ NowListed size (now (w .entry)) (now (w .exit)) (visit (imageAt (entries SIGMA size (now (w .entry)))) (imageAt (entries RHO size (now (w .entry)))) (listed n (now (w .entry))) i) r ⌝ }
 {
     let x = workspace::index(w[ORDER + i]);
     let s = workspace::index(w[SIGMA + x]);
@@ -76,10 +77,10 @@ fn visit_at(w: &mut [u16], size: usize, i: usize, n: usize) -> usize
     enter(w, size, r, k)
 }
 
-// The numbering from start. How many positions have a number; ORDER lists them by number.
+// The numbering from start. How many points have a number; ORDER lists them by number.
 fn number(w: &mut [u16], start: usize, size: usize) -> usize
     requires { ⌜ Images start size (now w) ⌝ }
-    ensures { λ r. ⌜ Marked size (now (w .entry)) (now (w .exit)) (orderIn start size (now (w .entry))) r ⌝ }
+    ensures { λ r. ⌜ NowListed size (now (w .entry)) (now (w .exit)) (orderIn start size (now (w .entry))) r ⌝ }
 {
     push(w, size, start, 0);
     let mut n: usize = 1;
@@ -91,24 +92,10 @@ fn number(w: &mut [u16], start: usize, size: usize) -> usize
     n
 }
 
-// The table at `to`: the map in the table at `from`, renamed by the numbers of its n positions.
-fn rename(w: &mut [u16], from: usize, to: usize, size: usize, n: usize)
-    requires { ⌜ Renames from to size n (now w) ⌝ }
-    ensures { λ _. ⌜ now (w .exit) ≡ putTo (now (w .entry)) to (renamed (listed n (now (w .entry))) (at (entries from size (now (w .entry))))) n ⌝ }
-{
-    let mut j: usize = 0;
-    while j < n {
-        let x = workspace::index(w[ORDER + j]);
-        let y = workspace::index(w[from + x]);
-        w[to + j] = w[NUMBER + y];
-        j += 1;
-    }
-}
-
-// The table at `to`: the table at a first, and then the table at b.
-fn compose(w: &mut [u16], a: usize, b: usize, to: usize, n: usize)
-    requires { ⌜ Composes a b to n (now w) ⌝ }
-    ensures { λ _. ⌜ now (w .exit) ≡ putTo (now (w .entry)) to (entries a n (now (w .entry)) thenTable entries b n (now (w .entry))) n ⌝ }
+// The table at `to`: the n entries at a first, and then the table of m entries at b. It may take the place of the one at a.
+fn compose(w: &mut [u16], a: usize, b: usize, to: usize, n: usize, m: usize)
+    requires { ⌜ Composes a b to n m (now w) ⌝ }
+    ensures { λ _. ⌜ now (w .exit) ≡ putTo (now (w .entry)) to (entries a n (now (w .entry)) thenTable entries b m (now (w .entry))) n ⌝ }
 {
     let mut j: usize = 0;
     while j < n {
@@ -118,15 +105,25 @@ fn compose(w: &mut [u16], a: usize, b: usize, to: usize, n: usize)
     }
 }
 
+// The table at `to`: the map in the table at `from`, renamed by the numbers of its n positions. It is made in its place, in two steps: the
+// images of the positions, and then their numbers.
+fn rename(w: &mut [u16], from: usize, to: usize, size: usize, n: usize)
+    requires { ⌜ Renames from to size n (now w) ⌝ }
+    ensures { λ _. ⌜ now (w .exit) ≡ putTo (now (w .entry)) to (renamed (listed n (now (w .entry))) (imageAt (entries from size (now (w .entry))))) n ⌝ }
+{
+    compose(w, ORDER, from, to, n, size);
+    compose(w, to, NUMBER, to, n, size);
+}
+
 // The numbering from start, and the tables of S, R and T by number. How many numbers there are.
 pub fn tables(w: &mut [u16], start: usize, size: usize) -> usize
     requires { ⌜ Images start size (now w) ⌝ }
-    ensures { λ r. ⌜ Tables start size (now (w .entry)) (now (w .exit)) r ⌝ }
+    ensures { λ r. ⌜ TablesLeft start size (now (w .entry)) (now (w .exit)) r ⌝ }
 {
     let n = number(w, start, size);
     rename(w, SIGMA, S_TABLE, size, n);
     rename(w, RHO, R_TABLE, size, n);
-    compose(w, S_TABLE, R_TABLE, T_TABLE, n);
+    compose(w, S_TABLE, R_TABLE, T_TABLE, n, n);
     n
 }
 

@@ -15,8 +15,8 @@ use mir.Syntax.{w64}
 use mir.Val.{SFits, toZ, ofZ}
 use mir.Facts.{toZ-ofZ}
 use Rattle.matrix.specs.Matrix.{nth}
-use Rattle.symbol.specs.Count.{first}
-use Rattle.symbol.specs.Table.{pairings, pairingOf}
+use Rattle.basics.specs.Count.{first}
+use Rattle.symbol.specs.Table.{pairingEntries, pairingOf}
 use Rattle.symbol.specs.Check.{eqZ}
 use Rattle.symbol.specs.Symbol.{IsSymbol}
 use Rattle.pairing.specs.Generator.{kindOf}
@@ -25,8 +25,9 @@ use Rattle.pairing.specs.Same.{relabelled, agreeBelow, sameSymbol}
 use Rattle.pairing.specs.Inner.Alike.{alikeBy, allAlike}
 use Rattle.symbol.specs.declared.Pairing.{Pairing}
 use Rattle.symbol.specs.declared.Pairing.the-variants.{Even, Odd, Free, Bad}
-use Rattle.symbol.proofs.Choice.{clash, eqZ-true, eq-eqZ}
-use Rattle.symbol.proofs.Count.{Clear, first-clear, first-hit}
+use Rattle.symbol.proofs.Choice.{eqZ-true, eq-eqZ}
+use Rattle.basics.proofs.Choice.{clash}
+use Rattle.basics.proofs.Count.{Clear, first-clear, first-hit}
 use Rattle.symbol.proofs.Marking.{unpaired-by}
 use Rattle.pairing.proofs.Relabel.{relabel-law}
 
@@ -126,7 +127,8 @@ module _ (v : ℕ) (t : List ℤ) (v' : ℕ) (t' : List ℤ) where
   pub same-vertices : v ≡ v' → agreeBelow (nth t) (nth t') (2 * v) ≡ false → sameSymbol v t v' t' ≡ false
   same-vertices e f = cc (eq-eqb v v' e, f)
 
-  pub same-pairings : IsSymbol v t → IsSymbol v' t' → v ≡ v' → agreeBelow (nth t) (nth t') (2 * v) ≡ true → sameSymbol v t v' t' ≡ allAlike v (pairings v t) (pairings v t')
+  pub same-pairings : IsSymbol v t → IsSymbol v' t' → v ≡ v' → agreeBelow (nth t) (nth t') (2 * v) ≡ true
+      → sameSymbol v t v' t' ≡ allAlike v (pairingEntries v t) (pairingEntries v t')
   same-pairings s s' e f =
       let s₂ : IsSymbol v t' = rw e s' in
       cc (eq-eqb v v' e, f) ∙ ap (λ (n : ℕ). agreeBelow (relabelled v t) (relabelled n t') (v + 1)) (sym e) ∙ relabel-law v t t' s s₂

@@ -17,18 +17,19 @@ use borrow.Author.Tests.{lt-ltb, le-ltb}
 use lib.IntN.{ℤ, pos, negsuc, natAbs, negℤ, _-ℤ_, _*ℤ_, _+ℤ_}
 use Rattle.matrix.specs.Matrix.{Mat, mat, _⊗_, 𝟙, adj, det, matS, matQ}
 use Rattle.matrix.specs.Words.{S, Q, letter}
-use Rattle.matrix.specs.Euclid.{pick}
+use Rattle.basics.specs.Choice.{pick}
 use Rattle.matrix.proofs.Ring.{ring, con, var, _⊕_, _⊙_, ⊖_}
 use Rattle.matrix.proofs.Matrix.{det-one, det-adj, det-𝟙, det-letter}
-use Rattle.symbol.specs.Count.{first, count, those}
-use Rattle.symbol.specs.Table.{numer, denom, pairing, sideAt, frame, pairingOf, carried}
+use Rattle.basics.specs.Count.{first, count, those}
+use Rattle.symbol.specs.Table.{numer, denom, pairingEntry, sideAt, frame, pairingOf, carried}
 use Rattle.symbol.specs.Check.{eqZ, sides}
 use Rattle.symbol.specs.Symbol.{FreeLabel, IsSymbol}
 use Rattle.pairing.specs.Generator.{partner, pairingAt, isLeaderBy, isLeader, leaders, frameAt, generatorBy, generator, generators}
 use Rattle.symbol.specs.declared.Pairing.{Pairing}
 use Rattle.symbol.specs.declared.Pairing.the-variants.{Even, Odd, Free, Bad}
-use Rattle.symbol.proofs.Choice.{pick-true, pick-false, eqZ-true, eq-eqZ, eqZ-refl, clash}
-use Rattle.symbol.proofs.Count.{without, Another, another, length-those, those-at, count-yes, count-mono}
+use Rattle.symbol.proofs.Choice.{eqZ-true, eq-eqZ, eqZ-refl}
+use Rattle.basics.proofs.Choice.{pick-true, pick-false, clash}
+use Rattle.basics.proofs.Count.{without, Another, another, length-those, those-at, count-yes, count-mono}
 use Rattle.symbol.proofs.Pairings.{pairing-free}
 
 module _ (v : ℕ) (t : List ℤ) (s : IsSymbol v t) where
@@ -70,24 +71,24 @@ module _ (v : ℕ) (t : List ℤ) (s : IsSymbol v t) where
   pub record Partner (i : ℕ) : Type 0 where
     pub within : partner v t i ≤ v
     pub differs : ¬ (partner v t i ≡ i)
-    pub same : pairing v t (partner v t i) ≡ pairing v t i
+    pub same : pairingEntry v t (partner v t i) ≡ pairingEntry v t i
     pub back : partner v t (partner v t i) ≡ i
 
   abbrev alike : ℕ → ℕ → Bool
-  alike i k = eqZ (pairing v t k) (pairing v t i)
+  alike i k = eqZ (pairingEntry v t k) (pairingEntry v t i)
 
-  pub partner-of : (i : ℕ) → i ≤ v → FreeLabel v t (pairing v t i) → Partner i
+  pub partner-of : (i : ℕ) → i ≤ v → FreeLabel v t (pairingEntry v t i) → Partner i
   partner-of i h f =
-      let a = another (alike i) (v + 1) i (f .twice) (omega arith) (eqZ-refl (pairing v t i)) in
+      let a = another (alike i) (v + 1) i (f .twice) (omega arith) (eqZ-refl (pairingEntry v t i)) in
       let k = partner v t i in
-      let e = eqZ-true (pairing v t k) (pairing v t i) (a .passes) in
-      let b = another (alike k) (v + 1) k (ap (sides v t) e ∙ f .twice) (a .below) (eqZ-refl (pairing v t k)) in
+      let e = eqZ-true (pairingEntry v t k) (pairingEntry v t i) (a .passes) in
+      let b = another (alike k) (v + 1) k (ap (sides v t) e ∙ f .twice) (a .below) (eqZ-refl (pairingEntry v t k)) in
       let l = a .below in
       record {
         within = omega arith;
         differs = a .differs;
         same = e;
-        back = sym (b .others i (omega arith) (eq-eqZ (pairing v t i) (pairing v t k) (sym e)) (λ z. a .differs (sym z)));
+        back = sym (b .others i (omega arith) (eq-eqZ (pairingEntry v t i) (pairingEntry v t k) (sym e)) (λ z. a .differs (sym z)));
       }
 
   -- ---- generators
@@ -104,7 +105,7 @@ module _ (v : ℕ) (t : List ℤ) (s : IsSymbol v t) where
   pub side-kind : (i : ℕ) → i ≤ v → SideKind i
   side-kind i h = go (s .pairings i h)
     where
-      go : (pairing v t i ≡ negsuc 1) ⊎ (pairing v t i ≡ negsuc 2) ⊎ FreeLabel v t (pairing v t i) → SideKind i
+      go : (pairingEntry v t i ≡ negsuc 1) ⊎ (pairingEntry v t i ≡ negsuc 2) ⊎ FreeLabel v t (pairingEntry v t i) → SideKind i
       go (inl e) = even (ap (pairingOf v) e)
       go (inr (inl e)) = odd (ap (pairingOf v) e)
       go (inr (inr f)) = free (f .label) (ap (pairingOf v) (f .is) ∙ pairing-free v (f .label) (f .low) (f .high)) (partner-of i h f)
@@ -118,7 +119,8 @@ module _ (v : ℕ) (t : List ℤ) (s : IsSymbol v t) where
       go : SideKind i → det (generator v t i) ≡ pos 1
       go (even e) = ap det (made Even e) ∙ carried-det (frameAt v t i) matS (frameAt v t i) (frame-det i h) (det-letter S) (frame-det i h)
       go (odd e) = ap det (made Odd e) ∙ carried-det (frameAt v t i) matQ (frameAt v t i) (frame-det i h) (det-letter Q) (frame-det i h)
-      go (free l e p) = ap det (made (Free l) e) ∙ carried-det (frameAt v t (partner v t i)) matS (frameAt v t i) (frame-det (partner v t i) (p .within)) (det-letter S) (frame-det i h)
+      go (free l e p) = ap det (made (Free l) e)
+          ∙ carried-det (frameAt v t (partner v t i)) matS (frameAt v t i) (frame-det (partner v t i) (p .within)) (det-letter S) (frame-det i h)
 
 -- ---- the generator of a number
 

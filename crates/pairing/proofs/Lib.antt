@@ -5,3 +5,4 @@ pub mod Relabel
 pub mod Alike
 pub mod Rows
 pub mod Meaning
+pub mod Admitted

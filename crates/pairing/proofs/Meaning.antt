@@ -13,18 +13,19 @@ use lib.ListN.{length, getD, length-map}
 use lib.IntN.{ℤ, pos}
 use borrow.Author.Tests.{lt-ltb, le-ltb, eq-eqb, eqb-true, not-true, not-false}
 use Rattle.matrix.specs.Matrix.{Mat, 𝟙, det, adj, nth}
-use Rattle.matrix.specs.Euclid.{pick}
+use Rattle.basics.specs.Choice.{pick}
 use Rattle.matrix.proofs.Matrix.{adj-⊗}
 use Rattle.refusal.specs.declared.Checked.{Checked}
 use Rattle.refusal.specs.declared.Checked.the-variants.{Accepted, Refused}
-use Rattle.symbol.specs.Count.{first, count}
-use Rattle.symbol.specs.Check.{eqZ, checkOf}
+use Rattle.basics.specs.Count.{first, count}
+use Rattle.symbol.specs.Check.{eqZ, symbolCheck}
 use Rattle.symbol.specs.Symbol.{IsSymbol}
-use Rattle.symbol.proofs.Choice.{pick-true, pick-false, either, clash, and-left, and-right, eqZ-true, eq-eqZ}
-use Rattle.symbol.proofs.Count.{Clear, Found, search-first, first-clear, length-those, count-yes, count-no}
+use Rattle.symbol.proofs.Choice.{eqZ-true, eq-eqZ}
+use Rattle.basics.proofs.Choice.{pick-true, pick-false, either, clash, and-left, and-right}
+use Rattle.basics.proofs.Count.{Clear, Found, search-first, first-clear, length-those, count-yes, count-no}
 use Rattle.symbol.proofs.Accepted.{accepted}
 use Rattle.pairing.specs.Generator.{isLeader, leaders, generator, generators, Generates}
-use Rattle.pairing.specs.Same.{relabelled, agreeBelow, sameSymbol, samenessBy, answered, samenessOf, Equal, SameMeans}
+use Rattle.pairing.specs.Same.{relabelled, agreeBelow, sameSymbol, samenessBy, samenessFor, samenessOf, Equal, SameMeans}
 use Rattle.pairing.specs.declared.same.Sameness.{Sameness}
 use Rattle.pairing.specs.declared.same.Sameness.the-variants as sameness
 use Rattle.pairing.proofs.Facts.{generator-det, generator-at}
@@ -106,13 +107,14 @@ module _ (v : ℕ) (t : List ℤ) (v' : ℕ) (t' : List ℤ) where
   refused r y n = record { yes = λ k. absurd (y k); no = λ k. absurd (n k) }
 
   pub same-means : (work : ℕ) (r : Sameness) → r ≡ samenessOf v t v' t' work → SameMeans v t v' t' r
-  same-means work r e = rw e (go (checkOf v t) refl (checkOf v' t') refl)
+  same-means work r e = rw e (go (symbolCheck v t) refl (symbolCheck v' t') refl)
     where
       by-work : (b : Bool) (s : Sameness) → SameMeans v t v' t' s → (f : Sameness) → SameMeans v t v' t' f → SameMeans v t v' t' (pick b f s)
       by-work true s m f k = k
       by-work false s m f k = m
 
-      go : (a : Checked) → checkOf v t ≡ a → (b : Checked) → checkOf v' t' ≡ b → SameMeans v t v' t' (samenessBy a b (answered v t v' t' work))
+      go : (a : Checked) → symbolCheck v t ≡ a → (b : Checked) → symbolCheck v' t' ≡ b → SameMeans v t v' t' (samenessBy a b (samenessFor v t v' t' work))
       go (Refused f) p b q = refused (sameness.Refused f) (λ k. let z : _≡_ {A = ℕ} 0 1 = cc in omega arith) (λ k. let z : _≡_ {A = ℕ} 0 1 = cc in omega arith)
       go Accepted p (Refused f) q = refused (sameness.Refused f) (λ k. let z : _≡_ {A = ℕ} 0 1 = cc in omega arith) (λ k. let z : _≡_ {A = ℕ} 0 1 = cc in omega arith)
-      go Accepted p Accepted q = by-work (ltb work 32768) _ (told (sameSymbol v t v' t') refl (accepted v t .0 p) (accepted v' t' .0 q)) _ (refused _ (λ k. let z : _≡_ {A = ℕ} 0 1 = cc in omega arith) (λ k. let z : _≡_ {A = ℕ} 0 1 = cc in omega arith))
+      go Accepted p Accepted q = by-work (ltb work 32768) _ (told (sameSymbol v t v' t') refl (accepted v t .0 p) (accepted v' t' .0 q)) _
+          (refused _ (λ k. let z : _≡_ {A = ℕ} 0 1 = cc in omega arith) (λ k. let z : _≡_ {A = ℕ} 0 1 = cc in omega arith))

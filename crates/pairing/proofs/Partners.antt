@@ -3,7 +3,7 @@
 -- In order: partners in a list of pairings that the check accepted (`twice`, `PartnerIn`, `partner-in`); what was seen of a label
 -- (`seen-same`, `seen-first`, `seen-again`); one more side (`met-other`, `met-first`, `met-again`, `met-more`); the start and the end.
 --
--- Why: just two sides have a label, so when its second side is met, the first one remembered is its partner.
+-- Why: exactly two sides have a label, so when its second side is met, the first one remembered is its partner.
 -- Assumes nothing.
 use mathlib.Core.Path.{_≡_, refl, sym, _∙_, ap}
 use mathlib.Core.Logic.{_⊎_, inl, inr}
@@ -18,18 +18,19 @@ use lib.Seq.{getD-set-same, getD-set-other}
 use borrow.Author.Tests.{lt-ltb, le-ltb, eq-eqb, ne-eqb, eqb-true, not-false}
 use lib.IntN.{ℤ, pos, natAbs}
 use Rattle.matrix.specs.Matrix.{nth}
-use Rattle.matrix.specs.Euclid.{pick}
+use Rattle.basics.specs.Choice.{pick}
 use Rattle.workspace.specs.Space.{workLength, zeros}
 use Rattle.workspace.proofs.Zeros.{length-zeros, getD-zeros}
-use Rattle.symbol.specs.Count.{first}
+use Rattle.basics.specs.Count.{first}
 use Rattle.symbol.specs.Table.{pairingOf}
 use Rattle.symbol.specs.Check.{eqZ, sidesIn, unpairedIn}
 use Rattle.pairing.specs.Generator.{partnerIn}
 use Rattle.pairing.specs.Inner.Work.{FIRST, PARTNER, met, metBy, labelled, seen, AllPaired, PairedTo, Partnered}
 use Rattle.symbol.specs.declared.Pairing.{Pairing}
 use Rattle.symbol.specs.declared.Pairing.the-variants.{Even, Odd, Free, Bad}
-use Rattle.symbol.proofs.Choice.{pick-true, pick-false, clash, either, eqZ-true, eq-eqZ, eqZ-refl}
-use Rattle.symbol.proofs.Count.{Clear, Found, clear-zero, clear-more, clear-less, first-clear, first-hit, search-first, Another, another}
+use Rattle.symbol.proofs.Choice.{eqZ-true, eq-eqZ, eqZ-refl}
+use Rattle.basics.proofs.Choice.{pick-true, pick-false, clash, either}
+use Rattle.basics.proofs.Count.{Clear, Found, clear-zero, clear-more, clear-less, first-clear, first-hit, search-first, Another, another}
 use Rattle.symbol.proofs.Pairings.{pairing-free}
 use Rattle.symbol.proofs.Marking.{label-of, unpaired-by}
 
@@ -88,18 +89,28 @@ module _ (p : List ℤ) (l i : ℕ) where
     where
       go : Clear (labelled p l) i ⊎ Found (labelled p l) i → Seen
       go (inl c) = absurd (n (seen-none c))
-      go (inr f) = record { side = first (labelled p l) i; is = seen-found (first (labelled p l) i) refl (f .below); below = f .below; has = f .passes; clear = f .clear }
+      go (inr f) = record {
+        side = first (labelled p l) i;
+        is = seen-found (first (labelled p l) i) refl (f .below);
+        below = f .below;
+        has = f .passes;
+        clear =
+            f .clear;
+      }
 
   pub seen-same : labelled p l i ≡ false → seen p l (suc i) ≡ seen p l i
   seen-same e = go (search-first (labelled p l) i)
     where
       go : Clear (labelled p l) i ⊎ Found (labelled p l) i → seen p l (suc i) ≡ seen p l i
-      go (inl c) = pick-false (ltb (first (labelled p l) (suc i)) (suc i)) _ _ (le-ltb (first (labelled p l) (suc i)) (suc i) (let q = first-clear (labelled p l) (suc i) (clear-more (labelled p l) i c e) in omega arith)) ∙ sym (seen-none c)
+      go (inl c) = pick-false (ltb (first (labelled p l) (suc i)) (suc i)) _ _
+          (le-ltb (first (labelled p l) (suc i)) (suc i) (let q = first-clear (labelled p l) (suc i) (clear-more (labelled p l) i c e) in omega arith))
+          ∙ sym (seen-none c)
       go (inr f) =
           let k = first (labelled p l) i in
           let h = f .below in
           let q = first-hit (labelled p l) k (suc i) (omega arith) (f .clear) (f .passes) in
-          pick-true (ltb (first (labelled p l) (suc i)) (suc i)) _ _ (lt-ltb (first (labelled p l) (suc i)) (suc i) (omega arith)) ∙ ap (λ (n : ℕ). n + 1) q ∙ sym (seen-found k refl h)
+          pick-true (ltb (first (labelled p l) (suc i)) (suc i)) _ _ (lt-ltb (first (labelled p l) (suc i)) (suc i) (omega arith)) ∙ ap (λ (n : ℕ). n + 1) q
+          ∙ sym (seen-found k refl h)
 
   pub seen-first : Clear (labelled p l) i → labelled p l i ≡ true → seen p l (suc i) ≡ i + 1
   seen-first c e =
@@ -135,7 +146,8 @@ module _ (v : ℕ) (most : v ≤ 1023) (p : List ℤ) (paired : Clear (unpairedI
       unlike l a b (inl t) = absurd (none l (ap (pairingOf v) (eqZ-true (nth p i) (pos l) t) ∙ pairing-free v l a b))
       unlike l a b (inr f) = f
 
-      go : (j l : ℕ) → pairingOf v (nth p j) ≡ Free l → partnerIn v p j < suc i → Dec (j ≡ i) → Dec (partnerIn v p j ≡ i) → j < suc i → getD w (PARTNER + j) 0 ≡ partnerIn v p j
+      go : (j l : ℕ) → pairingOf v (nth p j) ≡ Free l → partnerIn v p j < suc i → Dec (j ≡ i) → Dec (partnerIn v p j ≡ i) → j < suc i
+          → getD w (PARTNER + j) 0 ≡ partnerIn v p j
       go j l e k (yes z) d h = absurd (none l (ap (λ (n : ℕ). pairingOf v (nth p n)) (sym z) ∙ e))
       go j l e k (no z) (yes d) h =
           let a = partner-in v p paired j l (omega arith) e in
@@ -165,14 +177,19 @@ module _ (v : ℕ) (most : v ≤ 1023) (p : List ℤ) (paired : Clear (unpairedI
         record {
           long = rw (length-set w (FIRST + l) (i + 1)) (so-far .long);
           firsts = λ m x y. firsts c m x y (ℕ-discrete m l);
-          partners = λ j m h e k. getD-set-other w (FIRST + l) (PARTNER + j) (i + 1) 0 (λ q. omega (arith, is-label .2)) ∙ partners c j m h e k (ℕ-discrete j i) (ℕ-discrete (partnerIn v p j) i);
+          partners = λ j m h e k. getD-set-other w (FIRST + l) (PARTNER + j) (i + 1) 0 (λ q. omega (arith, is-label .2))
+              ∙ partners c j m h e k (ℕ-discrete j i) (ℕ-discrete (partnerIn v p j) i);
         }
       where
         firsts : Clear (labelled p l) i → (m : ℕ) → 1 ≤ m → m ≤ v + 1 → Dec (m ≡ l) → getD (set w (FIRST + l) (i + 1)) (FIRST + m) 0 ≡ seen p m (suc i)
-        firsts c m x y (yes q) = ap (λ (n : ℕ). getD (set w (FIRST + l) (i + 1)) (FIRST + n) 0) q ∙ getD-set-same w (FIRST + l) (i + 1) 0 (omega (arith, is-label .2, so-far .long)) ∙ sym (seen-first p l i c here) ∙ ap (λ (n : ℕ). seen p n (suc i)) (sym q)
-        firsts c m x y (no q) = getD-set-other w (FIRST + l) (FIRST + m) (i + 1) 0 (λ r. q (omega arith)) ∙ so-far .firsts m x y ∙ sym (seen-same p m i (not-labelled p i m l (is-label .0) q))
+        firsts c m x y (yes q) = ap (λ (n : ℕ). getD (set w (FIRST + l) (i + 1)) (FIRST + n) 0) q
+            ∙ getD-set-same w (FIRST + l) (i + 1) 0 (omega (arith, is-label .2, so-far .long)) ∙ sym (seen-first p l i c here)
+            ∙ ap (λ (n : ℕ). seen p n (suc i)) (sym q)
+        firsts c m x y (no q) = getD-set-other w (FIRST + l) (FIRST + m) (i + 1) 0 (λ r. q (omega arith)) ∙ so-far .firsts m x y
+            ∙ sym (seen-same p m i (not-labelled p i m l (is-label .0) q))
 
-        partners : Clear (labelled p l) i → (j m : ℕ) → j < suc i → pairingOf v (nth p j) ≡ Free m → partnerIn v p j < suc i → Dec (j ≡ i) → Dec (partnerIn v p j ≡ i) → getD w (PARTNER + j) 0 ≡ partnerIn v p j
+        partners : Clear (labelled p l) i → (j m : ℕ) → j < suc i → pairingOf v (nth p j) ≡ Free m → partnerIn v p j < suc i → Dec (j ≡ i)
+            → Dec (partnerIn v p j ≡ i) → getD w (PARTNER + j) 0 ≡ partnerIn v p j
         partners c j m h e k (yes q) d =
             let n = mine .differs in
             let r : partnerIn v p j ≡ partnerIn v p i = ap (partnerIn v p) q in
@@ -183,17 +200,20 @@ module _ (v : ℕ) (most : v ≤ 1023) (p : List ℤ) (paired : Clear (unpairedI
         partners c j m h e k (no q) (no d) = so-far .partners j m (omega arith) e (omega arith)
 
     -- the second side of its label
-    pub met-again : (getD w (FIRST + l) 0 ≡ 0 → ⊥) → PairedTo v p (suc i) (set (set w (PARTNER + i) (getD w (FIRST + l) 0 - 1)) (PARTNER + (getD w (FIRST + l) 0 - 1)) i)
+    pub met-again : (getD w (FIRST + l) 0 ≡ 0 → ⊥)
+        → PairedTo v p (suc i) (set (set w (PARTNER + i) (getD w (FIRST + l) 0 - 1)) (PARTNER + (getD w (FIRST + l) 0 - 1)) i)
     met-again n =
         let low = is-label .1 in
         let high = is-label .2 in
         let k = so-far .firsts l low high in
         go (some-seen p l i (λ e. n (k ∙ e))) k
       where
-        go : (s : Seen p l i) → getD w (FIRST + l) 0 ≡ seen p l i → PairedTo v p (suc i) (set (set w (PARTNER + i) (getD w (FIRST + l) 0 - 1)) (PARTNER + (getD w (FIRST + l) 0 - 1)) i)
+        go : (s : Seen p l i) → getD w (FIRST + l) 0 ≡ seen p l i
+            → PairedTo v p (suc i) (set (set w (PARTNER + i) (getD w (FIRST + l) 0 - 1)) (PARTNER + (getD w (FIRST + l) 0 - 1)) i)
         go s k = rw j-is (record {
           long = rw (length-set w₁ (PARTNER + s .side) i, length-set w (PARTNER + i) (s .side)) (so-far .long);
-          firsts = λ m x y. getD-set-other w₁ (PARTNER + s .side) (FIRST + m) i 0 (λ q. omega arith) ∙ getD-set-other w (PARTNER + i) (FIRST + m) (s .side) 0 (λ q. omega arith) ∙ so-far .firsts m x y ∙ firsts m (ℕ-discrete m l);
+          firsts = λ m x y. getD-set-other w₁ (PARTNER + s .side) (FIRST + m) i 0 (λ q. omega arith)
+              ∙ getD-set-other w (PARTNER + i) (FIRST + m) (s .side) 0 (λ q. omega arith) ∙ so-far .firsts m x y ∙ firsts m (ℕ-discrete m l);
           partners = λ j m h e b. partners j m h e b (ℕ-discrete j i) (ℕ-discrete j (s .side));
         })
           where
@@ -213,7 +233,8 @@ module _ (v : ℕ) (most : v ≤ 1023) (p : List ℤ) (paired : Clear (unpairedI
             below : (j m : ℕ) → j ≤ v → pairingOf v (nth p j) ≡ Free m → partnerIn v p j < suc i → ¬ (j ≡ i) → ¬ (j ≡ s .side) → partnerIn v p j < i
             below j m h e b x y = elim (ℕ-discrete (partnerIn v p j) i) [
               | yes q ↦ let a = partner-in v p paired j m h e in
-                  absurd (y (mine .only j h (sym (a .same) ∙ ap (nth p) q) x ∙ sym (mine .only (s .side) (let c = s .below in omega arith) side-label (λ r. let c = s .below in omega arith))))
+                  absurd (y (mine .only j h (sym (a .same) ∙ ap (nth p) q) x
+                  ∙ sym (mine .only (s .side) (let c = s .below in omega arith) side-label (λ r. let c = s .below in omega arith))))
               | no q ↦ omega arith
             ]
 
@@ -221,7 +242,8 @@ module _ (v : ℕ) (most : v ≤ 1023) (p : List ℤ) (paired : Clear (unpairedI
             firsts m (yes q) = ap (λ (x : ℕ). seen p x i) q ∙ s .is ∙ sym (seen-again p l i s) ∙ ap (λ (x : ℕ). seen p x (suc i)) (sym q)
             firsts m (no q) = sym (seen-same p m i (not-labelled p i m l (is-label .0) q))
 
-            partners : (j m : ℕ) → j < suc i → pairingOf v (nth p j) ≡ Free m → partnerIn v p j < suc i → Dec (j ≡ i) → Dec (j ≡ s .side) → getD (set w₁ (PARTNER + s .side) i) (PARTNER + j) 0 ≡ partnerIn v p j
+            partners : (j m : ℕ) → j < suc i → pairingOf v (nth p j) ≡ Free m → partnerIn v p j < suc i → Dec (j ≡ i) → Dec (j ≡ s .side)
+                → getD (set w₁ (PARTNER + s .side) i) (PARTNER + j) 0 ≡ partnerIn v p j
             partners j m h e b (yes x) y =
                 ap (λ (n : ℕ). getD (set w₁ (PARTNER + s .side) i) (PARTNER + n) 0) x
                 ∙ getD-set-other w₁ (PARTNER + s .side) (PARTNER + i) i 0 (λ q. let a = s .below in omega arith)
@@ -243,8 +265,10 @@ module _ (v : ℕ) (most : v ≤ 1023) (p : List ℤ) (paired : Clear (unpairedI
   met-more = go (pairingOf v (nth p i)) refl
     where
       free : (l : ℕ) → pairingOf v (nth p i) ≡ Free l → Dec (getD w (FIRST + l) 0 ≡ 0) → PairedTo v p (suc i) (met l i w)
-      free l e (yes z) = rw (pick-true (eqb (getD w (FIRST + l) 0) 0) (set w (FIRST + l) (i + 1)) (set (set w (PARTNER + i) (getD w (FIRST + l) 0 - 1)) (PARTNER + (getD w (FIRST + l) 0 - 1)) i) (eq-eqb (getD w (FIRST + l) 0) 0 z)) (met-first l e z)
-      free l e (no z) = rw (pick-false (eqb (getD w (FIRST + l) 0) 0) (set w (FIRST + l) (i + 1)) (set (set w (PARTNER + i) (getD w (FIRST + l) 0 - 1)) (PARTNER + (getD w (FIRST + l) 0 - 1)) i) (ne-eqb (getD w (FIRST + l) 0) 0 z)) (met-again l e z)
+      free l e (yes z) = rw (pick-true (eqb (getD w (FIRST + l) 0) 0) (set w (FIRST + l) (i + 1))
+          (set (set w (PARTNER + i) (getD w (FIRST + l) 0 - 1)) (PARTNER + (getD w (FIRST + l) 0 - 1)) i) (eq-eqb (getD w (FIRST + l) 0) 0 z)) (met-first l e z)
+      free l e (no z) = rw (pick-false (eqb (getD w (FIRST + l) 0) 0) (set w (FIRST + l) (i + 1))
+          (set (set w (PARTNER + i) (getD w (FIRST + l) 0 - 1)) (PARTNER + (getD w (FIRST + l) 0 - 1)) i) (ne-eqb (getD w (FIRST + l) 0) 0 z)) (met-again l e z)
 
       not-free : (q : Pairing) → pairingOf v (nth p i) ≡ q → ((l : ℕ) → q ≡ Free l → ⊥) → PairedTo v p (suc i) w
       not-free q e n = met-other (λ l f. n l (sym e ∙ f))
@@ -260,7 +284,8 @@ length-metBy Even i w = refl
 length-metBy Odd i w = refl
 length-metBy (Free l) i w = go (eqb (getD w (FIRST + l) 0) 0)
   where
-    go : (b : Bool) → length (pick b (set w (FIRST + l) (i + 1)) (set (set w (PARTNER + i) (getD w (FIRST + l) 0 - 1)) (PARTNER + (getD w (FIRST + l) 0 - 1)) i)) ≡ length w
+    go : (b : Bool) → length (pick b (set w (FIRST + l) (i + 1))
+        (set (set w (PARTNER + i) (getD w (FIRST + l) 0 - 1)) (PARTNER + (getD w (FIRST + l) 0 - 1)) i)) ≡ length w
     go true = length-set w (FIRST + l) (i + 1)
     go false = simp length-set
 length-metBy Bad i w = refl
@@ -271,10 +296,19 @@ pub all-paired : (v : ℕ) (p : List ℤ) → AllPaired v p → Clear (unpairedI
 all-paired v p a = record { none = a .none }
 
 pub paired-none : (v : ℕ) (p : List ℤ) (n : ℕ) → workLength ≤ n → PairedTo v p 0 (zeros n)
-paired-none v p n h = record { long = rw (length-zeros n) h; firsts = λ l a b. getD-zeros n (FIRST + l) ∙ sym (seen-none p l 0 (clear-zero (labelled p l))); partners = λ j l k e b. absurd (omega arith) }
+paired-none v p n h = record {
+  long = rw (length-zeros n) h;
+  firsts = λ l a b. getD-zeros n (FIRST + l)
+      ∙ sym (seen-none p l 0 (clear-zero (labelled p l)));
+  partners = λ j l k e b. absurd (omega arith);
+}
 
 pub paired-all : (v : ℕ) (p : List ℤ) → Clear (unpairedIn v p) (v + 1) → (w : List ℕ) → PairedTo v p (v + 1) w → Partnered v p w
-paired-all v p paired w t = record { long = t .long; partners = λ j l h e. let a = partner-in v p paired j l h e in let k = a .within in t .partners j l (omega arith) e (omega arith) }
+paired-all v p paired w t = record {
+  long = t .long;
+  partners = λ j l h e. let a = partner-in v p paired j l h e in let k = a .within in
+      t .partners j l (omega arith) e (omega arith);
+}
 
 -- what was remembered of a label is a side
 pub first-bound : (v : ℕ) (p : List ℤ) (i : ℕ) (w : List ℕ) → PairedTo v p i w → (l : ℕ) → 1 ≤ l → l ≤ v + 1 → getD w (FIRST + l) 0 ≤ i

@@ -6,7 +6,7 @@
 -- `kind-of`, `leftmost-first`, `leftmost-pairing`, `leftmost-partner`); its number (`relabelled-free`, `relabelled-partner`, `number-apart`);
 -- two symbols (`Both`, `alike-both`, `both-first`): `alike-relabelled` and `relabelled-alike`, then both as one equation of tests
 -- (`relabel-law`).
--- Why: two free labels have one number just where they have one leftmost side, so numbers agree just where partners do.
+-- Why: two free labels have one number exactly where they have one leftmost side, so numbers agree exactly where partners do.
 -- Assumes nothing.
 use mathlib.Core.Path.{_≡_, refl, sym, _∙_, ap}
 use mathlib.Core.Logic.{_⊎_, inl, inr}
@@ -18,9 +18,9 @@ use native.Mathlib.Decide.{decLt}
 use lib.Dec.{ltb}
 use borrow.Author.Tests.{lt-ltb, le-ltb}
 use lib.IntN.{ℤ, pos, negsuc}
-use Rattle.matrix.specs.Euclid.{pick}
-use Rattle.symbol.specs.Count.{first, count}
-use Rattle.symbol.specs.Table.{pairing, pairingOf}
+use Rattle.basics.specs.Choice.{pick}
+use Rattle.basics.specs.Count.{first, count}
+use Rattle.symbol.specs.Table.{pairingEntry, pairingOf}
 use Rattle.symbol.specs.Check.{eqZ}
 use Rattle.symbol.specs.Symbol.{FreeLabel, IsSymbol}
 use Rattle.pairing.specs.Generator.{partner, pairingAt}
@@ -28,14 +28,15 @@ use Rattle.pairing.specs.Inner.Alike.{alikeBy}
 use Rattle.pairing.specs.Same.{firstBy, firstOfLabel, labelNumber, relabelledBy, relabelled, agreeBelow}
 use Rattle.symbol.specs.declared.Pairing.{Pairing}
 use Rattle.symbol.specs.declared.Pairing.the-variants.{Even, Odd, Free, Bad}
-use Rattle.symbol.proofs.Choice.{pick-true, pick-false, clash, eqZ-true, eq-eqZ, eqZ-refl}
-use Rattle.symbol.proofs.Count.{Clear, Found, search-first, first-clear, count-yes, count-mono, count-eq, another}
+use Rattle.symbol.proofs.Choice.{eqZ-true, eq-eqZ, eqZ-refl}
+use Rattle.basics.proofs.Choice.{pick-true, pick-false, clash}
+use Rattle.basics.proofs.Count.{Clear, Found, search-first, first-clear, count-yes, count-mono, count-eq, another}
 use Rattle.symbol.proofs.Pairings.{pairing-free}
 use Rattle.pairing.proofs.Facts.{partner-of}
 
 -- the test of specs/Alike.antt, by tables
 abbrev alike : ℕ → List ℤ → List ℤ → ℕ → Bool
-alike v t t' i = alikeBy (pairingAt v t i) (pairingAt v t' i) (pairing v t' (partner v t i)) (pairing v t' i)
+alike v t t' i = alikeBy (pairingAt v t i) (pairingAt v t' i) (pairingEntry v t' (partner v t i)) (pairingEntry v t' i)
 
 -- ---- searches and counts
 
@@ -46,7 +47,7 @@ not-false : (b : Bool) → not b ≡ false → b ≡ true
 not-false true e = refl
 not-false false e = clash refl e
 
--- two tests, of which none passes below n just where none of the other does
+-- two tests, of which none passes below n exactly where none of the other does
 pub first-same : (f g : ℕ → Bool) (n : ℕ) → (Clear f n → Clear g n) → (Clear g n → Clear f n) → not (ltb (first f n) n) ≡ not (ltb (first g n) n)
 first-same f g n p q = go (search-first f n) (search-first g n)
   where
@@ -76,24 +77,24 @@ pub record FreeSide (v : ℕ) (t : List ℤ) (i : ℕ) : Type 0 where
   pub is : pairingAt v t i ≡ Free label
   pub within : partner v t i ≤ v
   pub differs : ¬ (partner v t i ≡ i)
-  pub same : pairing v t (partner v t i) ≡ pairing v t i
+  pub same : pairingEntry v t (partner v t i) ≡ pairingEntry v t i
   pub back : partner v t (partner v t i) ≡ i
-  pub others : (j : ℕ) → j ≤ v → pairing v t j ≡ pairing v t i → ¬ (j ≡ i) → j ≡ partner v t i
+  pub others : (j : ℕ) → j ≤ v → pairingEntry v t j ≡ pairingEntry v t i → ¬ (j ≡ i) → j ≡ partner v t i
 
 pub data Kind (v : ℕ) (t : List ℤ) (i : ℕ) : Type 0 where
-  even : pairing v t i ≡ negsuc 1 → Kind v t i
-  odd : pairing v t i ≡ negsuc 2 → Kind v t i
+  even : pairingEntry v t i ≡ negsuc 1 → Kind v t i
+  odd : pairingEntry v t i ≡ negsuc 2 → Kind v t i
   free : FreeSide v t i → Kind v t i
 
 pub kind-of : (v : ℕ) (t : List ℤ) → IsSymbol v t → (i : ℕ) → i ≤ v → Kind v t i
 kind-of v t s i h = go (s .pairings i h)
   where
-    go : (pairing v t i ≡ negsuc 1) ⊎ (pairing v t i ≡ negsuc 2) ⊎ FreeLabel v t (pairing v t i) → Kind v t i
+    go : (pairingEntry v t i ≡ negsuc 1) ⊎ (pairingEntry v t i ≡ negsuc 2) ⊎ FreeLabel v t (pairingEntry v t i) → Kind v t i
     go (inl e) = even e
     go (inr (inl e)) = odd e
     go (inr (inr f)) =
         let p = partner-of v t s i h f in
-        let a = another (λ (k : ℕ). eqZ (pairing v t k) (pairing v t i)) (v + 1) i (f .twice) (omega arith) (eqZ-refl (pairing v t i)) in
+        let a = another (λ (k : ℕ). eqZ (pairingEntry v t k) (pairingEntry v t i)) (v + 1) i (f .twice) (omega arith) (eqZ-refl (pairingEntry v t i)) in
         free (record {
           label = f .label;
           is = ap (pairingOf v) (f .is) ∙ pairing-free v (f .label) (f .low) (f .high);
@@ -101,7 +102,7 @@ kind-of v t s i h = go (s .pairings i h)
           differs = p .differs;
           same = p .same;
           back = p .back;
-          others = λ j l e d. a .others j (omega arith) (eq-eqZ (pairing v t j) (pairing v t i) e) d;
+          others = λ j l e d. a .others j (omega arith) (eq-eqZ (pairingEntry v t j) (pairingEntry v t i) e) d;
         })
 
 -- the left one of a side and its partner
@@ -119,17 +120,17 @@ module _ (v : ℕ) (t : List ℤ) (i : ℕ) where
   first-free l e = ap (λ (p : Pairing). firstBy p i (partner v t i)) e
 
   relabelled-number : (l : ℕ) → pairingAt v t i ≡ Free l → relabelled v t i ≡ pos (labelNumber v t (leftmost v t i))
-  relabelled-number l e = ap (λ (p : Pairing). relabelledBy p (pairing v t i) (labelNumber v t (leftmost v t i))) e
+  relabelled-number l e = ap (λ (p : Pairing). relabelledBy p (pairingEntry v t i) (labelNumber v t (leftmost v t i))) e
 
-  relabelled-kept : (p : Pairing) (x : ℤ) → pairing v t i ≡ x → pairingOf v x ≡ p → relabelled v t i ≡ relabelledBy p x (labelNumber v t (leftmost v t i))
+  relabelled-kept : (p : Pairing) (x : ℤ) → pairingEntry v t i ≡ x → pairingOf v x ≡ p → relabelled v t i ≡ relabelledBy p x (labelNumber v t (leftmost v t i))
   relabelled-kept p x e f =
       ap (λ (y : ℤ). relabelledBy (pairingOf v y) y (labelNumber v t (leftmost v t i))) e
       ∙ ap (λ (q : Pairing). relabelledBy q x (labelNumber v t (leftmost v t i))) f
 
-  pub relabelled-even : pairing v t i ≡ negsuc 1 → relabelled v t i ≡ negsuc 1
+  pub relabelled-even : pairingEntry v t i ≡ negsuc 1 → relabelled v t i ≡ negsuc 1
   relabelled-even e = relabelled-kept Even (negsuc 1) e refl
 
-  pub relabelled-odd : pairing v t i ≡ negsuc 2 → relabelled v t i ≡ negsuc 2
+  pub relabelled-odd : pairingEntry v t i ≡ negsuc 2 → relabelled v t i ≡ negsuc 2
   relabelled-odd e = relabelled-kept Odd (negsuc 2) e refl
 
 module _ (v : ℕ) (t : List ℤ) (i : ℕ) (f : FreeSide v t i) where
@@ -147,10 +148,10 @@ module _ (v : ℕ) (t : List ℤ) (i : ℕ) (f : FreeSide v t i) where
         ap (firstOfLabel v t) (leftmost-there v t i (omega arith)) ∙ first-free v t k (f .label) (ap (pairingOf v) (f .same) ∙ f .is) ∙ lt-ltb k (partner v t k) l
   ]
 
-  pub leftmost-pairing : pairing v t (leftmost v t i) ≡ pairing v t i
+  pub leftmost-pairing : pairingEntry v t (leftmost v t i) ≡ pairingEntry v t i
   leftmost-pairing = elim (decLt i (partner v t i)) [
-    | yes h ↦ ap (pairing v t) (leftmost-here v t i h)
-    | no h ↦ ap (pairing v t) (leftmost-there v t i (omega arith)) ∙ f .same
+    | yes h ↦ ap (pairingEntry v t) (leftmost-here v t i h)
+    | no h ↦ ap (pairingEntry v t) (leftmost-there v t i (omega arith)) ∙ f .same
   ]
 
   pub leftmost-partner : leftmost v t (partner v t i) ≡ leftmost v t i
@@ -170,27 +171,28 @@ module _ (v : ℕ) (t : List ℤ) (i : ℕ) (f : FreeSide v t i) where
       ∙ sym relabelled-free
 
 -- free sides of one number have one label
-pub number-apart : (v : ℕ) (t : List ℤ) (i j : ℕ) → FreeSide v t i → FreeSide v t j → relabelled v t i ≡ relabelled v t j → pairing v t i ≡ pairing v t j
+pub number-apart : (v : ℕ) (t : List ℤ) (i j : ℕ) → FreeSide v t i → FreeSide v t j → relabelled v t i ≡ relabelled v t j → pairingEntry v t i ≡ pairingEntry v t j
 number-apart v t i j f g e =
     let a = relabelled-free v t i f in
     let b = relabelled-free v t j g in
     let c : labelNumber v t (leftmost v t i) ≡ labelNumber v t (leftmost v t j) = cc in
     let d = count-apart (firstOfLabel v t) (leftmost v t i) (leftmost v t j) (leftmost-first v t i f) (leftmost-first v t j g) (omega arith) in
-    sym (leftmost-pairing v t i f) ∙ ap (pairing v t) d ∙ leftmost-pairing v t j g
+    sym (leftmost-pairing v t i f) ∙ ap (pairingEntry v t) d ∙ leftmost-pairing v t j g
 
 -- ---- two symbols
 
 module _ (v : ℕ) (t t' : List ℤ) where
   -- what `alike` is where both kinds are known
-  alike-by : (i : ℕ) (p q : Pairing) → pairingAt v t i ≡ p → pairingAt v t' i ≡ q → alike v t t' i ≡ alikeBy p q (pairing v t' (partner v t i)) (pairing v t' i)
+  alike-by : (i : ℕ) (p q : Pairing) → pairingAt v t i ≡ p → pairingAt v t' i ≡ q
+      → alike v t t' i ≡ alikeBy p q (pairingEntry v t' (partner v t i)) (pairingEntry v t' i)
   alike-by i p q e f =
-      ap (λ (z : Pairing). alikeBy z (pairingAt v t' i) (pairing v t' (partner v t i)) (pairing v t' i)) e
-      ∙ ap (λ (z : Pairing). alikeBy p z (pairing v t' (partner v t i)) (pairing v t' i)) f
+      ap (λ (z : Pairing). alikeBy z (pairingAt v t' i) (pairingEntry v t' (partner v t i)) (pairingEntry v t' i)) e
+      ∙ ap (λ (z : Pairing). alikeBy p z (pairingEntry v t' (partner v t i)) (pairingEntry v t' i)) f
 
   -- a side that is alike: of one kind, and with one partner
   data Both (i : ℕ) : Type 0 where
-    evens : pairing v t i ≡ negsuc 1 → pairing v t' i ≡ negsuc 1 → Both i
-    odds : pairing v t i ≡ negsuc 2 → pairing v t' i ≡ negsuc 2 → Both i
+    evens : pairingEntry v t i ≡ negsuc 1 → pairingEntry v t' i ≡ negsuc 1 → Both i
+    odds : pairingEntry v t i ≡ negsuc 2 → pairingEntry v t' i ≡ negsuc 2 → Both i
     frees : FreeSide v t i → FreeSide v t' i → partner v t i ≡ partner v t' i → Both i
 
   both-first : (i : ℕ) → Both i → firstOfLabel v t i ≡ firstOfLabel v t' i
@@ -206,7 +208,7 @@ module _ (v : ℕ) (t t' : List ℤ) (s : IsSymbol v t) (s' : IsSymbol v t') whe
   alike-both : (i : ℕ) → i ≤ v → alike v t t' i ≡ true → Both v t t' i
   alike-both i h e = go (kind-of v t s i h) (kind-of v t' s' i h)
     where
-      by : (p q : Pairing) → pairingAt v t i ≡ p → pairingAt v t' i ≡ q → alikeBy p q (pairing v t' (partner v t i)) (pairing v t' i) ≡ true
+      by : (p q : Pairing) → pairingAt v t i ≡ p → pairingAt v t' i ≡ q → alikeBy p q (pairingEntry v t' (partner v t i)) (pairingEntry v t' i) ≡ true
       by p q a b = sym (alike-by v t t' i p q a b) ∙ e
 
       go : Kind v t i → Kind v t' i → Both v t t' i
@@ -219,14 +221,15 @@ module _ (v : ℕ) (t t' : List ℤ) (s : IsSymbol v t) (s' : IsSymbol v t') whe
       go (free f) (even b) = clash (by (Free (f .label)) Even (f .is) (ap (pairingOf v) b)) refl
       go (free f) (odd b) = clash (by (Free (f .label)) Odd (f .is) (ap (pairingOf v) b)) refl
       go (free f) (free g) =
-          let x = eqZ-true (pairing v t' (partner v t i)) (pairing v t' i) (by (Free (f .label)) (Free (g .label)) (f .is) (g .is)) in
+          let x = eqZ-true (pairingEntry v t' (partner v t i)) (pairingEntry v t' i) (by (Free (f .label)) (Free (g .label)) (f .is) (g .is)) in
           frees f g (g .others (partner v t i) (f .within) x (f .differs))
 
   pub alike-relabelled : ((i : ℕ) → i ≤ v → alike v t t' i ≡ true) → (i : ℕ) → i ≤ v → relabelled v t i ≡ relabelled v t' i
   alike-relabelled all i h = go (alike-both i h (all i h))
     where
       number : (k : ℕ) → k ≤ v → labelNumber v t k ≡ labelNumber v t' k
-      number k l = ap (λ (n : ℕ). n + 1) (count-eq (firstOfLabel v t) (firstOfLabel v t') k (λ j m. both-first v t t' j (alike-both j (omega arith) (all j (omega arith)))))
+      number k l = ap (λ (n : ℕ). n + 1) (count-eq (firstOfLabel v t) (firstOfLabel v t') k
+          (λ j m. both-first v t t' j (alike-both j (omega arith) (all j (omega arith)))))
 
       low : FreeSide v t i → leftmost v t i ≤ v
       low f = let w = f .within in elim (decLt i (partner v t i)) [
@@ -252,7 +255,8 @@ module _ (v : ℕ) (t t' : List ℤ) (s : IsSymbol v t) (s' : IsSymbol v t') whe
       apart x y a b e = clash (eq-eqZ x y (sym a ∙ all i h ∙ b)) e
 
       -- the partner k in t, seen in t', where side i has a number
-      paired : (f : FreeSide v t i) (g : FreeSide v t' i) → relabelled v t' (partner v t i) ≡ relabelled v t' i → Kind v t' (partner v t i) → pairing v t' (partner v t i) ≡ pairing v t' i
+      paired : (f : FreeSide v t i) (g : FreeSide v t' i) → relabelled v t' (partner v t i) ≡ relabelled v t' i → Kind v t' (partner v t i)
+          → pairingEntry v t' (partner v t i) ≡ pairingEntry v t' i
       paired f g e (even b) = clash (eq-eqZ _ _ (sym (relabelled-even v t' (partner v t i) b) ∙ e ∙ relabelled-free v t' i g)) refl
       paired f g e (odd b) = clash (eq-eqZ _ _ (sym (relabelled-odd v t' (partner v t i) b) ∙ e ∙ relabelled-free v t' i g)) refl
       paired f g e (free k) = number-apart v t' (partner v t i) i k g e
@@ -270,7 +274,7 @@ module _ (v : ℕ) (t t' : List ℤ) (s : IsSymbol v t) (s' : IsSymbol v t') whe
           let k = partner v t i in
           let e = sym (all k (f .within)) ∙ relabelled-partner v t i f ∙ all i h in
           let p = paired f g e (kind-of v t' s' k (f .within)) in
-          alike-by v t t' i (Free (f .label)) (Free (g .label)) (f .is) (g .is) ∙ eq-eqZ (pairing v t' k) (pairing v t' i) p
+          alike-by v t t' i (Free (f .label)) (Free (g .label)) (f .is) (g .is) ∙ eq-eqZ (pairingEntry v t' k) (pairingEntry v t' i) p
 
   -- ---- both as one equation
 
@@ -278,7 +282,13 @@ module _ (v : ℕ) (t t' : List ℤ) (s : IsSymbol v t) (s' : IsSymbol v t') whe
   relabel-law = first-same (λ (i : ℕ). not (eqZ (relabelled v t i) (relabelled v t' i))) (λ (i : ℕ). not (alike v t t' i)) (v + 1) to fro
     where
       to : Clear (λ (i : ℕ). not (eqZ (relabelled v t i) (relabelled v t' i))) (v + 1) → Clear (λ (i : ℕ). not (alike v t t' i)) (v + 1)
-      to c = record { none = λ i h. not-true (alike v t t' i) (relabelled-alike (λ j l. eqZ-true (relabelled v t j) (relabelled v t' j) (not-false _ (c .none j (omega arith)))) i (omega arith)) }
+      to c = record {
+        none = λ i h. not-true (alike v t t' i)
+            (relabelled-alike (λ j l. eqZ-true (relabelled v t j) (relabelled v t' j) (not-false _ (c .none j (omega arith)))) i (omega arith));
+      }
 
       fro : Clear (λ (i : ℕ). not (alike v t t' i)) (v + 1) → Clear (λ (i : ℕ). not (eqZ (relabelled v t i) (relabelled v t' i))) (v + 1)
-      fro c = record { none = λ i h. not-true _ (eq-eqZ (relabelled v t i) (relabelled v t' i) (alike-relabelled (λ j l. not-false (alike v t t' j) (c .none j (omega arith))) i (omega arith))) }
+      fro c = record {
+        none = λ i h. not-true _
+            (eq-eqZ (relabelled v t i) (relabelled v t' i) (alike-relabelled (λ j l. not-false (alike v t t' j) (c .none j (omega arith))) i (omega arith)));
+      }

@@ -15,18 +15,19 @@ use lib.ListN.{length, getD, set, take, drop, length-append, length-drop}
 use lib.Seq.{sets, sets-eq, take-at, drop-at, drop-drop, length-take-le}
 use lib.IntN.{ℤ, pos, negsuc}
 use Rattle.matrix.specs.Matrix.{Mat, nth, toList}
-use Rattle.matrix.specs.Euclid.{pick}
-use Rattle.symbol.specs.Count.{count, those}
-use Rattle.symbol.specs.Table.{pairings, pairing, pairingOf, sideAt}
-use Rattle.symbol.specs.Check.{unpairedIn, unpairedBy, sidesIn, checkOf}
+use Rattle.basics.specs.Choice.{pick}
+use Rattle.basics.specs.Count.{count, those}
+use Rattle.symbol.specs.Table.{pairingEntries, pairingEntry, pairingOf, sideAt}
+use Rattle.symbol.specs.Check.{unpairedIn, unpairedBy, sidesIn, symbolCheck}
 use Rattle.symbol.specs.Inner.Ready.{SmallSide}
 use Rattle.symbol.specs.Symbol.{IsSymbol, FreeLabel}
-use Rattle.pairing.specs.Generator.{partner, pairingAt, isLeaderIn, kindOf, isLeader, leaders, frameAt, generatorBy, generator, row, rows, generatorTable}
-use Rattle.pairing.specs.Inner.Work.{AllPaired, Partnered, Prepared, putRow, RowsTo}
+use Rattle.pairing.specs.Generator.{partner, pairingAt, isLeaderIn, kindOf, isLeader, leaders, frameAt, generatorBy, generator, generatorRow}
+use Rattle.pairing.specs.Generator.{generatorRows, generatorTable}
+use Rattle.pairing.specs.Inner.Work.{AllPaired, Partnered, PartnersReady, putRow, RowsTo}
 use Rattle.symbol.specs.declared.Pairing.{Pairing}
 use Rattle.refusal.specs.Refusal.{badPairing}
-use Rattle.symbol.proofs.Choice.{pick-true, pick-false, either}
-use Rattle.symbol.proofs.Count.{length-those, count-yes, count-no}
+use Rattle.basics.proofs.Choice.{pick-true, pick-false, either}
+use Rattle.basics.proofs.Count.{length-those, count-yes, count-no}
 use Rattle.symbol.proofs.Accepted.{accepted, range-of, passed-all, passes-at}
 use Rattle.symbol.proofs.Seeking.{side-small}
 
@@ -49,20 +50,20 @@ length-putRow n r out e h =
 -- ---- one more side
 
 module _ (v : ℕ) (t : List ℤ) where
-  pub length-rows : (l : List ℕ) → length (rows v t l) ≡ 5 * length l
+  pub length-rows : (l : List ℕ) → length (generatorRows v t l) ≡ 5 * length l
   length-rows [] = refl
-  length-rows (i ∷ l) = let e = length-rows l in length-append (row v t i) (rows v t l) ∙ omega arith
+  length-rows (i ∷ l) = let e = length-rows l in length-append (generatorRow v t i) (generatorRows v t l) ∙ omega arith
 
-  rows-++ : (l m : List ℕ) → rows v t (l ++ m) ≡ rows v t l ++ rows v t m
+  rows-++ : (l m : List ℕ) → generatorRows v t (l ++ m) ≡ generatorRows v t l ++ generatorRows v t m
   rows-++ [] m = refl
-  rows-++ (i ∷ l) m = ap (λ (r : List ℤ). row v t i ++ r) (rows-++ l m) ∙ sym (append-assoc (row v t i) (rows v t l) (rows v t m))
+  rows-++ (i ∷ l) m = ap (λ (r : List ℤ). generatorRow v t i ++ r) (rows-++ l m) ∙ sym (append-assoc (generatorRow v t i) (generatorRows v t l) (generatorRows v t m))
 
   pub rows-none : (out : List ℤ) → RowsTo v t 0 0 out out
   rows-none out = record { number = refl; table = refl }
 
   module _ (i n : ℕ) (out out' : List ℤ) (r : RowsTo v t i n out out') where
     front : List ℤ
-    front = rows v t (those (isLeader v t) i)
+    front = generatorRows v t (those (isLeader v t) i)
 
     front-length : length front ≡ 5 * n
     unfolding front
@@ -73,7 +74,7 @@ module _ (v : ℕ) (t : List ℤ) where
     is-front = r .table
 
     -- side i leads: its row comes next
-    pub rows-yes : isLeader v t i ≡ true → RowsTo v t (suc i) (n + 1) out (putRow n (row v t i) out')
+    pub rows-yes : isLeader v t i ≡ true → RowsTo v t (suc i) (n + 1) out (putRow n (generatorRow v t i) out')
     unfolding front
     rows-yes e =
         let count : 5 * n + 5 ≡ 5 * (n + 1) = omega arith in
@@ -85,17 +86,20 @@ module _ (v : ℕ) (t : List ℤ) where
         ∙ ap (λ (k : ℕ). drop k out) count in
         let before : take (5 * n) out' ≡ front = ap (take (5 * n)) is-front ∙ take-at front (drop (5 * n) out) (5 * n) front-length in
         let those-more : those (isLeader v t) (suc i) ≡ those (isLeader v t) i ++ (i ∷ []) = ap (λ (b : Bool). those (isLeader v t) i ++ pick b (i ∷ []) []) e in
-        let rows-are : rows v t (those (isLeader v t) (suc i)) ≡ front ++ row v t i = ap (rows v t) those-more ∙ rows-++ (those (isLeader v t) i) (i ∷ []) ∙ ap (λ (x : List ℤ). front ++ x) (append-nil (row v t i)) in
+        let rows-are : generatorRows v t (those (isLeader v t) (suc i)) ≡ front ++ generatorRow v t i = ap (generatorRows v t) those-more
+        ∙ rows-++ (those (isLeader v t) i) (i ∷ []) ∙ ap (λ (x : List ℤ). front ++ x) (append-nil (generatorRow v t i)) in
         record {
           number = ap (λ (k : ℕ). k + 1) (r .number) ∙ sym (count-yes (isLeader v t) i e);
-          table = ap (λ (x : List ℤ). x ++ row v t i ++ drop (5 * n + 5) out') before ∙ ap (λ (x : List ℤ). front ++ row v t i ++ x) behind ∙ ap (λ (x : List ℤ). x ++ drop (5 * (n + 1)) out) (sym rows-are);
+          table = ap (λ (x : List ℤ). x ++ generatorRow v t i ++ drop (5 * n + 5) out') before ∙ ap (λ (x : List ℤ). front ++ generatorRow v t i ++ x) behind
+              ∙ ap (λ (x : List ℤ). x ++ drop (5 * (n + 1)) out) (sym rows-are);
         }
 
     -- side i doesn't lead
     pub rows-no : isLeader v t i ≡ false → RowsTo v t (suc i) n out out'
     rows-no e = record {
       number = r .number ∙ sym (count-no (isLeader v t) i e);
-      table = r .table ∙ ap (λ (l : List ℕ). rows v t l ++ drop (5 * n) out) (sym (ap (λ (b : Bool). those (isLeader v t) i ++ pick b (i ∷ []) []) e ∙ append-nil (those (isLeader v t) i)));
+      table = r .table ∙ ap (λ (l : List ℕ). generatorRows v t l ++ drop (5 * n) out)
+          (sym (ap (λ (b : Bool). those (isLeader v t) i ++ pick b (i ∷ []) []) e ∙ append-nil (those (isLeader v t) i)));
     }
 
   -- all sides: the whole table
@@ -108,13 +112,13 @@ module _ (v : ℕ) (t : List ℤ) (s : IsSymbol v t) where
   pub symbol-small : (i : ℕ) → i ≤ v → SmallSide (sideAt v t i)
   symbol-small i h = side-small v t (range-of v t s) i h
 
-  pub symbol-paired : AllPaired v (pairings v t)
+  pub symbol-paired : AllPaired v (pairingEntries v t)
   symbol-paired = record {
     long = omega (arith, length-drop (2 * v) t, s .long);
-    none = passes-at (unpairedIn v (pairings v t)) (v + 1) badPairing (passed-all v t (accepted v t .1 s) .six) .none;
+    none = passes-at (unpairedIn v (pairingEntries v t)) (v + 1) badPairing (passed-all v t (accepted v t .1 s) .six) .none;
   }
 
-module _ (v : ℕ) (t p : List ℤ) (w : List ℕ) (r : Prepared v t p w) where
+module _ (v : ℕ) (t p : List ℤ) (w : List ℕ) (r : PartnersReady v t p w) where
   pub prepared-long : v + 1 ≤ length p
   prepared-long = omega (arith, ap length (r .part), length-drop (2 * v) t, r .symbol .long)
 
@@ -124,7 +128,7 @@ module _ (v : ℕ) (t p : List ℤ) (w : List ℕ) (r : Prepared v t p w) where
   pub prepared-count : count (isLeaderIn v p) (v + 1) ≡ length (leaders v t)
   prepared-count = ap (λ (l : List ℤ). count (isLeaderIn v l) (v + 1)) (r .part) ∙ sym (length-those (isLeader v t) (v + 1))
 
-  pub prepared-row : (i : ℕ) → pos (kindOf (pairingOf v (nth p i))) ∷ toList (generator v t i) ≡ row v t i
+  pub prepared-row : (i : ℕ) → pos (kindOf (pairingOf v (nth p i))) ∷ toList (generator v t i) ≡ generatorRow v t i
   prepared-row i = ap (λ (l : List ℤ). pos (kindOf (pairingOf v (nth l i))) ∷ toList (generator v t i)) (r .part)
 
 -- the generator of a side by its pairing

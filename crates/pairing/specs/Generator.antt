@@ -3,7 +3,7 @@
 --   partner v t i         the other side with the free label of side i
 --   isLeader v t i        whether side i is the leftmost side of its generator
 --   leaders v t           those sides, from the left
---   numberAt v t i        the number, from 1, of the generator that side i belongs to
+--   generatorNumber v t i  the number, from 1, of the generator that side i belongs to
 --   generator v t i       the generator that side i leads: even M S M⁻¹, odd M Q M⁻¹, free N S M⁻¹ with N the partner's frame
 --   generators v t        the list of generators; number j, counted from 1, belongs to the j-th leading side
 --   kindOf                1 free, 2 even, 3 odd
@@ -22,16 +22,16 @@ use lib.Dec.{ltb, eqb}
 use lib.IntN.{ℤ, pos}
 use lib.ListN.{length, drop, getD}
 use Rattle.matrix.specs.Matrix.{nth, Mat, _⊗_, 𝟙, det, adj, matS, matQ, toList}
-use Rattle.matrix.specs.Euclid.{pick}
-use Rattle.symbol.specs.Count.{first, count, those}
-use Rattle.symbol.specs.Table.{pairings, pairing, sideAt, frame, carried, pairingOf}
+use Rattle.basics.specs.Choice.{pick}
+use Rattle.basics.specs.Count.{first, count, those}
+use Rattle.symbol.specs.Table.{pairingEntries, pairingEntry, sideAt, frame, carried, pairingOf}
 use Rattle.workspace.specs.Space.{workLength, zeros}
 use Rattle.refusal.specs.Refusal.{tooShort, filledBy}
 use Rattle.refusal.specs.declared.Checked.{Checked}
 use Rattle.refusal.specs.declared.Checked.the-variants.{Accepted, Refused}
 use Rattle.refusal.specs.declared.Filled.{Filled}
 use Rattle.refusal.specs.declared.Filled.the-variants as filled
-use Rattle.symbol.specs.Check.{eqZ, checkOf}
+use Rattle.symbol.specs.Check.{eqZ, symbolCheck}
 use Rattle.symbol.specs.Symbol.{IsSymbol}
 use Rattle.symbol.specs.declared.Pairing.{Pairing}
 use Rattle.symbol.specs.declared.Pairing.the-variants.{Even, Odd, Free, Bad}
@@ -40,11 +40,11 @@ abbrev pub partnerIn : ℕ → List ℤ → ℕ → ℕ
 partnerIn v p i = first (λ (k : ℕ). not (eqb k i) && eqZ (nth p k) (nth p i)) (v + 1)
 
 abbrev pub partner : ℕ → List ℤ → ℕ → ℕ
-partner v t i = partnerIn v (pairings v t) i
+partner v t i = partnerIn v (pairingEntries v t) i
 
 -- what side i is paired as
 abbrev pub pairingAt : ℕ → List ℤ → ℕ → Pairing
-pairingAt v t i = pairingOf v (pairing v t i)
+pairingAt v t i = pairingOf v (pairingEntry v t i)
 
 abbrev pub isLeaderBy : Pairing → ℕ → ℕ → Bool
 isLeaderBy Even i k = true
@@ -56,13 +56,13 @@ abbrev pub isLeaderIn : ℕ → List ℤ → ℕ → Bool
 isLeaderIn v p i = isLeaderBy (pairingOf v (nth p i)) i (partnerIn v p i)
 
 abbrev pub isLeader : ℕ → List ℤ → ℕ → Bool
-isLeader v t i = isLeaderIn v (pairings v t) i
+isLeader v t i = isLeaderIn v (pairingEntries v t) i
 
 abbrev pub leaders : ℕ → List ℤ → List ℕ
 leaders v t = those (isLeader v t) (v + 1)
 
-abbrev pub numberAt : ℕ → List ℤ → ℕ → ℕ
-numberAt v t i = count (isLeader v t) (pick (isLeader v t i) i (partner v t i)) + 1
+abbrev pub generatorNumber : ℕ → List ℤ → ℕ → ℕ
+generatorNumber v t i = count (isLeader v t) (pick (isLeader v t i) i (partner v t i)) + 1
 
 abbrev pub frameAt : ℕ → List ℤ → ℕ → Mat
 frameAt v t i = frame (sideAt v t i)
@@ -85,15 +85,15 @@ kindOf Odd = 3
 kindOf (Free l) = 1
 kindOf Bad = 0
 
-abbrev pub row : ℕ → List ℤ → ℕ → List ℤ
-row v t i = pos (kindOf (pairingAt v t i)) ∷ toList (generator v t i)
+abbrev pub generatorRow : ℕ → List ℤ → ℕ → List ℤ
+generatorRow v t i = pos (kindOf (pairingAt v t i)) ∷ toList (generator v t i)
 
-abbrev pub rows : ℕ → List ℤ → List ℕ → List ℤ
-rows v t [] = []
-rows v t (i ∷ l) = row v t i ++ rows v t l
+abbrev pub generatorRows : ℕ → List ℤ → List ℕ → List ℤ
+generatorRows v t [] = []
+generatorRows v t (i ∷ l) = generatorRow v t i ++ generatorRows v t l
 
 abbrev pub generatorTable : ℕ → List ℤ → List ℤ
-generatorTable v t = rows v t (leaders v t)
+generatorTable v t = generatorRows v t (leaders v t)
 
 -- n generators, or 11 with the length that the result space needs for them
 abbrev pub roomOf : ℕ → ℕ → Filled
@@ -103,7 +103,7 @@ abbrev pub byWork : ℕ → Filled → Filled
 byWork work a = pick (ltb work workLength) (filled.Refused (tooShort workLength)) a
 
 abbrev pub generatedOf : ℕ → List ℤ → ℕ → ℕ → Filled
-generatedOf v t work out = filledBy (checkOf v t) (byWork work (roomOf (length (leaders v t)) out))
+generatedOf v t work out = filledBy (symbolCheck v t) (byWork work (roomOf (length (leaders v t)) out))
 
 abbrev pub workAfter : Checked → List ℕ → List ℕ
 workAfter (Refused f) w = w

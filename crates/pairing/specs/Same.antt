@@ -7,8 +7,8 @@
 --   samenessRefusal      the refusal that the answer is
 --   workAfterBoth        what the call leaves in the work space
 --   Equal v t v' t'      as many vertices, the same ones, and equal pairings after relabelling
---   SameSays             the same by 1 for yes and 0 for no
 --   SameMeans            yes means that both tables are symbols and equal, no that both are symbols and not equal
+--   SameSays             the same by 1 for yes and 0 for no
 use mathlib.Core.Path.{_≡_}
 use mathlib.Core.Logic.{_⊎_}
 use mathlib.Core.Bool.{Bool, true, false, not, _&&_}
@@ -17,12 +17,12 @@ use Prim.Native.Nat.{ℕ, zero, suc, _+_, _*_, _<_, _≤_}
 use lib.Dec.{ltb, eqb}
 use lib.IntN.{ℤ, pos}
 use Rattle.matrix.specs.Matrix.{nth}
-use Rattle.matrix.specs.Euclid.{pick}
+use Rattle.basics.specs.Choice.{pick}
 use Rattle.refusal.specs.Refusal.{noRefusal, tooShort}
 use Rattle.refusal.specs.declared.Refusal.{Refusal}
-use Rattle.symbol.specs.Count.{first, count}
-use Rattle.symbol.specs.Table.{pairing, pairingOf}
-use Rattle.symbol.specs.Check.{eqZ, checkOf}
+use Rattle.basics.specs.Count.{first, count}
+use Rattle.symbol.specs.Table.{pairingEntry, pairingOf}
+use Rattle.symbol.specs.Check.{eqZ, symbolCheck}
 use Rattle.symbol.specs.Symbol.{IsSymbol}
 use Rattle.pairing.specs.Generator.{partner, pairingAt, workAfter}
 use Rattle.workspace.specs.Space.{workLength}
@@ -54,7 +54,7 @@ relabelledBy (Free l) x n = pos n
 relabelledBy Bad x n = x
 
 abbrev pub relabelled : ℕ → List ℤ → ℕ → ℤ
-relabelled v t i = relabelledBy (pairingAt v t i) (pairing v t i) (labelNumber v t (pick (ltb i (partner v t i)) i (partner v t i)))
+relabelled v t i = relabelledBy (pairingAt v t i) (pairingEntry v t i) (labelNumber v t (pick (ltb i (partner v t i)) i (partner v t i)))
 
 -- no i < n at which the two differ
 abbrev pub agreeBelow : (ℕ → ℤ) → (ℕ → ℤ) → ℕ → Bool
@@ -69,11 +69,11 @@ samenessBy Accepted (Refused f) s = sameness.Refused f
 samenessBy Accepted Accepted s = s
 
 -- for two accepted symbols
-abbrev pub answered : ℕ → List ℤ → ℕ → List ℤ → ℕ → Sameness
-answered v t v' t' work = pick (ltb work workLength) (sameness.Refused (tooShort workLength)) (pick (sameSymbol v t v' t') sameness.Yes sameness.No)
+abbrev pub samenessFor : ℕ → List ℤ → ℕ → List ℤ → ℕ → Sameness
+samenessFor v t v' t' work = pick (ltb work workLength) (sameness.Refused (tooShort workLength)) (pick (sameSymbol v t v' t') sameness.Yes sameness.No)
 
 abbrev pub samenessOf : ℕ → List ℤ → ℕ → List ℤ → ℕ → Sameness
-samenessOf v t v' t' work = samenessBy (checkOf v t) (checkOf v' t') (answered v t v' t' work)
+samenessOf v t v' t' work = samenessBy (symbolCheck v t) (symbolCheck v' t') (samenessFor v t v' t' work)
 
 abbrev pub workAfterBoth : Checked → Checked → List ℕ → List ℕ
 workAfterBoth (Refused f) c w = w

@@ -1,4 +1,5 @@
 // The generators of a symbol: leading sides, and the call that lists the generators with their kinds.
+use super::admit::admit;
 use super::partner::PARTNER;
 use super::partner::kind_at;
 use super::partner::pair_sides;
@@ -8,7 +9,6 @@ use refusal::Refusal;
 use refusal::TOO_SHORT;
 use symbol::Pairing;
 use symbol::Side;
-use symbol::check;
 use symbol::read_pairing;
 ghost use mathlib.Core.Path.{_≡_};
 ghost use Prim.Native.Nat.{_+_, _*_, _≤_, _<_};
@@ -17,11 +17,11 @@ ghost use mathlib.Core.Bool.{true};
 ghost use mathlib.Core.List.{_∷_, _++_};
 ghost use Rattle.matrix.specs.Matrix.{ofList, toList};
 ghost use Rattle.workspace.specs.Space.{workLength, zeros};
-ghost use Rattle.symbol.specs.Count.{count};
-ghost use Rattle.symbol.specs.Check.{checkOf};
+ghost use Rattle.basics.specs.Count.{count};
+ghost use Rattle.symbol.specs.Check.{symbolCheck};
 ghost use Rattle.symbol.specs.Symbol.{IsSymbol};
 ghost use Rattle.pairing.specs.Generator.{isLeaderIn, isLeader, generator, generatorTable, leaders, roomOf, generatedOf, workAfter, tableLeft, GeneratorsMean};
-ghost use Rattle.pairing.specs.Inner.Work.{Partnered, Prepared, putRow, RowsTo, Listed};
+ghost use Rattle.pairing.specs.Inner.Work.{Partnered, PartnersReady, putRow, RowsTo, SideListed};
 
 // Whether side i is the leftmost side of its generator.
 fn leads_at(v: usize, p: &[i64], w: &[u16], i: usize) -> bool
@@ -55,7 +55,7 @@ fn count_leaders(v: usize, p: &[i64], w: &[u16]) -> usize
 
 // The generator that side i leads.
 fn generator_at(v: usize, t: &[i64], p: &[i64], w: &[u16], i: usize) -> [i64; 4]
-    requires { ⌜ Prepared v (now t) (now p) (now w) × (i ≤ v) ⌝ }
+    requires { ⌜ PartnersReady v (now t) (now p) (now w) × (i ≤ v) ⌝ }
     ensures { λ r. ⌜ r ≡ toList (generator v (now (t .entry)) i) ⌝ }
 {
     let side = Side::at(v, t, i);
@@ -94,8 +94,8 @@ fn list_side(
     n: usize,
     out: &mut [i64],
 ) -> usize
-    requires { ⌜ Prepared v (now t) (now p) (now w) × (i ≤ v) × (n ≤ i) × (isLeader v (now t) i ≡ true → 5 * n + 5 ≤ length (now out)) ⌝ }
-    ensures { λ r. ⌜ Listed v (now (t .entry)) i n r (now (out .entry)) (now (out .exit)) ⌝ }
+    requires { ⌜ PartnersReady v (now t) (now p) (now w) × (i ≤ v) × (n ≤ i) × (isLeader v (now t) i ≡ true → 5 * n + 5 ≤ length (now out)) ⌝ }
+    ensures { λ r. ⌜ SideListed v (now (t .entry)) i n r (now (out .entry)) (now (out .exit)) ⌝ }
 {
     if leads_at(v, p, w, i) {
         put_row(out, n, kind_at(v, p, i), generator_at(v, t, p, w, i));
@@ -106,7 +106,7 @@ fn list_side(
 
 // Lists all generators from the front of out, which has room for them.
 fn list_all(v: usize, t: &[i64], p: &[i64], w: &[u16], out: &mut [i64])
-    requires { ⌜ Prepared v (now t) (now p) (now w) × (5 * count (isLeader v (now t)) (v + 1) ≤ length (now out)) ⌝ }
+    requires { ⌜ PartnersReady v (now t) (now p) (now w) × (5 * count (isLeader v (now t)) (v + 1) ≤ length (now out)) ⌝ }
     ensures { λ r. ⌜ now (out .exit) ≡ generatorTable v (now (t .entry)) ++ drop (5 * count (isLeader v (now (t .entry))) (v + 1)) (now (out .entry)) ⌝ }
 {
     let mut n = 0;
@@ -119,7 +119,7 @@ fn list_all(v: usize, t: &[i64], p: &[i64], w: &[u16], out: &mut [i64])
 
 // Lists the generators where out has room for them.
 fn list_if_room(v: usize, t: &[i64], p: &[i64], w: &[u16], out: &mut [i64]) -> Filled
-    requires { ⌜ Prepared v (now t) (now p) (now w) ⌝ }
+    requires { ⌜ PartnersReady v (now t) (now p) (now w) ⌝ }
     ensures { λ r. ⌜ r ≡ roomOf (length (leaders v (now (t .entry)))) (length (now (out .entry))) ⌝ }
     ensures { λ r. ⌜ now (out .exit) ≡ tableLeft r (generatorTable v (now (t .entry))) (now (out .entry)) ⌝ }
 {
@@ -153,21 +153,13 @@ fn list_accepted(v: usize, t: &[i64], w: &mut [u16], out: &mut [i64]) -> Filled
 // The generators of the symbol in t with their kinds, from the front of out: checks 1 to 7, then the work space, then the result space.
 pub fn generators(v: usize, t: &[i64], w: &mut [u16], out: &mut [i64]) -> Filled
     ensures { λ r. ⌜ r ≡ generatedOf v (now (t .entry)) (length (now (w .entry))) (length (now (out .entry))) ⌝ }
-    ensures { λ r. ⌜ now (w .exit) ≡ workAfter (checkOf v (now (t .entry))) (now (w .entry)) ⌝ }
+    ensures { λ r. ⌜ now (w .exit) ≡ workAfter (symbolCheck v (now (t .entry))) (now (w .entry)) ⌝ }
     ensures { λ r. ⌜ now (out .exit) ≡ tableLeft r (generatorTable v (now (t .entry))) (now (out .entry)) ⌝ }
     ensures { λ r. ⌜ GeneratorsMean v (now (t .entry)) r ⌝ }
 {
-    let checked = check(v, t);
-    match checked {
+    let admitted = admit(v, t, w.len());
+    match admitted {
         Checked::Refused(refusal) => Filled::Refused(refusal),
-        Checked::Accepted => {
-            if w.len() < workspace::WORK {
-                return Filled::Refused(Refusal {
-                    number: TOO_SHORT,
-                    place: workspace::WORK,
-                });
-            }
-            list_accepted(v, t, w, out)
-        }
+        Checked::Accepted => list_accepted(v, t, w, out),
     }
 }

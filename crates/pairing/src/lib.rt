@@ -2,6 +2,7 @@
 //
 // specs/ says what each call returns and leaves, and has the subgroup H that the generators generate.
 
+pub mod admit;
 pub mod generator;
 pub mod partner;
 pub mod same;

@@ -11,8 +11,8 @@ ghost use Prim.Native.Nat.{_+_, _*_, _≤_, _<_};
 ghost use lib.ListN.{length};
 ghost use Rattle.matrix.specs.Matrix.{nth};
 ghost use Rattle.workspace.specs.Space.{workLength, zeros};
-ghost use Rattle.symbol.specs.Table.{pairings};
-ghost use Rattle.symbol.specs.Check.{checkOf};
+ghost use Rattle.symbol.specs.Table.{pairingEntries};
+ghost use Rattle.symbol.specs.Check.{symbolCheck};
 ghost use Rattle.symbol.specs.Symbol.{IsSymbol};
 ghost use Rattle.pairing.specs.Same.{agreeBelow, sameSymbol, samenessOf, workAfterBoth, SameMeans};
 ghost use Rattle.pairing.specs.Inner.Alike.{alike, allAlike, BothPrepared};
@@ -93,9 +93,9 @@ fn compare(v: usize, t: &[i64], n: usize, u: &[i64], w: &mut [u16]) -> bool
 
 // The same where the first table is accepted.
 fn same_second(v: usize, t: &[i64], n: usize, u: &[i64], w: &mut [u16]) -> Sameness
-    requires { ⌜ checkOf v (now t) ≡ Checked.Accepted ⌝ }
+    requires { ⌜ symbolCheck v (now t) ≡ Checked.Accepted ⌝ }
     ensures { λ r. ⌜ r ≡ samenessOf v (now (t .entry)) n (now (u .entry)) (length (now (w .entry))) ⌝ }
-    ensures { λ r. ⌜ now (w .exit) ≡ workAfterBoth (checkOf v (now (t .entry))) (checkOf n (now (u .entry))) (now (w .entry)) ⌝ }
+    ensures { λ r. ⌜ now (w .exit) ≡ workAfterBoth (symbolCheck v (now (t .entry))) (symbolCheck n (now (u .entry))) (now (w .entry)) ⌝ }
 {
     let second = check(n, u);
     match second {
@@ -118,7 +118,7 @@ fn same_second(v: usize, t: &[i64], n: usize, u: &[i64], w: &mut [u16]) -> Samen
 // Whether two tables hold the same symbol: the first one's refusals, then the second one's, then the work space's.
 pub fn same(v: usize, t: &[i64], n: usize, u: &[i64], w: &mut [u16]) -> Sameness
     ensures { λ r. ⌜ r ≡ samenessOf v (now (t .entry)) n (now (u .entry)) (length (now (w .entry))) ⌝ }
-    ensures { λ r. ⌜ now (w .exit) ≡ workAfterBoth (checkOf v (now (t .entry))) (checkOf n (now (u .entry))) (now (w .entry)) ⌝ }
+    ensures { λ r. ⌜ now (w .exit) ≡ workAfterBoth (symbolCheck v (now (t .entry))) (symbolCheck n (now (u .entry))) (now (w .entry)) ⌝ }
     ensures { λ r. ⌜ SameMeans v (now (t .entry)) n (now (u .entry)) r ⌝ }
 {
     let first = check(v, t);

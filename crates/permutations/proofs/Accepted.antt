@@ -17,14 +17,14 @@ use Rattle.refusal.specs.Refusal.{_orElse_, pointCount, tableEntry, wrongOrder,
 use Rattle.refusal.specs.declared.Checked.{Checked}
 use Rattle.refusal.specs.declared.Checked.the-variants.{Accepted}
 use Rattle.refusal.proofs.Answers.{both-pass, pass-both}
-use Rattle.symbol.specs.Count.{first}
-use Rattle.symbol.proofs.Choice.{and-left, and-right}
-use Rattle.symbol.proofs.Count.{Clear, first-clear}
+use Rattle.basics.specs.Count.{first}
+use Rattle.basics.proofs.Choice.{and-left, and-right}
+use Rattle.basics.proofs.Count.{Clear, first-clear}
 use Rattle.numbering.specs.Find.{find, isIn, _∈_}
 use Rattle.numbering.specs.Order.{orderOf, Numbering}
 use Rattle.numbering.proofs.Order.{numbering}
 use Rattle.import_rule.specs.Fixed.{image, Permuting}
-use Rattle.permutations.specs.Check.{check12, earlier, badEntry, check13, twiceMoved, thriceMoved, check14, notReached, check15, checkOf, Passport, Verdict}
+use Rattle.permutations.specs.Check.{check12, earlier, badEntry, check13, twiceMoved, thriceMoved, check14, notReached, check15, pairCheck, Passport, PairVerdict}
 use Rattle.symbol.proofs.Accepted.{passes, pass, passes-at, pass-at}
 
 -- ---- the checks one by one
@@ -37,7 +37,7 @@ pub record Passed (s r : List ℕ) : Type 0 where
   pub thrice : Clear (thriceMoved r) (length r)
   pub all : Clear (notReached s r) (length s)
 
-pub passed-all : (s r : List ℕ) → checkOf s r ≡ Accepted → Passed s r
+pub passed-all : (s r : List ℕ) → pairCheck s r ≡ Accepted → Passed s r
 passed-all s r e =
     let a = both-pass (check12 s r) (check13 s orElse check13 r orElse check14 twiceMoved s orElse check14 thriceMoved r orElse check15 s r) e in
     let b = both-pass (check13 s) (check13 r orElse check14 twiceMoved s orElse check14 thriceMoved r orElse check15 s r) (a .1) in
@@ -54,11 +54,12 @@ passed-all s r e =
       all = passes-at (notReached s r) (length s) unreached (f .1);
     }
 
-pub all-passed : (s r : List ℕ) → Passed s r → checkOf s r ≡ Accepted
+pub all-passed : (s r : List ℕ) → Passed s r → pairCheck s r ≡ Accepted
 all-passed s r p =
     pass-both (check12 s r) (check13 s orElse check13 r orElse check14 twiceMoved s orElse check14 thriceMoved r orElse check15 s r)
     (pass (not (leb 1 (length s) && leb (length s) 3066 && eqb (length r) (length s))) pointCount (ap not (p .twelve)))
-    (pass-both (check13 s) (check13 r orElse check14 twiceMoved s orElse check14 thriceMoved r orElse check15 s r) (pass-at (badEntry s) (length s) tableEntry (p .entries-S))
+    (pass-both (check13 s) (check13 r orElse check14 twiceMoved s orElse check14 thriceMoved r orElse check15 s r)
+    (pass-at (badEntry s) (length s) tableEntry (p .entries-S))
     (pass-both (check13 r) (check14 twiceMoved s orElse check14 thriceMoved r orElse check15 s r) (pass-at (badEntry r) (length r) tableEntry (p .entries-R))
     (pass-both (check14 twiceMoved s) (check14 thriceMoved r orElse check15 s r) (pass-at (twiceMoved s) (length s) wrongOrder (p .twice))
     (pass-both (check14 thriceMoved r) (check15 s r) (pass-at (thriceMoved r) (length r) wrongOrder (p .thrice))
@@ -82,7 +83,8 @@ or-left true b e = e
 or-left false b e = refl
 
 pub entry-low : (l : List ℕ) → Clear (badEntry l) (length l) → (x : ℕ) → x < length l → image l x < length l
-entry-low l c x h = rw (image-in l x 0 h) (ltb-true (getD l x 0) (length l) (not-false (ltb (getD l x 0) (length l)) (or-left (not (ltb (getD l x 0) (length l))) (earlier l x) (c .none x h))))
+entry-low l c x h = rw (image-in l x 0 h)
+    (ltb-true (getD l x 0) (length l) (not-false (ltb (getD l x 0) (length l)) (or-left (not (ltb (getD l x 0) (length l))) (earlier l x) (c .none x h))))
 
 -- entries that are points, no two the same
 entries-clear : (l : List ℕ) → ((x : ℕ) → x < length l → image l x < length l)
@@ -132,8 +134,12 @@ module _ (s r : List ℕ) (p : Passed s r) where
   counted : (1 ≤ length s) × (length s ≤ 3066) × (length r ≡ length s)
   counted =
       let a = and-left (leb 1 (length s) && leb (length s) 3066) (eqb (length r) (length s)) (p .twelve) in
-      let b = and-right (leb 1 (length s) && leb (length s) 3066) (eqb (length r) (length s)) (p .twelve) in
-      (leb-true 1 (length s) (and-left (leb 1 (length s)) (leb (length s) 3066) a), leb-true (length s) 3066 (and-right (leb 1 (length s)) (leb (length s) 3066) a), eqb-true (length r) (length s) b)
+      let b = and-right (leb 1 (length s) && leb (length s) 3066) (eqb (length r) (length s)) (p .twelve) in (
+        leb-true 1 (length s) (and-left (leb 1 (length s)) (leb (length s) 3066) a),
+        leb-true (length s) 3066
+            (and-right (leb 1 (length s)) (leb (length s) 3066) a),
+        eqb-true (length r) (length s) b,
+      )
 
   twice : (x : ℕ) → x < length s → image s (image s x) ≡ x
   twice x h = eqb-true (image s (image s x)) x (not-false (eqb (image s (image s x)) x) (p .twice .none x h))
@@ -156,7 +162,8 @@ module _ (s r : List ℕ) (p : Passed s r) where
     twice = twice;
     thrice = thrice;
     reached = λ x h. numbering (image s) (image r) 0 (length s) (record { start-low = counted .0; σ-low = entry-low s (p .entries-S); ρ-low = low-R }) .only x
-        (ltb-true (find (orderOf (image s) (image r) 0 (length s)) x) (length (orderOf (image s) (image r) 0 (length s))) (not-false (isIn (orderOf (image s) (image r) 0 (length s)) x) (p .all .none x h)));
+        (ltb-true (find (orderOf (image s) (image r) 0 (length s)) x) (length (orderOf (image s) (image r) 0 (length s)))
+        (not-false (isIn (orderOf (image s) (image r) 0 (length s)) x) (p .all .none x h)));
   }
 
 module _ (s r : List ℕ) (p : Passport s r) where
@@ -180,8 +187,8 @@ module _ (s r : List ℕ) (p : Passport s r) where
 
 -- ---- THE CHECKS ACCEPT EXACTLY THE PASSPORTS
 
-pub accepted : (s r : List ℕ) → (checkOf s r ≡ Accepted) ↔ Passport s r
+pub accepted : (s r : List ℕ) → (pairCheck s r ≡ Accepted) ↔ Passport s r
 accepted s r = (λ e. passport s r (passed-all s r e), λ p. all-passed s r (passing s r p))
 
-pub verdict : (s r : List ℕ) (c : Checked) → c ≡ checkOf s r → Verdict s r c
+pub verdict : (s r : List ℕ) (c : Checked) → c ≡ pairCheck s r → PairVerdict s r c
 verdict s r c e = record { returned = e; means = (λ a. accepted s r .0 (sym e ∙ a), λ p. e ∙ accepted s r .1 p) }

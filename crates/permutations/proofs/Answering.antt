@@ -16,13 +16,13 @@ use Rattle.refusal.specs.declared.Checked.the-variants as checked
 use Rattle.refusal.specs.declared.Filled.{Filled}
 use Rattle.refusal.specs.declared.Filled.the-variants.{Made, Refused}
 use Rattle.refusal.proofs.Answers.{first-refuses, then-next}
-use Rattle.matrix.specs.Euclid.{pick}
+use Rattle.basics.specs.Choice.{pick}
 use Rattle.workspace.specs.Space.{workLength, zeros}
-use Rattle.symbol.proofs.Choice.{pick-true, pick-false}
+use Rattle.basics.proofs.Choice.{pick-true, pick-false}
 use Rattle.import_rule.specs.Fixed.{Pair}
 use Rattle.import_table.specs.Answer.{grownOf}
-use Rattle.permutations.specs.Check.{check12, check13, check14, check15, twiceMoved, thriceMoved, checkOf}
-use Rattle.permutations.specs.Import.{ruleFor, importOf, tableLeft, workLeft, ImportMeans}
+use Rattle.permutations.specs.Check.{check12, check13, check14, check15, twiceMoved, thriceMoved, pairCheck}
+use Rattle.permutations.specs.Import.{ruleFor, importOf, importTable, importWork, ImportMeans}
 use Rattle.permutations.proofs.Accepted.{accepted, permuting-of}
 use Rattle.permutations.proofs.Means.{import-means}
 
@@ -35,23 +35,23 @@ module _ (s r : List ℕ) where
   abbrev test : Bool
   test = leb 1 (length s) && leb (length s) 3066 && eqb (length r) (length s)
 
-  count-no : test ≡ false → checked.Refused pointCount ≡ checkOf s r
+  count-no : test ≡ false → checked.Refused pointCount ≡ pairCheck s r
   count-no e = first-refuses (check12 s r) rest pointCount (pick-true (not test) (checked.Refused pointCount) checked.Accepted (ap not e))
 
   and-false : (a b : Bool) → b ≡ false → (a && b) ≡ false
   and-false true b e = e
   and-false false b e = refl
 
-  pub count-low : length s < 1 → checked.Refused pointCount ≡ checkOf s r
+  pub count-low : length s < 1 → checked.Refused pointCount ≡ pairCheck s r
   count-low h = count-no (ap (λ (b : Bool). b && leb (length s) 3066 && eqb (length r) (length s)) (lt-leb 1 (length s) h))
 
-  pub count-high : 3066 < length s → checked.Refused pointCount ≡ checkOf s r
+  pub count-high : 3066 < length s → checked.Refused pointCount ≡ pairCheck s r
   count-high h = count-no (ap (λ (b : Bool). b && eqb (length r) (length s)) (and-false (leb 1 (length s)) (leb (length s) 3066) (lt-leb (length s) 3066 h)))
 
-  pub count-uneven : (length r ≡ length s → ⊥) → checked.Refused pointCount ≡ checkOf s r
+  pub count-uneven : (length r ≡ length s → ⊥) → checked.Refused pointCount ≡ pairCheck s r
   count-uneven h = count-no (and-false (leb 1 (length s) && leb (length s) 3066) (eqb (length r) (length s)) (ne-eqb (length r) (length s) h))
 
-  pub count-passed : 1 ≤ length s → length s ≤ 3066 → length r ≡ length s → rest ≡ checkOf s r
+  pub count-passed : 1 ≤ length s → length s ≤ 3066 → length r ≡ length s → rest ≡ pairCheck s r
   count-passed a b c =
       let t : test ≡ true = rw (le-leb 1 (length s) a, le-leb (length s) 3066 b, eq-eqb (length r) (length s) c) in
       then-next (check12 s r) rest (pick-false (not test) (checked.Refused pointCount) checked.Accepted (ap not t))
@@ -62,26 +62,27 @@ module _ (s r w : List ℕ) (o : List ℤ) where
   -- the answer a, the work space w' and the result space o' are those of the definitions
   pub record Answered (a : Filled) (w' : List ℕ) (o' : List ℤ) : Type 0 where
     pub returned : a ≡ importOf s r (length w) (length o)
-    pub work : w' ≡ workLeft (checkOf s r) w
-    pub result : o' ≡ tableLeft (ruleFor s r) a o
+    pub work : w' ≡ importWork (pairCheck s r) w
+    pub result : o' ≡ importTable (ruleFor s r) a o
     pub means : ImportMeans s r a o'
 
-  answer : (a : Filled) (w' : List ℕ) (o' : List ℤ) → a ≡ importOf s r (length w) (length o) → w' ≡ workLeft (checkOf s r) w → o' ≡ tableLeft (ruleFor s r) a o → Answered a w' o'
+  answer : (a : Filled) (w' : List ℕ) (o' : List ℤ) → a ≡ importOf s r (length w) (length o) → w' ≡ importWork (pairCheck s r) w
+      → o' ≡ importTable (ruleFor s r) a o → Answered a w' o'
   answer a w' o' p q t = record { returned = p; work = q; result = t; means = rw t (import-means s r (length w) (length o) a o p) }
 
   -- what follows the checks
   abbrev after : Filled
   after = pick (ltb (length w) workLength) (Refused (tooShort workLength)) (grownOf (ruleFor s r) (length o))
 
-  pub refused : (f : Refusal) → checkOf s r ≡ checked.Refused f → Answered (Refused f) w o
-  refused f e = answer (Refused f) w o (sym (ap (λ (x : Checked). filledBy x after) e)) (sym (ap (λ (x : Checked). workLeft x w) e)) refl
+  pub refused : (f : Refusal) → pairCheck s r ≡ checked.Refused f → Answered (Refused f) w o
+  refused f e = answer (Refused f) w o (sym (ap (λ (x : Checked). filledBy x after) e)) (sym (ap (λ (x : Checked). importWork x w) e)) refl
 
-  module _ (e : checkOf s r ≡ checked.Accepted) where
+  module _ (e : pairCheck s r ≡ checked.Accepted) where
     by-room : after ≡ importOf s r (length w) (length o)
     by-room = sym (ap (λ (x : Checked). filledBy x after) e)
 
-    by-work : pick (ltb (length w) workLength) w (zeros (length w)) ≡ workLeft (checkOf s r) w
-    by-work = sym (ap (λ (x : Checked). workLeft x w) e)
+    by-work : pick (ltb (length w) workLength) w (zeros (length w)) ≡ importWork (pairCheck s r) w
+    by-work = sym (ap (λ (x : Checked). importWork x w) e)
 
     pub short : length w < workLength → Answered (Refused (tooShort workLength)) w o
     short h =
@@ -90,12 +91,13 @@ module _ (s r w : List ℕ) (o : List ℤ) where
         (sym (pick-true (ltb (length w) workLength) (Refused (tooShort workLength)) (grownOf (ruleFor s r) (length o)) t) ∙ by-room)
         (sym (pick-true (ltb (length w) workLength) w (zeros (length w)) t) ∙ by-work) refl
 
-    pub long : workLength ≤ length w → (a : Filled) (w' : List ℕ) (o' : List ℤ) → a ≡ grownOf (ruleFor s r) (length o) → w' ≡ zeros (length w) → o' ≡ tableLeft (ruleFor s r) a o → Answered a w' o'
+    pub long : workLength ≤ length w → (a : Filled) (w' : List ℕ) (o' : List ℤ) → a ≡ grownOf (ruleFor s r) (length o) → w' ≡ zeros (length w)
+        → o' ≡ importTable (ruleFor s r) a o → Answered a w' o'
     long h a w' o' p q t =
         let f = le-ltb (length w) workLength h in
         answer a w' o'
         (p ∙ sym (pick-false (ltb (length w) workLength) (Refused (tooShort workLength)) (grownOf (ruleFor s r) (length o)) f) ∙ by-room)
         (q ∙ sym (pick-false (ltb (length w) workLength) w (zeros (length w)) f) ∙ by-work) t
 
-pub pair-of : (s r : List ℕ) → checkOf s r ≡ checked.Accepted → Pair s r
+pub pair-of : (s r : List ℕ) → pairCheck s r ≡ checked.Accepted → Pair s r
 pair-of s r e = let p = accepted s r .0 e in record { permuting = permuting-of s r p; even = p .even; most = p .most }

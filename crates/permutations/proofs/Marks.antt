@@ -16,10 +16,10 @@ use Rattle.refusal.specs.declared.Refusal.{Refusal}
 use Rattle.refusal.specs.declared.Checked.{Checked}
 use Rattle.refusal.specs.declared.Checked.the-variants.{Accepted, Refused}
 use Rattle.refusal.proofs.Answers.{first-refuses, then-next}
-use Rattle.matrix.specs.Euclid.{pick}
-use Rattle.symbol.specs.Count.{first}
-use Rattle.symbol.proofs.Choice.{pick-true, pick-false, either, clash}
-use Rattle.symbol.proofs.Count.{Clear, Found, clear-zero, clear-more, search-first, first-clear, first-hit, found, clear-first, first-le}
+use Rattle.basics.specs.Choice.{pick}
+use Rattle.basics.specs.Count.{first}
+use Rattle.basics.proofs.Choice.{pick-true, pick-false, either, clash}
+use Rattle.basics.proofs.Count.{Clear, Found, clear-zero, clear-more, search-first, first-clear, first-hit, found, clear-first, first-le}
 use Rattle.import_rule.specs.Fixed.{image}
 use Rattle.import_rule.proofs.Images.{image-in}
 use Rattle.symbol.specs.Check.{refuseAt}
@@ -51,7 +51,8 @@ earlier-more t i x = go (search-first test i) (either (test i))
       where
         none : Clear test i → earlierIn t i x ≡ false
         none c = let k = first-clear test i c in le-ltb (first test i) i (omega arith)
-    go (inl c) (inr e) = (let k = first-clear test (suc i) (clear-more test i c e) in le-ltb (first test (suc i)) (suc i) (omega arith)) ∙ sym (ap (λ (b : Bool). b || eqb (getD t i 0) x) (let k = first-clear test i c in le-ltb (first test i) i (omega arith)) ∙ e)
+    go (inl c) (inr e) = (let k = first-clear test (suc i) (clear-more test i c e) in le-ltb (first test (suc i)) (suc i) (omega arith))
+        ∙ sym (ap (λ (b : Bool). b || eqb (getD t i 0) x) (let k = first-clear test i c in le-ltb (first test i) i (omega arith)) ∙ e)
     go (inr f) e =
         let h = f .below in
         let k = first-hit test (first test i) (suc i) (omega arith) (f .clear) (f .passes) in
@@ -87,7 +88,8 @@ bad-high t i x e h = sym (ap (λ (b : Bool). not b || earlier t i) (le-ltb (getD
 
 pub bad-seen : (t seen : List ℕ) (i x : ℕ) → SeenTo t i seen → length t ≤ 3066 → x ≡ getD t i 0 → x < length t → not (eqb (getD seen x 0) 0) ≡ badEntry t i
 bad-seen t seen i x s most e h =
-    ap (λ (k : ℕ). not (eqb k 0)) (s .marks x (omega arith)) ∙ go (earlierIn t i x) ∙ ap (earlierIn t i) e ∙ sym (ap (λ (b : Bool). not b || earlier t i) (lt-ltb (getD t i 0) (length t) (omega arith)))
+    ap (λ (k : ℕ). not (eqb k 0)) (s .marks x (omega arith)) ∙ go (earlierIn t i x) ∙ ap (earlierIn t i) e
+    ∙ sym (ap (λ (b : Bool). not b || earlier t i) (lt-ltb (getD t i 0) (length t) (omega arith)))
   where
     go : (b : Bool) → not (eqb (pick b 1 0) 0) ≡ b
     go true = refl

@@ -15,7 +15,7 @@ use Rattle.refusal.specs.declared.Checked.the-variants as checked
 use Rattle.refusal.specs.declared.Filled.{Filled}
 use Rattle.refusal.specs.declared.Filled.the-variants.{Made, Refused}
 use Rattle.refusal.proofs.Apart.{refused-made}
-use Rattle.matrix.specs.Euclid.{pick}
+use Rattle.basics.specs.Choice.{pick}
 use Rattle.workspace.specs.Space.{workLength}
 use Rattle.import_rule.specs.Fixed.{image, byQ}
 use Rattle.numbering.specs.Order.{Maps}
@@ -23,23 +23,23 @@ use Rattle.coset.specs.Tables.{tableS, tableR, tableT}
 use Rattle.coset.proofs.Answer.{meaning}
 use Rattle.import_rule.specs.Theorem.{Precisely}
 use Rattle.import_rule.specs.Symbol.{Ruled, made, over}
-use Rattle.import_table.specs.Answer.{grownOf, tableIn}
+use Rattle.import_table.specs.Answer.{grownOf, ruledTable}
 use Rattle.import_rule.proofs.Theorem.{rule-precisely}
-use Rattle.permutations.specs.Check.{checkOf, Passport}
-use Rattle.permutations.specs.Import.{ruleFor, importOf, tableLeft, Symbolised, ImportMeans}
+use Rattle.permutations.specs.Check.{pairCheck, Passport}
+use Rattle.permutations.specs.Import.{ruleFor, importOf, importTable, Symbolised, ImportMeans}
 use Rattle.permutations.proofs.Accepted.{accepted, permuting-of}
 use Rattle.permutations.proofs.Renumbered.{index-is, renumbered-S, renumbered-R}
 
 -- a symbol of v vertices was made only by an accepted pair, with room for its table
 pub record Success (s r : List ℕ) (v : ℕ) : Type 0 where
   pub table : List ℤ
-  pub pair : checkOf s r ≡ checked.Accepted
+  pub pair : pairCheck s r ≡ checked.Accepted
   pub rule : ruleFor s r ≡ made v table
 
 success : (s r : List ℕ) (work room v : ℕ) → importOf s r work room ≡ Made v → Success s r v
-success s r work room v e = by-check (checkOf s r) refl e
+success s r work room v e = by-check (pairCheck s r) refl e
   where
-    by-rule : checkOf s r ≡ checked.Accepted → (g : Ruled) → ruleFor s r ≡ g → grownOf g room ≡ Made v → Success s r v
+    by-rule : pairCheck s r ≡ checked.Accepted → (g : Ruled) → ruleFor s r ≡ g → grownOf g room ≡ Made v → Success s r v
     by-rule c (made v' t) g q = by-room (ltb room (3 * v' + 1)) q
       where
         by-room : (b : Bool) → pick b (Refused (tooShort (3 * v' + 1))) (Made v') ≡ Made v → Success s r v
@@ -47,11 +47,12 @@ success s r work room v e = by-check (checkOf s r) refl e
         by-room false q = let z : v' ≡ v = cc in record { table = t; pair = c; rule = g ∙ ap (λ (x : ℕ). made x t) z }
     by-rule c (over i) g q = refused-made q
 
-    by-work : checkOf s r ≡ checked.Accepted → (b : Bool) → pick b (Refused (tooShort workLength)) (grownOf (ruleFor s r) room) ≡ Made v → Success s r v
+    by-work : pairCheck s r ≡ checked.Accepted → (b : Bool) → pick b (Refused (tooShort workLength)) (grownOf (ruleFor s r) room) ≡ Made v → Success s r v
     by-work c true q = refused-made q
     by-work c false q = by-rule c (ruleFor s r) refl q
 
-    by-check : (c : Checked) → checkOf s r ≡ c → filledBy c (pick (ltb work workLength) (Refused (tooShort workLength)) (grownOf (ruleFor s r) room)) ≡ Made v → Success s r v
+    by-check : (c : Checked) → pairCheck s r ≡ c → filledBy c (pick (ltb work workLength) (Refused (tooShort workLength)) (grownOf (ruleFor s r) room)) ≡ Made v
+        → Success s r v
     by-check checked.Accepted c q = by-work c (ltb work workLength) q
     by-check (checked.Refused f) c q = refused-made q
 
@@ -73,17 +74,17 @@ symbolised s r v t p q =
     }
 
 -- WHAT A MADE SYMBOL MEANS
-pub made-means : (s r : List ℕ) (work room v : ℕ) → importOf s r work room ≡ Made v → Symbolised s r v (tableIn (ruleFor s r))
+pub made-means : (s r : List ℕ) (work room v : ℕ) → importOf s r work room ≡ Made v → Symbolised s r v (ruledTable (ruleFor s r))
 made-means s r work room v e =
     let k = success s r work room v e in
     let p = accepted s r .0 (k .pair) in
-    rw (ap tableIn (k .rule)) (symbolised s r v (k .table) p (rule-precisely (image s) (image r) (length s) (permuting-of s r p) (p .most) v (k .table) (k .rule)))
+    rw (ap ruledTable (k .rule)) (symbolised s r v (k .table) p (rule-precisely (image s) (image r) (length s) (permuting-of s r p) (p .most) v (k .table) (k .rule)))
 
 -- its table stands at the front of the result space
-pub import-means : (s r : List ℕ) (work room : ℕ) (a : Filled) (out : List ℤ) → a ≡ importOf s r work room → ImportMeans s r a (tableLeft (ruleFor s r) a out)
+pub import-means : (s r : List ℕ) (work room : ℕ) (a : Filled) (out : List ℤ) → a ≡ importOf s r work room → ImportMeans s r a (importTable (ruleFor s r) a out)
 import-means s r work room a out e v m =
     let g = made-means s r work room v (sym e ∙ m) in
-    let t : take (3 * v + 1) (tableLeft (ruleFor s r) a out) ≡ tableIn (ruleFor s r) =
-    ap (λ (x : Filled). take (3 * v + 1) (tableLeft (ruleFor s r) x out)) m
-    ∙ take-at (tableIn (ruleFor s r)) (drop (3 * v + 1) out) (3 * v + 1) (g .precisely .symbol .long) in
+    let t : take (3 * v + 1) (importTable (ruleFor s r) a out) ≡ ruledTable (ruleFor s r) =
+    ap (λ (x : Filled). take (3 * v + 1) (importTable (ruleFor s r) x out)) m
+    ∙ take-at (ruledTable (ruleFor s r)) (drop (3 * v + 1) out) (3 * v + 1) (g .precisely .symbol .long) in
     rw t g

@@ -13,8 +13,8 @@ use lib.Dec.{ltb, eqb}
 use lib.ListN.{length, getD, set, take, length-set, length-append}
 use lib.Seq.{getD-set-same, getD-set-other, length-take-le}
 use borrow.Author.Tests.{lt-ltb, le-ltb, eq-eqb, ne-eqb}
-use Rattle.matrix.specs.Euclid.{pick}
-use Rattle.symbol.proofs.Choice.{pick-true, pick-false, clash}
+use Rattle.basics.specs.Choice.{pick}
+use Rattle.basics.proofs.Choice.{pick-true, pick-false, clash}
 use Rattle.numbering.specs.Find.{find, _∈_, _∉_, isIn, Once}
 use Rattle.numbering.specs.Order.{add, visit, orderTo, orderOf, Maps}
 use Rattle.numbering.proofs.Find as places
@@ -22,7 +22,7 @@ use Rattle.numbering.proofs.Order.{add-old, add-new, Grows, visit-grows, to-mor
 use Rattle.import_rule.specs.Fixed.{image}
 use Rattle.permutations.specs.Check.{notReached}
 use Rattle.permutations.specs.Inner.Seen.{Entries}
-use Rattle.permutations.specs.Inner.Reach.{Listed, Entered, VisitedAt, Two, Blank, AllReached}
+use Rattle.permutations.specs.Inner.Reach.{QueueHolds, Entered, VisitedAt, Two, Blank, AllReached}
 
 take-set : (q : List ℕ) (n x : ℕ) → n < length q → take (suc n) (set q n x) ≡ take n q ++ (x ∷ [])
 take-set [] n x h = absurd (omega arith)
@@ -52,10 +52,11 @@ find-one y x n = rw (ne-eqb y x (λ q. n (sym q))) refl
 mark-old : (l : List ℕ) (y x : ℕ) → ¬ (x ≡ y) → one-if (isIn (l ++ (y ∷ [])) x) ≡ one-if (isIn l x)
 mark-old l y x n = elim (decLt (find l x) (length l)) [
   | yes h ↦ mark-in (l ++ (y ∷ [])) x (places.in-left l (y ∷ []) x h) ∙ sym (mark-in l x h)
-  | no h ↦ mark-out (l ++ (y ∷ [])) x (omega (arith, places.find-right l (y ∷ []) x (omega arith), length-append l (y ∷ []), find-one y x n)) ∙ sym (mark-out l x (omega arith))
+  | no h ↦ mark-out (l ++ (y ∷ [])) x (omega (arith, places.find-right l (y ∷ []) x (omega arith), length-append l (y ∷ []), find-one y x n))
+      ∙ sym (mark-out l x (omega arith))
 ]
 
-module _ (n size x : ℕ) (seen queue : List ℕ) (t : Listed n size seen queue) (low : x < size) where
+module _ (n size x : ℕ) (seen queue : List ℕ) (t : QueueHolds n size seen queue) (low : x < size) where
   small : x < 3072
   small = let m = t .most in omega arith
 
@@ -100,14 +101,15 @@ module _ (n size x : ℕ) (seen queue : List ℕ) (t : Listed n size seen queue)
         marks : (y : ℕ) → y < 3072 → Dec (y ≡ x) → getD (set seen x 1) y 0 ≡ one-if (isIn (take (suc n) (set queue n x)) y)
         marks y k (yes e) =
             ap (λ (z : ℕ). getD (set seen x 1) z 0) e ∙ getD-set-same seen x 1 0 (omega (arith, t .seen-long, small))
-            ∙ sym (ap (λ (z : List ℕ). one-if (isIn z y)) new-queue ∙ ap (λ (z : ℕ). one-if (isIn (take n queue ++ (x ∷ [])) z)) e ∙ mark-in (take n queue ++ (x ∷ [])) x (places.in-last (take n queue) x))
+            ∙ sym (ap (λ (z : List ℕ). one-if (isIn z y)) new-queue ∙ ap (λ (z : ℕ). one-if (isIn (take n queue ++ (x ∷ [])) z)) e
+            ∙ mark-in (take n queue ++ (x ∷ [])) x (places.in-last (take n queue) x))
         marks y k (no e) =
             getD-set-other seen x y 1 0 e ∙ t .marks y k
             ∙ sym (ap (λ (z : List ℕ). one-if (isIn z y)) new-queue ∙ mark-old (take n queue) x y e)
 
 -- ---- a visit
 
-pub visit-low : (n size i x : ℕ) (seen queue : List ℕ) → Listed n size seen queue → i < n → x ≡ getD queue i 0 → x < size
+pub visit-low : (n size i x : ℕ) (seen queue : List ℕ) → QueueHolds n size seen queue → i < n → x ≡ getD queue i 0 → x < size
 visit-low n size i x seen queue t h e =
     let a = t .queue-long in
     let b = t .few in
@@ -119,12 +121,16 @@ pub visit-both : (σ ρ : ℕ → ℕ) (n size i x a b k k' : ℕ) (seen queue s
     → Entered a n size queue seen1 queue1 k → Entered b k size queue1 seen2 queue2 k' → VisitedAt σ ρ i n size queue seen2 queue2 k'
 visit-both σ ρ n size i x a b k k' seen queue seen1 queue1 seen2 queue2 h ex ea eb p q =
     let y : x ≡ getD (take n queue) i 0 = ex ∙ sym (take-at queue n i h) in
-    record { listed = q .listed; is = q .is ∙ ap (λ (z : List ℕ). add z b) (p .is) ∙ ap (λ (z : ℕ). add (add (take n queue) z) b) (ea ∙ ap σ y) ∙ ap (add (add (take n queue) (σ (getD (take n queue) i 0)))) (eb ∙ ap ρ y) }
+    record {
+      listed = q .listed;
+      is = q .is ∙ ap (λ (z : List ℕ). add z b) (p .is) ∙ ap (λ (z : ℕ). add (add (take n queue) z) b) (ea ∙ ap σ y)
+          ∙ ap (add (add (take n queue) (σ (getD (take n queue) i 0)))) (eb ∙ ap ρ y);
+    }
 
 -- ---- the run from 0
 
 pub record Run (s r : List ℕ) (i n : ℕ) (seen queue : List ℕ) : Type 0 where
-  pub listed : Listed n (length s) seen queue
+  pub listed : QueueHolds n (length s) seen queue
   pub is : take n queue ≡ orderTo (image s) (image r) 0 i
   pub low : i ≤ n
 
@@ -152,20 +158,32 @@ module _ (s r : List ℕ) (two : Two s r) where
       first = take-set queue 0 0 (omega (arith, b .queue-long))
 
       marks : (x : ℕ) → x < 3072 → Dec (x ≡ 0) → getD (set seen 0 1) x 0 ≡ one-if (isIn (take 1 (set queue 0 0)) x)
-      marks x h (yes e) = ap (λ (z : ℕ). getD (set seen 0 1) z 0) e ∙ getD-set-same seen 0 1 0 (omega (arith, b .seen-long)) ∙ sym (ap (λ (z : List ℕ). one-if (isIn z x)) first ∙ ap (λ (z : ℕ). one-if (isIn (0 ∷ []) z)) e ∙ mark-in (0 ∷ []) 0 (places.in-last [] 0))
-      marks x h (no e) = getD-set-other seen 0 x 1 0 e ∙ b .clear x ∙ sym (ap (λ (z : List ℕ). one-if (isIn z x)) first ∙ mark-out (0 ∷ []) x (omega (arith, find-one 0 x e)))
+      marks x h (yes e) = ap (λ (z : ℕ). getD (set seen 0 1) z 0) e ∙ getD-set-same seen 0 1 0 (omega (arith, b .seen-long))
+          ∙ sym (ap (λ (z : List ℕ). one-if (isIn z x)) first ∙ ap (λ (z : ℕ). one-if (isIn (0 ∷ []) z)) e ∙ mark-in (0 ∷ []) 0 (places.in-last [] 0))
+      marks x h (no e) = getD-set-other seen 0 x 1 0 e ∙ b .clear x
+          ∙ sym (ap (λ (z : List ℕ). one-if (isIn z x)) first ∙ mark-out (0 ∷ []) x (omega (arith, find-one 0 x e)))
 
-  pub run-more : (i n k : ℕ) (seen queue seen' queue' : List ℕ) → Run s r i n seen queue → i < n → VisitedAt (image s) (image r) i n (length s) queue seen' queue' k → Run s r (suc i) k seen' queue'
+  pub run-more : (i n k : ℕ) (seen queue seen' queue' : List ℕ) → Run s r i n seen queue → i < n
+      → VisitedAt (image s) (image r) i n (length s) queue seen' queue' k → Run s r (suc i) k seen' queue'
   run-more i n k seen queue seen' queue' t h v =
-      let long : length (orderTo (image s) (image r) 0 i) ≡ n = ap length (sym (t .is)) ∙ length-take-le n queue (let a = t .listed .queue-long in let b = t .listed .few in let c = t .listed .most in omega arith) in
-      let e : take k queue' ≡ orderTo (image s) (image r) 0 (suc i) = v .is ∙ ap (λ (z : List ℕ). visit (image s) (image r) z i) (t .is) ∙ sym (to-more (image s) (image r) 0 i (omega arith)) in
+      let long : length (orderTo (image s) (image r) 0 i) ≡ n = ap length (sym (t .is))
+      ∙ length-take-le n queue (let a = t .listed .queue-long in let b = t .listed .few in let c = t .listed .most in omega arith) in
+      let e : take k queue' ≡ orderTo (image s) (image r) 0 (suc i) = v .is ∙ ap (λ (z : List ℕ). visit (image s) (image r) z i) (t .is)
+      ∙ sym (to-more (image s) (image r) 0 i (omega arith)) in
       record {
         listed = v .listed;
         is = e;
-        low = omega (arith, grows i k e (omega arith), ap length e, length-take-le k queue' (let a = v .listed .queue-long in let b = v .listed .few in let c = v .listed .most in omega arith));
+        low = omega (
+          arith,
+          grows i k e (omega arith),
+          ap length e,
+          length-take-le k queue'
+              (let a = v .listed .queue-long in let b = v .listed .few in let c = v .listed .most in omega arith),
+        );
       }
     where
-      grows : (i k : ℕ) → take k queue' ≡ orderTo (image s) (image r) 0 (suc i) → i < length (orderTo (image s) (image r) 0 i) → suc i ≤ length (orderTo (image s) (image r) 0 (suc i))
+      grows : (i k : ℕ) → take k queue' ≡ orderTo (image s) (image r) 0 (suc i) → i < length (orderTo (image s) (image r) 0 i)
+          → suc i ≤ length (orderTo (image s) (image r) 0 (suc i))
       grows i k e h = rw (to-more (image s) (image r) 0 i h) (omega (arith, visit-grows (image s) (image r) (orderTo (image s) (image r) 0 i) i .long))
 
   pub run-end : (i n : ℕ) (seen queue : List ℕ) → Run s r i n seen queue → n ≤ i → AllReached s r seen
@@ -173,7 +191,8 @@ module _ (s r : List ℕ) (two : Two s r) where
       let long = length-take-le n queue (let a = t .listed .queue-long in let b = t .listed .few in let c = t .listed .most in omega arith) in
       let f = t .listed .few in
       let l = t .low in
-      let e : take n queue ≡ orderOf (image s) (image r) 0 (length s) = t .is ∙ order-stop (image s) (image r) 0 (length s) maps i (omega arith) (omega (arith, ap length (t .is))) in
+      let e : take n queue ≡ orderOf (image s) (image r) 0 (length s) = t .is
+      ∙ order-stop (image s) (image r) 0 (length s) maps i (omega arith) (omega (arith, ap length (t .is))) in
       record { long = t .listed .seen-long; marks = λ x k. t .listed .marks x k ∙ ap (λ (z : List ℕ). one-if (isIn z x)) e }
 
 -- ---- the first point without a mark

@@ -28,7 +28,7 @@ use Rattle.pairing.specs.Generator.{generators}
 use Rattle.polygon.specs.Theorem.{SameCoset}
 use Rattle.numbering.specs.Find.{find, _∈_, Once}
 use Rattle.numbering.specs.Order.{add, visit, orderTo, orderOf, upTo, Maps, Reached, here, by-σ, by-ρ, Numbering}
-use Rattle.numbering.specs.Table.{at, numberOf, renamed}
+use Rattle.numbering.specs.Table.{imageAt, imageNumber, renamed}
 use Rattle.numbering.proofs.Find.{getD-find, getD-in, find-map, once-below, once-below-all, pigeonhole}
 use Rattle.numbering.proofs.Order.{add-old, add-new, All, add-all, to-more, to-done, to-once, to-low, numbering}
 use Rattle.numbering.proofs.Table.{getD-map, map-last}
@@ -181,19 +181,19 @@ module _ (σ ρ : ℕ → ℕ) where
       over-zero : over 0 ≡ 0
       over-zero = over-at 𝟙 0 det-𝟙 (c .zero) ∙ a .identity 0
 
-      over-S : (j : ℕ) → j < index → over (at s j) ≡ σ (over j)
+      over-S : (j : ℕ) → j < index → over (imageAt s j) ≡ σ (over j)
       over-S j h =
           let l = c .reached j h in
           let m = l .matrix in
-          over-at (m ⊗ matS) (at s j) (det-one m matS (l .unit) (det-letter S)) (c .by-S m (l .unit) ∙ ap (at s) (l .is))
+          over-at (m ⊗ matS) (imageAt s j) (det-one m matS (l .unit) (det-letter S)) (c .by-S m (l .unit) ∙ ap (imageAt s) (l .is))
           ∙ point-S m (l .unit) ∙ ap σ (sym (over-at m j (l .unit) (l .is)))
 
-      over-R : (j : ℕ) → j < index → over (at r j) ≡ ρ (over j)
+      over-R : (j : ℕ) → j < index → over (imageAt r j) ≡ ρ (over j)
       over-R j h =
           let l = c .reached j h in
           let m = l .matrix in
           let d : det matR ≡ pos 1 = ap det R-word ∙ det-value (S ∷ P ∷ S ∷ []) in
-          over-at (m ⊗ matR) (at r j) (det-one m matR (l .unit) d) (c .by-R m (l .unit) ∙ ap (at r) (l .is))
+          over-at (m ⊗ matR) (imageAt r j) (det-one m matR (l .unit) d) (c .by-R m (l .unit) ∙ ap (imageAt r) (l .is))
           ∙ point-R m (l .unit) ∙ ap ρ (sym (over-at m j (l .unit) (l .is)))
 
       over-one : (j k : ℕ) → j < index → k < index → over j ≡ over k → j ≡ k
@@ -206,33 +206,33 @@ module _ (σ ρ : ℕ → ℕ) where
       over-low : (j : ℕ) → j < index → over j < n
       over-low j h = let l = c .reached j h in rw (over-at (l .matrix) j (l .unit) (l .is)) (point-low (l .matrix))
 
-      table-maps : Maps (at s) (at r) 0 index
+      table-maps : Maps (imageAt s) (imageAt r) 0 index
       table-maps = record {
         start-low = rw (c .zero) at (c .low 𝟙 det-𝟙);
         σ-low = λ x h. rw (c .size-S) at (c .permutations .S .low x (rw (c .size-S) h));
         ρ-low = λ x h. rw (c .size-R) at (c .permutations .R .low x (rw (c .size-R) h));
       }
 
-      order-over : (i : ℕ) → orderTo σ ρ 0 i ≡ map over (orderTo (at s) (at r) 0 i)
-      order-over i = ap (λ (x : ℕ). orderTo σ ρ x i) (sym over-zero) ∙ to-over index over over-one (at s) (at r) σ ρ 0 table-maps over-S over-R i
+      order-over : (i : ℕ) → orderTo σ ρ 0 i ≡ map over (orderTo (imageAt s) (imageAt r) 0 i)
+      order-over i = ap (λ (x : ℕ). orderTo σ ρ x i) (sym over-zero) ∙ to-over index over over-one (imageAt s) (imageAt r) σ ρ 0 table-maps over-S over-R i
 
       -- ---- as many points
 
       as-many : n ≡ index
       as-many =
           let few = pigeonhole index n over over-low over-one in
-          let l = orderTo (at s) (at r) 0 n in
-          let short = once-below l index (to-once (at s) (at r) 0 n) (to-low (at s) (at r) 0 index table-maps n) in
+          let l = orderTo (imageAt s) (imageAt r) 0 n in
+          let short = once-below l index (to-once (imageAt s) (imageAt r) 0 n) (to-low (imageAt s) (imageAt r) 0 index table-maps n) in
           let long = once-below-all (orderOf σ ρ 0 n) n (λ x h. numbering σ ρ 0 n maps .all x (all x h)) in
           let same : length (orderOf σ ρ 0 n) ≡ length l = ap length (order-over n) ∙ length-map l over in
           omega arith
 
       order-is : orderOf σ ρ 0 n ≡ map over (upTo index)
-      order-is = order-over n ∙ ap (λ (i : ℕ). map over (orderTo (at s) (at r) 0 i)) as-many ∙ ap (map over) (c .numbered)
+      order-is = order-over n ∙ ap (λ (i : ℕ). map over (orderTo (imageAt s) (imageAt r) 0 i)) as-many ∙ ap (map over) (c .numbered)
 
       place-is : (k : ℕ) → k < index → find (upTo index) k ≡ k
       place-is k h =
-          let o = to-once (at s) (at r) 0 index in
+          let o = to-once (imageAt s) (imageAt r) 0 index in
           let e = (rw (c .numbered) at o) .place k (omega (arith, upTo-length index)) in
           rw (upTo-at index k h) at e
 
@@ -251,18 +251,20 @@ module _ (σ ρ : ℕ → ℕ) where
       abbrev order : List ℕ
       order = orderOf σ ρ 0 n
 
-      table-is : (f : ℕ → ℕ) (l : List ℕ) → length l ≡ index → ((j : ℕ) → j < index → at l j < index) → ((j : ℕ) → j < index → over (at l j) ≡ f (over j)) → l ≡ renamed order f
+      table-is : (f : ℕ → ℕ) (l : List ℕ) → length l ≡ index → ((j : ℕ) → j < index → imageAt l j < index)
+          → ((j : ℕ) → j < index → over (imageAt l j) ≡ f (over j)) → l ≡ renamed order f
       unfolding renamed
       table-is f l long low step =
           let o : length order ≡ index = ap length order-is ∙ length-map (upTo index) over ∙ upTo-length index in
-          let m = length-map order (numberOf order f) in
+          let m = length-map order (imageNumber order f) in
           ext-getD 0 l (renamed order f) (long ∙ sym o ∙ sym m) (λ j h.
           let k : j < index = omega (arith, long) in
           let here : getD order j 0 ≡ over j =
           ap (λ (x : List ℕ). getD x j 0) order-is ∙ getD-map over (upTo index) j (omega (arith, upTo-length index)) ∙ ap over (upTo-at index j k) in
-          let there : numberOf order f (getD order j 0) ≡ at l j =
-          ap (λ (x : ℕ). find order (f x)) here ∙ ap (find order) (sym (step j k)) ∙ ap (λ (x : List ℕ). find x (over (at l j))) order-is ∙ number-is (at l j) (low j k) in
-          sym (getD-map (numberOf order f) order j (omega (arith, o)) ∙ there))
+          let there : imageNumber order f (getD order j 0) ≡ imageAt l j =
+          ap (λ (x : ℕ). find order (f x)) here ∙ ap (find order) (sym (step j k)) ∙ ap (λ (x : List ℕ). find x (over (imageAt l j))) order-is
+          ∙ number-is (imageAt l j) (low j k) in
+          sym (getD-map (imageNumber order f) order j (omega (arith, o)) ∙ there))
 
       pub renumbered-S : s ≡ renamed order σ
       renumbered-S = table-is σ s (c .size-S) (table-maps .σ-low) over-S

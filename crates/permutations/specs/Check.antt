@@ -1,10 +1,10 @@
 -- The checks 12 to 15 of docs/CONVENTIONS.md, in their order, each with its place: s and r are the tables of S and R.
 --
 --   check12 .. check15   the four checks; 13 and 14 look at S before R
---   checkOf s r          all of them, in order: the first fault counts
+--   pairCheck s r        all of them, in order: the first fault counts
 --   Passport s r         what a pair of permutations is: from 1 to 3,066 points, as many in R as in S; in each table every entry is a point, and
 --                        no two entries are the same; S twice and R three times move nothing; every point is reached from 0
---   Verdict s r c        c is the answer of the checks, and it is that the pair is accepted exactly when it is such a pair
+--   PairVerdict s r c    c is the answer of the checks, and it is that the pair is accepted exactly when it is such a pair
 --
 -- proofs/Accepted.antt, `accepted`: the checks accept exactly the passports.
 use mathlib.Core.Path.{_≡_}
@@ -17,8 +17,8 @@ use lib.ListN.{length, getD}
 use Rattle.refusal.specs.Refusal.{_orElse_, pointCount, tableEntry, wrongOrder, unreached}
 use Rattle.refusal.specs.declared.Checked.{Checked}
 use Rattle.refusal.specs.declared.Checked.the-variants.{Accepted}
-use Rattle.matrix.specs.Euclid.{pick}
-use Rattle.symbol.specs.Count.{first}
+use Rattle.basics.specs.Choice.{pick}
+use Rattle.basics.specs.Count.{first}
 use Rattle.symbol.specs.Check.{refuse, refuseAt}
 use Rattle.numbering.specs.Find.{isIn}
 use Rattle.numbering.specs.Order.{orderOf, Reached}
@@ -58,8 +58,8 @@ notReached s r x = not (isIn (orderOf (image s) (image r) 0 (length s)) x)
 abbrev pub check15 : (s r : List ℕ) → Checked
 check15 s r = refuseAt (first (notReached s r) (length s)) (length s) unreached
 
-abbrev pub checkOf : (s r : List ℕ) → Checked
-checkOf s r = check12 s r orElse check13 s orElse check13 r orElse check14 twiceMoved s orElse check14 thriceMoved r orElse check15 s r
+abbrev pub pairCheck : (s r : List ℕ) → Checked
+pairCheck s r = check12 s r orElse check13 s orElse check13 r orElse check14 twiceMoved s orElse check14 thriceMoved r orElse check15 s r
 
 pub record Passport (s r : List ℕ) : Type 0 where
   pub some : 1 ≤ length s
@@ -73,6 +73,6 @@ pub record Passport (s r : List ℕ) : Type 0 where
   pub thrice : (x : ℕ) → x < length r → image r (image r (image r x)) ≡ x
   pub reached : (x : ℕ) → x < length s → Reached (image s) (image r) 0 x
 
-pub record Verdict (s r : List ℕ) (c : Checked) : Type 0 where
-  pub returned : c ≡ checkOf s r
+pub record PairVerdict (s r : List ℕ) (c : Checked) : Type 0 where
+  pub returned : c ≡ pairCheck s r
   pub means : (c ≡ Accepted) ↔ Passport s r

@@ -2,8 +2,8 @@
 --
 --   importOf s r work room            the refusals 12 to 15, then the work space, then 16, then the result space, or the number of vertices
 --   ruleFor s r          what the rule gives for the tables of S and R
---   tableLeft g a out    what the call leaves in the result space: the symbol's table at its front, or all as it was
---   workLeft c w         what it leaves in the work space: zeros where it got past the length check, else all as it was
+--   importTable g a out  what the call leaves in the result space: the symbol's table at its front, or all as it was
+--   importWork c w       what it leaves in the work space: zeros where it got past the length check, else all as it was
 --   ImportMeans s r a t  an answer that is no refusal means this: the pair is a passport, and the 3v + 1 numbers at the front of the result
 --                        space are a symbol that generates precisely the matrices that fix point 0, of at most index/3 + 1 vertices; its
 --                        index is the number of points, and its own coset tables are the given permutations, renumbered by the listing's rule
@@ -23,20 +23,20 @@ use Rattle.coset.specs.Tables.{indexOf, tableS, tableR}
 use Rattle.import_rule.specs.Fixed.{image, byQ}
 use Rattle.import_rule.specs.Symbol.{Ruled, ruleOf}
 use Rattle.import_rule.specs.Theorem.{Precisely}
-use Rattle.import_table.specs.Answer.{grownOf, leftBy}
-use Rattle.permutations.specs.Check.{checkOf, Passport}
+use Rattle.import_table.specs.Answer.{grownOf, ruledLeft}
+use Rattle.permutations.specs.Check.{pairCheck, Passport}
 
 abbrev pub ruleFor : (s r : List ℕ) → Ruled
 ruleFor s r = ruleOf (image s) (byQ (image s) (image r)) (length s)
 
 abbrev pub importOf : (s r : List ℕ) (work room : ℕ) → Filled
-importOf s r work room = filledBy (checkOf s r) (byWork work (grownOf (ruleFor s r) room))
+importOf s r work room = filledBy (pairCheck s r) (byWork work (grownOf (ruleFor s r) room))
 
-abbrev pub tableLeft : Ruled → Filled → List ℤ → List ℤ
-tableLeft g a out = leftBy g a out
+abbrev pub importTable : Ruled → Filled → List ℤ → List ℤ
+importTable g a out = ruledLeft g a out
 
-abbrev pub workLeft : Checked → List ℕ → List ℕ
-workLeft c w = workAfter c w
+abbrev pub importWork : Checked → List ℕ → List ℕ
+importWork c w = workAfter c w
 
 -- the points, by the number that the listing's rule gives them
 abbrev pub numbering : (s r : List ℕ) → List ℕ

@@ -6,7 +6,7 @@ ghost use mathlib.Core.Bool.{not};
 ghost use Prim.Native.Nat.{_+_, _≤_, _<_};
 ghost use lib.Dec.{eqb};
 ghost use lib.ListN.{length, getD, set};
-ghost use Rattle.symbol.specs.Count.{first};
+ghost use Rattle.basics.specs.Count.{first};
 ghost use Rattle.import_rule.specs.Fixed.{image};
 ghost use Rattle.permutations.specs.Check.{badEntry, twiceMoved, thriceMoved, movedBy};
 ghost use Rattle.permutations.specs.Inner.Seen.{SeenTo, Entries};

@@ -18,9 +18,9 @@ ghost use Rattle.workspace.specs.Space.{zeros};
 ghost use Rattle.refusal.specs.Refusal.{_orElse_};
 ghost use Rattle.import_rule.specs.Fixed.{Pair};
 ghost use Rattle.import_table.specs.Answer.{grownOf};
-ghost use Rattle.permutations.specs.Check.{check13, check14, check15, twiceMoved, thriceMoved, checkOf, Verdict};
+ghost use Rattle.permutations.specs.Check.{check13, check14, check15, twiceMoved, thriceMoved, pairCheck, PairVerdict};
 ghost use Rattle.permutations.specs.Inner.Reach.{Two};
-ghost use Rattle.permutations.specs.Import.{ruleFor, importOf, tableLeft, workLeft, ImportMeans};
+ghost use Rattle.permutations.specs.Import.{ruleFor, importOf, importTable, importWork, ImportMeans};
 
 mod entries;
 mod reach;
@@ -79,7 +79,7 @@ fn check_entries(s: &[u32], r: &[u32]) -> Checked
 // Whether two tables are permutations that generate a transitive group, S of order two and R of order three: the checks 12 to 15, in memory
 // of their own.
 pub fn check(s: &[u32], r: &[u32]) -> Checked
-    ensures { λ c. ⌜ Verdict (now (s .entry)) (now (r .entry)) c ⌝ }
+    ensures { λ c. ⌜ PairVerdict (now (s .entry)) (now (r .entry)) c ⌝ }
 {
     if s.len() < 1 {
         return Checked::Refused(Refusal {
@@ -107,7 +107,7 @@ fn import_accepted(s: &[u32], r: &[u32], w: &mut [u16], out: &mut [i64]) -> Fill
     requires { ⌜ Pair (now s) (now r) × (32768 ≤ length (now w)) ⌝ }
     ensures { λ a. ⌜ a ≡ grownOf (ruleFor (now (s .entry)) (now (r .entry))) (length (now (out .entry))) ⌝ }
     ensures { λ a. ⌜ now (w .exit) ≡ zeros (length (now (w .entry))) ⌝ }
-    ensures { λ a. ⌜ now (out .exit) ≡ tableLeft (ruleFor (now (s .entry)) (now (r .entry))) a (now (out .entry)) ⌝ }
+    ensures { λ a. ⌜ now (out .exit) ≡ importTable (ruleFor (now (s .entry)) (now (r .entry))) a (now (out .entry)) ⌝ }
 {
     let grown = import_table::grow(s, r, w, out);
     workspace::clear(w);
@@ -118,8 +118,8 @@ fn import_accepted(s: &[u32], r: &[u32], w: &mut [u16], out: &mut [i64]) -> Fill
 // space; or 12 to 15, then the work space, then 16, then the result space.
 pub fn import(s: &[u32], r: &[u32], w: &mut [u16], out: &mut [i64]) -> Filled
     ensures { λ a. ⌜ a ≡ importOf (now (s .entry)) (now (r .entry)) (length (now (w .entry))) (length (now (out .entry))) ⌝ }
-    ensures { λ a. ⌜ now (w .exit) ≡ workLeft (checkOf (now (s .entry)) (now (r .entry))) (now (w .entry)) ⌝ }
-    ensures { λ a. ⌜ now (out .exit) ≡ tableLeft (ruleFor (now (s .entry)) (now (r .entry))) a (now (out .entry)) ⌝ }
+    ensures { λ a. ⌜ now (w .exit) ≡ importWork (pairCheck (now (s .entry)) (now (r .entry))) (now (w .entry)) ⌝ }
+    ensures { λ a. ⌜ now (out .exit) ≡ importTable (ruleFor (now (s .entry)) (now (r .entry))) a (now (out .entry)) ⌝ }
     ensures { λ a. ⌜ ImportMeans (now (s .entry)) (now (r .entry)) a (now (out .exit)) ⌝ }
 {
     let checked = check(s, r);

@@ -3,14 +3,14 @@ use import_rule::image;
 ghost use mathlib.Core.Path.{_≡_};
 ghost use Prim.Native.Nat.{_≤_, _<_};
 ghost use lib.ListN.{length};
-ghost use Rattle.symbol.specs.Count.{first};
+ghost use Rattle.basics.specs.Count.{first};
 ghost use Rattle.import_rule.specs.Fixed.{image};
 ghost use Rattle.permutations.specs.Check.{notReached};
-ghost use Rattle.permutations.specs.Inner.Reach.{Listed, Entered, VisitedAt, Two, Blank, AllReached};
+ghost use Rattle.permutations.specs.Inner.Reach.{QueueHolds, Entered, VisitedAt, Two, Blank, AllReached};
 
 // The point x comes to the end of the queue of n points, if it is new; how many there are then.
 fn enter(seen: &mut [u8; 3072], queue: &mut [u16; 3072], size: usize, x: usize, n: usize) -> usize
-    requires { ⌜ Listed n size (now seen) (now queue) × (x < size) ⌝ }
+    requires { ⌜ QueueHolds n size (now seen) (now queue) × (x < size) ⌝ }
     ensures { λ k. ⌜ Entered x n size (now (queue .entry)) (now (seen .exit)) (now (queue .exit)) k ⌝ }
 {
     if seen[x] != 0 {
@@ -30,7 +30,7 @@ fn visit(
     i: usize,
     n: usize,
 ) -> usize
-    requires { ⌜ Two (now s) (now r) × Listed n (length (now s)) (now seen) (now queue) × (i < n) ⌝ }
+    requires { ⌜ Two (now s) (now r) × QueueHolds n (length (now s)) (now seen) (now queue) × (i < n) ⌝ }
     ensures { λ k. ⌜ VisitedAt (image (now (s .entry))) (image (now (r .entry))) i n (length (now (s .entry))) (now (queue .entry)) (now (seen .exit)) (now (queue .exit)) k ⌝ }
 {
     let x = workspace::index(queue[i]);

@@ -21,7 +21,7 @@ use lib.IntN.{pos}
 use borrow.Author.Tests.{lt-ltb, le-ltb, eq-eqb, ne-eqb}
 use Rattle.matrix.specs.Matrix.{Mat, _⊗_, det, matS, matQ, matP, _≈_}
 use Rattle.matrix.specs.Words.{Q, P, letter}
-use Rattle.matrix.specs.Euclid.{pick}
+use Rattle.basics.specs.Choice.{pick}
 use Rattle.matrix.proofs.Matrix.{det-one, det-letter}
 use Rattle.polygon.specs.Cut.{corners, outer, places, link}
 use Rattle.polygon.proofs.Mediant.{turn-back}
@@ -138,7 +138,8 @@ module _ (v : ℕ) (side : ℕ → Mat) where
 
   -- ---- a side comes in
 
-  pub open-side : (a : List ℕ) (m o : ℕ) (opens : List ℕ) (top : ℕ → Mat) → Fits a m o opens top → o ≤ v → det (side o) ≡ pos 1 → Fits a m (suc o) (outer v o ∷ opens) top
+  pub open-side : (a : List ℕ) (m o : ℕ) (opens : List ℕ) (top : ℕ → Mat) → Fits a m o opens top → o ≤ v → det (side o) ≡ pos 1
+      → Fits a m (suc o) (outer v o ∷ opens) top
   open-side a m o opens top f h d = record {
     size = f .size;
     room = f .room;
@@ -254,12 +255,14 @@ module _ (v : ℕ) (side : ℕ → Mat) where
       unit-corner p b c =
           let e : p ≡ 3 * m + (p - 3 * m) = omega arith in
           ap (λ (q : ℕ). det (frames v side (put m x top) q)) e
-          ∙ ap det (frame-corner v side (put m x top) m (p - 3 * m) (omega arith) (omega arith) ∙ ap (λ (b : Bool). spun (pick b x (top m)) (p - 3 * m)) (eq-eqb m m refl))
+          ∙ ap det (frame-corner v side (put m x top) m (p - 3 * m) (omega arith) (omega arith)
+          ∙ ap (λ (b : Bool). spun (pick b x (top m)) (p - 3 * m)) (eq-eqb m m refl))
           ∙ unit-spun (p - 3 * m)
 
   -- ---- two open positions are joined
 
-  pub join : (a : List ℕ) (m o p q : ℕ) (opens : List ℕ) (top : ℕ → Mat) → Fits a m o (p ∷ q ∷ opens) top → frames v side top p ⊗ matS ≈ frames v side top q → Way v p q → Way v q p → Fits (link a p q) m o opens top
+  pub join : (a : List ℕ) (m o p q : ℕ) (opens : List ℕ) (top : ℕ → Mat) → Fits a m o (p ∷ q ∷ opens) top → frames v side top p ⊗ matS ≈ frames v side top q
+      → Way v p q → Way v q p → Fits (link a p q) m o opens top
   join a m o p q opens top f e w w' = record {
     size = length-set (set a p q) q p ∙ length-set a p q ∙ f .size;
     room = f .room;
@@ -270,7 +273,17 @@ module _ (v : ℕ) (side : ℕ → Mat) where
     shut = λ x k n. elim (ℕ-discrete x p) [
       | yes h ↦ rw h (record { other = q; is = at-p; differs = apart; known = f .known .1 .0; out = f .apart .1 .0; back = at-q; turn = e; way = w })
       | no h ↦ elim (ℕ-discrete x q) [
-        | yes i ↦ rw i (record { other = p; is = at-q; differs = λ z. apart (sym z); known = f .known .0; out = f .apart .0 .1; back = at-p; turn = turn-back (frames v side top p) (frames v side top q) e; way = w' })
+        | yes i ↦ rw i (record {
+          other = p;
+          is = at-q;
+          differs = λ z. apart (sym z);
+          known = f .known .0;
+          out = f .apart .0 .1;
+          back = at-p;
+          turn =
+              turn-back (frames v side top p) (frames v side top q) e;
+          way = w';
+        })
         | no i ↦
             (let s = f .shut x k (h, (i, n)) in
             let y = s .other in

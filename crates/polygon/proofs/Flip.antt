@@ -52,9 +52,12 @@ pub order-three : (v : ℕ) → OrderThree (turnQ v)
 order-three v p = elim (decLt p (corners v)) [
   | no h ↦ (let e = turn-face v p (omega arith) in cc)
   | yes h ↦ elim (which p) [
-    | c0 e ↦ ap (λ (x : ℕ). turnQ v (turnQ v x)) (turn-next v p h (omega arith)) ∙ ap (turnQ v) (turn-next v (p + 1) (omega arith) (omega arith)) ∙ turn-last v (p + 1 + 1) (omega arith) (omega arith) ∙ omega arith
-    | c1 e ↦ ap (λ (x : ℕ). turnQ v (turnQ v x)) (turn-next v p h (omega arith)) ∙ ap (turnQ v) (turn-last v (p + 1) (omega arith) (omega arith)) ∙ turn-next v (p + 1 - 2) (omega arith) (omega arith) ∙ omega arith
-    | c2 e ↦ ap (λ (x : ℕ). turnQ v (turnQ v x)) (turn-last v p h e) ∙ ap (turnQ v) (turn-next v (p - 2) (omega arith) (omega arith)) ∙ turn-next v (p - 2 + 1) (omega arith) (omega arith) ∙ omega arith
+    | c0 e ↦ ap (λ (x : ℕ). turnQ v (turnQ v x)) (turn-next v p h (omega arith)) ∙ ap (turnQ v) (turn-next v (p + 1) (omega arith) (omega arith))
+        ∙ turn-last v (p + 1 + 1) (omega arith) (omega arith) ∙ omega arith
+    | c1 e ↦ ap (λ (x : ℕ). turnQ v (turnQ v x)) (turn-next v p h (omega arith)) ∙ ap (turnQ v) (turn-last v (p + 1) (omega arith) (omega arith))
+        ∙ turn-next v (p + 1 - 2) (omega arith) (omega arith) ∙ omega arith
+    | c2 e ↦ ap (λ (x : ℕ). turnQ v (turnQ v x)) (turn-last v p h e) ∙ ap (turnQ v) (turn-next v (p - 2) (omega arith) (omega arith))
+        ∙ turn-next v (p - 2 + 1) (omega arith) (omega arith) ∙ omega arith
   ]
 ]
 

@@ -180,7 +180,8 @@ module _ {X : Type 0} (σ κ : X → X) (F : X → Mat) (Real : X → Type 0) (g
         let df = A .unit y (A .closed l x (k .counts)) in
         let dg = A .units j in
         let dk = det-one (adj f) m (det-adj f ∙ df) d in
-        let moved : F x ⊗ letter l ≈ g ⊗ f = A .promise l x (k .counts) ∙≈ inl (ap (λ (u : List ℤ). valueOf gens u ⊗ f) (k .writes) ∙ ap (λ (n : Mat). n ⊗ f) (⊗-idr g)) in
+        let moved : F x ⊗ letter l ≈ g ⊗ f = A .promise l x (k .counts) ∙≈ inl
+        (ap (λ (u : List ℤ). valueOf gens u ⊗ f) (k .writes) ∙ ap (λ (n : Mat). n ⊗ f) (⊗-idr g)) in
         let there : lead (g ⊗ f) ≡ lead f =
         lead-≈ (g ⊗ f) (F x ⊗ letter l) (≈-sym moved)
         ∙ lead-⊗ (F x) (letter l) (A .unit x (k .counts)) (det-letter l)
@@ -247,6 +248,11 @@ module _ {X : Type 0} (σ κ : X → X) (F : X → Mat) (Real : X → Type 0) (g
           let k = adj m ⊗ F₀ in
           let dk = det-one (adj m) F₀ (det-adj m ∙ dm) d₀ in
           let i = stabiliser x dx .1 (ap lead (⊗-assoc n (adj m) F₀) ∙ lead-same n m k dn dm dk (sym e) ∙ ap lead (undo m F₀ dm) ∙ home start real) in
-          record { word = i .word; letters = i .letters; is = ≈-right m (≈-sym (i .is)) ∙≈ inl (⊗-assoc n (adj m) m ∙ ap (λ (y : Mat). n ⊗ y) (adj-⊗ m dm) ∙ ⊗-idr n) }),
+          record {
+            word = i .word;
+            letters = i .letters;
+            is =
+                ≈-right m (≈-sym (i .is)) ∙≈ inl (⊗-assoc n (adj m) m ∙ ap (λ (y : Mat). n ⊗ y) (adj-⊗ m dm) ∙ ⊗-idr n);
+          }),
       (λ c. sym (lead-word (c .word) m (c .letters) dm) ∙ lead-≈ (valueOf gens (c .word) ⊗ m) n (c .is)),
     )

@@ -20,7 +20,7 @@ use Rattle.matrix.specs.Action.{at}
 use Rattle.symbol.specs.Symbol.{IsSymbol}
 use Rattle.polygon.specs.Cut.{corners, outer, places, flip}
 use Rattle.polygon.specs.Step.{oddAt, real, Real, stepS, turnQ}
-use Rattle.symbol.proofs.Choice.{either, clash}
+use Rattle.basics.proofs.Choice.{either, clash}
 use Rattle.polygon.proofs.Framed.{Near, near-refl, near-trans, near-step}
 use Rattle.polygon.proofs.Flip.{inner, outside, place, Cutting, order-three, real-corner, real-face, real-in, turn-next, which, c0, c1, c2}
 use Rattle.polygon.proofs.Steps.{involution, step-across, under-real}
@@ -48,7 +48,8 @@ module _ (v : ℕ) (t : List ℤ) (ok : IsSymbol v t) (C : Cutting v t) where
   -- round a corner
   near-turn : (x y : ℕ) → x < corners v → turnQ v x ≡ y → Joined x y
   near-turn x y h e =
-      near-step (stepS v t) (turnQ v) (C .frame) (involution v t ok C) (order-three v) Q x y (unit x (real-corner v t x h)) e (inl (C .cut .turn-Q x h ∙ ap (C .frame) e))
+      near-step (stepS v t) (turnQ v) (C .frame) (involution v t ok C) (order-three v) Q x y (unit x (real-corner v t x h)) e
+      (inl (C .cut .turn-Q x h ∙ ap (C .frame) e))
 
   -- from corner 0 to p
   near-turns : (p q : ℕ) → p < corners v → q ≡ 3 * (p / 3) → Joined q p

@@ -17,34 +17,38 @@ use lib.Seq.{getD-set-same, getD-set-other, ext-getD}
 use lib.IntN.{ℤ}
 use borrow.Author.Tests.{eq-eqb, ne-eqb, ltb-false}
 use borrow.Author.Count.{below-more}
-use Rattle.matrix.specs.Euclid.{pick}
-use Rattle.symbol.specs.Count.{count}
-use Rattle.symbol.specs.Table.{pairings}
+use Rattle.basics.specs.Choice.{pick}
+use Rattle.basics.specs.Count.{count}
+use Rattle.symbol.specs.Table.{pairingEntries}
 use Rattle.pairing.specs.Inner.Work as pairing
 use Rattle.symbol.specs.Symbol.{IsSymbol}
-use Rattle.pairing.specs.Generator.{partner, pairingAt, isLeader, isLeaderBy, numberAt}
+use Rattle.pairing.specs.Generator.{partner, pairingAt, isLeader, isLeaderBy, generatorNumber}
 use Rattle.symbol.specs.declared.Pairing.{Pairing}
 use Rattle.symbol.specs.declared.Pairing.the-variants.{Even, Odd, Free, Bad}
 use Rattle.polygon.specs.Cut.{places}
 use Rattle.polygon.specs.Step.{startOf}
-use Rattle.polygon.specs.Inner.Space.{PARTNER, GENERATOR, Above}
+use Rattle.polygon.specs.Inner.Space.{GENERATOR, Above}
+use Rattle.pairing.specs.Inner.Work.{PARTNER}
 use Rattle.polygon.specs.Inner.Scanning.{CutLeft}
-use Rattle.polygon.specs.Inner.Partners.{Partnered, NumberedTo, Numbered}
-use Rattle.polygon.specs.Inner.Tables.{Tables}
+use Rattle.polygon.specs.Inner.Partners.{PartnersHeld, NumberedTo, Numbered}
+use Rattle.polygon.specs.Inner.Tables.{PolygonTables}
 use Rattle.polygon.proofs.Space.{table-above, still}
-use Rattle.symbol.proofs.Choice.{either, clash}
+use Rattle.basics.proofs.Choice.{either, clash}
 use Rattle.polygon.proofs.SymbolFacts.{count-most, Kind, even, odd, free, kind, Mate, free-mate, free-label, label-mates, number-mate}
 
 module _ (t : List ℤ) (v : ℕ) (ok : IsSymbol v t) where
-  pub numbered-none : (w : List ℕ) → 32768 ≤ length w → Partnered t v w → NumberedTo t v w 0 0
+  pub numbered-none : (w : List ℕ) → 32768 ≤ length w → PartnersHeld t v w → NumberedTo t v w 0 0
   numbered-none w long q = record { long = long; partnered = q; count = refl; numbers = λ j h. absurd (omega arith) }
 
   module _ (w : List ℕ) (i n : ℕ) (p : NumberedTo t v w i n) (h : i ≤ v) where
     -- the number x is stored for side i
-    numbered-more : (x : ℕ) (c : ℕ) → x ≡ numberAt v t i → c ≡ count (isLeader v t) (suc i) → NumberedTo t v (set w (GENERATOR + i) x) (i + 1) c
+    numbered-more : (x : ℕ) (c : ℕ) → x ≡ generatorNumber v t i → c ≡ count (isLeader v t) (suc i) → NumberedTo t v (set w (GENERATOR + i) x) (i + 1) c
     numbered-more x c e f = record {
       long = still (length-set w (GENERATOR + i) x) (p .long);
-      partnered = record { partners = λ j l b k. getD-set-other w (GENERATOR + i) (PARTNER + j) x 0 (let m = ok .most in λ z. omega arith) ∙ p .partnered .partners j l b k };
+      partnered = record {
+        partners = λ j l b k. getD-set-other w (GENERATOR + i) (PARTNER + j) x 0 (let m = ok .most in λ z. omega arith)
+            ∙ p .partnered .partners j l b k;
+      };
       count = f ∙ ap (count (isLeader v t)) (sym (add-one i));
       numbers = below-more _ i (λ j b. getD-set-other w (GENERATOR + i) (GENERATOR + j) x 0 (λ z. omega arith) ∙ p .numbers j b)
           (getD-set-same w (GENERATOR + i) x 0 (let m = ok .most in omega (arith, p .long)) ∙ e);
@@ -56,10 +60,11 @@ module _ (t : List ℤ) (v : ℕ) (ok : IsSymbol v t) where
         (ap (λ (k : ℕ). k + 1) (p .count) ∙ ap (λ (b : Bool). count (isLeader v t) i + pick b 1 0) (sym e))
 
     -- a side that doesn't lead is the second of a pair
-    pub follows : isLeader v t i ≡ false → (partner v t i < i) × (numberAt v t i ≡ numberAt v t (partner v t i)) × (getD w (PARTNER + i) 0 ≡ partner v t i)
+    pub follows : isLeader v t i ≡ false → (partner v t i < i) × (generatorNumber v t i ≡ generatorNumber v t (partner v t i))
+        × (getD w (PARTNER + i) 0 ≡ partner v t i)
     follows e = go (kind v t ok i h)
       where
-        go : Kind v t i → (partner v t i < i) × (numberAt v t i ≡ numberAt v t (partner v t i)) × (getD w (PARTNER + i) 0 ≡ partner v t i)
+        go : Kind v t i → (partner v t i < i) × (generatorNumber v t i ≡ generatorNumber v t (partner v t i)) × (getD w (PARTNER + i) 0 ≡ partner v t i)
         go (even k o) = clash (ap (λ (x : Pairing). isLeaderBy x i (partner v t i)) k) e
         go (odd k o) = clash (ap (λ (x : Pairing). isLeaderBy x i (partner v t i)) k) e
         go (free l k o m) =
@@ -98,7 +103,8 @@ above-set a b i x f h = record { same = length-set b i x ∙ f .same; below = λ
 pub leads-by : (v : ℕ) (t : List ℤ) (i : ℕ) (k : Pairing) → pairingAt v t i ≡ k → isLeaderBy k i (partner v t i) ≡ isLeader v t i
 leads-by v t i k e = rw e
 
-pub leads-free : (v : ℕ) (t : List ℤ) (w : List ℕ) (i l k : ℕ) → Partnered t v w → i ≤ v → pairingAt v t i ≡ Free l → k ≡ getD w (PARTNER + i) 0 → ltb i k ≡ isLeader v t i
+pub leads-free : (v : ℕ) (t : List ℤ) (w : List ℕ) (i l k : ℕ) → PartnersHeld t v w → i ≤ v → pairingAt v t i ≡ Free l → k ≡ getD w (PARTNER + i) 0
+    → ltb i k ≡ isLeader v t i
 leads-free v t w i l k p h e f = ap (ltb i) (f ∙ p .partners i l h e) ∙ leads-by v t i (Free l) e
 
 pub number-count : (t : List ℤ) (v : ℕ) (w : List ℕ) (i n : ℕ) → NumberedTo t v w i n → n ≤ i
@@ -106,10 +112,11 @@ number-count t v w i n p = rw (p .count) (count-most (isLeader v t) i)
 
 -- ---- the tables together
 
-pub partnered-in : {t : List ℤ} {v : ℕ} {w : List ℕ} → pairing.Partnered v (pairings v t) w → Partnered t v w
+pub partnered-in : {t : List ℤ} {v : ℕ} {w : List ℕ} → pairing.Partnered v (pairingEntries v t) w → PartnersHeld t v w
 partnered-in q = record { partners = q .partners }
 
-pub tables-built : {t : List ℤ} {v : ℕ} {w w' : List ℕ} {under : ℕ} → IsSymbol v t → 32768 ≤ length w → Partnered t v w → Numbered t v w → CutLeft t v w w' under → Tables t v w'
+pub tables-built : {t : List ℤ} {v : ℕ} {w w' : List ℕ} {under : ℕ} → IsSymbol v t → 32768 ≤ length w → PartnersHeld t v w → Numbered t v w
+    → CutLeft t v w w' under → PolygonTables t v w'
 tables-built ok long p n c = record {
   symbol = ok;
   long = still (c .frame .same) long;
@@ -118,7 +125,7 @@ tables-built ok long p n c = record {
   numbered = record { numbers = λ i h. c .frame .high (GENERATOR + i) (omega arith) ∙ n .numbers i h };
 }
 
-pub tables-set : {t : List ℤ} {v : ℕ} {w : List ℕ} (k x : ℕ) → Tables t v w → 8192 ≤ k → k < 28672 → Tables t v (set w k x)
+pub tables-set : {t : List ℤ} {v : ℕ} {w : List ℕ} (k x : ℕ) → PolygonTables t v w → 8192 ≤ k → k < 28672 → PolygonTables t v (set w k x)
 tables-set {t} {v} {w} k x g low high =
     let most = g .symbol .most in
     record {

@@ -17,14 +17,14 @@ use Rattle.matrix.specs.Action.{at, run}
 use Rattle.matrix.proofs.Matrix.{⊗-idl, ⊗-idr, det-letter, _∙≈_, ≈-left, ≈-right, ≈-both, ≈-adj}
 use Rattle.matrix.proofs.Uniqueness.{wordOf-≈}
 use Rattle.matrix.proofs.Action.{at-≈, at-⊗, at-S}
-use Rattle.symbol.specs.Count.{count}
+use Rattle.basics.specs.Count.{count}
 use Rattle.symbol.specs.Symbol.{IsSymbol}
 use Rattle.pairing.specs.Generator.{generators}
 use Rattle.polygon.specs.Cut.{corners, outer, places}
 use Rattle.polygon.specs.Step.{oddAt, real, Real, stepS, turnQ, written, startOf, originOf}
 use Rattle.polygon.specs.Walk.{arrives, followed}
 use Rattle.polygon.specs.Theorem.{Walks, Polygon}
-use Rattle.symbol.proofs.Count.{count-eq}
+use Rattle.basics.proofs.Count.{count-eq}
 use Rattle.polygon.proofs.Framed.{Framed, wrote-word, wrote-short, run-real, walk, home, found, stabiliser, cosets}
 use Rattle.polygon.proofs.Flip.{Cutting, cutting, order-three, real-corner, real-face, real-in}
 use Rattle.polygon.proofs.Steps.{involution, closed}
@@ -123,7 +123,8 @@ module _ (v : ℕ) (t : List ℤ) (ok : IsSymbol v t) where
     walk-short = wrote-short (stepS v t) (turnQ v) (C .frame) (Real v t) (generators v t) (written v t) glued;
     walk = walk (stepS v t) (turnQ v) (C .frame) (Real v t) (generators v t) (written v t) glued;
     origin = origin-real v t ok C;
-    by-frame = λ p r. sym (origin-is (C .frame p) (C .cut .unit p (real-in v t ok p r))) ∙ home (stepS v t) (turnQ v) (C .frame) (Real v t) (generators v t) (written v t) glued start starts p r;
+    by-frame = λ p r. sym (origin-is (C .frame p) (C .cut .unit p (real-in v t ok p r)))
+        ∙ home (stepS v t) (turnQ v) (C .frame) (Real v t) (generators v t) (written v t) glued start starts p r;
   }
 
   -- ---- the theorem
@@ -142,8 +143,10 @@ module _ (v : ℕ) (t : List ℤ) (ok : IsSymbol v t) where
     short = short v t ok C;
     promise = promise v t ok C;
     stabiliser = λ m d. rw (← same-walk m) (stabiliser (stepS v t) (turnQ v) (C .frame) (Real v t) (generators v t) (written v t) glued start starts m d);
-    found = λ m d h. rw (← wordOf-≈ (followed-is m)) (found (stepS v t) (turnQ v) (C .frame) (Real v t) (generators v t) (written v t) glued start starts m d (same-walk m ∙ h));
-    cosets = λ m n d e. rw (← origin-is m d, ← origin-is n e) (cosets (stepS v t) (turnQ v) (C .frame) (Real v t) (generators v t) (written v t) glued start starts m n d e);
+    found = λ m d h. rw (← wordOf-≈ (followed-is m))
+        (found (stepS v t) (turnQ v) (C .frame) (Real v t) (generators v t) (written v t) glued start starts m d (same-walk m ∙ h));
+    cosets = λ m n d e. rw (← origin-is m d, ← origin-is n e)
+        (cosets (stepS v t) (turnQ v) (C .frame) (Real v t) (generators v t) (written v t) glued start starts m n d e);
     reached = λ p r. record { word = wordOf (adj (C .frame start) ⊗ C .frame p); is = by-word p r };
     index = index v t;
     walks = walks;

@@ -18,11 +18,11 @@ use lib.IntN.{ℤ, pos, negsuc}
 use borrow.Author.Tests.{lt-ltb, le-ltb, ltb-true}
 use Rattle.matrix.specs.Matrix.{Mat, _⊗_, 𝟙, adj, det, matS, matQ, matP, _≈_}
 use Rattle.matrix.specs.Words.{Letter, S, Q, P, letter}
-use Rattle.matrix.specs.Euclid.{pick}
+use Rattle.basics.specs.Choice.{pick}
 use Rattle.matrix.proofs.Matrix.{⊗-assoc, ⊗-idl, ⊗-idr, det-𝟙, adj-⊗, redo, Q-P, Q-Q, ≈-sym, _∙≈_, ≈-left}
 use Rattle.symbol.specs.Table.{pairingOf, carried}
 use Rattle.symbol.specs.Symbol.{IsSymbol}
-use Rattle.pairing.specs.Generator.{partner, pairingAt, isLeaderBy, isLeader, numberAt, frameAt, generatorBy, generator, generators}
+use Rattle.pairing.specs.Generator.{partner, pairingAt, isLeaderBy, isLeader, generatorNumber, frameAt, generatorBy, generator, generators}
 use Rattle.pairing.specs.Subgroup.{IsWord, letterOf, valueOf}
 use Rattle.symbol.specs.declared.Pairing.{Pairing}
 use Rattle.symbol.specs.declared.Pairing.the-variants.{Even, Odd, Free, Bad}
@@ -30,8 +30,9 @@ use Rattle.pairing.proofs.Facts.{frame-det, generator-det}
 use Rattle.polygon.specs.Cut.{corners, outer, places, flip}
 use Rattle.polygon.specs.Step.{oddAt, Real, stepS, turnQ, crossed, atSide, written, forth, back}
 use Rattle.polygon.specs.Walk.{goes}
-use Rattle.symbol.proofs.Choice.{either, clash}
-use Rattle.polygon.proofs.SymbolFacts.{Mate, Kind, even, odd, free, kind, Number, Leader, leader, number-leads, number-even, number-odd, number-first, number-second, number-mate, free-mate, odd-in}
+use Rattle.basics.proofs.Choice.{either, clash}
+use Rattle.polygon.proofs.SymbolFacts.{Mate, Kind, even, odd, free, kind, Number, Leader, leader, number-leads, number-even, number-odd}
+use Rattle.polygon.proofs.SymbolFacts.{number-first, number-second, number-mate, free-mate, odd-in}
 use Rattle.polygon.proofs.Framed.{Made}
 use Rattle.polygon.proofs.Mediant.{S-twice, turn-back}
 use Rattle.polygon.proofs.Flip.{Place, inner, outside, place, Cutting, real-face, real-odd, real-in, turn-face}
@@ -59,16 +60,16 @@ module _ (v : ℕ) (t : List ℤ) where
   one-letter : (z : ℤ) → valueOf (generators v t) (z ∷ []) ≡ letterOf (generators v t) z
   one-letter z = ⊗-idr (letterOf (generators v t) z)
 
-  forth-is : (i k : ℕ) → Number v t i k → valueOf (generators v t) (forth (numberAt v t i)) ≡ generator v t k
+  forth-is : (i k : ℕ) → Number v t i k → valueOf (generators v t) (forth (generatorNumber v t i)) ≡ generator v t k
   forth-is i k n = ap (λ (j : ℕ). valueOf (generators v t) (forth j)) (n .number) ∙ one-letter (pos (suc (n .rank))) ∙ n .is
 
-  back-is : (i k : ℕ) → Number v t i k → valueOf (generators v t) (back (numberAt v t i)) ≡ adj (generator v t k)
+  back-is : (i k : ℕ) → Number v t i k → valueOf (generators v t) (back (generatorNumber v t i)) ≡ adj (generator v t k)
   back-is i k n = ap (λ (j : ℕ). valueOf (generators v t) (back j)) (n .number) ∙ one-letter (negsuc (n .rank)) ∙ ap adj (n .is)
 
-  forth-word : (i k : ℕ) → Number v t i k → IsWord (length (generators v t)) (forth (numberAt v t i))
+  forth-word : (i k : ℕ) → Number v t i k → IsWord (length (generators v t)) (forth (generatorNumber v t i))
   forth-word i k n = let low = n .low in rw (n .number) ((omega arith, omega arith), tt)
 
-  back-word : (i k : ℕ) → Number v t i k → IsWord (length (generators v t)) (back (numberAt v t i))
+  back-word : (i k : ℕ) → Number v t i k → IsWord (length (generators v t)) (back (generatorNumber v t i))
   back-word i k n = let low = n .low in rw (n .number) ((omega arith, omega arith), tt)
 
   -- ---- generators by the kind of their side
@@ -109,7 +110,7 @@ module _ (v : ℕ) (t : List ℤ) where
 
       -- what a first side writes, and what a second one
       free-first : (i l : ℕ) → i ≤ v → pairingAt v t i ≡ Free l → Mate v t i → i < partner v t i
-          → frameAt v t i ≈ valueOf (generators v t) (back (numberAt v t i)) ⊗ C .frame (flip v t (outer v (partner v t i)))
+          → frameAt v t i ≈ valueOf (generators v t) (back (generatorNumber v t i)) ⊗ C .frame (flip v t (outer v (partner v t i)))
       free-first i l h k m b =
           let j = partner v t i in
           let M = frameAt v t i in
@@ -120,14 +121,15 @@ module _ (v : ℕ) (t : List ℤ) where
           (inl (carried-own N matS M (frame-det v t ok i h)) ∙≈ face-S j (m .within)))
 
       free-second : (i l : ℕ) → i ≤ v → pairingAt v t i ≡ Free l → Mate v t i → partner v t i < i
-          → frameAt v t i ≈ valueOf (generators v t) (forth (numberAt v t i)) ⊗ C .frame (flip v t (outer v (partner v t i)))
+          → frameAt v t i ≈ valueOf (generators v t) (forth (generatorNumber v t i)) ⊗ C .frame (flip v t (outer v (partner v t i)))
       free-second i l h k m b =
           let j = partner v t i in
           rw (forth-is i j (number-second v t i l k m b), generator-free j l (ap (pairingOf v) (m .same) ∙ k), m .back)
           (carry (frameAt v t i) (frameAt v t j) (C .frame (flip v t (outer v j))) (frame-det v t ok j (m .within)) (face-S j (m .within)))
 
       free-both : (i l : ℕ) → i ≤ v → pairingAt v t i ≡ Free l → Mate v t i
-          → frameAt v t i ≈ valueOf (generators v t) (pick (ltb i (partner v t i)) (back (numberAt v t i)) (forth (numberAt v t i))) ⊗ C .frame (flip v t (outer v (partner v t i)))
+          → frameAt v t i ≈ valueOf (generators v t) (pick (ltb i (partner v t i)) (back (generatorNumber v t i)) (forth (generatorNumber v t i))) ⊗ C .frame
+          (flip v t (outer v (partner v t i)))
       free-both i l h k m = elim (decLt i (partner v t i)) [
         | yes b ↦ rw (lt-ltb i (partner v t i) b) (free-first i l h k m b)
         | no b ↦ rw (le-ltb i (partner v t i) (omega arith)) (free-second i l h k m (let o = m .other in omega arith))
@@ -150,19 +152,19 @@ module _ (v : ℕ) (t : List ℤ) where
 
       silent-Q : (p : ℕ) → p < corners v → written v t Q p ≡ []
       unfolding written
-      silent-Q p h = at-corner v t p (λ i. forth (numberAt v t i)) h
+      silent-Q p h = at-corner v t p (λ i. forth (generatorNumber v t i)) h
 
       silent-P : (p : ℕ) → p < corners v → written v t P p ≡ []
       unfolding written
-      silent-P p h = at-corner v t p (λ i. back (numberAt v t i)) h
+      silent-P p h = at-corner v t p (λ i. back (generatorNumber v t i)) h
 
-      written-Q : (p i : ℕ) → p ≡ outer v i → written v t Q p ≡ forth (numberAt v t i)
+      written-Q : (p i : ℕ) → p ≡ outer v i → written v t Q p ≡ forth (generatorNumber v t i)
       unfolding written
-      written-Q p i e = at-face v t p i (λ i. forth (numberAt v t i)) e
+      written-Q p i e = at-face v t p i (λ i. forth (generatorNumber v t i)) e
 
-      written-P : (p i : ℕ) → p ≡ outer v i → written v t P p ≡ back (numberAt v t i)
+      written-P : (p i : ℕ) → p ≡ outer v i → written v t P p ≡ back (generatorNumber v t i)
       unfolding written
-      written-P p i e = at-face v t p i (λ i. back (numberAt v t i)) e
+      written-P p i e = at-face v t p i (λ i. back (generatorNumber v t i)) e
 
       odd-pairing : (i : ℕ) → oddAt v t i ≡ true → pairingAt v t i ≡ Odd
       odd-pairing i o = elim (kind v t ok i (odd-in v t ok i o)) [ even k n ↦ clash o n | odd k n ↦ k | free l k n m ↦ clash o n ]
@@ -174,8 +176,11 @@ module _ (v : ℕ) (t : List ℤ) where
       odd-face : (p i : ℕ) → p ≡ outer v i → Real v t p → (det (generator v t i) ≡ pos 1) × (generator v t i ⊗ C .frame p ≡ C .frame p ⊗ matQ)
       odd-face p i e r =
           let o = real-odd v t p i e r in
-          let h = odd-in v t ok i o in
-          (generator-det v t ok i h, rw (e, C .cut .sides i, generator-odd i (odd-pairing i o)) (carried-own (frameAt v t i) matQ (frameAt v t i) (frame-det v t ok i h)))
+          let h = odd-in v t ok i o in (
+            generator-det v t ok i h,
+            rw (e, C .cut .sides i, generator-odd i (odd-pairing i o))
+                (carried-own (frameAt v t i) matQ (frameAt v t i) (frame-det v t ok i h)),
+          )
 
       promise-Q : (p : ℕ) → Real v t p → C .frame p ⊗ matQ ≈ valueOf (generators v t) (written v t Q p) ⊗ C .frame (turnQ v p)
       promise-Q p r = elim (place v p) [
@@ -187,7 +192,8 @@ module _ (v : ℕ) (t : List ℤ) where
       twice-Q p r h = go (place v (turnQ v p))
         where
           go : Place v (turnQ v p) → C .frame p ⊗ matP ≡ C .frame (turnQ v (turnQ v p))
-          go (inner k) = ap (λ (m : Mat). C .frame p ⊗ m) (sym Q-Q) ∙ sym (⊗-assoc (C .frame p) matQ matQ) ∙ ap (λ (m : Mat). m ⊗ matQ) (C .cut .turn-Q p h) ∙ C .cut .turn-Q (turnQ v p) k
+          go (inner k) = ap (λ (m : Mat). C .frame p ⊗ m) (sym Q-Q) ∙ sym (⊗-assoc (C .frame p) matQ matQ) ∙ ap (λ (m : Mat). m ⊗ matQ) (C .cut .turn-Q p h)
+              ∙ C .cut .turn-Q (turnQ v p) k
           go (outside i e) = absurd (omega (arith, turn-in v t ok C p h))
 
       promise-P : (p : ℕ) → Real v t p → C .frame p ⊗ matP ≈ valueOf (generators v t) (written v t P p) ⊗ C .frame (turnQ v (turnQ v p))
@@ -198,7 +204,8 @@ module _ (v : ℕ) (t : List ℤ) where
             let g = generator v t i in
             let f = C .frame p in
             let back : g ⊗ (f ⊗ matP) ≡ f = sym (⊗-assoc g f matP) ∙ ap (λ (m : Mat). m ⊗ matP) (o .1) ∙ ⊗-assoc f matQ matP ∙ ap (λ (m : Mat). f ⊗ m) Q-P ∙ ⊗-idr f in
-            rw (written-P p i e, back-is i i (number-face p i e r), turn-face v p (omega arith), turn-face v p (omega arith)) (carry-back g (f ⊗ matP) f (o .0) (inl back)))
+            rw (written-P p i e, back-is i i (number-face p i e r), turn-face v p (omega arith), turn-face v p (omega arith))
+            (carry-back g (f ⊗ matP) f (o .0) (inl back)))
       ]
 
       pub promise : (x : Letter) (p : ℕ) → Real v t p → C .frame p ⊗ letter x ≈ valueOf (generators v t) (written v t x p) ⊗ C .frame (goes v t x p)
@@ -208,7 +215,8 @@ module _ (v : ℕ) (t : List ℤ) where
 
       -- ---- what is written is a word of one letter at most
 
-      free-word : (i l : ℕ) → i ≤ v → pairingAt v t i ≡ Free l → Mate v t i → IsWord (length (generators v t)) (pick (ltb i (partner v t i)) (back (numberAt v t i)) (forth (numberAt v t i)))
+      free-word : (i l : ℕ) → i ≤ v → pairingAt v t i ≡ Free l → Mate v t i
+          → IsWord (length (generators v t)) (pick (ltb i (partner v t i)) (back (generatorNumber v t i)) (forth (generatorNumber v t i)))
       free-word i l h k m = elim (decLt i (partner v t i)) [
         | yes b ↦ rw (lt-ltb i (partner v t i) b) (back-word i i (number-first v t i l h k b))
         | no b ↦ rw (le-ltb i (partner v t i) (omega arith)) (forth-word i (partner v t i) (number-second v t i l k m (let o = m .other in omega arith)))
@@ -235,9 +243,10 @@ module _ (v : ℕ) (t : List ℤ) where
 
       pub short : (x : Letter) (p : ℕ) → length (written v t x p) ≤ 1
       unfolding written
-      short S p = at-short (flip v t p) (λ i. crossed (pairingAt v t i) i (partner v t i) (numberAt v t i)) (λ i. crossed-short (pairingAt v t i) i (partner v t i) (numberAt v t i))
-      short Q p = at-short p (λ i. forth (numberAt v t i)) (λ i. omega arith)
-      short P p = at-short p (λ i. back (numberAt v t i)) (λ i. omega arith)
+      short S p = at-short (flip v t p) (λ i. crossed (pairingAt v t i) i (partner v t i) (generatorNumber v t i))
+          (λ i. crossed-short (pairingAt v t i) i (partner v t i) (generatorNumber v t i))
+      short Q p = at-short p (λ i. forth (generatorNumber v t i)) (λ i. omega arith)
+      short P p = at-short p (λ i. back (generatorNumber v t i)) (λ i. omega arith)
 
       -- ---- every generator is written somewhere
 
@@ -256,7 +265,7 @@ module _ (v : ℕ) (t : List ℤ) where
           leading : isLeader v t i ≡ true
           leading = lead .leading
 
-          number : numberAt v t i ≡ suc j
+          number : generatorNumber v t i ≡ suc j
           number = lead .number
 
           go : Kind v t i → Made (stepS v t) (turnQ v) (C .frame) (Real v t) (generators v t) (written v t) j
@@ -264,7 +273,8 @@ module _ (v : ℕ) (t : List ℤ) where
             from = flip v t (outer v i);
             by = S;
             counts = under-real v t ok C i low o;
-            writes = written-S v t (flip v t (outer v i)) i (C .cut .flips (outer v i)) ∙ ap (λ (x : Pairing). crossed x i (partner v t i) (numberAt v t i)) k ∙ ap forth number;
+            writes = written-S v t (flip v t (outer v i)) i (C .cut .flips (outer v i))
+                ∙ ap (λ (x : Pairing). crossed x i (partner v t i) (generatorNumber v t i)) k ∙ ap forth number;
           }
           go (odd k o) = record {
             from = outer v i;
@@ -276,12 +286,14 @@ module _ (v : ℕ) (t : List ℤ) where
               let n = partner v t i in
               let b : ltb i n ≡ true = sym (ap (λ (x : Pairing). isLeaderBy x i n) k) ∙ leading in
               let less = ltb-true i n b in
-              let second : crossed (pairingAt v t n) n (partner v t n) (numberAt v t n) ≡ forth (numberAt v t n) =
-              ap (λ (x : Pairing). crossed x n (partner v t n) (numberAt v t n)) (ap (pairingOf v) (m .same) ∙ k)
-              ∙ ap (λ (x : Bool). pick x (back (numberAt v t n)) (forth (numberAt v t n))) (ap (ltb n) (m .back) ∙ le-ltb n i (omega arith)) in
+              let second : crossed (pairingAt v t n) n (partner v t n) (generatorNumber v t n) ≡ forth (generatorNumber v t n) =
+              ap (λ (x : Pairing). crossed x n (partner v t n) (generatorNumber v t n)) (ap (pairingOf v) (m .same) ∙ k)
+              ∙ ap (λ (x : Bool). pick x (back (generatorNumber v t n)) (forth (generatorNumber v t n))) (ap (ltb n) (m .back) ∙ le-ltb n i (omega arith)) in
               record {
                 from = flip v t (outer v n);
                 by = S;
                 counts = mate-real v t ok C i l k m o;
-                writes = written-S v t (flip v t (outer v n)) n (C .cut .flips (outer v n)) ∙ second ∙ ap forth (number-mate v t n l (ap (pairingOf v) (m .same) ∙ k) (free-mate v t ok n l (m .within) (ap (pairingOf v) (m .same) ∙ k)) (let z = m .back in omega arith) ∙ ap (numberAt v t) (m .back) ∙ number);
+                writes = written-S v t (flip v t (outer v n)) n (C .cut .flips (outer v n)) ∙ second
+                    ∙ ap forth (number-mate v t n l (ap (pairingOf v) (m .same) ∙ k) (free-mate v t ok n l (m .within) (ap (pairingOf v) (m .same) ∙ k))
+                    (let z = m .back in omega arith) ∙ ap (generatorNumber v t) (m .back) ∙ number);
               }

@@ -20,21 +20,23 @@ use lib.ListN.{length, length-replicate}
 use lib.IntN.{ℤ, pos, negsuc, natAbs, _+ℤ_}
 use borrow.Author.Tests.{eqb-true, eqb-false, lt-ltb, le-ltb, eq-eqb, ne-eqb}
 use Rattle.matrix.specs.Matrix.{Mat, mat, _⊗_, 𝟙, det, matS, _≈_}
-use Rattle.matrix.specs.Euclid.{pick}
+use Rattle.basics.specs.Choice.{pick}
 use Rattle.matrix.proofs.Matrix.{≈-neg, _∙≈_, ≈-right}
 use Rattle.matrix.proofs.Ring.{con, var, lit, const, _⊛_, ringM, mat-eq}
-use Rattle.symbol.specs.Count.{first}
+use Rattle.basics.specs.Count.{first}
 use Rattle.symbol.specs.Table.{numer, denom, leftNum, leftDen}
 use Rattle.symbol.specs.Check.{isZero, eqZ}
 use Rattle.symbol.specs.Symbol.{IsSymbol}
 use Rattle.pairing.specs.Generator.{frameAt}
 use Rattle.polygon.specs.Cut.{corners, outer, places, den, Cell, below, handle, Scan, link, attach, push, pushed, scanned, flipOf, underZero}
 use Rattle.pairing.proofs.Facts.{last-integer}
-use Rattle.symbol.proofs.Count.{found}
-use Rattle.symbol.proofs.Choice.{either, eqZ-true, and-left, and-right}
+use Rattle.basics.proofs.Count.{found}
+use Rattle.symbol.proofs.Choice.{eqZ-true}
+use Rattle.basics.proofs.Choice.{either, and-left, and-right}
 use Rattle.polygon.proofs.SymbolFacts.{below-suc, first-below}
 use Rattle.polygon.proofs.Mediant.{S-twice, sum-or-half, mediant, Triangle, triangle}
-use Rattle.polygon.proofs.Edges.{Known, corner, face, known-more, known-in, Knowns, frames, put, spun, frame-outer, frame-corner, frame-same, Way, Fits, open-side, open-triangle, join}
+use Rattle.polygon.proofs.Edges.{Known, corner, face, known-more, known-in, Knowns, frames, put, spun, frame-outer, frame-corner, frame-same}
+use Rattle.polygon.proofs.Edges.{Way, Fits, open-side, open-triangle, join}
 
 -- ---- chords
 
@@ -76,12 +78,14 @@ Rising [] = Unit {0}
 Rising (c ∷ l) = (below l < c .vertex) × Rising l
 
 -- a vertex of denominator 1 is alone
-pub alone : (t : List ℤ) (F : ℕ → Mat) (l : List Cell) → Stacked t F l → den t (below l) ≡ 1 → (F (handle l) ≡ chord t 0 (below l)) × (handles l ≡ handle l ∷ []) × (length l ≡ 1)
+pub alone : (t : List ℤ) (F : ℕ → Mat) (l : List Cell) → Stacked t F l → den t (below l) ≡ 1 → (F (handle l) ≡ chord t 0 (below l))
+    × (handles l ≡ handle l ∷ []) × (length l ≡ 1)
 alone t F [] s e = absurd (omega arith)
 alone t F (c ∷ []) s e = (s .0, refl, refl)
 alone t F (c ∷ d ∷ l) s e = let a = s .1 in let b = s .2 .1 in absurd (omega arith)
 
-stacked-same : (t : List ℤ) (v m o : ℕ) (F G : ℕ → Mat) (l : List Cell) → ((p : ℕ) → Known v m o p → G p ≡ F p) → Knowns v m o (handles l) → Stacked t F l → Stacked t G l
+stacked-same : (t : List ℤ) (v m o : ℕ) (F G : ℕ → Mat) (l : List Cell) → ((p : ℕ) → Known v m o p → G p ≡ F p) → Knowns v m o (handles l) → Stacked t F l
+    → Stacked t G l
 stacked-same t v m o F G [] h k s = tt
 stacked-same t v m o F G (c ∷ l) h k s = (h (c .under) (k .0) ∙ s .0, s .1, stacked-same t v m o F G l h (k .1) (s .2))
 
@@ -122,8 +126,10 @@ module _ (v : ℕ) (t : List ℤ) where
     cut-off : Fits v (frameAt v t) (attach a m hl h) (m + 1) o ((3 * m) ∷ opens) (put m x top)
     cut-off =
         let f₁ = open-triangle v (frameAt v t) a m o h hl opens top x f r d in
-        let f₂ = join v (frameAt v t) a (m + 1) o (3 * m + 1) hl _ (put m x top) f₁ meets-left (way-down v m hl 1 r (omega arith) (omega arith)) (way-up 1 (f .known .1 .0) r (omega arith) (omega arith)) in
-        join v (frameAt v t) _ (m + 1) o (3 * m + 2) h _ (put m x top) f₂ meets-right (way-down v m h 2 r (omega arith) (omega arith)) (way-up 2 (f .known .0) r (omega arith) (omega arith))
+        let f₂ = join v (frameAt v t) a (m + 1) o (3 * m + 1) hl _ (put m x top) f₁ meets-left (way-down v m hl 1 r (omega arith) (omega arith))
+        (way-up 1 (f .known .1 .0) r (omega arith) (omega arith)) in
+        join v (frameAt v t) _ (m + 1) o (3 * m + 2) h _ (put m x top) f₂ meets-right (way-down v m h 2 r (omega arith) (omega arith))
+        (way-up 2 (f .known .0) r (omega arith) (omega arith))
 
   -- ---- a vertex is pushed
 
@@ -361,7 +367,8 @@ module _ (v : ℕ) (t : List ℤ) (ok : IsSymbol v t) where
     ]
   ]
 
-  closing : (a : List ℕ) (h : ℕ) (top : ℕ → Mat) → Fits v (frameAt v t) a (v - 1) v (h ∷ []) top → framed v t top h ≡ chord t 0 v → Fits v (frameAt v t) (link a (outer v v) h) (v - 1) (suc v) [] top
+  closing : (a : List ℕ) (h : ℕ) (top : ℕ → Mat) → Fits v (frameAt v t) a (v - 1) v (h ∷ []) top → framed v t top h ≡ chord t 0 v
+      → Fits v (frameAt v t) (link a (outer v v) h) (v - 1) (suc v) [] top
   closing a h top f e =
       let low = last-handle a h top f in
       join v (frameAt v t) a (v - 1) (suc v) (outer v v) h [] top

@@ -18,14 +18,16 @@ use lib.Signed.{nonNeg}
 use borrow.Author.Count.{below-more}
 use borrow.Author.Tests.{eq-eqb, ne-eqb}
 use Rattle.matrix.specs.Matrix.{nth}
-use Rattle.matrix.specs.Euclid.{pick}
-use Rattle.symbol.specs.Count.{first}
+use Rattle.basics.specs.Choice.{pick}
+use Rattle.basics.specs.Count.{first}
 use Rattle.symbol.specs.Check.{isZero}
 use Rattle.symbol.specs.Symbol.{IsSymbol}
 use Rattle.polygon.specs.Cut.{outer, places, den, Cell, cell, below, handle, Scan, scan, attach, push, pushed, scanned, flipOf, underZero}
-use Rattle.polygon.specs.Inner.Space.{FLIP, STACK, HANDLE, table, joined, Frame}
-use Rattle.polygon.specs.Inner.Scanning.{cellsIn, scanIn, readyOf, Cells, Room, Settled, Cleared, Scanned, CutLeft}
-use Rattle.polygon.proofs.Space.{table-set, table-above, table-at, table-length, cells-below, cells-push, cells-pop, cells-none, frame-refl, frame-trans, frame-flip, frame-stack, still}
+use Rattle.polygon.specs.Inner.Space.{FLIP, STACK, HANDLE, joined, CutFrame}
+use Rattle.workspace.specs.Space.{entries}
+use Rattle.polygon.specs.Inner.Scanning.{cellsIn, scanIn, readyOf, Cells, ScanRoom, Settled, Cleared, Scanned, CutLeft}
+use Rattle.polygon.proofs.Space.{table-set, table-above, table-at, table-length, cells-below, cells-push, cells-pop, cells-none, frame-refl}
+use Rattle.polygon.proofs.Space.{frame-trans, frame-flip, frame-stack, still}
 
 -- ---- denominators
 
@@ -74,7 +76,8 @@ handle-low v w (suc k) c =
 
 -- ---- whether the top is a mediant
 
-pub ready-at : (t : List ℤ) (w : List ℕ) (n y : ℕ) → (n ≡ 0 → ⊥) → readyOf t (cellsIn w n) y ≡ eqb (den t (below (cellsIn w n))) (den t (below (cellsIn w (n - 1))) + den t y)
+pub ready-at : (t : List ℤ) (w : List ℕ) (n y : ℕ) → (n ≡ 0 → ⊥)
+    → readyOf t (cellsIn w n) y ≡ eqb (den t (below (cellsIn w n))) (den t (below (cellsIn w (n - 1))) + den t y)
 unfolding readyOf
 ready-at t w n y h = rw (cells-pop w n (omega arith))
 
@@ -92,7 +95,8 @@ unfolding readyOf
 push-no t [] a m h y e = refl
 push-no t (c ∷ l) a m h y e = rw e
 
-push-yes : (t : List ℤ) (c : Cell) (l : List Cell) (a : List ℕ) (m h y : ℕ) → readyOf t (c ∷ l) y ≡ true → push t (c ∷ l) a m h y ≡ push t l (attach a m (c .under) h) (m + 1) (3 * m) y
+push-yes : (t : List ℤ) (c : Cell) (l : List Cell) (a : List ℕ) (m h y : ℕ) → readyOf t (c ∷ l) y ≡ true
+    → push t (c ∷ l) a m h y ≡ push t l (attach a m (c .under) h) (m + 1) (3 * m) y
 unfolding readyOf
 push-yes t c l a m h y e = rw e
 
@@ -100,14 +104,14 @@ push-yes t c l a m h y e = rw e
 
 -- between two triangles: what is left to push is what there was
 pub record Mid (t : List ℤ) (v : ℕ) (w₀ : List ℕ) (i n₀ m₀ : ℕ) (w : List ℕ) (n m h : ℕ) : Type 0 where
-  pub frame : Frame w₀ w
+  pub frame : CutFrame w₀ w
   pub long : 32768 ≤ length w
   pub most : v ≤ 1023
   pub next : i < v
   pub cells : Cells v w n
   pub count : n + m ≡ i
   pub low : h < places v
-  pub rest : push t (cellsIn w n) (table FLIP (places v) w) m h (suc i) ≡ pushed t (scanIn v w₀ n₀ m₀) (outer v i) (suc i)
+  pub rest : push t (cellsIn w n) (entries FLIP (places v) w) m h (suc i) ≡ pushed t (scanIn v w₀ n₀ m₀) (outer v i) (suc i)
 
 cells-flip : (v : ℕ) (w : List ℕ) (n p x : ℕ) → Cells v w n → p < 4096 → Cells v (set w (FLIP + p) x) n
 cells-flip v w n p x c h = record {
@@ -119,13 +123,13 @@ cells-less : (v : ℕ) (w : List ℕ) (n k : ℕ) → Cells v w n → k ≤ n �
 cells-less v w n k c h = record { vertices = λ j l. c .vertices j (omega arith); handles = λ j l. c .handles j (omega arith) }
 
 -- two positions joined, seen in the table and on the stack
-table-joined : (v : ℕ) (w : List ℕ) (p q : ℕ) → p < places v → q < places v → table FLIP (places v) (joined w p q) ≡ set (set (table FLIP (places v) w) p q) q p
+table-joined : (v : ℕ) (w : List ℕ) (p q : ℕ) → p < places v → q < places v → entries FLIP (places v) (joined w p q) ≡ set (set (entries FLIP (places v) w) p q) q p
 table-joined v w p q h k = table-set 4096 (places v) (set w (FLIP + p) q) q p k ∙ ap (λ (l : List ℕ). set l q p) (table-set 4096 (places v) w p q h)
 
 cells-joined : (w : List ℕ) (n p q : ℕ) → p < 4096 → q < 4096 → cellsIn (joined w p q) n ≡ cellsIn w n
 cells-joined w n p q h k = cells-below (set w (FLIP + p) q) n (FLIP + q) p (omega arith) ∙ cells-below w n (FLIP + p) q (omega arith)
 
-frame-joined : (a b : List ℕ) (p q : ℕ) → Frame a b → p < 4096 → q < 4096 → Frame a (joined b p q)
+frame-joined : (a b : List ℕ) (p q : ℕ) → CutFrame a b → p < 4096 → q < 4096 → CutFrame a (joined b p q)
 frame-joined a b p q f h k = frame-flip a (set b (FLIP + p) q) q p (frame-flip a b p q f h) k
 
 cells-in-joined : (v : ℕ) (w : List ℕ) (n p q : ℕ) → Cells v w n → p < 4096 → q < 4096 → Cells v (joined w p q) n
@@ -134,9 +138,19 @@ cells-in-joined v w n p q c h k = cells-flip v (set w (FLIP + p) q) n q p (cells
 pub length-joined : (w : List ℕ) (p q : ℕ) → length (joined w p q) ≡ length w
 length-joined w p q = length-set (set w (FLIP + p) q) (FLIP + q) p ∙ length-set w (FLIP + p) q
 
-module _ (t : List ℤ) (v : ℕ) (w₀ : List ℕ) (i n₀ m₀ : ℕ) (room : Room t v w₀ i n₀ m₀) where
+module _ (t : List ℤ) (v : ℕ) (w₀ : List ℕ) (i n₀ m₀ : ℕ) (room : ScanRoom t v w₀ i n₀ m₀) where
   pub mid-start : Mid t v w₀ i n₀ m₀ w₀ n₀ m₀ (outer v i)
-  mid-start = record { frame = frame-refl w₀; long = room .long; most = room .symbol .most; next = room .next; cells = room .cells; count = room .count; low = let b = room .next in omega arith; rest = refl }
+  mid-start = record {
+    frame = frame-refl w₀;
+    long = room .long;
+    most = room .symbol .most;
+    next = room .next;
+    cells = room .cells;
+    count = room .count;
+    low =
+        let b = room .next in omega arith;
+    rest = refl;
+  }
 
   -- a triangle
   pub mid-step : (w : List ℕ) (n m h hl : ℕ) → Mid t v w₀ i n₀ m₀ w n m h → readyOf t (cellsIn w n) (i + 1) ≡ true → hl ≡ getD w (HANDLE + (n - 1)) 0
@@ -162,13 +176,15 @@ module _ (t : List ℤ) (v : ℕ) (w₀ : List ℕ) (i n₀ m₀ : ℕ) (room : 
         long = still (length-joined w₁ (3 * m + 2) h ∙ length-joined w (3 * m + 1) hl) (d .long);
         most = d .most;
         next = d .next;
-        cells = cells-less v (joined w₁ (3 * m + 2) h) n (n - 1) (cells-in-joined v w₁ n (3 * m + 2) h (cells-in-joined v w n (3 * m + 1) hl (d .cells) (omega arith) (omega arith)) (omega arith) (omega arith)) (omega arith);
+        cells = cells-less v (joined w₁ (3 * m + 2) h) n (n - 1)
+            (cells-in-joined v w₁ n (3 * m + 2) h (cells-in-joined v w n (3 * m + 1) hl (d .cells) (omega arith) (omega arith)) (omega arith) (omega arith))
+            (omega arith);
         count = omega arith;
         low = omega arith;
         rest =
             rw (q, p, b, a, e)
-            (sym (push-yes t (cell (getD w (STACK + (n - 1)) 0) (getD w (HANDLE + (n - 1)) 0)) (cellsIn w (n - 1)) (table FLIP (places v) w) m h (suc i) r')
-            ∙ ap (λ (l : List Cell). push t l (table FLIP (places v) w) m h (suc i)) (sym pop)
+            (sym (push-yes t (cell (getD w (STACK + (n - 1)) 0) (getD w (HANDLE + (n - 1)) 0)) (cellsIn w (n - 1)) (entries FLIP (places v) w) m h (suc i) r')
+            ∙ ap (λ (l : List Cell). push t l (entries FLIP (places v) w) m h (suc i)) (sym pop)
             ∙ d .rest);
       }
 
@@ -194,24 +210,34 @@ module _ (t : List ℤ) (v : ℕ) (w₀ : List ℕ) (i n₀ m₀ : ℕ) (room : 
         frame = frame-stack w₀ w₁ (HANDLE + n) h (frame-stack w₀ w (STACK + n) (suc i) (d .frame) (omega arith) (omega arith)) (omega arith) (omega arith);
         cells = cells-pushed w n (suc i) h (d .cells) (omega arith) long (omega arith) (d .low);
         count = omega (arith, count);
-        is = rw (cells, flips) (sym (push-no t (cellsIn w n) (table FLIP (places v) w) m h (suc i) r) ∙ d .rest);
+        is = rw (cells, flips) (sym (push-no t (cellsIn w n) (entries FLIP (places v) w) m h (suc i) r) ∙ d .rest);
       })
     where
-      cells-pushed : (w : List ℕ) (n y h : ℕ) → Cells v w n → n < 1024 → 32768 ≤ length w → y ≤ v → h < places v → Cells v (set (set w (STACK + n) y) (HANDLE + n) h) (n + 1)
+      cells-pushed : (w : List ℕ) (n y h : ℕ) → Cells v w n → n < 1024 → 32768 ≤ length w → y ≤ v → h < places v
+          → Cells v (set (set w (STACK + n) y) (HANDLE + n) h) (n + 1)
       cells-pushed w n y h c k long a b =
           let w₁ = set w (STACK + n) y in
           let l₁ = length-set w (STACK + n) y in
-          let e : getD (set w₁ (HANDLE + n) h) (STACK + n) 0 ≡ y = getD-set-other w₁ (HANDLE + n) (STACK + n) h 0 (λ e. omega arith) ∙ getD-set-same w (STACK + n) y 0 (omega arith) in
+          let e : getD (set w₁ (HANDLE + n) h) (STACK + n) 0 ≡ y = getD-set-other w₁ (HANDLE + n) (STACK + n) h 0 (λ e. omega arith)
+          ∙ getD-set-same w (STACK + n) y 0 (omega arith) in
           let f : getD (set w₁ (HANDLE + n) h) (HANDLE + n) 0 ≡ h = getD-set-same w₁ (HANDLE + n) h 0 (omega arith) in
           record {
-            vertices = below-more _ n (λ j l. rw (getD-set-other w₁ (HANDLE + n) (STACK + j) h 0 (λ e. omega arith), getD-set-other w (STACK + n) (STACK + j) y 0 (λ e. omega arith)) (c .vertices j l)) (omega arith);
-            handles = below-more _ n (λ j l. rw (getD-set-other w₁ (HANDLE + n) (HANDLE + j) h 0 (λ e. omega arith), getD-set-other w (STACK + n) (HANDLE + j) y 0 (λ e. omega arith)) (c .handles j l)) (omega arith);
+            vertices = below-more _ n (λ j l. rw (
+              getD-set-other w₁ (HANDLE + n) (STACK + j) h 0 (λ e. omega arith),
+              getD-set-other w (STACK + n)
+                  (STACK + j) y 0 (λ e. omega arith),
+            ) (c .vertices j l)) (omega arith);
+            handles = below-more _ n (λ j l. rw (
+              getD-set-other w₁ (HANDLE + n) (HANDLE + j) h 0 (λ e. omega arith),
+              getD-set-other w (STACK + n)
+                  (HANDLE + j) y 0 (λ e. omega arith),
+            ) (c .handles j l)) (omega arith);
           }
 
 -- ---- the table of other sides cleared up to k
 
 pub record ClearedTo (w₀ w : List ℕ) (k : ℕ) : Type 0 where
-  pub frame : Frame w₀ w
+  pub frame : CutFrame w₀ w
   pub zeros : (j : ℕ) → j < k → getD w (FLIP + j) 0 ≡ 0
 
 pub cleared-none : (w : List ℕ) → ClearedTo w w 0
@@ -231,7 +257,7 @@ cleared-all v w₀ w k c h = record { frame = c .frame; zeros = λ j l. c .zeros
 -- ---- the scan over all vertices
 
 pub record Part (t : List ℤ) (v z : ℕ) (w₀ w : List ℕ) (n m under i : ℕ) : Type 0 where
-  pub frame : Frame w₀ w
+  pub frame : CutFrame w₀ w
   pub long : 32768 ≤ length w
   pub cells : Cells v w n
   pub count : n + m ≡ i
@@ -239,11 +265,11 @@ pub record Part (t : List ℤ) (v z : ℕ) (w₀ w : List ℕ) (n m under i : �
   pub is : scanIn v w n m ≡ scanned v t i
   pub noted : z < i → under ≡ handle (scanned v t (suc z) .stack)
 
-zeros-are : (v : ℕ) (w : List ℕ) → 32768 ≤ length w → v ≤ 1023 → ((k : ℕ) → k < places v → getD w (FLIP + k) 0 ≡ 0) → table FLIP (places v) w ≡ replicate (places v) 0
+zeros-are : (v : ℕ) (w : List ℕ) → 32768 ≤ length w → v ≤ 1023 → ((k : ℕ) → k < places v → getD w (FLIP + k) 0 ≡ 0) → entries FLIP (places v) w ≡ replicate (places v) 0
 zeros-are v w long most h =
     let l = table-length 4096 (places v) w (omega arith) in
     let r = length-replicate {A = ℕ} (places v) 0 in
-    ext-getD 0 (table FLIP (places v) w) (replicate (places v) 0) (l ∙ sym r)
+    ext-getD 0 (entries FLIP (places v) w) (replicate (places v) 0) (l ∙ sym r)
     (λ i b. table-at 4096 (places v) w i 0 (omega arith) ∙ h i (omega arith) ∙ sym (getD-replicate {A = ℕ} (places v) i 0 0 (omega arith)))
 
 pub part-none : (t : List ℤ) (v z : ℕ) (w : List ℕ) (u : ℕ) → 32768 ≤ length w → v ≤ 1023 → ((k : ℕ) → k < places v → getD w (FLIP + k) 0 ≡ 0) → Part t v z w w 0 0 u 0
@@ -257,10 +283,11 @@ part-none t v z w u long most h = record {
   noted = λ l. absurd (omega arith);
 }
 
-pub part-room : (t : List ℤ) (v z : ℕ) (w₀ w : List ℕ) (n m u i : ℕ) → IsSymbol v t → Part t v z w₀ w n m u i → i < v → Room t v w i n m
+pub part-room : (t : List ℤ) (v z : ℕ) (w₀ w : List ℕ) (n m u i : ℕ) → IsSymbol v t → Part t v z w₀ w n m u i → i < v → ScanRoom t v w i n m
 part-room t v z w₀ w n m u i ok p h = record { symbol = ok; long = p .long; cells = p .cells; next = h; count = p .count }
 
-pub part-more : (t : List ℤ) (v z : ℕ) (w₀ w : List ℕ) (n m u i : ℕ) → Part t v z w₀ w n m u i → i < v → (w' : List ℕ) (n' m' u' : ℕ) → Settled t v w i n m w' n' m' → u' ≡ pick (eqb i z) (handle (cellsIn w' n')) u
+pub part-more : (t : List ℤ) (v z : ℕ) (w₀ w : List ℕ) (n m u i : ℕ) → Part t v z w₀ w n m u i → i < v → (w' : List ℕ) (n' m' u' : ℕ)
+    → Settled t v w i n m w' n' m' → u' ≡ pick (eqb i z) (handle (cellsIn w' n')) u
     → Part t v z w₀ w' n' m' u' (i + 1)
 part-more t v z w₀ w n m u i p h w' n' m' u' s e =
     let is : scanIn v w' n' m' ≡ scanned v t (suc i) = s .is ∙ ap (λ (x : Scan). pushed t x (outer v i) (suc i)) (p .is) in
@@ -272,7 +299,8 @@ part-more t v z w₀ w n m u i p h w' n' m' u' s e =
       high = omega arith;
       is = is;
       noted = λ l. elim (ℕ-discrete i z) [
-        | yes k ↦ e ∙ ap (λ (b : Bool). pick b (handle (cellsIn w' n')) u) (eq-eqb i z k) ∙ ap (λ (x : Scan). handle (x .stack)) is ∙ ap (λ (x : ℕ). handle (scanned v t (suc x) .stack)) k
+        | yes k ↦ e ∙ ap (λ (b : Bool). pick b (handle (cellsIn w' n')) u) (eq-eqb i z k) ∙ ap (λ (x : Scan). handle (x .stack)) is
+            ∙ ap (λ (x : ℕ). handle (scanned v t (suc x) .stack)) k
         | no k ↦ e ∙ ap (λ (b : Bool). pick b (handle (cellsIn w' n')) u) (ne-eqb i z k) ∙ p .noted (omega arith)
       ];
     })
@@ -293,7 +321,8 @@ part-all t v z w₀ w n m u i p h =
 
 -- ---- the cut
 
-pub cut-left : (t : List ℤ) (v z : ℕ) (w w₁ w₂ w₃ : List ℕ) (n r h : ℕ) → v ≤ 1023 → Cleared v w w₁ → Scanned t v z w₁ w₂ n r → z ≡ first (isZero t) v → z < v → h ≡ handle (cellsIn w₂ n) → w₃ ≡ joined w₂ (outer v v) h → CutLeft t v w w₃ r
+pub cut-left : (t : List ℤ) (v z : ℕ) (w w₁ w₂ w₃ : List ℕ) (n r h : ℕ) → v ≤ 1023 → Cleared v w w₁ → Scanned t v z w₁ w₂ n r → z ≡ first (isZero t) v → z < v
+    → h ≡ handle (cellsIn w₂ n) → w₃ ≡ joined w₂ (outer v v) h → CutLeft t v w w₃ r
 unfolding flipOf underZero
 cut-left t v z w w₁ w₂ w₃ n r h most c s ez low eh e =
     let k : h < places v = rw eh (handle-low v w₂ n (s .cells)) in

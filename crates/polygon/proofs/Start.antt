@@ -15,7 +15,7 @@ use native.Mathlib.Decide.{ℕ-discrete, decLt}
 use lib.IntN.{ℤ, pos, negsuc, natAbs, _+ℤ_, _*ℤ_, _-ℤ_, -ℤ-+ℤ-cancel}
 use borrow.Author.Tests.{lt-ltb, not-true}
 use Rattle.matrix.specs.Matrix.{Mat, mat, _⊗_, 𝟙, neg, det, matS, _≈_}
-use Rattle.matrix.specs.Euclid.{pick}
+use Rattle.basics.specs.Choice.{pick}
 use Rattle.matrix.proofs.Matrix.{S-S, ≈-sym, _∙≈_}
 use Rattle.matrix.proofs.Integer.{abs-neg}
 use Rattle.symbol.specs.Table.{numer, denom, leftNum}
@@ -24,7 +24,8 @@ use Rattle.symbol.specs.Symbol.{IsSymbol}
 use Rattle.pairing.specs.Generator.{frameAt}
 use Rattle.polygon.specs.Cut.{den, flip, underZero}
 use Rattle.polygon.specs.Step.{oddAt, real, Real, stepS, turned, startOf, startFrame, originOf}
-use Rattle.symbol.proofs.Choice.{either, clash, eqZ-true, and-left, and-right}
+use Rattle.symbol.proofs.Choice.{eqZ-true}
+use Rattle.basics.proofs.Choice.{either, clash, and-left, and-right}
 use Rattle.polygon.proofs.Mediant.{neg-pos}
 use Rattle.polygon.proofs.Scan.{chord, side-chord, last-side}
 use Rattle.polygon.proofs.Flip.{inner, outside, place, Cutting, real-corner, real-face}

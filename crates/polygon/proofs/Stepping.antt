@@ -15,24 +15,26 @@ use lib.ListN.{getD}
 use lib.IntN.{ℤ, pos, negsuc, negℤ}
 use borrow.Author.Tests.{ne-eqb}
 use Rattle.matrix.specs.Words.{S, Q, P}
-use Rattle.matrix.specs.Euclid.{pick}
-use Rattle.symbol.specs.Table.{pairing, pairingOf}
+use Rattle.basics.specs.Choice.{pick}
+use Rattle.symbol.specs.Table.{pairingEntry, pairingOf}
 use Rattle.symbol.specs.Check.{isZero, eqZ}
 use Rattle.symbol.specs.Symbol.{IsSymbol}
-use Rattle.pairing.specs.Generator.{partner, pairingAt, isLeader, numberAt}
+use Rattle.pairing.specs.Generator.{partner, pairingAt, isLeader, generatorNumber}
 use Rattle.symbol.specs.declared.Pairing.{Pairing}
 use Rattle.symbol.specs.declared.Pairing.the-variants.{Even, Odd, Free, Bad}
 use Rattle.polygon.specs.Cut.{corners, outer, places, flip, underZero}
 use Rattle.polygon.specs.Step.{oddAt, Real, crossBy, crossed, stepS, written, forth, back, turned, startOf}
-use Rattle.polygon.specs.Inner.Space.{FLIP, PARTNER, GENERATOR}
-use Rattle.polygon.specs.Inner.Tables.{Tables, lettersOf}
-use Rattle.symbol.proofs.Choice.{either}
-use Rattle.polygon.proofs.SymbolFacts.{count-most, Kind, even, odd, free, kind, Mate, free-mate, Number, number-even, number-odd, number-first, number-second, length-generators}
+use Rattle.polygon.specs.Inner.Space.{FLIP, GENERATOR}
+use Rattle.pairing.specs.Inner.Work.{PARTNER}
+use Rattle.polygon.specs.Inner.Tables.{PolygonTables, lettersOf}
+use Rattle.basics.proofs.Choice.{either}
+use Rattle.polygon.proofs.SymbolFacts.{count-most, Kind, even, odd, free, kind, Mate, free-mate, Number, number-even, number-odd, number-first}
+use Rattle.polygon.proofs.SymbolFacts.{number-second, length-generators}
 use Rattle.polygon.proofs.Flip.{Cutting, cutting, real-in}
 use Rattle.polygon.proofs.Steps.{step-inner, step-face, written-S, silent-S, at-corner, at-face}
 use Rattle.polygon.proofs.Space.{table-at, getD-any}
 
-module _ (t : List ℤ) (v : ℕ) (w : List ℕ) (T : Tables t v w) where
+module _ (t : List ℤ) (v : ℕ) (w : List ℕ) (T : PolygonTables t v w) where
   abbrev C : Cutting v t
   C = cutting v t (T .symbol)
 
@@ -81,7 +83,8 @@ module _ (t : List ℤ) (v : ℕ) (w : List ℕ) (T : Tables t v w) where
     pub partner-low : corners v ≤ q → (l n : ℕ) → pairingAt v t (q - corners v) ≡ Free l → n ≡ getD w (PARTNER + (q - corners v)) 0 → n ≤ v
     partner-low h l n k z = rw (z, T .partnered .partners (q - corners v) l (let b = low in omega arith) k) (mate-of h l k .within)
 
-    pub free-is : corners v ≤ q → (l n x : ℕ) → pairingAt v t (q - corners v) ≡ Free l → n ≡ getD w (PARTNER + (q - corners v)) 0 → x ≡ getD w (FLIP + (3 * (v - 1) + n)) 0 → x ≡ stepS v t p
+    pub free-is : corners v ≤ q → (l n x : ℕ) → pairingAt v t (q - corners v) ≡ Free l → n ≡ getD w (PARTNER + (q - corners v)) 0
+        → x ≡ getD w (FLIP + (3 * (v - 1) + n)) 0 → x ≡ stepS v t p
     free-is h l n x k z y =
         let b = partner-low h l n k z in
         y ∙ flip-read (outer v n) (omega arith)
@@ -103,7 +106,7 @@ letter-signed j true h = letter-back j h
 letter-signed j false h = letter-forth j h
 
 module _ (v : ℕ) (t : List ℤ) (ok : IsSymbol v t) where
-  number-range : (i k : ℕ) → Number v t i k → (1 ≤ numberAt v t i) × (numberAt v t i ≤ v + 1)
+  number-range : (i k : ℕ) → Number v t i k → (1 ≤ generatorNumber v t i) × (generatorNumber v t i ≤ v + 1)
   number-range i k n =
       let b = n .low in
       let g = length-generators v t in
@@ -111,10 +114,10 @@ module _ (v : ℕ) (t : List ℤ) (ok : IsSymbol v t) where
       rw (n .number) (omega arith, omega arith)
 
   -- every side's number is from 1 to v + 1
-  pub number-low : (i : ℕ) → i ≤ v → (1 ≤ numberAt v t i) × (numberAt v t i ≤ v + 1)
+  pub number-low : (i : ℕ) → i ≤ v → (1 ≤ generatorNumber v t i) × (generatorNumber v t i ≤ v + 1)
   number-low i h = go (kind v t ok i h)
     where
-      go : Kind v t i → (1 ≤ numberAt v t i) × (numberAt v t i ≤ v + 1)
+      go : Kind v t i → (1 ≤ generatorNumber v t i) × (generatorNumber v t i ≤ v + 1)
       go (even k o) = number-range i i (number-even v t i h k)
       go (odd k o) = number-range i i (number-odd v t i h k)
       go (free l k o m) = elim (decLt i (partner v t i)) [
@@ -122,11 +125,11 @@ module _ (v : ℕ) (t : List ℤ) (ok : IsSymbol v t) where
         | no b ↦ number-range i (partner v t i) (number-second v t i l k m (let z = m .other in omega arith))
       ]
 
-module _ (t : List ℤ) (v : ℕ) (w : List ℕ) (T : Tables t v w) where
+module _ (t : List ℤ) (v : ℕ) (w : List ℕ) (T : PolygonTables t v w) where
   -- the number of a side, by the table
-  pub number-read : (i j : ℕ) → i ≤ v → j ≡ getD w (GENERATOR + i) 0 → (j ≡ numberAt v t i) × (1 ≤ j) × (j ≤ 1024)
+  pub number-read : (i j : ℕ) → i ≤ v → j ≡ getD w (GENERATOR + i) 0 → (j ≡ generatorNumber v t i) × (1 ≤ j) × (j ≤ 1024)
   number-read i j h e =
-      let z : j ≡ numberAt v t i = e ∙ T .numbered .numbers i h in
+      let z : j ≡ generatorNumber v t i = e ∙ T .numbered .numbers i h in
       let b = number-low v t (T .symbol) i h in
       let m = T .symbol .most in
       (z, omega arith, omega arith)
@@ -139,11 +142,12 @@ module _ (t : List ℤ) (v : ℕ) (w : List ℕ) (T : Tables t v w) where
     pub silent-is : q < corners v → [] ≡ written v t S p
     silent-is h = sym (silent-S v t p (rw flip-is' h))
 
-    writes-is : corners v ≤ q → written v t S p ≡ crossed (pairingAt v t (q - corners v)) (q - corners v) (partner v t (q - corners v)) (numberAt v t (q - corners v))
+    writes-is : corners v ≤ q → written v t S p ≡ crossed (pairingAt v t (q - corners v)) (q - corners v) (partner v t (q - corners v))
+        (generatorNumber v t (q - corners v))
     writes-is h = written-S v t p (q - corners v) (flip-is' ∙ omega arith)
 
     module _ (j : ℕ) (h : corners v ≤ q) (f : j ≡ getD w (GENERATOR + (q - corners v)) 0) where
-      pub number-here : (j ≡ numberAt v t (q - corners v)) × (1 ≤ j) × (j ≤ 1024)
+      pub number-here : (j ≡ generatorNumber v t (q - corners v)) × (1 ≤ j) × (j ≤ 1024)
       number-here = let z = low t v w T p q r e in number-read (q - corners v) j (omega arith) f
 
       pub writes-even : pairingAt v t (q - corners v) ≡ Even → lettersOf (pos j) ≡ written v t S p
@@ -162,25 +166,26 @@ module _ (t : List ℤ) (v : ℕ) (w : List ℕ) (T : Tables t v w) where
           let i = q - corners v in
           letter-signed j (ltb i n) (number-here .1)
           ∙ ap (λ (x : ℕ). pick (ltb i n) (back x) (forth x)) (number-here .0)
-          ∙ ap (λ (x : ℕ). pick (ltb i x) (back (numberAt v t i)) (forth (numberAt v t i))) (y ∙ T .partnered .partners i l (omega arith) k)
+          ∙ ap (λ (x : ℕ). pick (ltb i x) (back (generatorNumber v t i)) (forth (generatorNumber v t i))) (y ∙ T .partnered .partners i l (omega arith) k)
           ∙ sym (writes-is h ∙ rw k)
 
   -- Q and P at the real position p
   pub turn-silent : (x : Bool) (p : ℕ) → p < corners v → [] ≡ written v t (pick x P Q) p
   unfolding written
-  turn-silent true p h = sym (at-corner v t p (λ i. back (numberAt v t i)) h)
-  turn-silent false p h = sym (at-corner v t p (λ i. forth (numberAt v t i)) h)
+  turn-silent true p h = sym (at-corner v t p (λ i. back (generatorNumber v t i)) h)
+  turn-silent false p h = sym (at-corner v t p (λ i. forth (generatorNumber v t i)) h)
 
-  pub turn-writes : (x : Bool) (p j : ℕ) → Real v t p → corners v ≤ p → j ≡ getD w (GENERATOR + (p - corners v)) 0 → lettersOf (pick x (negℤ (pos j)) (pos j)) ≡ written v t (pick x P Q) p
+  pub turn-writes : (x : Bool) (p j : ℕ) → Real v t p → corners v ≤ p → j ≡ getD w (GENERATOR + (p - corners v)) 0
+      → lettersOf (pick x (negℤ (pos j)) (pos j)) ≡ written v t (pick x P Q) p
   unfolding written
   turn-writes x p j r h f =
       let b = real-in v t (T .symbol) p r in
       let n = number-read (p - corners v) j (omega arith) f in
       letter-signed j x (n .1) ∙ ap (λ (y : ℕ). pick x (back y) (forth y)) (n .0) ∙ go x
     where
-      go : (x : Bool) → pick x (back (numberAt v t (p - corners v))) (forth (numberAt v t (p - corners v))) ≡ written v t (pick x P Q) p
-      go true = sym (at-face v t p (p - corners v) (λ i. back (numberAt v t i)) (omega arith))
-      go false = sym (at-face v t p (p - corners v) (λ i. forth (numberAt v t i)) (omega arith))
+      go : (x : Bool) → pick x (back (generatorNumber v t (p - corners v))) (forth (generatorNumber v t (p - corners v))) ≡ written v t (pick x P Q) p
+      go true = sym (at-face v t p (p - corners v) (λ i. back (generatorNumber v t i)) (omega arith))
+      go false = sym (at-face v t p (p - corners v) (λ i. forth (generatorNumber v t i)) (omega arith))
 
 -- ---- the start
 
@@ -199,7 +204,7 @@ odd-kind v (negsuc (suc (suc zero))) = refl
 odd-kind v (negsuc (suc (suc (suc n)))) = ne-eqb (suc (suc (suc n))) 2 (λ e. omega arith)
 
 pub turned-by : (v : ℕ) (t : List ℤ) (k : Pairing) → isZero t (v - 1) ≡ true → pairingAt v t v ≡ k → turned v t ≡ not (oddKind k)
-turned-by v t k z e = ap (λ (b : Bool). b && not (oddAt v t v)) z ∙ ap not (odd-kind v (pairing v t v)) ∙ ap (λ (x : Pairing). not (oddKind x)) e
+turned-by v t k z e = ap (λ (b : Bool). b && not (oddAt v t v)) z ∙ ap not (odd-kind v (pairingEntry v t v)) ∙ ap (λ (x : Pairing). not (oddKind x)) e
 
 pub turned-no : (v : ℕ) (t : List ℤ) → isZero t (v - 1) ≡ false → turned v t ≡ false
 turned-no v t z = ap (λ (b : Bool). b && not (oddAt v t v)) z

@@ -15,17 +15,17 @@ use lib.IntN.{ℤ, negsuc}
 use borrow.Author.Tests.{lt-ltb, le-ltb}
 use Rattle.matrix.specs.Words.{Letter, S, Q, P}
 use Rattle.matrix.specs.Action.{Involution}
-use Rattle.matrix.specs.Euclid.{pick}
+use Rattle.basics.specs.Choice.{pick}
 use Rattle.symbol.specs.Table.{pairingOf}
 use Rattle.symbol.specs.Check.{eqZ}
 use Rattle.symbol.specs.Symbol.{IsSymbol}
-use Rattle.pairing.specs.Generator.{partner, pairingAt, numberAt}
+use Rattle.pairing.specs.Generator.{partner, pairingAt, generatorNumber}
 use Rattle.symbol.specs.declared.Pairing.{Pairing}
 use Rattle.symbol.specs.declared.Pairing.the-variants.{Even, Free}
 use Rattle.polygon.specs.Cut.{corners, outer, places, flip}
 use Rattle.polygon.specs.Step.{oddAt, real, Real, crossBy, across, stepS, turnQ, crossed, atSide, written, forth, back}
 use Rattle.polygon.specs.Walk.{goes}
-use Rattle.symbol.proofs.Choice.{either, clash}
+use Rattle.basics.proofs.Choice.{either, clash}
 use Rattle.polygon.proofs.SymbolFacts.{Mate, Kind, even, odd, free, kind}
 use Rattle.polygon.proofs.Flip.{inner, outside, place, Cutting, real-corner, real-face, real-odd, real-in, turn-face, turn-last, turn-next, which, c0, c1, c2}
 
@@ -56,13 +56,13 @@ module _ (v : ℕ) (t : List ℤ) where
   unfolding stepS
   moves p e = rw e
 
-  pub written-S : (p i : ℕ) → flip v t p ≡ outer v i → written v t S p ≡ crossed (pairingAt v t i) i (partner v t i) (numberAt v t i)
+  pub written-S : (p i : ℕ) → flip v t p ≡ outer v i → written v t S p ≡ crossed (pairingAt v t i) i (partner v t i) (generatorNumber v t i)
   unfolding written
-  written-S p i e = at-face (flip v t p) i (λ j. crossed (pairingAt v t j) j (partner v t j) (numberAt v t j)) e
+  written-S p i e = at-face (flip v t p) i (λ j. crossed (pairingAt v t j) j (partner v t j) (generatorNumber v t j)) e
 
   pub silent-S : (p : ℕ) → flip v t p < corners v → written v t S p ≡ []
   unfolding written
-  silent-S p h = at-corner (flip v t p) (λ j. crossed (pairingAt v t j) j (partner v t j) (numberAt v t j)) h
+  silent-S p h = at-corner (flip v t p) (λ j. crossed (pairingAt v t j) j (partner v t j) (generatorNumber v t j)) h
 
   pub step-face : (p i : ℕ) → Real v t p → flip v t p ≡ outer v i → stepS v t p ≡ crossBy (pairingAt v t i) p (outer v i) (flip v t (outer v (partner v t i)))
   step-face p i r e = moves p r ∙ ap (across v t p) e ∙ across-face p i
@@ -73,16 +73,19 @@ module _ (v : ℕ) (t : List ℤ) where
 -- S out of the real position p: to the other side of the edge, which is real; or through an even side, or a free one
 pub data Beyond (v : ℕ) (t : List ℤ) (p : ℕ) : Type 0 where
   crosses : Real v t (flip v t p) → stepS v t p ≡ flip v t p → written v t S p ≡ [] → Beyond v t p
-  even-side : (i : ℕ) → i ≤ v → flip v t p ≡ outer v i → pairingAt v t i ≡ Even → oddAt v t i ≡ false → stepS v t p ≡ p → written v t S p ≡ forth (numberAt v t i) → Beyond v t p
+  even-side : (i : ℕ) → i ≤ v → flip v t p ≡ outer v i → pairingAt v t i ≡ Even → oddAt v t i ≡ false → stepS v t p ≡ p
+      → written v t S p ≡ forth (generatorNumber v t i) → Beyond v t p
   free-side : (i l : ℕ) → i ≤ v → flip v t p ≡ outer v i → pairingAt v t i ≡ Free l → oddAt v t i ≡ false → Mate v t i
-      → stepS v t p ≡ flip v t (outer v (partner v t i)) → written v t S p ≡ pick (ltb i (partner v t i)) (back (numberAt v t i)) (forth (numberAt v t i)) → Beyond v t p
+      → stepS v t p ≡ flip v t (outer v (partner v t i))
+      → written v t S p ≡ pick (ltb i (partner v t i)) (back (generatorNumber v t i)) (forth (generatorNumber v t i)) → Beyond v t p
 
 module _ (v : ℕ) (t : List ℤ) (ok : IsSymbol v t) (C : Cutting v t) where
   -- a face of the array is the face of a side
   side-in : (p i : ℕ) → p < places v → p ≡ outer v i → i ≤ v
   side-in p i h e = omega arith
 
-  beyond-side : (p i : ℕ) → Real v t p → i ≤ v → flip v t p ≡ outer v i → stepS v t p ≡ crossBy (pairingAt v t i) p (outer v i) (flip v t (outer v (partner v t i))) → Kind v t i → Beyond v t p
+  beyond-side : (p i : ℕ) → Real v t p → i ≤ v → flip v t p ≡ outer v i
+      → stepS v t p ≡ crossBy (pairingAt v t i) p (outer v i) (flip v t (outer v (partner v t i))) → Kind v t i → Beyond v t p
   beyond-side p i r h e s (even k o) = even-side i h e k o (s ∙ rw k) (written-S v t p i e ∙ rw k)
   beyond-side p i r h e s (odd k o) = crosses (ap (real v t) e ∙ real-face v t i ∙ o) (s ∙ rw k (sym e)) (written-S v t p i e ∙ rw k)
   beyond-side p i r h e s (free l k o m) = free-side i l h e k o m (s ∙ rw k) (written-S v t p i e ∙ rw k)

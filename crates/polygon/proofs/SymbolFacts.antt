@@ -1,4 +1,4 @@
--- Facts about accepted symbols that the crates `symbol` and `pairing` don't have, and that need no polygon.
+-- Facts about accepted symbols that the crates `symbol` and `pairingEntry` don't have, and that need no polygon.
 --
 -- In order: searching, counting and listing (`first-below`, `count-less`, `count-most`, `those-made`); what a side is paired as, with a free side's partner
 -- (`Kind`, `Mate`, `kind`); two sides with one label are partners (`label-mates`); the number of a side's generator (`Number`, `Leader`).
@@ -18,15 +18,16 @@ use lib.ListN.{length, getD, length-map, length-drop, List·getD-eq-default}
 use lib.IntN.{ℤ, pos, negsuc}
 use borrow.Author.Tests.{lt-ltb, le-ltb}
 use Rattle.matrix.specs.Matrix.{𝟙}
-use Rattle.matrix.specs.Euclid.{pick}
-use Rattle.symbol.specs.Count.{first, count}
-use Rattle.symbol.specs.Table.{pairings, pairing, pairingOf}
+use Rattle.basics.specs.Choice.{pick}
+use Rattle.basics.specs.Count.{first, count}
+use Rattle.symbol.specs.Table.{pairingEntries, pairingEntry, pairingOf}
 use Rattle.symbol.specs.Check.{eqZ}
 use Rattle.symbol.specs.Symbol.{IsSymbol, FreeLabel}
-use Rattle.pairing.specs.Generator.{partner, pairingAt, isLeader, leaders, numberAt, generator, generators}
+use Rattle.pairing.specs.Generator.{partner, pairingAt, isLeader, leaders, generatorNumber, generator, generators}
 use Rattle.symbol.specs.declared.Pairing.the-variants.{Even, Odd, Free}
-use Rattle.symbol.proofs.Choice.{either, clash, eqZ-refl, eq-eqZ}
-use Rattle.symbol.proofs.Count.{search-first, count-yes, count-mono, another, length-those}
+use Rattle.symbol.proofs.Choice.{eqZ-refl, eq-eqZ}
+use Rattle.basics.proofs.Choice.{either, clash}
+use Rattle.basics.proofs.Count.{search-first, count-yes, count-mono, another, length-those}
 use Rattle.symbol.proofs.Pairings.{pairing-view, pairing-free}
 use Rattle.symbol.proofs.Pairings as Pairings
 use Rattle.pairing.proofs.Facts.{partner-of, generator-at}
@@ -73,9 +74,9 @@ module _ (test : ℕ → Bool) where
 pub record Mate (v : ℕ) (t : List ℤ) (i : ℕ) : Type 0 where
   pub within : partner v t i ≤ v
   pub other : partner v t i ≡ i → ⊥
-  pub same : pairing v t (partner v t i) ≡ pairing v t i
+  pub same : pairingEntry v t (partner v t i) ≡ pairingEntry v t i
   pub back : partner v t (partner v t i) ≡ i
-  pub only : (j : ℕ) → j ≤ v → (j ≡ i → ⊥) → pairing v t j ≡ pairing v t i → partner v t i ≡ j
+  pub only : (j : ℕ) → j ≤ v → (j ≡ i → ⊥) → pairingEntry v t j ≡ pairingEntry v t i → partner v t i ≡ j
 
 pub data Kind (v : ℕ) (t : List ℤ) (i : ℕ) : Type 0 where
   even : pairingAt v t i ≡ Even → oddAt v t i ≡ false → Kind v t i
@@ -93,17 +94,17 @@ free-label v x l e = go (pairing-view v x)
     go (Pairings.bad b) = let z : _≡_ {A = ℕ} 0 1 = cc in absurd (omega arith)
 
 module _ (v : ℕ) (t : List ℤ) (ok : IsSymbol v t) where
-  mate : (i : ℕ) → i ≤ v → FreeLabel v t (pairing v t i) → Mate v t i
+  mate : (i : ℕ) → i ≤ v → FreeLabel v t (pairingEntry v t i) → Mate v t i
   mate i h f =
       let p = partner-of v t ok i h f in
-      let like : ℕ → Bool = λ k. eqZ (pairing v t k) (pairing v t i) in
-      let a = another like (v + 1) i (f .twice) (omega arith) (eqZ-refl (pairing v t i)) in
+      let like : ℕ → Bool = λ k. eqZ (pairingEntry v t k) (pairingEntry v t i) in
+      let a = another like (v + 1) i (f .twice) (omega arith) (eqZ-refl (pairingEntry v t i)) in
       record {
         within = p .within;
         other = p .differs;
         same = p .same;
         back = p .back;
-        only = λ j b n e. sym (a .others j (omega arith) (eq-eqZ (pairing v t j) (pairing v t i) e) n);
+        only = λ j b n e. sym (a .others j (omega arith) (eq-eqZ (pairingEntry v t j) (pairingEntry v t i) e) n);
       }
 
   pub kind : (i : ℕ) → i ≤ v → Kind v t i
@@ -125,11 +126,11 @@ module _ (v : ℕ) (t : List ℤ) (ok : IsSymbol v t) where
 
   -- two sides with one label are partners
   pub label-mates : (i j l : ℕ) → i ≤ v → j ≤ v → pairingAt v t i ≡ Free l → pairingAt v t j ≡ Free l → (j ≡ i → ⊥) → partner v t i ≡ j
-  label-mates i j l h k e f n = free-mate i l h e .only j k n (free-label v (pairing v t j) l f .0 ∙ sym (free-label v (pairing v t i) l e .0))
+  label-mates i j l h k e f n = free-mate i l h e .only j k n (free-label v (pairingEntry v t j) l f .0 ∙ sym (free-label v (pairingEntry v t i) l e .0))
 
   -- past the last side nothing is paired
   no-side : (i : ℕ) → v < i → oddAt v t i ≡ false
-  no-side i h = ap (λ (x : ℤ). eqZ x (negsuc 2)) (List·getD-eq-default (pairings v t) (pos 0) {n = i} (let l = ok .long in omega (arith, length-drop (2 * v) t)))
+  no-side i h = ap (λ (x : ℤ). eqZ x (negsuc 2)) (List·getD-eq-default (pairingEntries v t) (pos 0) {n = i} (let l = ok .long in omega (arith, length-drop (2 * v) t)))
 
   pub odd-in : (i : ℕ) → oddAt v t i ≡ true → i ≤ v
   odd-in i e = elim (decLt v i) [ yes l ↦ clash e (no-side i l) | no l ↦ omega arith ]
@@ -139,7 +140,7 @@ module _ (v : ℕ) (t : List ℤ) (ok : IsSymbol v t) where
 -- side k leads the generator of side i
 pub record Number (v : ℕ) (t : List ℤ) (i k : ℕ) : Type 0 where
   pub rank : ℕ
-  pub number : numberAt v t i ≡ suc rank
+  pub number : generatorNumber v t i ≡ suc rank
   pub low : rank < length (generators v t)
   pub is : getD (generators v t) rank 𝟙 ≡ generator v t k
 
@@ -148,7 +149,7 @@ pub record Leader (v : ℕ) (t : List ℤ) (j : ℕ) : Type 0 where
   pub side : ℕ
   pub low : side ≤ v
   pub leading : isLeader v t side ≡ true
-  pub number : numberAt v t side ≡ suc j
+  pub number : generatorNumber v t side ≡ suc j
 
 module _ (v : ℕ) (t : List ℤ) where
   pub length-generators : length (generators v t) ≡ count (isLeader v t) (v + 1)
@@ -174,7 +175,8 @@ module _ (v : ℕ) (t : List ℤ) where
         side = r .is;
         low = let b = r .low in omega arith;
         leading = r .passes;
-        number = ap (λ (b : Bool). count (isLeader v t) (pick b (r .is) (partner v t (r .is))) + 1) (r .passes) ∙ add-one (count (isLeader v t) (r .is)) ∙ ap suc (r .rank);
+        number = ap (λ (b : Bool). count (isLeader v t) (pick b (r .is) (partner v t (r .is))) + 1) (r .passes) ∙ add-one (count (isLeader v t) (r .is))
+            ∙ ap suc (r .rank);
       }
 
   -- ---- who leads
@@ -209,7 +211,7 @@ module _ (v : ℕ) (t : List ℤ) where
   number-second i l e m b = let s = second-leads i l e m b in number-of i (partner v t i) (m .within) (s .1) (ap (λ (x : Bool). pick x i (partner v t i)) (s .0))
 
   -- both sides of a free pair have one number
-  pub number-mate : (i l : ℕ) → pairingAt v t i ≡ Free l → Mate v t i → partner v t i < i → numberAt v t i ≡ numberAt v t (partner v t i)
+  pub number-mate : (i l : ℕ) → pairingAt v t i ≡ Free l → Mate v t i → partner v t i < i → generatorNumber v t i ≡ generatorNumber v t (partner v t i)
   number-mate i l e m b =
       let k = partner v t i in
       let s = second-leads i l e m b in

@@ -8,7 +8,7 @@ use mathlib.Core.List.{List, [], _∷_}
 use lib.IntN.{ℤ, pos, negsuc}
 use Rattle.matrix.specs.Matrix.{mat, _⊗_, 𝟙, neg, adj, matS, matT}
 use Rattle.matrix.specs.Action.{at}
-use Rattle.symbol.specs.Count.{count}
+use Rattle.basics.specs.Count.{count}
 use Rattle.polygon.specs.Cut.{places, flipOf, underZero}
 use Rattle.polygon.specs.Step.{real, stepS, turnQ, written, startOf, originOf}
 use Rattle.polygon.specs.Walk.{followed, walkEnds, walkWrites}

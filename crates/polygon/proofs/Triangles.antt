@@ -15,13 +15,13 @@ use native.Mathlib.Omega.{arith}
 use lib.IntN.{ℤ, pos, negℤ, _+ℤ_}
 use borrow.Author.Tests.{lt-ltb}
 use Rattle.matrix.specs.Matrix.{Mat, mat, _⊗_, adj, matQ, matP}
-use Rattle.matrix.specs.Euclid.{pick}
+use Rattle.basics.specs.Choice.{pick}
 use Rattle.matrix.proofs.Ring.{var, _⊕_, ⊖_, lit, const, _⊛_, ringM}
 use Rattle.symbol.specs.Table.{numer, denom, leftNum, leftDen}
 use Rattle.symbol.specs.Symbol.{IsSymbol}
 use Rattle.pairing.specs.Generator.{frameAt}
 use Rattle.polygon.specs.Cut.{den}
-use Rattle.polygon.specs.Triangles.{Fraction, fraction, opposite, mediant, vertex, atZero, atInfinity, Edge, Farey}
+use Rattle.polygon.specs.Triangles.{Fraction, fraction, opposite, mediant, vertexAt, atZero, atInfinity, Edge, Farey}
 use Rattle.polygon.proofs.Scan.{Over, left-den}
 
 -- ---- columns
@@ -41,11 +41,11 @@ times-P a b c d =
 -- ---- vertices
 
 module _ (v : ℕ) (t : List ℤ) (ok : IsSymbol v t) where
-  left-is : (y : ℕ) → y ≤ v → fraction (leftNum t y) (leftDen t y) ≡ vertex v t y
+  left-is : (y : ℕ) → y ≤ v → fraction (leftNum t y) (leftDen t y) ≡ vertexAt v t y
   left-is zero h = refl
   left-is (suc i) h = sym (ap (λ (b : Bool). fraction (pick b (numer t i) (pos 1)) (pick b (denom t i) (pos 0))) (lt-ltb i v (omega arith)))
 
-  pub vertex-is : (y : ℕ) → y ≤ v → fraction (leftNum t y) (pos (den t y)) ≡ vertex v t y
+  pub vertex-is : (y : ℕ) → y ≤ v → fraction (leftNum t y) (pos (den t y)) ≡ vertexAt v t y
   vertex-is y h = ap (λ (z : ℤ). fraction (leftNum t y) z) (sym (left-den v t ok y h)) ∙ left-is y h
 
   -- ---- sides
@@ -65,21 +65,21 @@ module _ (v : ℕ) (t : List ℤ) (ok : IsSymbol v t) where
     abbrev r : ℕ
     r = o .right
 
-    left-end : fraction (leftNum t l) (pos (den t l)) ≡ vertex v t l
+    left-end : fraction (leftNum t l) (pos (den t l)) ≡ vertexAt v t l
     left-end = let k = o .ordered in vertex-is l (omega arith)
 
-    right-end : fraction (leftNum t r) (pos (den t r)) ≡ vertex v t r
+    right-end : fraction (leftNum t r) (pos (den t r)) ≡ vertexAt v t r
     right-end = vertex-is r (o .ordered .2)
 
     -- the sum of the two columns
-    sum-is : fraction (leftNum t l +ℤ leftNum t r) (pos (den t l) +ℤ pos (den t r)) ≡ vertex v t m
+    sum-is : fraction (leftNum t l +ℤ leftNum t r) (pos (den t l) +ℤ pos (den t r)) ≡ vertexAt v t m
     sum-is =
         let k = o .ordered in
         sym (ap (λ (z : ℤ). fraction z (pos (den t m))) (o .num-is) ∙ ap (λ (z : ℕ). fraction (leftNum t l +ℤ leftNum t r) (pos z)) (o .den-is))
         ∙ vertex-is m (omega arith)
 
-    between : vertex v t m ≡ mediant (vertex v t l) (vertex v t r)
-    between = sym sum-is ∙ ap (λ (z : Fraction). mediant z (fraction (leftNum t r) (pos (den t r)))) left-end ∙ ap (mediant (vertex v t l)) right-end
+    between : vertexAt v t m ≡ mediant (vertexAt v t l) (vertexAt v t r)
+    between = sym sum-is ∙ ap (λ (z : Fraction). mediant z (fraction (leftNum t r) (pos (den t r)))) left-end ∙ ap (mediant (vertexAt v t l)) right-end
 
     edge-0 : Edge v t x l r
     edge-0 = record { from = inl (ap atZero (o .is) ∙ left-end); to = inl (ap atInfinity (o .is) ∙ right-end) }

@@ -21,8 +21,8 @@ use Prim.Native.Nat.{ℕ, zero, suc, _+_, _*_, _-_}
 use lib.Dec.{eqb}
 use lib.ListN.{getD, set, replicate}
 use lib.IntN.{ℤ, natAbs}
-use Rattle.matrix.specs.Euclid.{pick}
-use Rattle.symbol.specs.Count.{first}
+use Rattle.basics.specs.Choice.{pick}
+use Rattle.basics.specs.Count.{first}
 use Rattle.symbol.specs.Table.{denom}
 use Rattle.symbol.specs.Check.{isZero}
 

@@ -21,16 +21,16 @@ use lib.Dec.{ltb, eqb}
 use lib.IntN.{ℤ, pos, negsuc, negℤ}
 use Rattle.matrix.specs.Matrix.{Mat, 𝟙, matS}
 use Rattle.matrix.specs.Words.{Letter, S, Q, P}
-use Rattle.matrix.specs.Euclid.{pick}
-use Rattle.symbol.specs.Table.{pairing}
+use Rattle.basics.specs.Choice.{pick}
+use Rattle.symbol.specs.Table.{pairingEntry}
 use Rattle.symbol.specs.Check.{isZero, eqZ}
-use Rattle.pairing.specs.Generator.{partner, pairingAt, numberAt}
+use Rattle.pairing.specs.Generator.{partner, pairingAt, generatorNumber}
 use Rattle.symbol.specs.declared.Pairing.{Pairing}
 use Rattle.symbol.specs.declared.Pairing.the-variants.{Even, Odd, Free, Bad}
 use Rattle.polygon.specs.Cut.{corners, outer, flip, underZero}
 
 abbrev pub oddAt : ℕ → List ℤ → ℕ → Bool
-oddAt v t i = eqZ (pairing v t i) (negsuc 2)
+oddAt v t i = eqZ (pairingEntry v t i) (negsuc 2)
 
 unfoldable pub real : ℕ → List ℤ → ℕ → Bool
 real v t p = ltb p (corners v) || oddAt v t (p - corners v)
@@ -76,9 +76,9 @@ abbrev pub atSide : ℕ → ℕ → (ℕ → List ℤ) → List ℤ
 atSide v q f = pick (ltb q (corners v)) [] (f (q - corners v))
 
 unfoldable pub written : ℕ → List ℤ → Letter → ℕ → List ℤ
-written v t S p = atSide v (flip v t p) (λ (i : ℕ). crossed (pairingAt v t i) i (partner v t i) (numberAt v t i))
-written v t Q p = atSide v p (λ (i : ℕ). forth (numberAt v t i))
-written v t P p = atSide v p (λ (i : ℕ). back (numberAt v t i))
+written v t S p = atSide v (flip v t p) (λ (i : ℕ). crossed (pairingAt v t i) i (partner v t i) (generatorNumber v t i))
+written v t Q p = atSide v p (λ (i : ℕ). forth (generatorNumber v t i))
+written v t P p = atSide v p (λ (i : ℕ). back (generatorNumber v t i))
 
 abbrev pub turned : ℕ → List ℤ → Bool
 turned v t = isZero t (v - 1) && not (oddAt v t v)

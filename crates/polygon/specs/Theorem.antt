@@ -1,7 +1,7 @@
 -- WHAT THE CUT POLYGON OF AN ACCEPTED SYMBOL PROMISES, in one record. The proof is `polygon`, in proofs/Polygon.antt: every symbol has it.
 --
 --   SameCoset gens m n     some word in the generators takes m to n, up to sign: H m and H n are the same coset
---   Reached v t p q        some word leads from p to q
+--   Connected v t p q      some word leads from p to q
 --   Polygon v t            the promise, in these parts:
 --     steps        S is an involution on positions and Q has order three; both keep to the real positions, which all lie below `places v`
 --     frames       each position is an edge of the cut into Farey triangles (`Triangles`), and the frame is that edge's matrix; the start's is the
@@ -22,7 +22,7 @@ use lib.IntN.{ℤ, pos}
 use Rattle.matrix.specs.Matrix.{Mat, _⊗_, det, _≈_}
 use Rattle.matrix.specs.Words.{Letter, letter, value}
 use Rattle.matrix.specs.Action.{Involution, OrderThree}
-use Rattle.symbol.specs.Count.{count}
+use Rattle.basics.specs.Count.{count}
 use Rattle.pairing.specs.Generator.{generators}
 use Rattle.pairing.specs.Subgroup.{IsWord, valueOf, InH}
 use Rattle.polygon.specs.Cut.{corners, places}
@@ -35,7 +35,7 @@ pub record SameCoset (gens : List Mat) (m n : Mat) : Type 0 where
   pub letters : IsWord (length gens) word
   pub is : valueOf gens word ⊗ m ≈ n
 
-pub record Reached (v : ℕ) (t : List ℤ) (p q : ℕ) : Type 0 where
+pub record Connected (v : ℕ) (t : List ℤ) (p q : ℕ) : Type 0 where
   pub word : List Letter
   pub is : ends v t p word ≡ q
 
@@ -68,7 +68,7 @@ pub record Polygon (v : ℕ) (t : List ℤ) : Type 0 where
   -- cosets
   pub cosets : (m n : Mat) → det m ≡ pos 1 → det n ≡ pos 1 → (arrives v t (originOf v t) m ≡ arrives v t (originOf v t) n) ↔ SameCoset (generators v t) m n
   -- all
-  pub reached : (p : ℕ) → Real v t p → Reached v t (startOf v t) p
+  pub reached : (p : ℕ) → Real v t p → Connected v t (startOf v t) p
   pub index : count (real v t) (places v) ≡ corners v + count (oddAt v t) (v + 1)
   -- walks
   pub walks : Walks v t frame

@@ -6,7 +6,7 @@
 --   opposite x               -n/-d, the same point of the line
 --   x ≃ y                    one point of the line: x is y, or its opposite
 --   mediant x y              (n + n')/(d + d')
---   vertex v t y             the vertices of the polygon from left to right: 0 is -1/0, 1 to v are those of the table, and v + 1 is 1/0
+--   vertexAt v t y           the vertices of the polygon from left to right: 0 is -1/0, 1 to v are those of the table, and v + 1 is 1/0
 --   atZero m, atInfinity m   where the matrix m sends 0 and infinity: its second column, and its first
 --   Edge v t m x y           m is a matrix of the edge from vertex x to vertex y: it sends 0 to x and infinity to y
 --   Farey v t frame k        triangle k is a Farey triangle: its vertices are left, middle and right in this order, and the middle one is
@@ -48,9 +48,9 @@ x ≃ y = (x ≡ y) ⊎ (x ≡ opposite y)
 abbrev pub mediant : Fraction → Fraction → Fraction
 mediant x y = fraction (x .num +ℤ y .num) (x .den +ℤ y .den)
 
-abbrev pub vertex : ℕ → List ℤ → ℕ → Fraction
-vertex v t zero = fraction (negsuc 0) (pos 0)
-vertex v t (suc i) = fraction (rightNum v t i) (rightDen v t i)
+abbrev pub vertexAt : ℕ → List ℤ → ℕ → Fraction
+vertexAt v t zero = fraction (negsuc 0) (pos 0)
+vertexAt v t (suc i) = fraction (rightNum v t i) (rightDen v t i)
 
 -- ---- edges
 
@@ -61,8 +61,8 @@ abbrev pub atInfinity : Mat → Fraction
 atInfinity m = fraction (m .a) (m .c)
 
 pub record Edge (v : ℕ) (t : List ℤ) (m : Mat) (x y : ℕ) : Type 0 where
-  pub from : atZero m ≃ vertex v t x
-  pub to : atInfinity m ≃ vertex v t y
+  pub from : atZero m ≃ vertexAt v t x
+  pub to : atInfinity m ≃ vertexAt v t y
 
 -- ---- triangles
 
@@ -71,7 +71,7 @@ pub record Farey (v : ℕ) (t : List ℤ) (frame : ℕ → Mat) (k : ℕ) : Type
   pub middle : ℕ
   pub right : ℕ
   pub ordered : (left < middle) × (middle < right) × (right ≤ v)
-  pub between : vertex v t middle ≡ mediant (vertex v t left) (vertex v t right)
+  pub between : vertexAt v t middle ≡ mediant (vertexAt v t left) (vertexAt v t right)
   pub corner-0 : Edge v t (frame (3 * k)) left right
   pub corner-1 : Edge v t (frame (3 * k + 1)) middle left
   pub corner-2 : Edge v t (frame (3 * k + 2)) right middle

@@ -13,7 +13,8 @@ use Prim.Native.Nat.{ℕ}
 use lib.IntN.{ℤ}
 use Rattle.matrix.specs.Matrix.{Mat, _⊗_, adj, matS}
 use Rattle.matrix.specs.Words.{Letter}
-use Rattle.matrix.specs.Euclid.{pick, wordOf}
+use Rattle.matrix.specs.Euclid.{wordOf}
+use Rattle.basics.specs.Choice.{pick}
 use Rattle.matrix.specs.Action.{step, run, at}
 use Rattle.polygon.specs.Step.{stepS, turnQ, written, turned, startOf}
 

@@ -8,13 +8,13 @@ ghost use mathlib.Core.Path.{_≡_};
 ghost use Prim.Native.Nat.{ℕ, _+_, _*_, _≤_, _<_};
 ghost use lib.Dec.{eqb};
 ghost use lib.ListN.{length, getD};
-ghost use Rattle.matrix.specs.Euclid.{pick};
-ghost use Rattle.symbol.specs.Count.{first};
+ghost use Rattle.basics.specs.Choice.{pick};
+ghost use Rattle.basics.specs.Count.{first};
 ghost use Rattle.symbol.specs.Check.{isZero};
 ghost use Rattle.symbol.specs.Symbol.{IsSymbol};
 ghost use Rattle.polygon.specs.Cut.{places, below, handle};
 ghost use Rattle.polygon.specs.Inner.Space.{FLIP, joined};
-ghost use Rattle.polygon.specs.Inner.Scanning.{cellsIn, readyOf, Cells, Room, Settled, Cleared, Scanned, CutLeft};
+ghost use Rattle.polygon.specs.Inner.Scanning.{cellsIn, readyOf, Cells, ScanRoom, Settled, Cleared, Scanned, CutLeft};
 
 // How many cells the scan has on its stack, and how many triangles it has cut.
 pub struct Progress {
@@ -79,7 +79,7 @@ fn link(w: &mut [u16], p: usize, q: usize)
 
 // The vertex i + 1 of the scan: every triangle that it closes is cut off, and then it is pushed.
 fn settle(t: &[i64], v: usize, w: &mut [u16], i: usize, n0: usize, m0: usize) -> Progress
-    requires { ⌜ Room (now t) v (now w) i n0 m0 ⌝ }
+    requires { ⌜ ScanRoom (now t) v (now w) i n0 m0 ⌝ }
     ensures { λ r. ⌜ Settled (now (t .entry)) v (now (w .entry)) i n0 m0 (now (w .exit)) (r .n) (r .m) ⌝ }
 {
     let mut n = n0;

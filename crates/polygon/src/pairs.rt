@@ -9,11 +9,11 @@ ghost use lib.ListN.{length};
 ghost use Rattle.symbol.specs.Symbol.{IsSymbol};
 ghost use Rattle.pairing.specs.Generator.{isLeader};
 ghost use Rattle.polygon.specs.Inner.Space.{Above};
-ghost use Rattle.polygon.specs.Inner.Partners.{Partnered, NumberedTo, Numbered};
+ghost use Rattle.polygon.specs.Inner.Partners.{PartnersHeld, NumberedTo, Numbered};
 
 // Whether side i is the leftmost side of its generator.
 fn is_leading(t: &[i64], v: usize, w: &[u16], i: usize) -> bool
-    requires { ⌜ IsSymbol v (now t) × Partnered (now t) v (now w) × (i ≤ v) × (32768 ≤ length (now w)) ⌝ }
+    requires { ⌜ IsSymbol v (now t) × PartnersHeld (now t) v (now w) × (i ≤ v) × (32768 ≤ length (now w)) ⌝ }
     ensures { λ r. ⌜ r ≡ isLeader v (now (t .entry)) i ⌝ }
 {
     let kind = pairing(t, v, i);
@@ -46,8 +46,8 @@ fn number_side(t: &[i64], v: usize, w: &mut [u16], i: usize, n: usize) -> usize
 
 // Every side gets the number of its generator.
 pub(crate) fn number_sides(t: &[i64], v: usize, w: &mut [u16])
-    requires { ⌜ IsSymbol v (now t) × Partnered (now t) v (now w) × (32768 ≤ length (now w)) ⌝ }
-    ensures { λ _. ⌜ Above (now (w .entry)) (now (w .exit)) × Partnered (now (t .entry)) v (now (w .exit)) × Numbered (now (t .entry)) v (now (w .exit)) ⌝ }
+    requires { ⌜ IsSymbol v (now t) × PartnersHeld (now t) v (now w) × (32768 ≤ length (now w)) ⌝ }
+    ensures { λ _. ⌜ Above (now (w .entry)) (now (w .exit)) × PartnersHeld (now (t .entry)) v (now (w .exit)) × Numbered (now (t .entry)) v (now (w .exit)) ⌝ }
 {
     let mut n: usize = 0;
     let mut i: usize = 0;

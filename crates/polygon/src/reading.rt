@@ -11,7 +11,8 @@ ghost use Rattle.symbol.specs.Symbol.{IsSymbol};
 ghost use Rattle.matrix.specs.Matrix.{nth};
 ghost use Rattle.pairing.specs.Generator.{pairingAt};
 ghost use Rattle.polygon.specs.Cut.{den};
-ghost use Rattle.polygon.specs.Inner.Space.{FLIP, PARTNER, GENERATOR};
+ghost use Rattle.polygon.specs.Inner.Space.{FLIP, GENERATOR};
+ghost use Rattle.pairing.specs.Inner.Work.{PARTNER};
 
 // The denominator of vertex y, counted from 0 for -1/0.
 pub(crate) fn denominator(t: &[i64], v: usize, y: usize) -> u64

@@ -8,12 +8,12 @@ use symbol::is_zero;
 ghost use mathlib.Core.Path.{_≡_};
 ghost use Prim.Native.Nat.{_≤_};
 ghost use lib.IntN.{pos, negℤ};
-ghost use Rattle.matrix.specs.Euclid.{pick};
+ghost use Rattle.basics.specs.Choice.{pick};
 ghost use Rattle.symbol.specs.Symbol.{IsSymbol};
 ghost use Rattle.matrix.specs.Words.{S, Q, P};
 ghost use Rattle.polygon.specs.Step.{Real, stepS, turnQ, written, turned, startOf};
 ghost use Rattle.polygon.specs.Cut.{underZero};
-ghost use Rattle.polygon.specs.Inner.Tables.{Tables, lettersOf};
+ghost use Rattle.polygon.specs.Inner.Tables.{PolygonTables, lettersOf};
 
 // Q at p: the next corner of the triangle, or p itself where p is an outer face.
 pub fn turn_q(v: usize, p: usize) -> usize
@@ -31,7 +31,7 @@ pub fn turn_q(v: usize, p: usize) -> usize
 
 // S at the real position p.
 pub fn step_s(t: &[i64], v: usize, w: &[u16], p: usize) -> usize
-    requires { ⌜ Tables (now t) v (now w) × Real v (now t) p ⌝ }
+    requires { ⌜ PolygonTables (now t) v (now w) × Real v (now t) p ⌝ }
     ensures { λ r. ⌜ r ≡ stepS v (now (t .entry)) p ⌝ }
 {
     let q = beyond(w, p);
@@ -66,7 +66,7 @@ fn as_letter(j: usize, inverse: bool) -> i16
 
 // The letter that S writes at the real position p, 0 where it writes none.
 pub fn letter_s(t: &[i64], v: usize, w: &[u16], p: usize) -> i16
-    requires { ⌜ Tables (now t) v (now w) × Real v (now t) p ⌝ }
+    requires { ⌜ PolygonTables (now t) v (now w) × Real v (now t) p ⌝ }
     ensures { λ r. ⌜ lettersOf r ≡ written v (now (t .entry)) S p ⌝ }
 {
     let q = beyond(w, p);
@@ -90,7 +90,7 @@ pub fn letter_s(t: &[i64], v: usize, w: &[u16], p: usize) -> i16
 
 // The letter that Q, or Q⁻¹ where `inverse` holds, writes at the real position p, 0 where it writes none.
 pub fn letter_q(t: &[i64], v: usize, w: &[u16], p: usize, inverse: bool) -> i16
-    requires { ⌜ Tables (now t) v (now w) × Real v (now t) p ⌝ }
+    requires { ⌜ PolygonTables (now t) v (now w) × Real v (now t) p ⌝ }
     ensures { λ r. ⌜ lettersOf r ≡ written v (now (t .entry)) (pick inverse P Q) p ⌝ }
 {
     let b = 3 * (v - 1);
@@ -121,7 +121,7 @@ pub fn is_turned(t: &[i64], v: usize) -> bool
 
 // Where the walk starts, from the position under the chord to 0/1.
 pub(crate) fn start_position(t: &[i64], v: usize, w: &[u16], under: usize) -> usize
-    requires { ⌜ Tables (now t) v (now w) × (under ≡ underZero v (now t)) ⌝ }
+    requires { ⌜ PolygonTables (now t) v (now w) × (under ≡ underZero v (now t)) ⌝ }
     ensures { λ r. ⌜ r ≡ startOf v (now (t .entry)) ⌝ }
 {
     let turned = is_turned(t, v);

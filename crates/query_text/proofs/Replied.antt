@@ -3,27 +3,34 @@
 --     replied-as, letters-as     the line for an answer of `query`, and what it leaves in the word space
 --     few-.., enough-..          the line for the numbers of a text and what is left, by the test that the code makes
 --     reply-by, leaves-by        the same for an answer of `read_input`
+--     reply-means                what the bytes mean
 -- Assumes nothing.
 use mathlib.Core.Path.{_≡_, refl, sym, ap, _∙_}
 use mathlib.Core.Bool.{Bool, true, false}
 use mathlib.Core.List.{List}
 use Prim.Native.Nat.{ℕ, _≤_, _<_}
+use native.Mathlib.Omega.{arith}
 use lib.Dec.{ltb}
 use lib.IntN.{ℤ}
-use lib.ListN.{length}
+use lib.ListN.{length, take}
+use lib.Seq.{length-take-le}
 use borrow.Author.Tests.{lt-ltb, le-ltb}
 use Rattle.matrix.specs.Matrix.{ofList}
 use Rattle.refusal.specs.Refusal.{badVertexCount}
 use Rattle.workspace.specs.Space.{workLength}
-use Rattle.symbol.proofs.Choice.{pick-true, pick-false}
+use Rattle.basics.proofs.Choice.{pick-true, pick-false}
 use Rattle.text.specs.Piece.{pieces, numbers}
 use Rattle.text.specs.Reading.{inputOf, leftBy}
 use Rattle.text.specs.declared.Reading.{Reading}
+use Rattle.text.specs.declared.Reading.the-variants.{Numbers}
+use Rattle.text.proofs.Handed.{input-on}
 use Rattle.text_line.specs.Line.{refusalLine}
-use Rattle.word.specs.Answer.{queryRefusal, foundWord, queryOf, wordLeft, workLeft}
+use Rattle.word.specs.Answer.{queryRefusal, foundWord, queryOf, wordLeft, queryWork}
 use Rattle.word.specs.declared.Queried.{Queried}
+use Rattle.word.proofs.Order.{claim}
 use Rattle.word.specs.declared.Queried.the-variants as queried
-use Rattle.query_text.specs.Reply.{lettersLent, said, replied, lettersLeft, countIn, tableIn, firstIn, secondIn, byCount, repliedTo, workTo, lettersTo, queryFormat, replyBy, workBy, lettersBy, replyOf, Leaves}
+use Rattle.query_text.specs.Reply.{lettersLent, said, replied, lettersLeft, countIn, symbolIn, firstIn, secondIn, byCount, repliedTo, workTo}
+use Rattle.query_text.specs.Reply.{lettersTo, queryFormat, replyBy, replyWork, lettersBy, replyOf, queryAnswer, ReplyLeaves, Replied, ReplyMeans}
 
 -- an answer that is no word is its refusal
 pub said-other : (r : Queried) (l : List ℤ) → ((s n : ℕ) → r ≡ queried.Word s n → ⊥) → refusalLine (queryRefusal r) ≡ said r l
@@ -64,15 +71,15 @@ module _ (ns : List ℤ) where
   unfolding lettersTo
   few-letters letters h = few _ _ h
 
-  pub enough-line : 10 ≤ length ns → replied (countIn ns) (tableIn ns) (firstIn ns) (secondIn ns) ≡ repliedTo ns
+  pub enough-line : 10 ≤ length ns → replied (countIn ns) (symbolIn ns) (firstIn ns) (secondIn ns) ≡ repliedTo ns
   unfolding repliedTo
   enough-line h = enough _ _ h
 
-  pub enough-work : (w : List ℕ) → 10 ≤ length ns → workLeft (countIn ns) (tableIn ns) (firstIn ns) (secondIn ns) w ≡ workTo ns w
+  pub enough-work : (w : List ℕ) → 10 ≤ length ns → queryWork (countIn ns) (symbolIn ns) (firstIn ns) (secondIn ns) w ≡ workTo ns w
   unfolding workTo
   enough-work w h = enough _ _ h
 
-  pub enough-letters : (letters : List ℤ) → 10 ≤ length ns → lettersLeft (countIn ns) (tableIn ns) (firstIn ns) (secondIn ns) letters ≡ lettersTo ns letters
+  pub enough-letters : (letters : List ℤ) → 10 ≤ length ns → lettersLeft (countIn ns) (symbolIn ns) (firstIn ns) (secondIn ns) letters ≡ lettersTo ns letters
   unfolding lettersTo
   enough-letters letters h = enough _ _ h
 
@@ -80,11 +87,34 @@ pub reply-by : (longer : Bool) (text : List ℕ) (r : Reading) → r ≡ inputOf
 unfolding replyOf
 reply-by longer text r e = ap (λ (x : Reading). replyBy x (numbers (pieces text))) e
 
-pub leaves-by : {longer : Bool} {text : List ℕ} {ns letters : List ℤ} {w : List ℕ} {ns' letters' : List ℤ} {w' : List ℕ} (r : Reading) → r ≡ inputOf longer queryFormat text 3079
-    → ns' ≡ leftBy r (numbers (pieces text)) ns → w' ≡ workBy r (numbers (pieces text)) w → letters' ≡ lettersBy r (numbers (pieces text)) letters
-    → Leaves longer text ns letters w ns' letters' w'
+pub leaves-by : {longer : Bool} {text : List ℕ} {ns letters : List ℤ} {w : List ℕ} {ns' letters' : List ℤ} {w' : List ℕ} (r : Reading)
+    → r ≡ inputOf longer queryFormat text 3079
+    → ns' ≡ leftBy r (numbers (pieces text)) ns → w' ≡ replyWork r (numbers (pieces text)) w → letters' ≡ lettersBy r (numbers (pieces text)) letters
+    → ReplyLeaves longer text ns letters w ns' letters' w'
 leaves-by {longer} {text} {ns} {letters} {w} r e a b d = record {
   numbers-left = a ∙ ap (λ (x : Reading). leftBy x (numbers (pieces text)) ns) e;
-  work-left = b ∙ ap (λ (x : Reading). workBy x (numbers (pieces text)) w) e;
+  work-left = b ∙ ap (λ (x : Reading). replyWork x (numbers (pieces text)) w) e;
   letters-left = d ∙ ap (λ (x : Reading). lettersBy x (numbers (pieces text)) letters) e;
 }
+
+-- the claim holds of what a query in the program's spaces answers
+pub reply-means : {longer : Bool} {text bytes : List ℕ} {ns letters : List ℤ} {w : List ℕ} {ns' letters' : List ℤ} {w' : List ℕ}
+    → length w ≡ workLength → length letters ≡ lettersLent → bytes ≡ replyOf longer text → ReplyLeaves longer text ns letters w ns' letters' w'
+    → ReplyMeans longer text bytes letters w letters'
+unfolding replyOf repliedTo replied lettersTo
+reply-means {longer} {text} {bytes} {ns} {letters} {w} {ns'} {letters'} work lent b left k ten e = record {
+  line = b ∙ ap (λ (x : Reading). replyBy x all) e ∙ sym (enough read (refusalLine badVertexCount) _ long);
+  claim = claim
+      (ap (λ (n : ℕ). queryOf (countIn read) (symbolIn read) (firstIn read) (secondIn read) n lettersLent 0) (sym work)
+      ∙ ap (λ (n : ℕ). queryOf (countIn read) (symbolIn read) (firstIn read) (secondIn read) (length w) n 0) (sym lent))
+      (left .letters-left ∙ ap (λ (x : Reading). lettersBy x all letters) e ∙ sym (enough read letters _ long));
+}
+  where
+    all : List ℤ
+    all = numbers (pieces text)
+
+    read : List ℤ
+    read = take k all
+
+    long : 10 ≤ length read
+    long = omega (arith, length-take-le k all (input-on longer queryFormat text 3079 k (omega arith) (sym e) .there))

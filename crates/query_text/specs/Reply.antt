@@ -6,23 +6,26 @@
 --                                   `refused`, the number and the place
 --   replied v t a b                 the line for the symbol in t and the pair A, B; the word starts at the place 0 of the lent space
 --   four ns i                       the four numbers of ns from the number i on: a matrix, row by row
---   countIn, tableIn, firstIn, secondIn     v, the symbol's table, A and B in the numbers ns of a text, of which A and B are the last eight
+--   countIn, symbolIn, firstIn, secondIn    v, the symbol's table, A and B in the numbers ns of a text, of which A and B are the last eight
 --   repliedTo ns                    the line for the numbers ns of a text. Where v is out of range a text hands on v alone (refusal 1);
 --                                   else there are 3v + 10 numbers
 --   workTo ns w, lettersTo ns l     what the call then leaves in the work space w and in the word space l
 --   queryFormat                     the form of the text: v from 1 to 1,023, and then 3v + 1 numbers and two matrices of four
---   replyBy, workBy, lettersBy      the same by the answer of `read_input`, where the text's numbers are ns
+--   replyBy, replyWork, lettersBy   the same by the answer of `read_input`, where the text's numbers are ns
 --   replyOf longer text             the bytes for a text, or for one with more than the 65,536 bytes that fit into the buffer
---   Leaves ..                       what the call leaves in every lent space but that of the bytes
+--   ReplyLeaves ..                  what the call leaves in every lent space but that of the bytes
+--   Replied ns bytes ..             what the bytes mean where the numbers of the text are ns: they are the line of the query's answer, and of that
+--                                   answer the claim holds, so that `refused 10 0` means that there is no such product, and the letters are one
+--   ReplyMeans ..                   that holds for every text whose numbers are a symbol's and a pair's
 use mathlib.Core.Path.{_≡_}
 use mathlib.Core.Bool.{Bool}
 use mathlib.Core.List.{List, [], _∷_}
-use Prim.Native.Nat.{ℕ, _+_, _-_}
+use Prim.Native.Nat.{ℕ, _+_, _-_, _≤_}
 use lib.Dec.{ltb}
 use lib.IntN.{ℤ}
 use lib.ListN.{length, take, drop}
 use Rattle.matrix.specs.Matrix.{nth, ofList}
-use Rattle.matrix.specs.Euclid.{pick}
+use Rattle.basics.specs.Choice.{pick}
 use Rattle.refusal.specs.Refusal.{badVertexCount}
 use Rattle.workspace.specs.Space.{workLength}
 use Rattle.text.specs.Piece.{pieces, numbers}
@@ -32,7 +35,8 @@ use Rattle.text.specs.declared.Format.{Format}
 use Rattle.text.specs.declared.Reading.{Reading}
 use Rattle.text.specs.declared.Reading.the-variants.{Numbers, Refused}
 use Rattle.text_line.specs.Line.{line, refusalLine}
-use Rattle.word.specs.Answer.{foundWord, queryOf, workLeft, wordLeft}
+use Rattle.word.specs.Answer.{foundWord, queryOf, queryWork, wordLeft}
+use Rattle.word.specs.Claim.{Claim}
 use Rattle.word.specs.declared.Queried.{Queried}
 use Rattle.word.specs.declared.Queried.the-variants as queried
 
@@ -60,8 +64,8 @@ four ns i = nth ns i ∷ nth ns (i + 1) ∷ nth ns (i + 2) ∷ nth ns (i + 3) �
 abbrev pub countIn : List ℤ → ℕ
 countIn ns = reading.vertexCount (nth ns 0)
 
-abbrev pub tableIn : List ℤ → List ℤ
-tableIn ns = take (length ns - 9) (drop 1 ns)
+abbrev pub symbolIn : List ℤ → List ℤ
+symbolIn ns = take (length ns - 9) (drop 1 ns)
 
 abbrev pub firstIn : List ℤ → List ℤ
 firstIn ns = four ns (length ns - 8)
@@ -74,13 +78,13 @@ abbrev pub byCount : {X : Type 0} → List ℤ → X → X → X
 byCount ns x y = pick (ltb (length ns) 10) x y
 
 unfoldable pub repliedTo : List ℤ → List ℕ
-repliedTo ns = byCount ns (refusalLine badVertexCount) (replied (countIn ns) (tableIn ns) (firstIn ns) (secondIn ns))
+repliedTo ns = byCount ns (refusalLine badVertexCount) (replied (countIn ns) (symbolIn ns) (firstIn ns) (secondIn ns))
 
 unfoldable pub workTo : List ℤ → List ℕ → List ℕ
-workTo ns w = byCount ns w (workLeft (countIn ns) (tableIn ns) (firstIn ns) (secondIn ns) w)
+workTo ns w = byCount ns w (queryWork (countIn ns) (symbolIn ns) (firstIn ns) (secondIn ns) w)
 
 unfoldable pub lettersTo : (ns letters : List ℤ) → List ℤ
-lettersTo ns letters = byCount ns letters (lettersLeft (countIn ns) (tableIn ns) (firstIn ns) (secondIn ns) letters)
+lettersTo ns letters = byCount ns letters (lettersLeft (countIn ns) (symbolIn ns) (firstIn ns) (secondIn ns) letters)
 
 -- ---- the text
 
@@ -91,9 +95,9 @@ abbrev pub replyBy : Reading → List ℤ → List ℕ
 replyBy (Numbers k) ns = repliedTo (take k ns)
 replyBy (Refused f) ns = refusalLine f
 
-abbrev pub workBy : Reading → List ℤ → List ℕ → List ℕ
-workBy (Numbers k) ns w = workTo (take k ns) w
-workBy (Refused f) ns w = w
+abbrev pub replyWork : Reading → List ℤ → List ℕ → List ℕ
+replyWork (Numbers k) ns w = workTo (take k ns) w
+replyWork (Refused f) ns w = w
 
 abbrev pub lettersBy : Reading → (ns letters : List ℤ) → List ℤ
 lettersBy (Numbers k) ns letters = lettersTo (take k ns) letters
@@ -102,7 +106,20 @@ lettersBy (Refused f) ns letters = letters
 unfoldable pub replyOf : Bool → List ℕ → List ℕ
 replyOf longer text = replyBy (inputOf longer queryFormat text 3079) (numbers (pieces text))
 
-pub record Leaves (longer : Bool) (text : List ℕ) (ns letters : List ℤ) (w : List ℕ) (ns' letters' : List ℤ) (w' : List ℕ) : Type 0 where
+pub record ReplyLeaves (longer : Bool) (text : List ℕ) (ns letters : List ℤ) (w : List ℕ) (ns' letters' : List ℤ) (w' : List ℕ) : Type 0 where
   pub numbers-left : ns' ≡ leftBy (inputOf longer queryFormat text 3079) (numbers (pieces text)) ns
-  pub work-left : w' ≡ workBy (inputOf longer queryFormat text 3079) (numbers (pieces text)) w
+  pub work-left : w' ≡ replyWork (inputOf longer queryFormat text 3079) (numbers (pieces text)) w
   pub letters-left : letters' ≡ lettersBy (inputOf longer queryFormat text 3079) (numbers (pieces text)) letters
+
+-- ---- what it means
+
+abbrev pub queryAnswer : List ℤ → Queried
+queryAnswer ns = queryOf (countIn ns) (symbolIn ns) (firstIn ns) (secondIn ns) workLength lettersLent 0
+
+pub record Replied (ns : List ℤ) (bytes : List ℕ) (letters : List ℤ) (w : List ℕ) (letters' : List ℤ) : Type 0 where
+  pub line : bytes ≡ said (queryAnswer ns) (foundWord (countIn ns) (symbolIn ns) (ofList (firstIn ns)) (ofList (secondIn ns)))
+  pub claim : Claim (countIn ns) (symbolIn ns) (firstIn ns) (secondIn ns) w letters 0 (queryAnswer ns) letters'
+
+abbrev pub ReplyMeans : (longer : Bool) (text bytes : List ℕ) (letters : List ℤ) (w : List ℕ) (letters' : List ℤ) → Type 0
+ReplyMeans longer text bytes letters w letters' =
+    (k : ℕ) → 10 ≤ k → inputOf longer queryFormat text 3079 ≡ Numbers k → Replied (take k (numbers (pieces text))) bytes letters w letters'

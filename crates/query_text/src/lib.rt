@@ -13,11 +13,11 @@ use word::query_refusal;
 use word::word_part;
 ghost use mathlib.Core.Path.{_≡_};
 ghost use Prim.Native.Nat.{_+_, _≤_};
-ghost use lib.ListN.{length};
+ghost use lib.ListN.{length, take};
 ghost use Rattle.text_line.specs.Line.{Puts};
-ghost use Rattle.word.specs.Answer.{workLeft};
-ghost use Rattle.query_text.specs.Reply.{replied, lettersLeft, four, repliedTo, workTo, lettersTo, replyOf, Leaves};
-ghost use Rattle.query_text.specs.Inner.Spaces.{Spaces};
+ghost use Rattle.word.specs.Answer.{queryWork};
+ghost use Rattle.query_text.specs.Reply.{replied, lettersLeft, four, repliedTo, workTo, lettersTo, replyOf, ReplyLeaves, ReplyMeans};
+ghost use Rattle.query_text.specs.Inner.Spaces.{ReplySpaces};
 
 // The matrix in the four numbers from the number i on.
 fn four_at(ns: &[i64], i: usize) -> [i64; 4]
@@ -37,9 +37,9 @@ fn reply_pair(
     letters: &mut [i16],
     out: &mut [u8],
 ) -> usize
-    requires { ⌜ Spaces (now w) (now letters) (now out) ⌝ }
+    requires { ⌜ ReplySpaces (now w) (now letters) (now out) ⌝ }
     ensures { λ e. ⌜ Puts (replied v (now (t .entry)) a b) 0 e (now (out .entry)) (now (out .exit)) ⌝ }
-    ensures { λ e. ⌜ now (w .exit) ≡ workLeft v (now (t .entry)) a b (now (w .entry)) ⌝ }
+    ensures { λ e. ⌜ now (w .exit) ≡ queryWork v (now (t .entry)) a b (now (w .entry)) ⌝ }
     ensures { λ e. ⌜ now (letters .exit) ≡ lettersLeft v (now (t .entry)) a b (now (letters .entry)) ⌝ }
 {
     let answer = query(v, t, a, b, w, letters, 0);
@@ -53,7 +53,7 @@ fn reply_pair(
 
 // The answer for the numbers of a text.
 fn reply_numbers(ns: &[i64], w: &mut [u16], letters: &mut [i16], out: &mut [u8]) -> usize
-    requires { ⌜ Spaces (now w) (now letters) (now out) ⌝ }
+    requires { ⌜ ReplySpaces (now w) (now letters) (now out) ⌝ }
     ensures { λ e. ⌜ Puts (repliedTo (now (ns .entry))) 0 e (now (out .entry)) (now (out .exit)) ⌝ }
     ensures { λ e. ⌜ now (w .exit) ≡ workTo (now (ns .entry)) (now (w .entry)) ⌝ }
     ensures { λ e. ⌜ now (letters .exit) ≡ lettersTo (now (ns .entry)) (now (letters .entry)) ⌝ }
@@ -84,9 +84,9 @@ fn reply_text(
     letters: &mut [i16],
     out: &mut [u8],
 ) -> usize
-    requires { ⌜ (length (now numbers) ≡ 3079) × Spaces (now w) (now letters) (now out) ⌝ }
+    requires { ⌜ (length (now numbers) ≡ 3079) × ReplySpaces (now w) (now letters) (now out) ⌝ }
     ensures { λ e. ⌜ Puts (replyOf longer (now (text .entry))) 0 e (now (out .entry)) (now (out .exit)) ⌝ }
-    ensures { λ e. ⌜ Leaves longer (now (text .entry)) (now (numbers .entry)) (now (letters .entry)) (now (w .entry)) (now (numbers .exit)) (now (letters .exit)) (now (w .exit)) ⌝ }
+    ensures { λ e. ⌜ ReplyLeaves longer (now (text .entry)) (now (numbers .entry)) (now (letters .entry)) (now (w .entry)) (now (numbers .exit)) (now (letters .exit)) (now (w .exit)) ⌝ }
 {
     let read = read_input(
         text,
@@ -115,7 +115,8 @@ pub fn reply(
     out: &mut [u8; 131072],
 ) -> usize
     ensures { λ e. ⌜ Puts (replyOf longer (now (text .entry))) 0 e (now (out .entry)) (now (out .exit)) × (e ≤ length (now (out .exit))) ⌝ }
-    ensures { λ e. ⌜ Leaves longer (now (text .entry)) (now (numbers .entry)) (now (letters .entry)) (now (w .entry)) (now (numbers .exit)) (now (letters .exit)) (now (w .exit)) ⌝ }
+    ensures { λ e. ⌜ ReplyLeaves longer (now (text .entry)) (now (numbers .entry)) (now (letters .entry)) (now (w .entry)) (now (numbers .exit)) (now (letters .exit)) (now (w .exit)) ⌝ }
+    ensures { λ e. ⌜ ReplyMeans longer (now (text .entry)) (take e (now (out .exit))) (now (letters .entry)) (now (w .entry)) (now (letters .exit)) ⌝ }
 {
     reply_text(text, longer, numbers, w, letters, out)
 }

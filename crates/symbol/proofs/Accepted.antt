@@ -14,11 +14,13 @@ use lib.ListN.{length}
 use borrow.Author.Tests.{le-leb, leb-true, lt-ltb, le-ltb, ltb-true, ltb-false, eq-eqb, ne-eqb, eqb-true, not-false}
 use lib.IntN.{ℤ, pos, negsuc, natAbs, _-ℤ_, _*ℤ_, *ℤ-comm}
 use Rattle.matrix.specs.Matrix.{nth, det}
-use Rattle.matrix.specs.Euclid.{pick, positive}
-use Rattle.symbol.specs.Count.{first, count}
-use Rattle.symbol.specs.Table.{numer, denom, pairings, pairing, sideAt, frame, gap, pairingOf}
-use Rattle.symbol.specs.Check.{refuse, refuseAt, eqZ, check1, check2, check3, check4, check5, check6, check7, checkOf, outOfRange, apart, isZero, sides, unpairedIn, unpairedBy, isOdd, lacksOdd}
-use Rattle.symbol.specs.Symbol.{ZeroAt, FreeLabel, IsSymbol, Verdict}
+use Rattle.matrix.specs.Euclid.{positive}
+use Rattle.basics.specs.Choice.{pick}
+use Rattle.basics.specs.Count.{first, count}
+use Rattle.symbol.specs.Table.{numer, denom, pairingEntries, pairingEntry, sideAt, frame, gap, pairingOf}
+use Rattle.symbol.specs.Check.{refuse, refuseAt, eqZ, check1, check2, check3, check4, check5, check6, check7, symbolCheck, outOfRange, apart}
+use Rattle.symbol.specs.Check.{isZero, sides, unpairedIn, unpairedBy, isOdd, lacksOdd}
+use Rattle.symbol.specs.Symbol.{ZeroAt, FreeLabel, IsSymbol, SymbolVerdict}
 use Rattle.refusal.proofs.Apart.{refused-accepted}
 use Rattle.refusal.proofs.Answers.{both-pass}
 use Rattle.refusal.proofs.Numbered.{Among, among-first}
@@ -29,8 +31,9 @@ use Rattle.refusal.specs.declared.Refusal.{Refusal}
 use Rattle.refusal.specs.Refusal.{_orElse_, badVertexCount, tableLength, vertexEntry, notNeighbours, noZero, badPairing, noOddSide}
 use Rattle.refusal.specs.declared.Checked.{Checked}
 use Rattle.refusal.specs.declared.Checked.the-variants.{Accepted, Refused}
-use Rattle.symbol.proofs.Choice.{pick-true, pick-false, either, clash, and-left, and-right, eqZ-true, eq-eqZ, positive-true, true-positive}
-use Rattle.symbol.proofs.Count.{Clear, Found, first-clear, clear-first, first-hit, found, search-first}
+use Rattle.symbol.proofs.Choice.{eqZ-true, eq-eqZ, positive-true, true-positive}
+use Rattle.basics.proofs.Choice.{pick-true, pick-false, either, clash, and-left, and-right}
+use Rattle.basics.proofs.Count.{Clear, Found, first-clear, clear-first, first-hit, found, search-first}
 use Rattle.symbol.proofs.Pairings.{PairingView, even, odd, free, bad, pairing-view, pairing-free}
 
 -- ---- passing
@@ -64,11 +67,15 @@ module _ (v : ℕ) (t : List ℤ) where
   -- 3
   pub in-range : (i : ℕ) → outOfRange t i ≡ false → (natAbs (nth t i) ≤ 1000000000) × (eqb (i % 2) 0 || positive (nth t i)) ≡ true
   in-range i e =
-      let k = not-false (leb (natAbs (nth t i)) 1000000000 && (eqb (i % 2) 0 || positive (nth t i))) e in
-      (leb-true (natAbs (nth t i)) 1000000000 (and-left (leb (natAbs (nth t i)) 1000000000) (eqb (i % 2) 0 || positive (nth t i)) k), and-right (leb (natAbs (nth t i)) 1000000000) (eqb (i % 2) 0 || positive (nth t i)) k)
+      let k = not-false (leb (natAbs (nth t i)) 1000000000 && (eqb (i % 2) 0 || positive (nth t i))) e in (
+        leb-true (natAbs (nth t i)) 1000000000 (and-left (leb (natAbs (nth t i)) 1000000000) (eqb (i % 2) 0 || positive (nth t i)) k),
+        and-right
+            (leb (natAbs (nth t i)) 1000000000) (eqb (i % 2) 0 || positive (nth t i)) k,
+      )
 
   range-in : (i : ℕ) → natAbs (nth t i) ≤ 1000000000 → (eqb (i % 2) 0 || positive (nth t i)) ≡ true → outOfRange t i ≡ false
-  range-in i h e = false-not (leb (natAbs (nth t i)) 1000000000 && (eqb (i % 2) 0 || positive (nth t i))) (and-true (leb (natAbs (nth t i)) 1000000000) (eqb (i % 2) 0 || positive (nth t i)) (le-leb (natAbs (nth t i)) 1000000000 h) e)
+  range-in i h e = false-not (leb (natAbs (nth t i)) 1000000000 && (eqb (i % 2) 0 || positive (nth t i)))
+      (and-true (leb (natAbs (nth t i)) 1000000000) (eqb (i % 2) 0 || positive (nth t i)) (le-leb (natAbs (nth t i)) 1000000000 h) e)
 
   -- at an odd place only the second test can hold
   at-odd : (i : ℕ) (b : Bool) → (eqb ((2 * i + 1) % 2) 0 || b) ≡ true → b ≡ true
@@ -98,7 +105,8 @@ module _ (v : ℕ) (t : List ℤ) where
   found-zero z = false-not (ltb (first (isZero t) v) v) (go (search-first (isZero t) v))
     where
       passed : isZero t (z .at) ≡ true
-      passed = and-true (eqZ (numer t (z .at)) (pos 0)) (eqZ (denom t (z .at)) (pos 1)) (eq-eqZ (numer t (z .at)) (pos 0) (z .num)) (eq-eqZ (denom t (z .at)) (pos 1) (z .den))
+      passed = and-true (eqZ (numer t (z .at)) (pos 0)) (eqZ (denom t (z .at)) (pos 1)) (eq-eqZ (numer t (z .at)) (pos 0) (z .num))
+          (eq-eqZ (denom t (z .at)) (pos 1) (z .den))
 
       go : Clear (isZero t) v ⊎ Found (isZero t) v → ltb (first (isZero t) v) v ≡ true
       go (inl c) = clash passed (c .none (z .at) (z .below))
@@ -120,36 +128,49 @@ module _ (v : ℕ) (t : List ℤ) where
       go : PairingView v x → Paired x
       go (even p q) = inl p
       go (odd p q) = inr (inl p)
-      go (free l p h k q) = inr (inr (record { label = l; is = p; low = h; high = k; twice = eqb-true (sides v t x) 2 (not-false (eqb (sides v t x) 2) (sym (lonely-is x (Free l) q) ∙ e)) }))
+      go (free l p h k q) = inr (inr (record {
+        label = l;
+        is = p;
+        low = h;
+        high = k;
+        twice =
+            eqb-true (sides v t x) 2 (not-false (eqb (sides v t x) 2) (sym (lonely-is x (Free l) q) ∙ e));
+      }))
       go (bad q) = clash (lonely-is x Bad q) e
 
   not-lonely : (x : ℤ) → Paired x → lonely x ≡ false
   not-lonely x (inl e) = lonely-is x Even (ap (pairingOf v) e)
   not-lonely x (inr (inl e)) = lonely-is x Odd (ap (pairingOf v) e)
-  not-lonely x (inr (inr f)) = lonely-is x (Free (f .label)) (ap (pairingOf v) (f .is) ∙ pairing-free v (f .label) (f .low) (f .high)) ∙ false-not (eqb (sides v t x) 2) (eq-eqb (sides v t x) 2 (f .twice))
+  not-lonely x (inr (inr f)) = lonely-is x (Free (f .label)) (ap (pairingOf v) (f .is) ∙ pairing-free v (f .label) (f .low) (f .high))
+      ∙ false-not (eqb (sides v t x) 2) (eq-eqb (sides v t x) 2 (f .twice))
 
   -- 7
-  odd-one : (eqb v 1 && not (isOdd (pairings v t) 0 || isOdd (pairings v t) 1)) ≡ false → v ≡ 1 → (pairing v t 0 ≡ negsuc 2) ⊎ (pairing v t 1 ≡ negsuc 2)
-  odd-one e h = go (either (isOdd (pairings v t) 0)) (either (isOdd (pairings v t) 1))
+  odd-one : (eqb v 1 && not (isOdd (pairingEntries v t) 0 || isOdd (pairingEntries v t) 1)) ≡ false → v ≡ 1 → (pairingEntry v t 0 ≡ negsuc 2)
+      ⊎ (pairingEntry v t 1 ≡ negsuc 2)
+  odd-one e h = go (either (isOdd (pairingEntries v t) 0)) (either (isOdd (pairingEntries v t) 1))
     where
-      some : not (isOdd (pairings v t) 0 || isOdd (pairings v t) 1) ≡ false
-      some = sym (ap (λ (b : Bool). b && not (isOdd (pairings v t) 0 || isOdd (pairings v t) 1)) (eq-eqb v 1 h)) ∙ e
+      some : not (isOdd (pairingEntries v t) 0 || isOdd (pairingEntries v t) 1) ≡ false
+      some = sym (ap (λ (b : Bool). b && not (isOdd (pairingEntries v t) 0 || isOdd (pairingEntries v t) 1)) (eq-eqb v 1 h)) ∙ e
 
-      go : (isOdd (pairings v t) 0 ≡ true) ⊎ (isOdd (pairings v t) 0 ≡ false) → (isOdd (pairings v t) 1 ≡ true) ⊎ (isOdd (pairings v t) 1 ≡ false) → (pairing v t 0 ≡ negsuc 2) ⊎ (pairing v t 1 ≡ negsuc 2)
-      go (inl a) b = inl (eqZ-true (pairing v t 0) (negsuc 2) a)
-      go (inr a) (inl b) = inr (eqZ-true (pairing v t 1) (negsuc 2) b)
-      go (inr a) (inr b) = clash (not-false (isOdd (pairings v t) 0 || isOdd (pairings v t) 1) some) (ap (λ (x : Bool). x || isOdd (pairings v t) 1) a ∙ b)
+      go : (isOdd (pairingEntries v t) 0 ≡ true) ⊎ (isOdd (pairingEntries v t) 0 ≡ false) → (isOdd (pairingEntries v t) 1 ≡ true)
+          ⊎ (isOdd (pairingEntries v t) 1 ≡ false) → (pairingEntry v t 0 ≡ negsuc 2) ⊎ (pairingEntry v t 1 ≡ negsuc 2)
+      go (inl a) b = inl (eqZ-true (pairingEntry v t 0) (negsuc 2) a)
+      go (inr a) (inl b) = inr (eqZ-true (pairingEntry v t 1) (negsuc 2) b)
+      go (inr a) (inr b) = clash (not-false (isOdd (pairingEntries v t) 0 || isOdd (pairingEntries v t) 1) some)
+          (ap (λ (x : Bool). x || isOdd (pairingEntries v t) 1) a ∙ b)
 
-  one-odd : (v ≡ 1 → (pairing v t 0 ≡ negsuc 2) ⊎ (pairing v t 1 ≡ negsuc 2)) → (eqb v 1 && not (isOdd (pairings v t) 0 || isOdd (pairings v t) 1)) ≡ false
+  one-odd : (v ≡ 1 → (pairingEntry v t 0 ≡ negsuc 2) ⊎ (pairingEntry v t 1 ≡ negsuc 2))
+      → (eqb v 1 && not (isOdd (pairingEntries v t) 0 || isOdd (pairingEntries v t) 1)) ≡ false
   one-odd f = go (either (eqb v 1))
     where
-      some : (pairing v t 0 ≡ negsuc 2) ⊎ (pairing v t 1 ≡ negsuc 2) → (isOdd (pairings v t) 0 || isOdd (pairings v t) 1) ≡ true
-      some (inl a) = ap (λ (x : Bool). x || isOdd (pairings v t) 1) (eq-eqZ (pairing v t 0) (negsuc 2) a)
-      some (inr b) = or-true (isOdd (pairings v t) 0) (isOdd (pairings v t) 1) (eq-eqZ (pairing v t 1) (negsuc 2) b)
+      some : (pairingEntry v t 0 ≡ negsuc 2) ⊎ (pairingEntry v t 1 ≡ negsuc 2) → (isOdd (pairingEntries v t) 0 || isOdd (pairingEntries v t) 1) ≡ true
+      some (inl a) = ap (λ (x : Bool). x || isOdd (pairingEntries v t) 1) (eq-eqZ (pairingEntry v t 0) (negsuc 2) a)
+      some (inr b) = or-true (isOdd (pairingEntries v t) 0) (isOdd (pairingEntries v t) 1) (eq-eqZ (pairingEntry v t 1) (negsuc 2) b)
 
-      go : (eqb v 1 ≡ true) ⊎ (eqb v 1 ≡ false) → (eqb v 1 && not (isOdd (pairings v t) 0 || isOdd (pairings v t) 1)) ≡ false
-      go (inl a) = ap (λ (x : Bool). x && not (isOdd (pairings v t) 0 || isOdd (pairings v t) 1)) a ∙ false-not (isOdd (pairings v t) 0 || isOdd (pairings v t) 1) (some (f (eqb-true v 1 a)))
-      go (inr a) = ap (λ (x : Bool). x && not (isOdd (pairings v t) 0 || isOdd (pairings v t) 1)) a
+      go : (eqb v 1 ≡ true) ⊎ (eqb v 1 ≡ false) → (eqb v 1 && not (isOdd (pairingEntries v t) 0 || isOdd (pairingEntries v t) 1)) ≡ false
+      go (inl a) = ap (λ (x : Bool). x && not (isOdd (pairingEntries v t) 0 || isOdd (pairingEntries v t) 1)) a
+          ∙ false-not (isOdd (pairingEntries v t) 0 || isOdd (pairingEntries v t) 1) (some (f (eqb-true v 1 a)))
+      go (inr a) = ap (λ (x : Bool). x && not (isOdd (pairingEntries v t) 0 || isOdd (pairingEntries v t) 1)) a
 
   -- ---- the theorem
 
@@ -160,12 +181,12 @@ module _ (v : ℕ) (t : List ℤ) where
     pub three : check3 v t ≡ Accepted
     pub four : check4 v t ≡ Accepted
     pub five : check5 v t ≡ Accepted
-    pub six : check6 v (pairings v t) ≡ Accepted
-    pub seven : check7 v (pairings v t) ≡ Accepted
+    pub six : check6 v (pairingEntries v t) ≡ Accepted
+    pub seven : check7 v (pairingEntries v t) ≡ Accepted
 
-  pub passed-all : checkOf v t ≡ Accepted → Passed
+  pub passed-all : symbolCheck v t ≡ Accepted → Passed
   passed-all e =
-      let c6 = check6 v (pairings v t) orElse check7 v (pairings v t) in
+      let c6 = check6 v (pairingEntries v t) orElse check7 v (pairingEntries v t) in
       let c5 = check5 v t orElse c6 in
       let c4 = check4 v t orElse c5 in
       let c3 = check3 v t orElse c4 in
@@ -175,10 +196,10 @@ module _ (v : ℕ) (t : List ℤ) where
       let c = both-pass (check3 v t) c4 (b .1) in
       let d = both-pass (check4 v t) c5 (c .1) in
       let f = both-pass (check5 v t) c6 (d .1) in
-      let g = both-pass (check6 v (pairings v t)) (check7 v (pairings v t)) (f .1) in
+      let g = both-pass (check6 v (pairingEntries v t)) (check7 v (pairingEntries v t)) (f .1) in
       record { one = a .0; two = b .0; three = c .0; four = d .0; five = f .0; six = g .0; seven = g .1 }
 
-  pub all-passed : Passed → checkOf v t ≡ Accepted
+  pub all-passed : Passed → symbolCheck v t ≡ Accepted
   all-passed p = rw (p .one, p .two, p .three, p .four, p .five, p .six) (p .seven)
 
   meaning : Passed → IsSymbol v t
@@ -186,7 +207,7 @@ module _ (v : ℕ) (t : List ℤ) where
       let one = not-false (leb 1 v && leb v 1023) (passes (not (leb 1 v && leb v 1023)) badVertexCount (p .one)) in
       let three = passes-at (outOfRange t) (2 * v) vertexEntry (p .three) in
       let four = passes-at (apart v t) (v + 1) notNeighbours (p .four) in
-      let six = passes-at (unpairedIn v (pairings v t)) (v + 1) badPairing (p .six) in
+      let six = passes-at (unpairedIn v (pairingEntries v t)) (v + 1) badPairing (p .six) in
       record {
         some = leb-true 1 v (and-left (leb 1 v) (leb v 1023) one);
         most = leb-true v 1023 (and-right (leb 1 v) (leb v 1023) one);
@@ -196,10 +217,11 @@ module _ (v : ℕ) (t : List ℤ) where
             let k = in-range (2 * i + 1) (three .none (2 * i + 1) (omega arith)) in
             let q = positive-true (denom t i) (at-odd i (positive (denom t i)) (k .1)) in
             (q .0, k .0, q .1);
-        neighbours = λ i h. sym (neighbour (sideAt v t i)) ∙ eqZ-true (gap (sideAt v t i)) (pos 1) (not-false (eqZ (gap (sideAt v t i)) (pos 1)) (four .none i (omega arith)));
+        neighbours = λ i h. sym (neighbour (sideAt v t i))
+            ∙ eqZ-true (gap (sideAt v t i)) (pos 1) (not-false (eqZ (gap (sideAt v t i)) (pos 1)) (four .none i (omega arith)));
         zero = zero-found (passes (not (ltb (first (isZero t) v) v)) noZero (p .five));
-        pairings = λ i h. paired (pairing v t i) (six .none i (omega arith));
-        odd = odd-one (passes (eqb v 1 && not (isOdd (pairings v t) 0 || isOdd (pairings v t) 1)) noOddSide (p .seven));
+        pairings = λ i h. paired (pairingEntry v t i) (six .none i (omega arith));
+        odd = odd-one (passes (eqb v 1 && not (isOdd (pairingEntries v t) 0 || isOdd (pairingEntries v t) 1)) noOddSide (p .seven));
       }
 
   -- an entry's place is 2 i or 2 i + 1
@@ -224,17 +246,21 @@ module _ (v : ℕ) (t : List ℤ) where
         one = pass (not (leb 1 v && leb v 1023)) badVertexCount (false-not (leb 1 v && leb v 1023) (and-true (leb 1 v) (leb v 1023) (le-leb 1 v a) (le-leb v 1023 b)));
         two = pass (not (eqb (length t) (3 * v + 1))) (tableLength (length t)) (false-not (eqb (length t) (3 * v + 1)) (eq-eqb (length t) (3 * v + 1) (s .long)));
         three = pass-at (outOfRange t) (2 * v) vertexEntry (record { none = range-of s });
-        four = pass-at (apart v t) (v + 1) notNeighbours (record { none = λ i h. false-not (eqZ (gap (sideAt v t i)) (pos 1)) (eq-eqZ (gap (sideAt v t i)) (pos 1) (neighbour (sideAt v t i) ∙ s .neighbours i (omega arith))) });
+        four = pass-at (apart v t) (v + 1) notNeighbours
+            (record {
+              none = λ i h. false-not (eqZ (gap (sideAt v t i)) (pos 1))
+                  (eq-eqZ (gap (sideAt v t i)) (pos 1) (neighbour (sideAt v t i) ∙ s .neighbours i (omega arith)));
+            });
         five = pass (not (ltb (first (isZero t) v) v)) noZero (found-zero (s .zero));
-        six = pass-at (unpairedIn v (pairings v t)) (v + 1) badPairing (record { none = λ i h. not-lonely (pairing v t i) (s .pairings i (omega arith)) });
-        seven = pass (eqb v 1 && not (isOdd (pairings v t) 0 || isOdd (pairings v t) 1)) noOddSide (one-odd (s .odd));
+        six = pass-at (unpairedIn v (pairingEntries v t)) (v + 1) badPairing (record { none = λ i h. not-lonely (pairingEntry v t i) (s .pairings i (omega arith)) });
+        seven = pass (eqb v 1 && not (isOdd (pairingEntries v t) 0 || isOdd (pairingEntries v t) 1)) noOddSide (one-odd (s .odd));
       }
 
-pub accepted : (v : ℕ) (t : List ℤ) → (checkOf v t ≡ Accepted) ↔ IsSymbol v t
+pub accepted : (v : ℕ) (t : List ℤ) → (symbolCheck v t ≡ Accepted) ↔ IsSymbol v t
 accepted v t = (λ e. meaning v t (passed-all v t e), λ s. all-passed v t (passing v t s))
 
 -- an answer that is the checks' says what it means
-pub verdict : (v : ℕ) (t : List ℤ) (r : Checked) → r ≡ checkOf v t → Verdict v t r
+pub verdict : (v : ℕ) (t : List ℤ) (r : Checked) → r ≡ symbolCheck v t → SymbolVerdict v t r
 verdict v t r e = record { returned = e; means = (λ a. accepted v t .0 (sym e ∙ a), λ s. e ∙ accepted v t .1 s) }
 
 -- ---- the numbers
@@ -244,9 +270,9 @@ among-refuse low high true f h k = (h, k)
 among-refuse low high false f h k = tt
 
 -- what the checks refuse has a number from 1 to 7
-pub check-among : (v : ℕ) (t : List ℤ) → Among 1 7 (checkOf v t)
+pub check-among : (v : ℕ) (t : List ℤ) → Among 1 7 (symbolCheck v t)
 check-among v t =
-    let p = pairings v t in
+    let p = pairingEntries v t in
     let c6 = check6 v p orElse check7 v p in
     let c5 = check5 v t orElse c6 in
     let c4 = check4 v t orElse c5 in

@@ -1,39 +1,15 @@
--- Choosing by a test: `pick` where the test is known, and what a test on integers says.
+-- Tests on integers: what they say.
 -- Assumes nothing.
 use mathlib.Core.Path.{_≡_, refl, sym, _∙_, ap}
 use mathlib.Core.Logic.{_⊎_, inl, inr}
 use mathlib.Core.Bool.{Bool, true, false, not, _&&_, _||_}
 use Prim.Native.Nat.{ℕ, zero, suc, _<_, _≤_}
 use native.Mathlib.Omega.{arith}
-use lib.Dec.{T, eqb, eqb→eq, eqb-refl}
 use borrow.Author.Tests.{eq-eqb, eqb-true}
 use lib.IntN.{ℤ, pos, negsuc, natAbs}
-use Rattle.matrix.specs.Euclid.{pick, positive}
+use Rattle.matrix.specs.Euclid.{positive}
+use Rattle.basics.proofs.Choice.{clash}
 use Rattle.symbol.specs.Check.{eqZ}
-
-module _ {A : Type 0} (b : Bool) (x y : A) where
-  pub pick-true : b ≡ true → pick b x y ≡ x
-  pick-true e = ap (λ (z : Bool). pick z x y) e
-
-  pub pick-false : b ≡ false → pick b x y ≡ y
-  pick-false e = ap (λ (z : Bool). pick z x y) e
-
--- a test is true or false
-pub either : (b : Bool) → (b ≡ true) ⊎ (b ≡ false)
-either true = inl refl
-either false = inr refl
-
--- it is not both
-pub clash : {A : Type 0} {b : Bool} → b ≡ true → b ≡ false → A
-clash {b} p q = let z : _≡_ {A = ℕ} 0 1 = cc in absurd (omega arith)
-
-pub and-left : (a b : Bool) → (a && b) ≡ true → a ≡ true
-and-left true b e = refl
-and-left false b e = e
-
-pub and-right : (a b : Bool) → (a && b) ≡ true → b ≡ true
-and-right true b e = e
-and-right false b e = clash e refl
 
 -- ---- equality of integers
 

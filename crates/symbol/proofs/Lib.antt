@@ -1,6 +1,5 @@
 -- The laws behind the crate's promises, in reading order. Each upper crate may cite them.
 pub mod Choice
-pub mod Count
 pub mod Signed
 pub mod Pairings
 pub mod Sides

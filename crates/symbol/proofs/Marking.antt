@@ -16,15 +16,16 @@ use lib.Seq.{getD-set-same, getD-set-other}
 use borrow.Author.Tests.{lt-ltb, le-ltb, eq-eqb, ne-eqb}
 use lib.IntN.{ℤ, pos, negsuc, natAbs}
 use Rattle.matrix.specs.Matrix.{nth}
-use Rattle.matrix.specs.Euclid.{pick}
-use Rattle.symbol.specs.Count.{count}
+use Rattle.basics.specs.Choice.{pick}
+use Rattle.basics.specs.Count.{count}
 use Rattle.symbol.specs.Table.{pairingOf}
 use Rattle.symbol.specs.Check.{eqZ, sidesIn, unpairedBy, unpairedIn}
-use Rattle.symbol.specs.Inner.Marks.{digit, capped, more, Marked, Noted, Tallied}
+use Rattle.symbol.specs.Inner.Marks.{digit, capped, more, CountedAt, Noted, Tallied}
 use Rattle.symbol.specs.declared.Pairing.{Pairing}
 use Rattle.symbol.specs.declared.Pairing.the-variants.{Even, Odd, Free, Bad}
-use Rattle.symbol.proofs.Choice.{pick-true, pick-false, clash, either, eqZ-true, eq-eqZ, eqZ-refl}
-use Rattle.symbol.proofs.Count.{count-yes, count-no}
+use Rattle.symbol.proofs.Choice.{eqZ-true, eq-eqZ, eqZ-refl}
+use Rattle.basics.proofs.Choice.{pick-true, pick-false, clash, either}
+use Rattle.basics.proofs.Count.{count-yes, count-no}
 use Rattle.symbol.proofs.Pairings.{PairingView, even, odd, free, bad, pairing-view, pairing-free}
 
 -- ---- the two digits of a byte
@@ -49,7 +50,8 @@ more-full d h = pick-false (ltb d 3) (d + 1) d (le-ltb d 3 h)
 
 module _ (w : List ℕ) (k : ℕ) (inside : k / 2 < length w) where
   -- the other digits stay where the byte b keeps the other half
-  others-kept : (b : ℕ) → (k % 2 ≡ 0 → b / 16 ≡ getD w (k / 2) 0 / 16) → ((k % 2 ≡ 0 → ⊥) → b % 16 ≡ getD w (k / 2) 0 % 16) → (j : ℕ) → (j ≡ k → ⊥) → digit (set w (k / 2) b) j ≡ digit w j
+  others-kept : (b : ℕ) → (k % 2 ≡ 0 → b / 16 ≡ getD w (k / 2) 0 / 16) → ((k % 2 ≡ 0 → ⊥) → b % 16 ≡ getD w (k / 2) 0 % 16) → (j : ℕ) → (j ≡ k → ⊥)
+      → digit (set w (k / 2) b) j ≡ digit w j
   others-kept b high low j h = go (ℕ-discrete (j / 2) (k / 2)) (ℕ-discrete (k % 2) 0)
     where
       same-byte : j / 2 ≡ k / 2 → getD (set w (k / 2) b) (j / 2) 0 ≡ b
@@ -67,25 +69,27 @@ module _ (w : List ℕ) (k : ℕ) (inside : k / 2 < length w) where
           omega-even : (j k : ℕ) → j / 2 ≡ k / 2 → (k % 2 ≡ 0 → ⊥) → (j ≡ k → ⊥) → j % 2 ≡ 0
           omega-even j k d e h = omega arith
 
-  pub marked-low : k % 2 ≡ 0 → getD w (k / 2) 0 % 16 < 3 → Marked w (set w (k / 2) (getD w (k / 2) 0 + 1)) k
+  pub marked-low : k % 2 ≡ 0 → getD w (k / 2) 0 % 16 < 3 → CountedAt w (set w (k / 2) (getD w (k / 2) 0 + 1)) k
   marked-low e h =
       let b = getD w (k / 2) 0 in
       record {
         long = length-set w (k / 2) (b + 1);
-        here = digit-low (set w (k / 2) (b + 1)) k e ∙ ap (λ (n : ℕ). n % 16) (getD-set-same w (k / 2) (b + 1) 0 inside) ∙ omega arith ∙ sym (more-below (b % 16) h) ∙ ap more (sym (digit-low w k e));
+        here = digit-low (set w (k / 2) (b + 1)) k e ∙ ap (λ (n : ℕ). n % 16) (getD-set-same w (k / 2) (b + 1) 0 inside) ∙ omega arith
+            ∙ sym (more-below (b % 16) h) ∙ ap more (sym (digit-low w k e));
         others = others-kept (b + 1) (λ z. omega arith) (λ z. absurd (z e));
       }
 
-  pub marked-high : (k % 2 ≡ 0 → ⊥) → getD w (k / 2) 0 / 16 < 3 → Marked w (set w (k / 2) (getD w (k / 2) 0 + 16)) k
+  pub marked-high : (k % 2 ≡ 0 → ⊥) → getD w (k / 2) 0 / 16 < 3 → CountedAt w (set w (k / 2) (getD w (k / 2) 0 + 16)) k
   marked-high e h =
       let b = getD w (k / 2) 0 in
       record {
         long = length-set w (k / 2) (b + 16);
-        here = digit-high (set w (k / 2) (b + 16)) k e ∙ ap (λ (n : ℕ). n / 16) (getD-set-same w (k / 2) (b + 16) 0 inside) ∙ omega arith ∙ sym (more-below (b / 16) h) ∙ ap more (sym (digit-high w k e));
+        here = digit-high (set w (k / 2) (b + 16)) k e ∙ ap (λ (n : ℕ). n / 16) (getD-set-same w (k / 2) (b + 16) 0 inside) ∙ omega arith
+            ∙ sym (more-below (b / 16) h) ∙ ap more (sym (digit-high w k e));
         others = others-kept (b + 16) (λ z. absurd (e z)) (λ z. omega arith);
       }
 
-pub marked-full : (w : List ℕ) (k : ℕ) → 3 ≤ digit w k → Marked w w k
+pub marked-full : (w : List ℕ) (k : ℕ) → 3 ≤ digit w k → CountedAt w w k
 marked-full w k h = record { long = refl; here = sym (more-full (digit w k) h); others = λ j e. refl }
 
 -- ---- one more side
@@ -111,7 +115,7 @@ noted-none v x p w e none = record {
     differs l h (inl t) = absurd (none (suc l) (sym e ∙ ap (pairingOf v) (eqZ-true x (pos (suc l)) t) ∙ pairing-free v (suc l) (omega arith) (omega arith)))
     differs l h (inr f) = f
 
-pub noted-free : (v : ℕ) (x : ℤ) (l : ℕ) (w w' : List ℕ) → pairingOf v x ≡ Free l → Marked w w' (l - 1) → Noted v x w w'
+pub noted-free : (v : ℕ) (x : ℤ) (l : ℕ) (w w' : List ℕ) → pairingOf v x ≡ Free l → CountedAt w w' (l - 1) → Noted v x w w'
 noted-free v x l w w' e m = record { long = m .long; counts = λ j h. go j (ℕ-discrete j (l - 1)) }
   where
     go : (j : ℕ) → Dec (j ≡ l - 1) → digit w' j ≡ pick (eqZ x (pos (suc j))) (more (digit w j)) (digit w j)
@@ -143,7 +147,8 @@ capped-more (suc (suc (suc n))) =
 pub tallied-more : (v : ℕ) (p : List ℤ) (i : ℕ) (w w' : List ℕ) → Tallied v p i w → Noted v (nth p i) w w' → Tallied v p (suc i) w'
 tallied-more v p i w w' t m = record { long = m .long ∙ t .long; counts = λ l h. m .counts l h ∙ go l h (either (eqZ (nth p i) (pos (suc l)))) }
   where
-    go : (l : ℕ) → l < v + 1 → (eqZ (nth p i) (pos (suc l)) ≡ true) ⊎ (eqZ (nth p i) (pos (suc l)) ≡ false) → pick (eqZ (nth p i) (pos (suc l))) (more (digit w l)) (digit w l) ≡ capped (count (λ (k : ℕ). eqZ (nth p k) (pos (suc l))) (suc i))
+    go : (l : ℕ) → l < v + 1 → (eqZ (nth p i) (pos (suc l)) ≡ true) ⊎ (eqZ (nth p i) (pos (suc l)) ≡ false)
+        → pick (eqZ (nth p i) (pos (suc l))) (more (digit w l)) (digit w l) ≡ capped (count (λ (k : ℕ). eqZ (nth p k) (pos (suc l))) (suc i))
     go l h (inl e) =
         let test : ℕ → Bool = λ (k : ℕ). eqZ (nth p k) (pos (suc l)) in
         pick-true (eqZ (nth p i) (pos (suc l))) _ _ e ∙ ap more (t .counts l h) ∙ capped-more (count test i) ∙ ap capped (sym (count-yes test i e))
@@ -170,5 +175,6 @@ module _ (v : ℕ) (p : List ℤ) (i : ℕ) where
       let k = label-of v (nth p i) l e in
       let s : l ≡ suc (l - 1) = let low = k .1 in omega arith in
       let n = sidesIn v p (nth p i) in
-      let c : digit w (l - 1) ≡ capped n = t .counts (l - 1) (let high = k .2 in let low = k .1 in omega arith) ∙ ap (λ (x : ℤ). capped (sidesIn v p x)) (sym (k .0 ∙ ap pos s)) in
+      let c : digit w (l - 1) ≡ capped n = t .counts (l - 1) (let high = k .2 in let low = k .1 in omega arith)
+      ∙ ap (λ (x : ℤ). capped (sidesIn v p x)) (sym (k .0 ∙ ap pos s)) in
       unpaired-by (Free l) e ∙ ap not (sym (capped-two n) ∙ ap (λ (d : ℕ). eqb d 2) (sym c))

@@ -16,18 +16,19 @@ use lib.IntN.{ℤ, pos, negsuc}
 use mir.Syntax.{w64}
 use mir.Val.{SFits, ofZ}
 use Rattle.matrix.specs.Matrix.{nth}
-use Rattle.matrix.specs.Euclid.{pick}
-use Rattle.symbol.specs.Count.{first}
-use Rattle.symbol.specs.Table.{pairings}
-use Rattle.symbol.specs.Check.{refuse, refuseAt, eqZ, outOfRange, isOdd, lacksOdd, check1, check2, check3, check4, check5, check6, check7, checkOf}
+use Rattle.basics.specs.Choice.{pick}
+use Rattle.basics.specs.Count.{first}
+use Rattle.symbol.specs.Table.{pairingEntries}
+use Rattle.symbol.specs.Check.{refuse, refuseAt, eqZ, outOfRange, isOdd, lacksOdd, check1, check2, check3, check4, check5, check6, check7, symbolCheck}
 use Rattle.symbol.specs.Inner.Marks.{digit, Tallied}
-use Rattle.symbol.specs.Inner.Ready.{Ready}
+use Rattle.symbol.specs.Inner.Ready.{MayCheck}
 use Rattle.refusal.specs.declared.Refusal.{Refusal}
 use Rattle.refusal.specs.Refusal.{_orElse_, badVertexCount, tableLength}
 use Rattle.refusal.specs.declared.Checked.{Checked}
 use Rattle.refusal.specs.declared.Checked.the-variants.{Accepted, Refused}
-use Rattle.symbol.proofs.Choice.{pick-true, pick-false, clash, eqZ-true, eq-eqZ}
-use Rattle.symbol.proofs.Count.{Clear, first-le, clear-first}
+use Rattle.symbol.proofs.Choice.{eqZ-true, eq-eqZ}
+use Rattle.basics.proofs.Choice.{pick-true, pick-false, clash}
+use Rattle.basics.proofs.Count.{Clear, first-le, clear-first}
 use Rattle.symbol.proofs.Signed.{bits-negative}
 
 -- ---- the first refusal of several
@@ -62,11 +63,12 @@ none-found test n k e h = let l = first-le test n in clear-first test n (omega a
 
 -- ---- checks 1 and 2
 
-pub too-few : (v : ℕ) (t : List ℤ) → v < 1 → checkOf v t ≡ Refused badVertexCount
+pub too-few : (v : ℕ) (t : List ℤ) → v < 1 → symbolCheck v t ≡ Refused badVertexCount
 too-few v t h = first-refused _ (refuse-yes (not (leb 1 v && leb v 1023)) badVertexCount (ap (λ (b : Bool). not (b && leb v 1023)) (lt-leb 1 v h)))
 
-pub too-many : (v : ℕ) (t : List ℤ) → 1 ≤ v → 1023 < v → checkOf v t ≡ Refused badVertexCount
-too-many v t h k = first-refused _ (refuse-yes (not (leb 1 v && leb v 1023)) badVertexCount (ap (λ (b : Bool). not (leb 1 v && b)) (lt-leb v 1023 k) ∙ and-false (leb 1 v)))
+pub too-many : (v : ℕ) (t : List ℤ) → 1 ≤ v → 1023 < v → symbolCheck v t ≡ Refused badVertexCount
+too-many v t h k = first-refused _ (refuse-yes (not (leb 1 v && leb v 1023)) badVertexCount
+    (ap (λ (b : Bool). not (leb 1 v && b)) (lt-leb v 1023 k) ∙ and-false (leb 1 v)))
   where
     and-false : (b : Bool) → not (b && false) ≡ true
     and-false true = refl
@@ -78,16 +80,17 @@ in-number v h k = refuse-no (not (leb 1 v && leb v 1023)) badVertexCount (ap not
     both : (a b : Bool) → a ≡ true → b ≡ true → (a && b) ≡ true
     both a b p q = ap (λ (x : Bool). x && b) p ∙ q
 
-pub wrong-length : (v : ℕ) (t : List ℤ) → 1 ≤ v → v ≤ 1023 → (length t ≡ 3 * v + 1 → ⊥) → checkOf v t ≡ Refused (tableLength (length t))
-wrong-length v t h k n = next-check _ (in-number v h k) ∙ first-refused _ (refuse-yes (not (eqb (length t) (3 * v + 1))) (tableLength (length t)) (ap not (ne-eqb (length t) (3 * v + 1) n)))
+pub wrong-length : (v : ℕ) (t : List ℤ) → 1 ≤ v → v ≤ 1023 → (length t ≡ 3 * v + 1 → ⊥) → symbolCheck v t ≡ Refused (tableLength (length t))
+wrong-length v t h k n = next-check _ (in-number v h k)
+    ∙ first-refused _ (refuse-yes (not (eqb (length t) (3 * v + 1))) (tableLength (length t)) (ap not (ne-eqb (length t) (3 * v + 1) n)))
 
 -- what is left after them: the vertices, then the pairings
 abbrev pub later : ℕ → List ℤ → Checked
-later v t = (check3 v t orElse check4 v t orElse check5 v t) orElse (check6 v (pairings v t) orElse check7 v (pairings v t))
+later v t = (check3 v t orElse check4 v t orElse check5 v t) orElse (check6 v (pairingEntries v t) orElse check7 v (pairingEntries v t))
 
-pub first-two : (v : ℕ) (t : List ℤ) → 1 ≤ v → v ≤ 1023 → length t ≡ 3 * v + 1 → checkOf v t ≡ later v t
+pub first-two : (v : ℕ) (t : List ℤ) → 1 ≤ v → v ≤ 1023 → length t ≡ 3 * v + 1 → symbolCheck v t ≡ later v t
 first-two v t h k e =
-    let rest = check6 v (pairings v t) orElse check7 v (pairings v t) in
+    let rest = check6 v (pairingEntries v t) orElse check7 v (pairingEntries v t) in
     next-check _ (in-number v h k)
     ∙ next-check _ (refuse-no (not (eqb (length t) (3 * v + 1))) (tableLength (length t)) (ap not (eq-eqb (length t) (3 * v + 1) e)))
     ∙ ap (λ (x : Checked). check3 v t orElse x) (sym (orElse-assoc (check4 v t) (check5 v t) rest))
@@ -96,17 +99,53 @@ first-two v t h k e =
 -- ---- what the later checks may assume
 
 module _ (v : ℕ) (t : List ℤ) (w : List ℕ) (most : v ≤ 1023) (long : 2 * v ≤ length t) where
-  pub ready-3 : Ready 3 v t w
-  ready-3 = record { from = lit≤ tt; to = lit≤ tt; most = most; long = λ h. long; ranged = λ e. absurd (omega arith); paired = λ e. absurd (omega arith); tallied = λ e. absurd (omega arith) }
+  pub ready-3 : MayCheck 3 v t w
+  ready-3 = record {
+    from = lit≤ tt;
+    to = lit≤ tt;
+    most = most;
+    long = λ h. long;
+    ranged = λ e. absurd (omega arith);
+    paired =
+        λ e. absurd (omega arith);
+    tallied = λ e. absurd (omega arith);
+  }
 
-  pub ready-4 : Clear (outOfRange t) (2 * v) → Ready 4 v t w
-  ready-4 c = record { from = lit≤ tt; to = lit≤ tt; most = most; long = λ h. long; ranged = λ e. c .none; paired = λ e. absurd (omega arith); tallied = λ e. absurd (omega arith) }
+  pub ready-4 : Clear (outOfRange t) (2 * v) → MayCheck 4 v t w
+  ready-4 c = record {
+    from = lit≤ tt;
+    to = lit≤ tt;
+    most = most;
+    long = λ h. long;
+    ranged = λ e. c .none;
+    paired = λ e. absurd (omega arith);
+    tallied =
+        λ e. absurd (omega arith);
+  }
 
-  pub ready-5 : Ready 5 v t w
-  ready-5 = record { from = lit≤ tt; to = lit≤ tt; most = most; long = λ h. long; ranged = λ e. absurd (omega arith); paired = λ e. absurd (omega arith); tallied = λ e. absurd (omega arith) }
+  pub ready-5 : MayCheck 5 v t w
+  ready-5 = record {
+    from = lit≤ tt;
+    to = lit≤ tt;
+    most = most;
+    long = λ h. long;
+    ranged = λ e. absurd (omega arith);
+    paired =
+        λ e. absurd (omega arith);
+    tallied = λ e. absurd (omega arith);
+  }
 
-pub ready-6 : (v : ℕ) (p : List ℤ) (w : List ℕ) → v ≤ 1023 → v + 1 ≤ length p → Tallied v p (v + 1) w → Ready 6 v p w
-ready-6 v p w most long t = record { from = lit≤ tt; to = lit≤ tt; most = most; long = λ h. absurd (omega arith); ranged = λ e. absurd (omega arith); paired = λ e. long; tallied = λ e. t }
+pub ready-6 : (v : ℕ) (p : List ℤ) (w : List ℕ) → v ≤ 1023 → v + 1 ≤ length p → Tallied v p (v + 1) w → MayCheck 6 v p w
+ready-6 v p w most long t = record {
+  from = lit≤ tt;
+  to = lit≤ tt;
+  most = most;
+  long = λ h. absurd (omega arith);
+  ranged = λ e. absurd (omega arith);
+  paired =
+      λ e. long;
+  tallied = λ e. t;
+}
 
 -- ---- one vertex
 
@@ -151,5 +190,5 @@ tallied-none v p = record {
     none false = refl
 
 -- the part behind the vertex entries, as the code lends it
-pub behind : (v : ℕ) (t : List ℤ) → take (length t - 2 * v) (drop (2 * v) t) ≡ pairings v t
+pub behind : (v : ℕ) (t : List ℤ) → take (length t - 2 * v) (drop (2 * v) t) ≡ pairingEntries v t
 behind v t = take-all (length t - 2 * v) (drop (2 * v) t) (omega (arith, length-drop (2 * v) t))

@@ -17,7 +17,7 @@ use lib.IntN.{ℤ, pos, negsuc}
 use Rattle.symbol.specs.Table.{pairingOf}
 use Rattle.symbol.specs.declared.Pairing.{Pairing}
 use Rattle.symbol.specs.declared.Pairing.the-variants.{Even, Odd, Free, Bad}
-use Rattle.symbol.proofs.Choice.{pick-true, pick-false}
+use Rattle.basics.proofs.Choice.{pick-true, pick-false}
 
 pub data PairingView (v : ℕ) (x : ℤ) : Type 0 where
   even : x ≡ negsuc 1 → pairingOf v x ≡ Even → PairingView v x

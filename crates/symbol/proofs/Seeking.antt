@@ -13,11 +13,13 @@ use borrow.Author.Tests.{eq-eqb, ne-eqb}
 use lib.IntN.{ℤ, pos, negsuc, natAbs}
 use Rattle.matrix.specs.Matrix.{nth}
 use Rattle.matrix.specs.Bounds.{Small}
-use Rattle.matrix.specs.Euclid.{pick, positive}
+use Rattle.matrix.specs.Euclid.{positive}
+use Rattle.basics.specs.Choice.{pick}
 use Rattle.symbol.specs.Table.{numer, denom, leftNum, leftDen, rightNum, rightDen, sideAt}
 use Rattle.symbol.specs.Check.{eqZ, outOfRange, apart, isZero, unpairedIn}
-use Rattle.symbol.specs.Inner.Ready.{SmallSide, failsOf, placesOf, Ready}
-use Rattle.symbol.proofs.Choice.{pick-true, pick-false, clash, eqZ-true, eq-eqZ}
+use Rattle.symbol.specs.Inner.Ready.{SmallSide, failsOf, placesOf, MayCheck}
+use Rattle.symbol.proofs.Choice.{eqZ-true, eq-eqZ}
+use Rattle.basics.proofs.Choice.{pick-true, pick-false, clash}
 use Rattle.symbol.proofs.Accepted.{in-range}
 use Rattle.symbol.proofs.Sides.{left-first, left-later, right-inside, right-last}
 

@@ -12,13 +12,14 @@ use lib.Signed.{mag}
 use mir.Syntax.{w64}
 use mir.Val.{SFits, ofZ}
 use Rattle.matrix.specs.Matrix.{nth, toList, det, matS, matQ}
-use Rattle.matrix.specs.Bounds.{Small, Roomy}
+use Rattle.matrix.specs.Bounds.{Small, DetFits}
 use Rattle.matrix.proofs.Bounds.{roomy}
 use Rattle.symbol.specs.Table.{numer, denom, leftNum, leftDen, rightNum, rightDen, frame, gap}
 use Rattle.symbol.specs.Check.{eqZ}
 use Rattle.symbol.specs.Inner.Ready.{SmallSide}
 use Rattle.symbol.specs.declared.Side.{Side}
-use Rattle.symbol.proofs.Choice.{pick-true, pick-false, clash, eqZ-true, eq-eqZ}
+use Rattle.symbol.proofs.Choice.{eqZ-true, eq-eqZ}
+use Rattle.basics.proofs.Choice.{pick-true, pick-false, clash}
 use Rattle.symbol.proofs.Signed.{bits-positive}
 
 module _ (t : List ℤ) (i : ℕ) where
@@ -39,7 +40,7 @@ pub gap-det : (s : Side) → gap s ≡ det (frame s)
 unfolding det
 gap-det s = refl
 
-pub side-roomy : (s : Side) → SmallSide s → Roomy (frame s)
+pub side-roomy : (s : Side) → SmallSide s → DetFits (frame s)
 side-roomy s h = roomy 1000000000 (frame s) (lit< tt) h
 
 pub small-S : Small 1 matS

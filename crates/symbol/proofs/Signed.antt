@@ -14,7 +14,7 @@ use mir.Syntax.{w64}
 use mir.Val.{SFits, toZ, ofZ}
 use mir.Facts.{toZ-ofZ, toZ-neg, toZ-pos}
 use Rattle.matrix.specs.Euclid.{positive}
-use Rattle.symbol.proofs.Choice.{clash}
+use Rattle.basics.proofs.Choice.{clash}
 
 -- the bits of a negative number are those of that number alone
 pub bits-negative : (x : ℤ) (k : ℕ) → SFits w64 x → k < 2 ^ 63 → ofZ w64 x ≡ 2 ^ 64 - suc k → x ≡ negsuc k

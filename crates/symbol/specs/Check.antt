@@ -1,9 +1,9 @@
--- The checks 1 to 7 of docs/CONVENTIONS.md, in their order, each with its place. Every later call cites `checkOf`.
+-- The checks 1 to 7 of docs/CONVENTIONS.md, in their order, each with its place. Every later call cites `symbolCheck`.
 --
 --   refuse b f            refused with f where b holds
 --   refuseAt i n f        refused at i, the first place that fails, where it is below n
 --   check1 .. check7      the seven checks; the last two are on the pairings alone
---   checkOf v t           all of them, in order: the first fault counts
+--   symbolCheck v t       all of them, in order: the first fault counts
 use mathlib.Core.Bool.{Bool, true, false, not, _&&_, _||_}
 use mathlib.Core.List.{List}
 use Prim.Native.Nat.{ℕ, zero, suc, _+_, _*_, _%_}
@@ -11,9 +11,10 @@ use lib.Dec.{leb, ltb, eqb}
 use lib.ListN.{length}
 use lib.IntN.{ℤ, pos, negsuc, natAbs}
 use Rattle.matrix.specs.Matrix.{nth}
-use Rattle.matrix.specs.Euclid.{pick, positive}
-use Rattle.symbol.specs.Count.{first, count}
-use Rattle.symbol.specs.Table.{numer, denom, pairings, pairing, sideAt, gap, pairingOf}
+use Rattle.matrix.specs.Euclid.{positive}
+use Rattle.basics.specs.Choice.{pick}
+use Rattle.basics.specs.Count.{first, count}
+use Rattle.symbol.specs.Table.{numer, denom, pairingEntries, pairingEntry, sideAt, gap, pairingOf}
 use Rattle.symbol.specs.declared.Pairing.{Pairing}
 use Rattle.symbol.specs.declared.Pairing.the-variants.{Even, Odd, Free, Bad}
 use Rattle.refusal.specs.declared.Refusal.{Refusal}
@@ -69,7 +70,7 @@ abbrev pub sidesIn : ℕ → List ℤ → ℤ → ℕ
 sidesIn v p x = count (λ (k : ℕ). eqZ (nth p k) x) (v + 1)
 
 abbrev pub sides : ℕ → List ℤ → ℤ → ℕ
-sides v t x = sidesIn v (pairings v t) x
+sides v t x = sidesIn v (pairingEntries v t) x
 
 abbrev pub unpairedBy : Pairing → ℕ → Bool
 unpairedBy Even n = false
@@ -93,6 +94,6 @@ lacksOdd v p = eqb v 1 && not (isOdd p 0 || isOdd p 1)
 abbrev pub check7 : ℕ → List ℤ → Checked
 check7 v p = refuse (lacksOdd v p) noOddSide
 
-abbrev pub checkOf : ℕ → List ℤ → Checked
-checkOf v t =
-    check1 v orElse check2 v t orElse check3 v t orElse check4 v t orElse check5 v t orElse check6 v (pairings v t) orElse check7 v (pairings v t)
+abbrev pub symbolCheck : ℕ → List ℤ → Checked
+symbolCheck v t =
+    check1 v orElse check2 v t orElse check3 v t orElse check4 v t orElse check5 v t orElse check6 v (pairingEntries v t) orElse check7 v (pairingEntries v t)

@@ -1,5 +1,4 @@
 -- What a reader of the crate `symbol` must believe, in reading order.
-pub mod Count
 pub mod Table
 pub mod Check
 pub mod Symbol

@@ -1,7 +1,7 @@
 -- What an accepted symbol is, in the words of the field: the meaning of the seven checks.
 --
 --   IsSymbol v t     v finite vertices with their pairings make a Farey symbol
---   Verdict v t r    r is the answer of the checks, and it is that the symbol is accepted exactly when it is one
+--   SymbolVerdict v t r  r is the answer of the checks, and it is that the symbol is accepted exactly when it is one
 --
 -- proofs/Accepted.antt, `accepted`: the checks accept exactly the symbols.
 use mathlib.Core.Path.{_≡_}
@@ -11,8 +11,8 @@ use Prim.Native.Nat.{ℕ, _+_, _*_, _≤_, _<_}
 use lib.ListN.{length}
 use lib.IntN.{ℤ, pos, negsuc, natAbs}
 use Rattle.matrix.specs.Matrix.{det}
-use Rattle.symbol.specs.Table.{numer, denom, pairing, sideAt, frame}
-use Rattle.symbol.specs.Check.{sides, checkOf}
+use Rattle.symbol.specs.Table.{numer, denom, pairingEntry, sideAt, frame}
+use Rattle.symbol.specs.Check.{sides, symbolCheck}
 use Rattle.refusal.specs.declared.Checked.{Checked}
 use Rattle.refusal.specs.declared.Checked.the-variants.{Accepted}
 
@@ -39,9 +39,9 @@ pub record IsSymbol (v : ℕ) (t : List ℤ) : Type 0 where
   pub denoms : (i : ℕ) → i < v → (1 ≤ natAbs (denom t i)) × (natAbs (denom t i) ≤ 1000000000) × (denom t i ≡ pos (natAbs (denom t i)))
   pub neighbours : (i : ℕ) → i ≤ v → det (frame (sideAt v t i)) ≡ pos 1
   pub zero : ZeroAt v t
-  pub pairings : (i : ℕ) → i ≤ v → (pairing v t i ≡ negsuc 1) ⊎ (pairing v t i ≡ negsuc 2) ⊎ FreeLabel v t (pairing v t i)
-  pub odd : v ≡ 1 → (pairing v t 0 ≡ negsuc 2) ⊎ (pairing v t 1 ≡ negsuc 2)
+  pub pairings : (i : ℕ) → i ≤ v → (pairingEntry v t i ≡ negsuc 1) ⊎ (pairingEntry v t i ≡ negsuc 2) ⊎ FreeLabel v t (pairingEntry v t i)
+  pub odd : v ≡ 1 → (pairingEntry v t 0 ≡ negsuc 2) ⊎ (pairingEntry v t 1 ≡ negsuc 2)
 
-pub record Verdict (v : ℕ) (t : List ℤ) (r : Checked) : Type 0 where
-  pub returned : r ≡ checkOf v t
+pub record SymbolVerdict (v : ℕ) (t : List ℤ) (r : Checked) : Type 0 where
+  pub returned : r ≡ symbolCheck v t
   pub means : (r ≡ Accepted) ↔ IsSymbol v t

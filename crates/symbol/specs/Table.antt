@@ -1,8 +1,8 @@
 -- A symbol as it lies in the lent table: 2v vertex entries, then v + 1 pairings.
 --
 --   numer t i, denom t i     numerator and denominator of the vertex i, counted from 0 to v - 1
---   pairings v t             the part of the table behind the vertex entries
---   pairing v t i            what stands for the pairing of side i, counted from 0 to v
+--   pairingEntries v t       the part of the table behind the vertex entries
+--   pairingEntry v t i       what stands for the pairing of side i, counted from 0 to v
 --   Side, side a b c d       a side from a/b on the left to c/d on the right
 --   sideAt v t i             side i: -1/0 stands before the first vertex, and 1/0 after the last
 --   frame s                  the side's frame, (c a; d b)
@@ -17,7 +17,7 @@ use lib.Dec.{ltb}
 use lib.ListN.{drop}
 use lib.IntN.{ℤ, pos, negsuc, _-ℤ_, _*ℤ_}
 use Rattle.matrix.specs.Matrix.{Mat, mat, _⊗_, adj, nth}
-use Rattle.matrix.specs.Euclid.{pick}
+use Rattle.basics.specs.Choice.{pick}
 use Rattle.symbol.specs.declared.Side.{Side}
 use Rattle.symbol.specs.declared.Pairing.{Pairing}
 use Rattle.symbol.specs.declared.Pairing.the-variants.{Even, Odd, Free, Bad}
@@ -28,11 +28,11 @@ numer t i = nth t (2 * i)
 abbrev pub denom : List ℤ → ℕ → ℤ
 denom t i = nth t (2 * i + 1)
 
-abbrev pub pairings : ℕ → List ℤ → List ℤ
-pairings v t = drop (2 * v) t
+abbrev pub pairingEntries : ℕ → List ℤ → List ℤ
+pairingEntries v t = drop (2 * v) t
 
-abbrev pub pairing : ℕ → List ℤ → ℕ → ℤ
-pairing v t i = nth (pairings v t) i
+abbrev pub pairingEntry : ℕ → List ℤ → ℕ → ℤ
+pairingEntry v t i = nth (pairingEntries v t) i
 
 abbrev pub side : ℤ → ℤ → ℤ → ℤ → Side
 side a b c d = record { a = a; b = b; c = c; d = d }

@@ -19,12 +19,12 @@ ghost use lib.ListN.{length};
 ghost use Rattle.matrix.specs.Matrix.{nth, ofList, toList, matS, matQ};
 ghost use Rattle.matrix.specs.Bounds.{Small};
 ghost use Rattle.refusal.specs.Refusal.{_orElse_};
-ghost use Rattle.symbol.specs.Count.{first};
+ghost use Rattle.basics.specs.Count.{first};
 ghost use Rattle.symbol.specs.Table.{leftNum, leftDen, rightNum, rightDen, sideAt, frame, gap, carried, pairingOf};
 ghost use Rattle.symbol.specs.Check.{eqZ, outOfRange, apart, isZero, unpairedIn, check3, check4, check5, lacksOdd, check6, check7};
-ghost use Rattle.symbol.specs.Inner.Marks.{digit, Marked, Noted, Tallied};
-ghost use Rattle.symbol.specs.Symbol.{Verdict};
-ghost use Rattle.symbol.specs.Inner.Ready.{SmallSide, failsOf, placesOf, Ready};
+ghost use Rattle.symbol.specs.Inner.Marks.{digit, CountedAt, Noted, Tallied};
+ghost use Rattle.symbol.specs.Symbol.{SymbolVerdict};
+ghost use Rattle.symbol.specs.Inner.Ready.{SmallSide, failsOf, placesOf, MayCheck};
 
 // A side of the polygon, from a/b on the left to c/d on the right.
 pub struct Side {
@@ -230,7 +230,7 @@ fn next(m: u8) -> u8
 // Counts one more at k, up to 3.
 fn mark(marks: &mut [u8; 512], k: usize)
     requires { ⌜ (k < 1024) × (length (now marks) ≡ 512) ⌝ }
-    ensures { λ r. ⌜ Marked (now (marks .entry)) (now (marks .exit)) k ⌝ }
+    ensures { λ r. ⌜ CountedAt (now (marks .entry)) (now (marks .exit)) k ⌝ }
 {
     let m = marks[k / 2];
     if k % 2 == 0 {
@@ -286,7 +286,7 @@ fn is_unpaired(v: usize, p: &[i64], marks: &[u8; 512], i: usize) -> bool
 
 // Whether check 3, 4, 5 or 6 finds what it looks for at i.
 fn finds(check: u8, v: usize, t: &[i64], marks: &[u8; 512], i: usize) -> bool
-    requires { ⌜ Ready check v (now t) (now marks) × (i < placesOf check v) ⌝ }
+    requires { ⌜ MayCheck check v (now t) (now marks) × (i < placesOf check v) ⌝ }
     ensures { λ r. ⌜ r ≡ failsOf check v (now (t .entry)) i ⌝ }
 {
     if check == 3 {
@@ -304,7 +304,7 @@ fn finds(check: u8, v: usize, t: &[i64], marks: &[u8; 512], i: usize) -> bool
 
 // The first place at which check 3, 4, 5 or 6 finds what it looks for, or the number of places n.
 fn first_place(check: u8, v: usize, t: &[i64], marks: &[u8; 512], n: usize) -> usize
-    requires { ⌜ Ready check v (now t) (now marks) × (n ≡ placesOf check v) ⌝ }
+    requires { ⌜ MayCheck check v (now t) (now marks) × (n ≡ placesOf check v) ⌝ }
     ensures { λ r. ⌜ r ≡ first (failsOf check v (now (t .entry))) n ⌝ }
 {
     let mut i = 0;
@@ -384,7 +384,7 @@ fn check_pairings(v: usize, p: &[i64], marks: &mut [u8; 512]) -> Checked
 
 // Checks 1 to 7 on a table and a number of vertices, whatever they are: the first fault, or that the symbol is accepted.
 pub fn check(v: usize, t: &[i64]) -> Checked
-    ensures { λ r. ⌜ Verdict v (now (t .entry)) r ⌝ }
+    ensures { λ r. ⌜ SymbolVerdict v (now (t .entry)) r ⌝ }
 {
     if v < 1 {
         return Checked::Refused(Refusal {

@@ -18,7 +18,7 @@ use Rattle.refusal.specs.Refusal.{badText}
 use Rattle.text.specs.Piece.{Piece, pieces, firstBad, numbers, placeAt}
 use Rattle.text.specs.Reading.{wanted, wantedOr1, handed, countPlace, firstPlace, orElse, place19, answer, readingOf}
 use Rattle.text.specs.Laws.{Nineteen, Eleven}
-use Rattle.text.specs.Inner.Inside.{left, Stepped, wantedOf, surveyOf, badOrCount, countedOf}
+use Rattle.text.specs.Inner.Inside.{left, PieceRead, wantedOf, surveyOf, badOrCount, countedOf}
 use Rattle.text.specs.declared.Format.{Format}
 use Rattle.text.specs.declared.Wanted.the-variants as wants
 use Rattle.text.specs.declared.Survey.the-variants as survey
@@ -39,7 +39,7 @@ module _ (f : Format) (t : List ℕ) (room : ℕ) where
   unfolding numbers firstPlace answer
   first-none e = rw (walked-start t .rest ∙ e)
 
-  module _ {v : ℤ} {at to : ℕ} (s : Stepped t 0 v at to) where
+  module _ {v : ℤ} {at to : ℕ} (s : PieceRead t 0 v at to) where
     pub some-piece : 1 ≤ length (pieces t)
     some-piece = omega (arith, ap length (walked-start t .rest ∙ s .here))
 

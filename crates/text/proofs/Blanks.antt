@@ -14,7 +14,7 @@ use native.Mathlib.Numerals.{add-one}
 use native.Mathlib.Omega.{arith}
 use lib.ListN.{length, getD, drop, take}
 use lib.Seq.{drop-cons, drop-length}
-use Rattle.text.specs.Blank.{isBlank, run}
+use Rattle.text.specs.Blank.{isBlank, untilBlank}
 use Rattle.text.specs.Inner.Inside.{stretch}
 
 -- the test of a byte's kind, where it is known whether it is blank
@@ -50,14 +50,14 @@ stretch-le kind (b ∷ t) = go (Bool·beq (isBlank b) kind) refl (stretch-le kin
     go true e ih = omega (arith, stretch-yes kind b t e)
     go false e ih = omega (arith, stretch-no kind b t e)
 
-pub take-stretch : (t : List ℕ) → take (stretch false t) t ≡ run t
-unfolding run stretch
+pub take-stretch : (t : List ℕ) → take (stretch false t) t ≡ untilBlank t
+unfolding untilBlank stretch
 take-stretch [] = refl
 take-stretch (b ∷ t) = go (isBlank b) refl (take-stretch t)
   where
-    go : (x : Bool) → isBlank b ≡ x → take (stretch false t) t ≡ run t → take (stretch false (b ∷ t)) (b ∷ t) ≡ run (b ∷ t)
-    go true e ih = rw (stretch-no false b t (as-kind false e), run, e)
-    go false e ih = rw (stretch-yes false b t (as-kind false e), run, e, ih)
+    go : (x : Bool) → isBlank b ≡ x → take (stretch false t) t ≡ untilBlank t → take (stretch false (b ∷ t)) (b ∷ t) ≡ untilBlank (b ∷ t)
+    go true e ih = rw (stretch-no false b t (as-kind false e), untilBlank, e)
+    go false e ih = rw (stretch-yes false b t (as-kind false e), untilBlank, e, ih)
 
 pub after-stretch : (t : List ℕ) → stretch true t < length t → isBlank (getD t (stretch true t) 0) ≡ false
 unfolding stretch

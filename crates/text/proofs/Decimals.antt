@@ -23,7 +23,7 @@ use mir.Facts.{toZ-ofZ}
 use lib.ListN.{length, getD}
 use borrow.Author.Tests.{lt-ltb, le-ltb, le-leb, ne-eqb, ltb-true}
 use Rattle.text.specs.Blank.{isBlank, unbroken}
-use Rattle.text.specs.Number.{isDigit, onward, natural, within, mapped, numberOf}
+use Rattle.text.specs.Number.{isDigit, onward, naturalFrom, within, mapped, integerFrom}
 use Rattle.text.specs.Piece.{pieces}
 use Rattle.text.specs.Decimal.{digitsOnto, digits, decimalOf}
 use Rattle.text.specs.Laws.{WriteThenRead, NoBlank, OnePiece, NumberFirst}
@@ -113,22 +113,22 @@ onto-unbroken (suc fuel) n t h = go (decLt n 10) (onto-unbroken fuel (n / 10) (l
     go (no l) ih = rw (onto-more fuel n t (omega arith)) ih
 
 -- the digits of n are read as n
-digits-natural : (n : ℕ) → natural (digits n) ≡ some n
+digits-natural : (n : ℕ) → naturalFrom (digits n) ≡ some n
 unfolding digits onward
 digits-natural n = natural-onward (digits n) (onto-first n n [] .0) ∙ onto-onward n n [] (omega arith)
 
-digits-within : (most n : ℕ) → n ≤ most → within most (natural (digits n)) ≡ some n
+digits-within : (most n : ℕ) → n ≤ most → within most (naturalFrom (digits n)) ≡ some n
 unfolding within
 digits-within most n h = rw (digits-natural n, le-leb n most h)
 
-digits-number : (n : ℕ) → n < 2 ^ 63 → numberOf (digits n) ≡ some (pos n)
+digits-number : (n : ℕ) → n < 2 ^ 63 → integerFrom (digits n) ≡ some (pos n)
 unfolding digits
 digits-number n h =
     number-plain (digits n) (onto-first n n [] .0) (λ e. omega (arith, onto-first n n [] .1))
     ∙ ap (mapped pos) (digits-within 9223372036854775807 n (omega arith))
 
-minus-number : (n : ℕ) → n ≤ 2 ^ 63 → numberOf (45 ∷ digits n) ≡ some (negℤ (pos n))
-unfolding numberOf
+minus-number : (n : ℕ) → n ≤ 2 ^ 63 → integerFrom (45 ∷ digits n) ≡ some (negℤ (pos n))
+unfolding integerFrom
 minus-number n h = ap (mapped (λ k. negℤ (pos k))) (digits-within (2 ^ 63) n h)
 
 pub write-then-read : WriteThenRead
@@ -141,7 +141,7 @@ unfolding decimalOf digits unbroken isBlank
 no-blank (pos n) = onto-unbroken n n [] refl
 no-blank (negsuc n) = onto-unbroken (suc n) (suc n) [] refl
 
-one-text : (t : List ℕ) → 0 < length t → unbroken t ≡ true → pieces t ≡ record { at = 0; says = numberOf t } ∷ []
+one-text : (t : List ℕ) → 0 < length t → unbroken t ≡ true → pieces t ≡ record { at = 0; says = integerFrom t } ∷ []
 one-text [] h u = absurd (omega arith)
 one-text (b ∷ t) h u = one-run b t u
 

@@ -18,7 +18,7 @@ use lib.ListN.{length, getD, take, drop, length-drop}
 use lib.Seq.{take-at, drop-append-le, length-take-le}
 use borrow.Author.Tests.{lt-ltb, le-ltb}
 use Rattle.refusal.specs.Refusal.{tooShort, badText}
-use Rattle.text.specs.Choice.{pick}
+use Rattle.basics.specs.Choice.{pick}
 use Rattle.text.specs.Piece.{Piece, pieces, firstBad, numbers, placeAt}
 use Rattle.text.specs.Reading.{textMost, wanted, handed, countPlace, firstPlace, orElse, place19, answer, readingOf, inputOf, leftBy}
 use Rattle.text.specs.declared.Format.{Format}

@@ -22,8 +22,8 @@ use lib.IntN.{ℤ, pos, negℤ}
 use lib.ListN.{length, getD, drop, take}
 use lib.Seq.{drop-cons, drop-length, take-all}
 use borrow.Author.Tests.{le-leb, lt-leb, leb-true, leb-false, eq-eqb, ne-eqb}
-use Rattle.text.specs.Number.{isDigit, onward, natural, within, mapped, numberOf}
-use Rattle.text.specs.Inner.Inside.{naturalOf, integerOf, pushed}
+use Rattle.text.specs.Number.{isDigit, onward, naturalFrom, within, mapped, integerFrom}
+use Rattle.text.specs.Inner.Inside.{naturalOf, integerOf, digitPushed}
 use Rattle.text.specs.declared.Natural.the-variants as natural
 use Rattle.text.specs.declared.Integer.the-variants as integer
 use Rattle.text.proofs.Clash.{clash}
@@ -62,7 +62,7 @@ over-onward most (b ∷ t) m h = go (isDigit b) refl (over-onward most t (m * 10
     go false e ih = rw (onward-no m b t e)
 
 module _ (most m b : ℕ) where
-  pub push-none : (t : List ℕ) → pushed most m b ≡ none → within most (onward m (b ∷ t)) ≡ none
+  pub push-none : (t : List ℕ) → digitPushed most m b ≡ none → within most (onward m (b ∷ t)) ≡ none
   unfolding within
   push-none t p = go (isDigit b) refl (leb (m * 10 + (b - 48)) most) refl
     where
@@ -71,7 +71,7 @@ module _ (most m b : ℕ) where
       go true e false f = rw (onward-yes m b t e) (over-onward most t (m * 10 + (b - 48)) (leb-false (m * 10 + (b - 48)) most f))
       go true e true f = let q : some (m * 10 + (b - 48)) ≡ none = rw (e, f) at p in clash (cc)
 
-  pushed-is : (n : ℕ) → pushed most m b ≡ some n → (isDigit b ≡ true) × (m * 10 + (b - 48) ≡ n) × (n ≤ most)
+  pushed-is : (n : ℕ) → digitPushed most m b ≡ some n → (isDigit b ≡ true) × (m * 10 + (b - 48) ≡ n) × (n ≤ most)
   pushed-is n p = go (isDigit b) refl (leb (m * 10 + (b - 48)) most) refl
     where
       go : (x : Bool) → isDigit b ≡ x → (y : Bool) → leb (m * 10 + (b - 48)) most ≡ y → (isDigit b ≡ true) × (m * 10 + (b - 48) ≡ n) × (n ≤ most)
@@ -82,7 +82,7 @@ module _ (most m b : ℕ) where
           let same : m * 10 + (b - 48) ≡ n = cc in
           (e, same, omega (arith, leb-true (m * 10 + (b - 48)) most f))
 
-  module _ (n : ℕ) (p : pushed most m b ≡ some n) where
+  module _ (n : ℕ) (p : digitPushed most m b ≡ some n) where
     pub push-some : (t : List ℕ) → within most (onward m (b ∷ t)) ≡ within most (onward n t)
     push-some t = let q = pushed-is n p in ap (within most) (onward-yes m b t (q .0) ∙ ap (λ (k : ℕ). onward k t) (q .1))
 
@@ -99,10 +99,10 @@ as-some (some k) n e = cc
 
 -- the loop over the digits, at index i of t, with the number m read so far
 module _ (most m : ℕ) (t : List ℕ) (i : ℕ) (h : i < length t) where
-  pub digits-bad : natural.Bad ≡ naturalOf (pushed most m (getD t i 0)) → within most (onward m (drop i t)) ≡ none
+  pub digits-bad : natural.Bad ≡ naturalOf (digitPushed most m (getD t i 0)) → within most (onward m (drop i t)) ≡ none
   digits-bad e = rw (drop-cons t i 0 h) (push-none most m (getD t i 0) (drop (suc i) t) (as-none _ e))
 
-  pub digits-more : (n : ℕ) → natural.Is n ≡ naturalOf (pushed most m (getD t i 0))
+  pub digits-more : (n : ℕ) → natural.Is n ≡ naturalOf (digitPushed most m (getD t i 0))
       → within most (onward m (drop i t)) ≡ within most (onward n (drop (i + 1) t))
   digits-more n e = rw (drop-cons t i 0 h, add-one) (push-some most m (getD t i 0) n (as-some _ n e) (drop (suc i) t))
 
@@ -110,13 +110,13 @@ pub digits-end : (most m : ℕ) (t : List ℕ) → m ≤ most → within most (o
 unfolding within onward
 digits-end most m t h = rw (drop-length, le-leb m most h)
 
-pub natural-onward : (t : List ℕ) → 0 < length t → natural t ≡ onward 0 t
-unfolding natural
+pub natural-onward : (t : List ℕ) → 0 < length t → naturalFrom t ≡ onward 0 t
+unfolding naturalFrom
 natural-onward [] h = absurd (omega arith)
 natural-onward (b ∷ t) h = refl
 
-pub natural-empty : (most : ℕ) (t : List ℕ) → length t ≡ 0 → within most (natural t) ≡ none
-unfolding natural within
+pub natural-empty : (most : ℕ) (t : List ℕ) → length t ≡ 0 → within most (naturalFrom t) ≡ none
+unfolding naturalFrom within
 natural-empty most [] h = refl
 natural-empty most (b ∷ t) h = absurd (omega arith)
 
@@ -137,8 +137,8 @@ sign-bad f o e = rw (as-none o e)
 sign-is : (f : ℕ → ℤ) (o : Option ℕ) (m : ℕ) → natural.Is m ≡ naturalOf o → integer.Is (f m) ≡ integerOf (mapped f o)
 sign-is f o m e = rw (as-some o m e)
 
-pub number-empty : (t : List ℕ) → length t ≡ 0 → numberOf t ≡ none
-unfolding numberOf
+pub number-empty : (t : List ℕ) → length t ≡ 0 → integerFrom t ≡ none
+unfolding integerFrom
 number-empty [] h = refl
 number-empty (b ∷ t) h = absurd (omega arith)
 
@@ -147,27 +147,29 @@ abbrev pub behind : List ℕ → List ℕ
 behind t = take (length t - 1) (drop 1 t)
 
 number-minus : (t : List ℕ) → 0 < length t → getD t 0 0 ≡ 45
-    → numberOf t ≡ mapped (λ n. negℤ (pos n)) (within 9223372036854775808 (natural (behind t)))
-unfolding numberOf
+    → integerFrom t ≡ mapped (λ n. negℤ (pos n)) (within 9223372036854775808 (naturalFrom (behind t)))
+unfolding integerFrom
 number-minus [] h e = absurd (omega arith)
 number-minus (b ∷ t) h e = rw (eq-eqb b 45 e, take-all (length (b ∷ t) - 1) t (omega arith))
 
 pub number-plain : (t : List ℕ) → 0 < length t → (getD t 0 0 ≡ 45 → ⊥)
-    → numberOf t ≡ mapped pos (within 9223372036854775807 (natural t))
-unfolding numberOf
+    → integerFrom t ≡ mapped pos (within 9223372036854775807 (naturalFrom t))
+unfolding integerFrom
 number-plain [] h e = absurd (omega arith)
 number-plain (b ∷ t) h e = rw (ne-eqb b 45 e)
 
 -- the two forms of a number, by its first byte
 module _ (t : List ℕ) (h : 0 < length t) where
-  pub minus-bad : getD t 0 0 ≡ 45 → natural.Bad ≡ naturalOf (within 9223372036854775808 (natural (behind t))) → integer.Bad ≡ integerOf (numberOf t)
-  minus-bad e a = sign-bad (λ n. negℤ (pos n)) (within 9223372036854775808 (natural (behind t))) a ∙ ap integerOf (sym (number-minus t h e))
+  pub minus-bad : getD t 0 0 ≡ 45 → natural.Bad ≡ naturalOf (within 9223372036854775808 (naturalFrom (behind t))) → integer.Bad ≡ integerOf (integerFrom t)
+  minus-bad e a = sign-bad (λ n. negℤ (pos n)) (within 9223372036854775808 (naturalFrom (behind t))) a ∙ ap integerOf (sym (number-minus t h e))
 
-  pub minus-is : getD t 0 0 ≡ 45 → (m : ℕ) → natural.Is m ≡ naturalOf (within 9223372036854775808 (natural (behind t))) → integer.Is (negℤ (pos m)) ≡ integerOf (numberOf t)
-  minus-is e m a = sign-is (λ n. negℤ (pos n)) (within 9223372036854775808 (natural (behind t))) m a ∙ ap integerOf (sym (number-minus t h e))
+  pub minus-is : getD t 0 0 ≡ 45 → (m : ℕ) → natural.Is m ≡ naturalOf (within 9223372036854775808 (naturalFrom (behind t)))
+      → integer.Is (negℤ (pos m)) ≡ integerOf (integerFrom t)
+  minus-is e m a = sign-is (λ n. negℤ (pos n)) (within 9223372036854775808 (naturalFrom (behind t))) m a ∙ ap integerOf (sym (number-minus t h e))
 
-  pub plain-bad : (getD t 0 0 ≡ 45 → ⊥) → natural.Bad ≡ naturalOf (within 9223372036854775807 (natural t)) → integer.Bad ≡ integerOf (numberOf t)
-  plain-bad e a = sign-bad pos (within 9223372036854775807 (natural t)) a ∙ ap integerOf (sym (number-plain t h e))
+  pub plain-bad : (getD t 0 0 ≡ 45 → ⊥) → natural.Bad ≡ naturalOf (within 9223372036854775807 (naturalFrom t)) → integer.Bad ≡ integerOf (integerFrom t)
+  plain-bad e a = sign-bad pos (within 9223372036854775807 (naturalFrom t)) a ∙ ap integerOf (sym (number-plain t h e))
 
-  pub plain-is : (getD t 0 0 ≡ 45 → ⊥) → (m : ℕ) → natural.Is m ≡ naturalOf (within 9223372036854775807 (natural t)) → integer.Is (pos m) ≡ integerOf (numberOf t)
-  plain-is e m a = sign-is pos (within 9223372036854775807 (natural t)) m a ∙ ap integerOf (sym (number-plain t h e))
+  pub plain-is : (getD t 0 0 ≡ 45 → ⊥) → (m : ℕ) → natural.Is m ≡ naturalOf (within 9223372036854775807 (naturalFrom t))
+      → integer.Is (pos m) ≡ integerOf (integerFrom t)
+  plain-is e m a = sign-is pos (within 9223372036854775807 (naturalFrom t)) m a ∙ ap integerOf (sym (number-plain t h e))

@@ -18,11 +18,11 @@ use native.Mathlib.Nat.{add-zero, add-suc, suc-add}
 use native.Mathlib.Omega.{arith}
 use lib.ListN.{length, getD, drop, take, length-drop, drop-of-length-le}
 use lib.Seq.{drop-cons, drop-drop, getD-drop}
-use Rattle.text.specs.Blank.{isBlank, run, unbroken}
+use Rattle.text.specs.Blank.{isBlank, untilBlank, unbroken}
 use Rattle.text.specs.Piece.{pieceAt, piecesFrom, pieces}
-use Rattle.text.specs.Inner.Inside.{integerOf, stretch, left, Stuck, Stepped}
+use Rattle.text.specs.Inner.Inside.{integerOf, stretch, left, Stuck, PieceRead}
 use Rattle.text.specs.declared.Integer.the-variants as integer
-use Rattle.text.specs.Number.{numberOf}
+use Rattle.text.specs.Number.{integerFrom}
 use Rattle.text.proofs.Blanks.{as-kind, stretch-yes, stretch-no, stretch-le, after-stretch, take-stretch}
 use Rattle.text.proofs.Clash.{clash}
 
@@ -84,27 +84,27 @@ unbroken-parts b t h = go (isBlank b) refl
     go true e = let q : false ≡ true = rw (unbroken, e) at h in clash (cc)
     go false e = (e, rw (unbroken, e) at h)
 
-unbroken-run : (t : List ℕ) → unbroken t ≡ true → run t ≡ t
-unfolding run
+unbroken-run : (t : List ℕ) → unbroken t ≡ true → untilBlank t ≡ t
+unfolding untilBlank
 unbroken-run [] h = refl
-unbroken-run (b ∷ t) h = let u = unbroken-parts b t h in rw (run, u .0) (ap (λ (r : List ℕ). b ∷ r) (unbroken-run t (u .1)))
+unbroken-run (b ∷ t) h = let u = unbroken-parts b t h in rw (untilBlank, u .0) (ap (λ (r : List ℕ). b ∷ r) (unbroken-run t (u .1)))
 
 unbroken-within : (t : List ℕ) (at : ℕ) → unbroken t ≡ true → piecesFrom at true t ≡ []
 unfolding piecesFrom
 unbroken-within [] at h = refl
 unbroken-within (b ∷ t) at h = let u = unbroken-parts b t h in pieces-within b t at (u .0) ∙ unbroken-within t (suc at) (u .1)
 
-pub one-run : (b : ℕ) (t : List ℕ) → unbroken (b ∷ t) ≡ true → pieces (b ∷ t) ≡ record { at = 0; says = numberOf (b ∷ t) } ∷ []
+pub one-run : (b : ℕ) (t : List ℕ) → unbroken (b ∷ t) ≡ true → pieces (b ∷ t) ≡ record { at = 0; says = integerFrom (b ∷ t) } ∷ []
 unfolding pieces
 one-run b t h =
     let u = unbroken-parts b t h in
     pieces-begin b t 0 (u .0) ∙ rw (unbroken-run (b ∷ t) h, unbroken-within t 1 (u .1))
 
 -- a blank byte ends the run before it
-run-ends : (w : List ℕ) (b : ℕ) (t : List ℕ) → unbroken w ≡ true → isBlank b ≡ true → run (w ++ (b ∷ t)) ≡ w
-unfolding run
-run-ends [] b t h e = rw (run, e)
-run-ends (c ∷ w) b t h e = let u = unbroken-parts c w h in rw (run, u .0) (ap (λ (r : List ℕ). c ∷ r) (run-ends w b t (u .1) e))
+run-ends : (w : List ℕ) (b : ℕ) (t : List ℕ) → unbroken w ≡ true → isBlank b ≡ true → untilBlank (w ++ (b ∷ t)) ≡ w
+unfolding untilBlank
+run-ends [] b t h e = rw (untilBlank, e)
+run-ends (c ∷ w) b t h e = let u = unbroken-parts c w h in rw (untilBlank, u .0) (ap (λ (r : List ℕ). c ∷ r) (run-ends w b t (u .1) e))
 
 within-ends : (w : List ℕ) (b : ℕ) (t : List ℕ) (at : ℕ) → unbroken w ≡ true → isBlank b ≡ true
     → piecesFrom at true (w ++ (b ∷ t)) ≡ piecesFrom (suc (at + length w)) false t
@@ -114,12 +114,13 @@ within-ends (c ∷ w) b t at h e =
     pieces-within c (w ++ (b ∷ t)) at (u .0) ∙ within-ends w b t (suc at) (u .1) e ∙ ap (λ (k : ℕ). piecesFrom (suc k) false t) (omega arith)
 
 pub run-first : (w : List ℕ) (b : ℕ) (t : List ℕ) (at : ℕ) → 0 < length w → unbroken w ≡ true → isBlank b ≡ true
-    → piecesFrom at false (w ++ (b ∷ t)) ≡ record { at = at; says = numberOf w } ∷ piecesFrom (suc (at + length w)) false t
+    → piecesFrom at false (w ++ (b ∷ t)) ≡ record { at = at; says = integerFrom w } ∷ piecesFrom (suc (at + length w)) false t
 run-first [] b t at l h e = absurd (omega arith)
 run-first (c ∷ w) b t at l h e =
     let u = unbroken-parts c w h in
     pieces-begin c (w ++ (b ∷ t)) at (u .0)
-    ∙ rw (run-ends (c ∷ w) b t h e, within-ends w b t (suc at) (u .1) e) (ap (λ (k : ℕ). record { at = at; says = numberOf (c ∷ w) } ∷ piecesFrom (suc k) false t) (omega arith))
+    ∙ rw (run-ends (c ∷ w) b t h e, within-ends w b t (suc at) (u .1) e)
+    (ap (λ (k : ℕ). record { at = at; says = integerFrom (c ∷ w) } ∷ piecesFrom (suc k) false t) (omega arith))
 
 module _ (t : List ℕ) (from at : ℕ) (le : from ≤ length t) (is : at ≡ from + stretch true (drop from t)) where
   skipped : left t from ≡ left t at
@@ -138,7 +139,7 @@ module _ (t : List ℕ) (from at : ℕ) (le : from ≤ length t) (is : at ≡ fr
     longer = rw (drop-cons t at 0 lt) (stretch-yes false (getD t at 0) (drop (suc at) t) (as-kind false begins-at))
 
     -- the code lends the piece as this part of the text
-    part-run : take (to - at) (drop at t) ≡ run (drop at t)
+    part-run : take (to - at) (drop at t) ≡ untilBlank (drop at t)
     part-run = let e : to - at ≡ stretch false (drop at t) = omega arith in rw e (take-stretch (drop at t))
 
     after-run : piecesFrom (suc at) true (drop (suc at) t) ≡ left t to
@@ -151,19 +152,19 @@ module _ (t : List ℕ) (from at : ℕ) (le : from ≤ length t) (is : at ≡ fr
     unfolding left
     first-piece = rw (drop-cons t at 0 lt) (pieces-begin (getD t at 0) (drop (suc at) t) at begins-at)
 
-    left-step : left t from ≡ record { at = at; says = numberOf (take (to - at) (drop at t)) } ∷ left t to
+    left-step : left t from ≡ record { at = at; says = integerFrom (take (to - at) (drop at t)) } ∷ left t to
     left-step = skipped ∙ rw (part-run, ← after-run) first-piece
 
     pub step-inside : to ≤ length t
     step-inside = omega (arith, stretch-le false (drop at t), length-drop at t)
 
     -- the code's two answers at a piece
-    pub piece-bad : integer.Bad ≡ integerOf (numberOf (take (to - at) (drop at t))) → Stuck t from at
-    piece-bad e = record { after = left t to; here = left-step ∙ rw (none-of (numberOf (take (to - at) (drop at t))) e) }
+    pub piece-bad : integer.Bad ≡ integerOf (integerFrom (take (to - at) (drop at t))) → Stuck t from at
+    piece-bad e = record { after = left t to; here = left-step ∙ rw (none-of (integerFrom (take (to - at) (drop at t))) e) }
 
-    pub piece-is : (n : ℤ) → integer.Is n ≡ integerOf (numberOf (take (to - at) (drop at t))) → Stepped t from n at to
+    pub piece-is : (n : ℤ) → integer.Is n ≡ integerOf (integerFrom (take (to - at) (drop at t))) → PieceRead t from n at to
     piece-is n e = record {
-      here = left-step ∙ rw (some-of (numberOf (take (to - at) (drop at t))) n e);
+      here = left-step ∙ rw (some-of (integerFrom (take (to - at) (drop at t))) n e);
       onward = omega (arith, longer);
       inside = step-inside;
     }

@@ -14,15 +14,15 @@ use lib.ListN.{length, getD, drop, set, length-set}
 use lib.Seq.{paste, paste-suc, take-length, drop-cons, drop-set-lt, getD-set-same}
 use borrow.Author.Tests.{le-leb, lt-leb}
 use Rattle.refusal.specs.Refusal.{tooShort}
-use Rattle.text.specs.Writing.{writtenOf, placed, roomMost}
+use Rattle.text.specs.Writing.{writtenOf, bytesPlaced, roomMost}
 use Rattle.text.specs.declared.Written.the-variants as written
 
 pub put-more : (d : List ℕ) (at : ℕ) (s : List ℕ) (i : ℕ) → at + length s ≤ length d → i < length s
     → set (paste d at s i) (at + i) (getD s i 0) ≡ paste d at s (i + 1)
 put-more d at s i h l = paste-suc d at s i 0 (omega arith) l ∙ ap (paste d at s) (sym (add-one i))
 
-pub put-end : (d : List ℕ) (at : ℕ) (s : List ℕ) → paste d at s (length s) ≡ placed s at d
-unfolding placed
+pub put-end : (d : List ℕ) (at : ℕ) (s : List ℕ) → paste d at s (length s) ≡ bytesPlaced s at d
+unfolding bytesPlaced
 put-end d at s = rw take-length
 
 module _ (k room at : ℕ) where

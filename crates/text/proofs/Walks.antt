@@ -18,7 +18,7 @@ use lib.IntN.{ℤ}
 use lib.ListN.{length, drop, take, set, length-drop, drop-of-length-le}
 use lib.Seq.{drop-drop}
 use Rattle.text.specs.Piece.{Piece, piecesFrom, pieces, firstBad, numbers, placeAt}
-use Rattle.text.specs.Inner.Inside.{left, Steps, Stepped, Stuck, surveyOf}
+use Rattle.text.specs.Inner.Inside.{left, Steps, PieceRead, Stuck, surveyOf}
 use Rattle.text.specs.declared.Step.{Step}
 use Rattle.text.specs.declared.Step.the-variants as step
 use Rattle.text.specs.declared.Survey.the-variants as survey
@@ -42,7 +42,7 @@ module _ (t : List ℕ) (from : ℕ) {s : Step} (h : Steps t from s) where
   pub at-bad : {at : ℕ} → s ≡ step.Bad at → Stuck t from at
   at-bad e = subst (Steps t from) e h
 
-  pub at-number : {n : ℤ} {at to : ℕ} → s ≡ step.Number n at to → Stepped t from n at to
+  pub at-number : {n : ℤ} {at to : ℕ} → s ≡ step.Number n at to → PieceRead t from n at to
   at-number e = subst (Steps t from) e h
 
 -- a number is not bad, a piece that is none is
@@ -58,7 +58,7 @@ module _ {t : List ℕ} {i from : ℕ} (w : Walked t i from) where
   rest-length : length (pieces t) ≡ i + length (left t from)
   rest-length = omega (arith, w .count, ap length (w .rest), length-drop i (pieces t))
 
-  pub walked-more : {n : ℤ} {at to : ℕ} → Stepped t from n at to → Walked t (i + 1) to
+  pub walked-more : {n : ℤ} {at to : ℕ} → PieceRead t from n at to → Walked t (i + 1) to
   walked-more {n} {at} {to} s = record {
     rest = sym (drop-drop 1 i (pieces t)) ∙ ap (drop 1) (w .rest ∙ s .here);
     inside = s .inside;
@@ -105,7 +105,7 @@ module _ {t : List ℕ} {i from : ℕ} (w : Walked t i from) where
   place-none k h e =
       sym (place-drop (pieces t) k ∙ ap (λ (ps : List Piece). placeAt ps 0) (drop-of-length-le (pieces t) {i = k} (omega (arith, walked-end w e))))
 
-  pub place-number : {n : ℤ} {at to : ℕ} → Stepped t from n at to → at ≡ placeAt (pieces t) i
+  pub place-number : {n : ℤ} {at to : ℕ} → PieceRead t from n at to → at ≡ placeAt (pieces t) i
   unfolding placeAt
   place-number s = sym (place-drop (pieces t) i ∙ ap (λ (ps : List Piece). placeAt ps 0) (w .rest ∙ s .here))
 
@@ -146,7 +146,7 @@ store zero (y ∷ s) (z ∷ d) r x e h = cc
 store (suc i) [] (z ∷ d) r x e h = clash (cc)
 store (suc i) (y ∷ s) (z ∷ d) r x e h = ap (λ (l : List ℤ). y ∷ l) (store i s d r x e (omega arith))
 
-module _ {t : List ℕ} {i from : ℕ} (w : Walked t i from) (h : firstBad (pieces t) ≡ none) {n : ℤ} {at to : ℕ} (s : Stepped t from n at to) where
+module _ {t : List ℕ} {i from : ℕ} (w : Walked t i from) (h : firstBad (pieces t) ≡ none) {n : ℤ} {at to : ℕ} (s : PieceRead t from n at to) where
   numbers-next : drop i (numbers (pieces t)) ≡ n ∷ numbers (left t to)
   unfolding numbers
   numbers-next = drop-numbers (pieces t) i h ∙ ap numbers (w .rest ∙ s .here)

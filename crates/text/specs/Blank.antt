@@ -1,6 +1,6 @@
 -- The bytes that split a text, and the runs between them.
 --     isBlank b     b is a space (32), a line feed (10) or a carriage return (13)
---     run t         the bytes of t before its first blank byte, or all of t where it has none
+--     untilBlank t  the bytes of t before its first blank byte, or all of t where it has none
 --     unbroken t    t has no blank byte
 -- Assumes nothing.
 use Prim.Native.Nat.{ℕ}
@@ -11,9 +11,9 @@ use lib.Dec.{eqb}
 unfoldable pub isBlank : ℕ → Bool
 isBlank b = eqb b 32 || eqb b 10 || eqb b 13
 
-unfoldable pub run : List ℕ → List ℕ
-run [] = []
-run (b ∷ t) = elim (isBlank b) [ true ↦ [] | false ↦ b ∷ run t ]
+unfoldable pub untilBlank : List ℕ → List ℕ
+untilBlank [] = []
+untilBlank (b ∷ t) = elim (isBlank b) [ true ↦ [] | false ↦ b ∷ untilBlank t ]
 
 unfoldable pub unbroken : List ℕ → Bool
 unbroken [] = true

@@ -16,7 +16,7 @@ use mathlib.Core.List.{List, [], _∷_, _++_}
 use lib.IntN.{ℤ, pos, negsuc}
 use lib.ListN.{length}
 use Rattle.text.specs.Blank.{isBlank, unbroken}
-use Rattle.text.specs.Number.{numberOf}
+use Rattle.text.specs.Number.{integerFrom}
 use Rattle.text.specs.Piece.{piecesFrom, pieces, numbers}
 use Rattle.text.specs.Reading.{handed, place19, readingOf}
 use Rattle.text.specs.Refusal.{readingRefusal}
@@ -29,7 +29,7 @@ Inside64 (pos n) = n < 2 ^ 63
 Inside64 (negsuc n) = n < 2 ^ 63
 
 abbrev pub WriteThenRead : Type 0
-WriteThenRead = (z : ℤ) → Inside64 z → numberOf (decimalOf z) ≡ some z
+WriteThenRead = (z : ℤ) → Inside64 z → integerFrom (decimalOf z) ≡ some z
 
 abbrev pub NoBlank : Type 0
 NoBlank = (z : ℤ) → unbroken (decimalOf z) ≡ true

@@ -1,7 +1,6 @@
 -- The promises of `text`, in reading order: what a piece of text is and which number it says, the answer of `read`, the
 -- decimal form of a number, the answers of `write` and `copy`, the refusal that each answer is, the laws, and last
 -- what the functions inside the crate promise each other.
-pub mod Choice
 pub mod Blank
 pub mod Number
 pub mod Piece

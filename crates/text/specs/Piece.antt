@@ -13,9 +13,9 @@ use mathlib.Core.Bool.{Bool, false, not, _||_}
 use mathlib.Core.List.{List, [], _∷_}
 use mathlib.Core.Option.{Option, none, some}
 use lib.IntN.{ℤ}
-use Rattle.text.specs.Choice.{pick}
-use Rattle.text.specs.Blank.{isBlank, run}
-use Rattle.text.specs.Number.{numberOf}
+use Rattle.basics.specs.Choice.{pick}
+use Rattle.text.specs.Blank.{isBlank, untilBlank}
+use Rattle.text.specs.Number.{integerFrom}
 
 pub record Piece : Type 0 where
   pub at : ℕ
@@ -25,7 +25,7 @@ abbrev pub begins : Bool → ℕ → Bool
 begins inside b = not (inside || isBlank b)
 
 abbrev pub pieceAt : ℕ → List ℕ → Piece
-pieceAt at t = record { at = at; says = numberOf (run t) }
+pieceAt at t = record { at = at; says = integerFrom (untilBlank t) }
 
 unfoldable pub piecesFrom : ℕ → Bool → List ℕ → List Piece
 piecesFrom at inside [] = []

@@ -24,7 +24,7 @@ use lib.Dec.{ltb, leb}
 use lib.IntN.{ℤ, pos, negsuc}
 use lib.ListN.{length, take, drop}
 use Rattle.refusal.specs.Refusal.{tooShort, badText}
-use Rattle.text.specs.Choice.{pick}
+use Rattle.basics.specs.Choice.{pick}
 use Rattle.text.specs.Piece.{Piece, pieces, firstBad, numbers, placeAt}
 use Rattle.text.specs.declared.Format.{Format}
 use Rattle.text.specs.declared.Reading.{Reading}

@@ -2,7 +2,7 @@
 --     roomMost                 the greatest number of 64 bits: no slice is longer
 --     writtenOf k room at      the answer where k bytes are to stand from the offset `at` on in a slice of `room` bytes.
 --                              Where they do not fit, 11 with the length that they need, or with roomMost where that is greater.
---     placed bs at out         out with the bytes bs from the offset `at` on, in place of those that stood there
+--     bytesPlaced bs at out    out with the bytes bs from the offset `at` on, in place of those that stood there
 --     standing w bs at out     what the slice holds in the end, where it held `out` and the answer is w
 -- Assumes nothing.
 use Prim.Native.Nat.{ℕ, _+_, min}
@@ -10,7 +10,7 @@ use mathlib.Core.List.{List, _++_}
 use lib.Dec.{leb}
 use lib.ListN.{length, take, drop}
 use Rattle.refusal.specs.Refusal.{tooShort}
-use Rattle.text.specs.Choice.{pick}
+use Rattle.basics.specs.Choice.{pick}
 use Rattle.text.specs.declared.Written.{Written}
 use Rattle.text.specs.declared.Written.the-variants.{To, Refused}
 
@@ -20,9 +20,9 @@ roomMost = 18446744073709551615
 unfoldable pub writtenOf : ℕ → ℕ → ℕ → Written
 writtenOf k room at = pick (leb (at + k) room) (To (at + k)) (Refused (tooShort (min (at + k) roomMost)))
 
-unfoldable pub placed : List ℕ → ℕ → List ℕ → List ℕ
-placed bs at out = take at out ++ bs ++ drop (at + length bs) out
+unfoldable pub bytesPlaced : List ℕ → ℕ → List ℕ → List ℕ
+bytesPlaced bs at out = take at out ++ bs ++ drop (at + length bs) out
 
 unfoldable pub standing : Written → List ℕ → ℕ → List ℕ → List ℕ
-standing (To e) bs at out = placed bs at out
+standing (To e) bs at out = bytesPlaced bs at out
 standing (Refused f) bs at out = out

@@ -10,12 +10,12 @@ ghost use mathlib.Core.List.{_++_};
 ghost use lib.ListN.{length, take, drop};
 ghost use lib.IntN.{pos, negℤ, natAbs};
 ghost use Rattle.text.specs.Blank.{isBlank};
-ghost use Rattle.text.specs.Number.{natural, within, numberOf};
+ghost use Rattle.text.specs.Number.{naturalFrom, within, integerFrom};
 ghost use Rattle.text.specs.Piece.{pieces, numbers, firstBad, placeAt};
 ghost use Rattle.text.specs.Reading.{readingOf, inputOf, answer, leftBy, wanted, vertexCount};
 ghost use Rattle.text.specs.Decimal.{digits, decimalOf};
-ghost use Rattle.text.specs.Writing.{roomMost, writtenOf, placed, standing};
-ghost use Rattle.text.specs.Inner.Inside.{naturalOf, integerOf, pushed, wantedOf, stretch, Steps, surveyOf, countedOf};
+ghost use Rattle.text.specs.Writing.{roomMost, writtenOf, bytesPlaced, standing};
+ghost use Rattle.text.specs.Inner.Inside.{naturalOf, integerOf, digitPushed, wantedOf, stretch, Steps, surveyOf, countedOf};
 
 // The most bytes that a text may have.
 const TEXT_MOST: usize = 65536;
@@ -118,7 +118,7 @@ fn stretch_end(text: &[u8], from: usize, kind: bool) -> usize
 // m with one more decimal digit b behind, where b is a digit and the number at most `most`.
 fn push(m: u64, b: u8, most: u64) -> Natural
     requires { ⌜ (m ≤ most) × (most ≤ 9223372036854775808) ⌝ }
-    ensures { λ r. ⌜ r ≡ naturalOf (pushed most m b) ⌝ }
+    ensures { λ r. ⌜ r ≡ naturalOf (digitPushed most m b) ⌝ }
 {
     if b < b'0' {
         return Natural::Bad;
@@ -147,7 +147,7 @@ fn wide(b: u8) -> u64
 // that takes it there ends the loop.
 fn magnitude(digits: &[u8], most: u64) -> Natural
     requires { ⌜ most ≤ 9223372036854775808 ⌝ }
-    ensures { λ r. ⌜ r ≡ naturalOf (within most (natural (now (digits .entry)))) ⌝ }
+    ensures { λ r. ⌜ r ≡ naturalOf (within most (naturalFrom (now (digits .entry)))) ⌝ }
 {
     if digits.len() == 0 {
         return Natural::Bad;
@@ -180,7 +180,7 @@ fn negative(m: u64) -> i64
 
 // The number that a piece is.
 fn signed(piece: &[u8]) -> Integer
-    ensures { λ r. ⌜ r ≡ integerOf (numberOf (now (piece .entry))) ⌝ }
+    ensures { λ r. ⌜ r ≡ integerOf (integerFrom (now (piece .entry))) ⌝ }
 {
     if piece.len() == 0 {
         return Integer::Bad;
@@ -404,7 +404,7 @@ fn needed(at: usize, k: usize) -> usize
 // Puts the bytes into `out` from `at` on.
 fn put(bytes: &[u8], out: &mut [u8], at: usize)
     requires { ⌜ at + length (now bytes) ≤ length (now out) ⌝ }
-    ensures { λ _. ⌜ now (out .exit) ≡ placed (now (bytes .entry)) at (now (out .entry)) ⌝ }
+    ensures { λ _. ⌜ now (out .exit) ≡ bytesPlaced (now (bytes .entry)) at (now (out .entry)) ⌝ }
 {
     let mut i = 0;
     while i < bytes.len() {

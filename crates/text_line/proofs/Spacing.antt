@@ -5,25 +5,27 @@
 --     wider                          a number of 16 signed bits is one of 64
 --     letter-most                    and takes 6 at most
 --     spaced-one, spaced-two         one number, two numbers
---     spaced-last                    one number more
---     naturals-more, integers-more   the same of the first numbers of a slice
+--     spaced-last, spaced-next       one number more, and the first i + 1 of a list
+--     Spaced                         the state of a loop that puts numbers: `spaced-none`, `spaced-more` and `spaced-all` are its start, a turn, its end
+--     natural-at                     a natural number of a list
 -- Assumes nothing.
 use mathlib.Core.Path.{_≡_, refl, sym, ap, _∙_}
 use mathlib.Core.List.{List, [], _∷_, _++_, map, append-assoc, append-nil}
-use Prim.Native.Nat.{ℕ, zero, suc, _+_, _-_, _/_, _%_, _^_, _≤_, _<_}
+use Prim.Native.Nat.{ℕ, zero, suc, _+_, _-_, _/_, _*_, _%_, _^_, _≤_, _<_}
 use native.Mathlib.Decide.{decLt}
 use native.Mathlib.Numerals.{add-one}
 use native.Mathlib.Omega.{arith}
 use lib.IntN.{ℤ, pos, negsuc, natAbs}
 use lib.ListN.{length, getD, take}
-use lib.Seq.{take-suc}
+use lib.Seq.{take-suc, take-all}
 use mir.Syntax.{w16, w64}
 use mir.Val.{SFits}
 use borrow.Author.Tests.{lt-ltb, le-ltb}
 use Rattle.text.specs.Decimal.{digitsOnto, digits, decimalOf}
 use Rattle.text.proofs.Places.{tenth}
 use Rattle.text.proofs.Signs.{abs-most}
-use Rattle.text_line.specs.Line.{natural, spaced}
+use Rattle.text_line.specs.Line.{natural, spaced, Puts}
+use Rattle.text_line.proofs.Placing.{puts-as, puts-none, puts-then, puts-same}
 
 -- a number below 10^k has k digits at most
 onto-most : (fuel k n : ℕ) (t : List ℕ) → 1 ≤ k → n < 10 ^ k → length (digitsOnto fuel n t) ≤ k + length t
@@ -77,17 +79,34 @@ pub spaced-two : (y z : ℤ) → (32 ∷ decimalOf y) ++ (32 ∷ decimalOf z) �
 unfolding spaced
 spaced-two y z = ap (λ (l : List ℕ). (32 ∷ decimalOf y) ++ l) (spaced-one z)
 
-pub integers-more : (zs : List ℤ) (i : ℕ) → i < length zs → spaced (take (i + 1) zs) ≡ spaced (take i zs) ++ (32 ∷ decimalOf (getD zs i (pos 0)))
-integers-more zs i h = ap (λ (n : ℕ). spaced (take n zs)) (add-one i) ∙ ap spaced (take-suc zs i (pos 0) h) ∙ spaced-last (take i zs) (getD zs i (pos 0))
+spaced-next : (zs : List ℤ) (i : ℕ) → i < length zs → spaced (take i zs) ++ (32 ∷ decimalOf (getD zs i (pos 0))) ≡ spaced (take (i + 1) zs)
+spaced-next zs i h = sym (ap (λ (n : ℕ). spaced (take n zs)) (add-one i) ∙ ap spaced (take-suc zs i (pos 0) h) ∙ spaced-last (take i zs) (getD zs i (pos 0)))
 
-map-last : (ns : List ℕ) (n : ℕ) → map natural (ns ++ (n ∷ [])) ≡ map natural ns ++ (natural n ∷ [])
-map-last [] n = refl
-map-last (m ∷ ns) n = ap (λ (l : List ℤ). natural m ∷ l) (map-last ns n)
+-- ---- a loop that puts the numbers zs, each in `width` bytes at most
+pub record Spaced (width : ℕ) (zs : List ℤ) (at i end : ℕ) (out₀ out : List ℕ) : Type 0 where
+  pub puts : Puts (spaced (take i zs)) at end out₀ out
+  pub most : end ≤ at + width * i
+  pub few : i ≤ length zs
+  pub same : length out ≡ length out₀
 
-pub naturals-more : (ns : List ℕ) (i : ℕ) → i < length ns
-    → spaced (map natural (take (i + 1) ns)) ≡ spaced (map natural (take i ns)) ++ (32 ∷ decimalOf (natural (getD ns i 0)))
-naturals-more ns i h =
-    ap (λ (n : ℕ). spaced (map natural (take n ns))) (add-one i)
-    ∙ ap (λ (l : List ℕ). spaced (map natural l)) (take-suc ns i 0 h)
-    ∙ ap spaced (map-last (take i ns) (getD ns i 0))
-    ∙ spaced-last (map natural (take i ns)) (natural (getD ns i 0))
+pub spaced-none : (width : ℕ) (zs : List ℤ) (at : ℕ) (out : List ℕ) → Spaced width zs at 0 at out out
+unfolding spaced
+spaced-none width zs at out = record { puts = puts-none at out; most = omega arith; few = omega arith; same = refl }
+
+module _ {width : ℕ} {zs : List ℤ} {at i end : ℕ} {out₀ out : List ℕ} (s : Spaced width zs at i end out₀ out) where
+  pub spaced-more : {z : ℤ} {end' : ℕ} {out' : List ℕ} → i < length zs → z ≡ getD zs i (pos 0) → Puts (32 ∷ decimalOf z) end end' out out' → end' ≤ length out
+      → end' ≤ end + width → Spaced width zs at (i + 1) end' out₀ out'
+  spaced-more h e p room more = record {
+    puts = puts-as (spaced-next zs i h) (puts-then (s .puts) (rw e at p) (omega (arith, s .puts .end-is, p .end-is, s .same)));
+    most = omega (arith, s .most);
+    few = omega arith;
+    same = puts-same p (omega (arith, p .end-is)) ∙ s .same;
+  }
+
+  pub spaced-all : length zs ≤ i → Puts (spaced zs) at end out₀ out × (end ≤ at + width * length zs)
+  spaced-all h = let e : i ≡ length zs = omega (arith, s .few) in (puts-as (ap spaced (take-all i zs h)) (s .puts), rw e at (s .most))
+
+pub natural-at : (ns : List ℕ) (i : ℕ) → natural (getD ns i 0) ≡ getD (map natural ns) i (pos 0)
+natural-at [] i = refl
+natural-at (n ∷ ns) zero = refl
+natural-at (n ∷ ns) (suc i) = natural-at ns i

@@ -1,2 +1,2 @@
--- The promises of `line`: what a line of text is, and what putting bytes into a slice leaves.
+-- The promises of `text_line`: what a line of text is, and what putting bytes into a slice leaves.
 pub mod Line

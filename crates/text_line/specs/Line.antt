@@ -14,7 +14,7 @@ use lib.IntN.{ℤ, pos}
 use lib.ListN.{length}
 use Rattle.refusal.specs.declared.Refusal.{Refusal}
 use Rattle.text.specs.Decimal.{decimalOf}
-use Rattle.text.specs.Writing.{placed}
+use Rattle.text.specs.Writing.{bytesPlaced}
 
 abbrev pub natural : ℕ → ℤ
 natural n = pos n
@@ -34,4 +34,4 @@ refusalLine f = line refusedWord (natural (f .number) ∷ natural (f .place) ∷
 
 pub record Puts (bs : List ℕ) (at end : ℕ) (out out' : List ℕ) : Type 0 where
   pub end-is : end ≡ at + length bs
-  pub left : out' ≡ placed bs at out
+  pub left : out' ≡ bytesPlaced bs at out

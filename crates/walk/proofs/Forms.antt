@@ -21,8 +21,8 @@ use Rattle.matrix.specs.Euclid.{Form, total, swap, turn, tailOf, headOf, agree,
 use Rattle.matrix.proofs.Matrix.{det-≈}
 use Rattle.matrix.proofs.Form.{Unimodular, unimodular-swap, unimodular-whole, Proper, rows, down, unimodular-down, tail-stop, tail-last, tail-more, tail-fuel}
 use Rattle.matrix.proofs.Existence.{shape, unimodular}
-use Rattle.symbol.proofs.Choice.{either, clash, and-left, and-right}
-use Rattle.walk.specs.Inner.Way.{properOf, byQ, turnLetter, turnForm}
+use Rattle.basics.proofs.Choice.{either, clash, and-left, and-right}
+use Rattle.walk.specs.Inner.Way.{properOf, beginsWithQ, turnLetter, turnForm}
 
 -- ---- proper forms
 
@@ -53,7 +53,7 @@ improper f h k = elim (either (eqb (f .p + f .t) 0)) [
 -- ---- one power of Q
 
 pub turn-view : (next : Form → List Letter) (f : Form) → turn next f ≡ turnLetter f ∷ next (turnForm f)
-turn-view next f = elim (either (byQ f)) [ inl e ↦ rw e | inr e ↦ rw e ]
+turn-view next f = elim (either (beginsWithQ f)) [ inl e ↦ rw e | inr e ↦ rw e ]
 
 module _ (f : Form) (u : Unimodular f) (k : Proper f) where
   pub rows-Q : f .p + f .q ≤ f .r + f .t → (f .p ≤ f .r) × (f .q ≤ f .t)
@@ -63,9 +63,10 @@ module _ (f : Form) (u : Unimodular f) (k : Proper f) where
   rows-P h = let m = rows f u k (omega arith) in (m .left, m .right)
 
   pub turn-apart : Unimodular (turnForm f)
-  turn-apart = elim (either (byQ f)) [
+  turn-apart = elim (either (beginsWithQ f)) [
     | inl e ↦ rw e
-        (unimodular-down (swap f) (rows (swap f) (unimodular-swap f u) (record { not-one = omega (arith, k .not-S); not-S = omega (arith, k .not-one) }) (leb-true (f .p + f .q) (f .r + f .t) e))
+        (unimodular-down (swap f) (rows (swap f) (unimodular-swap f u) (record { not-one = omega (arith, k .not-S); not-S = omega (arith, k .not-one) })
+        (leb-true (f .p + f .q) (f .r + f .t) e))
         (unimodular-swap f u))
     | inr e ↦ rw e (let h = leb-false (f .p + f .q) (f .r + f .t) e in unimodular-swap (down f) (unimodular-down f (rows f u k (omega arith)) u))
   ]
@@ -73,7 +74,7 @@ module _ (f : Form) (u : Unimodular f) (k : Proper f) where
   pub turn-less : total (turnForm f) < total f
   turn-less =
       let w = unimodular-whole f u in
-      elim (either (byQ f)) [
+      elim (either (beginsWithQ f)) [
         | inl e ↦ rw e (let m = rows-Q (leb-true (f .p + f .q) (f .r + f .t) e) in omega (arith, w .top, m .0, m .1))
         | inr e ↦ rw e (let m = rows-P (leb-false (f .p + f .q) (f .r + f .t) e) in omega (arith, w .bottom, m .0, m .1))
       ]

@@ -21,11 +21,11 @@ use Rattle.matrix.specs.Words.{Letter}
 use Rattle.matrix.specs.Matrix.{Mat}
 use Rattle.matrix.specs.Euclid.{positive, agree}
 use Rattle.matrix.proofs.Bounds.{minus, fits}
-use Rattle.symbol.proofs.Choice.{clash}
+use Rattle.basics.proofs.Choice.{clash}
 use Rattle.polygon.specs.Step.{written}
 use Rattle.polygon.specs.Walk.{goes}
 use Rattle.polygon.specs.Inner.Tables.{lettersOf}
-use Rattle.walk.specs.Inner.Way.{stored, Stepped}
+use Rattle.walk.specs.Inner.Way.{stored, WayStepped}
 use Rattle.walk.specs.declared.Way.{Way}
 use Rattle.walk.proofs.Stored.{stored-in, stored-out}
 
@@ -41,19 +41,26 @@ letter-some (negsuc n) h = refl
 
 module _ (start limit n : ℕ) (z : ℤ) (out : List ℤ) where
   pub put-none : SFits w16 z → ofZ w16 z ≡ 0 → (n ≡ n + length (lettersOf z)) × (out ≡ stored start limit n (lettersOf z) out)
-  put-none f e = let z-is = ap lettersOf (letter-zero z f e) in (sym (ap (λ (l : List ℤ). n + length l) z-is ∙ add-zero n), sym (ap (λ (l : List ℤ). stored start limit n l out) z-is))
+  put-none f e = let z-is = ap lettersOf (letter-zero z f e) in
+      (sym (ap (λ (l : List ℤ). n + length l) z-is ∙ add-zero n), sym (ap (λ (l : List ℤ). stored start limit n l out) z-is))
 
-  pub put-in : (z' : ℤ) → z' ≡ z → (ofZ w16 z ≡ 0 → ⊥) → n < limit → (n + 1 ≡ n + length (lettersOf z)) × (set out (start + n) z' ≡ stored start limit n (lettersOf z) out)
+  pub put-in : (z' : ℤ) → z' ≡ z → (ofZ w16 z ≡ 0 → ⊥) → n < limit → (n + 1 ≡ n + length (lettersOf z))
+      × (set out (start + n) z' ≡ stored start limit n (lettersOf z) out)
   put-in z' e h k =
-      let z-is = letter-some z h in
-      (sym (ap (λ (l : List ℤ). n + length l) z-is), ap (set out (start + n)) e ∙ stored-in start limit z n out k ∙ sym (ap (λ (l : List ℤ). stored start limit n l out) z-is))
+      let z-is = letter-some z h in (
+        sym (ap (λ (l : List ℤ). n + length l) z-is),
+        ap (set out (start + n)) e ∙ stored-in start limit z n out k
+            ∙ sym (ap (λ (l : List ℤ). stored start limit n l out) z-is),
+      )
 
   pub put-out : (ofZ w16 z ≡ 0 → ⊥) → limit ≤ n → (n + 1 ≡ n + length (lettersOf z)) × (out ≡ stored start limit n (lettersOf z) out)
-  put-out h k = let z-is = letter-some z h in (sym (ap (λ (l : List ℤ). n + length l) z-is), stored-out start limit z n out k ∙ sym (ap (λ (l : List ℤ). stored start limit n l out) z-is))
+  put-out h k = let z-is = letter-some z h in
+      (sym (ap (λ (l : List ℤ). n + length l) z-is), stored-out start limit z n out k ∙ sym (ap (λ (l : List ℤ). stored start limit n l out) z-is))
 
 -- a step, from the letter that it writes and what `put` leaves
-pub stepped : {v : ℕ} {t : List ℤ} {start limit : ℕ} {x : Letter} {a b : Way} {out out' : List ℤ} (z : ℤ) → lettersOf z ≡ written v t x (a .at) → b .at ≡ goes v t x (a .at)
-    → (b .count ≡ a .count + length (lettersOf z)) × (out' ≡ stored start limit (a .count) (lettersOf z) out) → Stepped v t start limit x a out b out'
+pub stepped : {v : ℕ} {t : List ℤ} {start limit : ℕ} {x : Letter} {a b : Way} {out out' : List ℤ} (z : ℤ) → lettersOf z ≡ written v t x (a .at)
+    → b .at ≡ goes v t x (a .at)
+    → (b .count ≡ a .count + length (lettersOf z)) × (out' ≡ stored start limit (a .count) (lettersOf z) out) → WayStepped v t start limit x a out b out'
 stepped {v} {t} {start} {limit} {x} {a} {b} {out} {out'} z e f k = record {
   at = f;
   count = k .0 ∙ ap (λ (l : List ℤ). a .count + length l) e;

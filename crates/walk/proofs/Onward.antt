@@ -17,11 +17,12 @@ use Rattle.matrix.specs.Words.{Letter, S, Q, P}
 use Rattle.matrix.specs.Euclid.{Form, form, total, swap, tailOf, agree, sizes, wordOf}
 use Rattle.matrix.specs.Bounds.{Small}
 use Rattle.matrix.proofs.Form.{Proper, unimodular-swap}
-use Rattle.symbol.proofs.Choice.{pick-true, pick-false}
+use Rattle.basics.proofs.Choice.{pick-true, pick-false}
 use Rattle.polygon.specs.Step.{Real, written}
 use Rattle.polygon.specs.Walk.{goes, ends, writes}
 use Rattle.polygon.specs.Theorem.{Polygon}
-use Rattle.walk.specs.Inner.Way.{formOf, restOf, properOf, byQ, turnLetter, turnForm, stored, Stepped, Onward, OneApart, Sound, Begun, Going, Ended, Walked}
+use Rattle.walk.specs.Inner.Way.{formOf, restOf, properOf, beginsWithQ, turnLetter, turnForm, stored, WayStepped, Onward, OneApart, Sound}
+use Rattle.walk.specs.Inner.Way.{Begun, Going, Ended, Walked}
 use Rattle.walk.specs.declared.Way.{Way}
 use Rattle.walk.proofs.Stored.{stored-++, length-stored}
 use Rattle.walk.proofs.Forms.{properly, proper-yes, turn-apart, turn-less, tail-two, tail-one, tail-none, apart-of, proper-of, word-head, word-tail}
@@ -36,7 +37,7 @@ module _ {v : ℕ} {t : List ℤ} {start limit : ℕ} where
       → Onward v t start limit l x n out m y i out1 → Onward v t start limit m y i out1 k z j out2 → Onward v t start limit l x n out k z j out2
   onward-trans a b = record { ends-at = b .ends-at ∙ a .ends-at; count = b .count ∙ a .count; left = b .left ∙ a .left }
 
-  pub onward-step : {x : Letter} {a b : Way} {out out' : List ℤ} (l : List Letter) → Stepped v t start limit x a out b out'
+  pub onward-step : {x : Letter} {a b : Way} {out out' : List ℤ} (l : List Letter) → WayStepped v t start limit x a out b out'
       → Onward v t start limit (x ∷ l) (a .at) (a .count) out l (b .at) (b .count) out'
   onward-step {x} {a} {b} {out} {out'} l s =
       let p = a .at in
@@ -51,10 +52,12 @@ module _ {v : ℕ} {t : List ℤ} {start limit : ℕ} where
             ∙ sym (stored-++ start limit u r (a .count) out);
       }
 
-  pub onward-from : {l l' m : List Letter} {x n y i : ℕ} {out out' : List ℤ} → l ≡ l' → Onward v t start limit l' x n out m y i out' → Onward v t start limit l x n out m y i out'
+  pub onward-from : {l l' m : List Letter} {x n y i : ℕ} {out out' : List ℤ} → l ≡ l' → Onward v t start limit l' x n out m y i out'
+      → Onward v t start limit l x n out m y i out'
   onward-from {m} {x} {n} {y} {i} {out} {out'} e a = subst (λ (k : List Letter). Onward v t start limit k x n out m y i out') (sym e) a
 
-  pub onward-to : {l m m' : List Letter} {x n y i : ℕ} {out out' : List ℤ} → m' ≡ m → Onward v t start limit l x n out m y i out' → Onward v t start limit l x n out m' y i out'
+  pub onward-to : {l m m' : List Letter} {x n y i : ℕ} {out out' : List ℤ} → m' ≡ m → Onward v t start limit l x n out m y i out'
+      → Onward v t start limit l x n out m' y i out'
   onward-to {l} {x} {n} {y} {i} {out} {out'} e a = subst (λ (k : List Letter). Onward v t start limit l x n out k y i out') (sym e) a
 
 -- ---- before the first letter
@@ -66,7 +69,8 @@ module _ (m : Mat) (d : det m ≡ pos 1) (a : Way) (e : formOf a ≡ sizes m) wh
   pub whole-proper : agree m ≡ true → properOf (formOf a) ≡ true
   whole-proper h = ap properOf e ∙ proper-yes (sizes m) (proper-of m d h)
 
-module _ {v : ℕ} {t : List ℤ} (m : Mat) (d : det m ≡ pos 1) (small : Small (2 ^ 50) m) {x : ℕ} (real : Real v t x) {a : Way} (e : formOf a ≡ sizes m) (at-x : a .at ≡ x) (zero : a .count ≡ 0) where
+module _ {v : ℕ} {t : List ℤ} (m : Mat) (d : det m ≡ pos 1) (small : Small (2 ^ 50) m) {x : ℕ} (real : Real v t x) {a : Way} (e : formOf a ≡ sizes m)
+    (at-x : a .at ≡ x) (zero : a .count ≡ 0) where
   pub whole-sound : Sound v t (2 ^ 60) a
   whole-sound = record {
     real = subst (Real v t) (sym at-x) real;
@@ -80,16 +84,17 @@ swap-proper : (f : Form) → properOf f ≡ true → Proper (swap f)
 swap-proper f h = let k = properly f h in record { not-one = omega (arith, k .not-S); not-S = omega (arith, k .not-one) }
 
 module _ {v : ℕ} {t : List ℤ} (g : Polygon v t) {start limit : ℕ} where
-  stepped-few : {x : Letter} {a b : Way} {out out' : List ℤ} → Stepped v t start limit x a out b out' → b .count ≤ a .count + 1
+  stepped-few : {x : Letter} {a b : Way} {out out' : List ℤ} → WayStepped v t start limit x a out b out' → b .count ≤ a .count + 1
   stepped-few {x} {a} s = omega (arith, s .count, g .short x (a .at))
 
-  stepped-real : {x : Letter} {a b : Way} {out out' : List ℤ} → Stepped v t start limit x a out b out' → Real v t (a .at) → Real v t (b .at)
+  stepped-real : {x : Letter} {a b : Way} {out out' : List ℤ} → WayStepped v t start limit x a out b out' → Real v t (a .at) → Real v t (b .at)
   stepped-real {x} {a} s r = subst (Real v t) (sym (s .at)) (g .closed x (a .at) r)
 
-  pub stepped-long : {x : Letter} {a b : Way} {out out' : List ℤ} → Stepped v t start limit x a out b out' → length out' ≡ length out
+  pub stepped-long : {x : Letter} {a b : Way} {out out' : List ℤ} → WayStepped v t start limit x a out b out' → length out' ≡ length out
   stepped-long {x} {a} {b} {out} s = ap length (s .left) ∙ length-stored start limit (written v t x (a .at)) (a .count) out
 
-  module _ {a c : Way} {out out1 : List ℤ} (o : Sound v t (2 ^ 60) a) (h : properOf (formOf a) ≡ true) (s : Stepped v t start limit S a out c out1) (e : formOf c ≡ swap (formOf a)) where
+  module _ {a c : Way} {out out1 : List ℤ} (o : Sound v t (2 ^ 60) a) (h : properOf (formOf a) ≡ true) (s : WayStepped v t start limit S a out c out1)
+      (e : formOf c ≡ swap (formOf a)) where
     pub crossed-sound : Sound v t (2 ^ 61) c
     crossed-sound = record {
       real = stepped-real s (o .real);
@@ -100,7 +105,7 @@ module _ {v : ℕ} {t : List ℤ} (g : Polygon v t) {start limit : ℕ} where
     pub crossed-proper : properOf (formOf c) ≡ true
     crossed-proper = ap properOf e ∙ proper-yes (swap (formOf a)) (swap-proper (formOf a) h)
 
-    module _ {b : Way} {out2 : List ℤ} (s' : Stepped v t start limit (turnLetter (formOf c)) c out1 b out2) (e' : formOf b ≡ turnForm (formOf c)) where
+    module _ {b : Way} {out2 : List ℤ} (s' : WayStepped v t start limit (turnLetter (formOf c)) c out1 b out2) (e' : formOf b ≡ turnForm (formOf c)) where
       form-is : formOf b ≡ turnForm (swap (formOf a))
       form-is = e' ∙ ap turnForm e
 
@@ -128,13 +133,15 @@ module _ {v : ℕ} {t : List ℤ} (g : Polygon v t) {start limit : ℕ} where
   unfolding restOf
   ended-none {a} {out} o h = record { onward = onward-from (tail-none (formOf a) (o .apart) h) (onward-refl [] (a .at) (a .count) out) }
 
-  pub ended-S : {a b : Way} {out out' : List ℤ} → Sound v t (2 ^ 60) a → 0 < a .q + a .r → a .p + a .s ≡ 0 → Stepped v t start limit S a out b out' → Ended v t start limit a out b out'
+  pub ended-S : {a b : Way} {out out' : List ℤ} → Sound v t (2 ^ 60) a → 0 < a .q + a .r → a .p + a .s ≡ 0 → WayStepped v t start limit S a out b out'
+      → Ended v t start limit a out b out'
   unfolding restOf
   ended-S {a} o h k s = record { onward = onward-from (tail-one (formOf a) (o .apart) h k) (onward-step [] s) }
 
   -- ---- the beginning
 
-  module _ (m : Mat) (d : det m ≡ pos 1) (small : Small (2 ^ 50) m) {x : ℕ} (real : Real v t x) {a : Way} (e : formOf a ≡ sizes m) (at-x : a .at ≡ x) (zero : a .count ≡ 0) where
+  module _ (m : Mat) (d : det m ≡ pos 1) (small : Small (2 ^ 50) m) {x : ℕ} (real : Real v t x) {a : Way} (e : formOf a ≡ sizes m) (at-x : a .at ≡ x)
+      (zero : a .count ≡ 0) where
     pub begun-tail : {out : List ℤ} → agree m ≡ false → Begun v t start limit m x out a out
     unfolding restOf
     begun-tail {out} h = record {
@@ -144,14 +151,16 @@ module _ {v : ℕ} {t : List ℤ} (g : Polygon v t) {start limit : ℕ} where
         count = ap (λ (i : ℕ). i + length (writes v t (a .at) (tailOf (total (formOf a)) (formOf a)))) zero
             ∙ ap (λ (y : ℕ). 0 + length (writes v t y (tailOf (total (formOf a)) (formOf a)))) at-x ∙ ap (λ (l : List Letter). 0 + length (writes v t x l)) word;
         left = ap (λ (i : ℕ). stored start limit i (writes v t (a .at) (tailOf (total (formOf a)) (formOf a))) out) zero
-            ∙ ap (λ (y : ℕ). stored start limit 0 (writes v t y (tailOf (total (formOf a)) (formOf a))) out) at-x ∙ ap (λ (l : List Letter). stored start limit 0 (writes v t x l) out) word;
+            ∙ ap (λ (y : ℕ). stored start limit 0 (writes v t y (tailOf (total (formOf a)) (formOf a))) out) at-x
+            ∙ ap (λ (l : List Letter). stored start limit 0 (writes v t x l) out) word;
       };
     }
       where
         word : tailOf (total (formOf a)) (formOf a) ≡ wordOf m
         word = ap (λ (f : Form). tailOf (total f) f) e ∙ sym (word-tail m h)
 
-    pub begun-head : {b : Way} {out out' : List ℤ} → agree m ≡ true → Stepped v t start limit (turnLetter (formOf a)) a out b out' → formOf b ≡ turnForm (formOf a) → Begun v t start limit m x out b out'
+    pub begun-head : {b : Way} {out out' : List ℤ} → agree m ≡ true → WayStepped v t start limit (turnLetter (formOf a)) a out b out'
+        → formOf b ≡ turnForm (formOf a) → Begun v t start limit m x out b out'
     unfolding restOf
     begun-head {b} {out} {out'} h s e' =
         let k = proper-of m d h in
@@ -160,7 +169,8 @@ module _ {v : ℕ} {t : List ℤ} (g : Polygon v t) {start limit : ℕ} where
         let less = turn-less (sizes m) u k in
         let o = whole-sound m d small real e at-x zero in
         let word : wordOf m ≡ turnLetter (formOf a) ∷ tailOf (total (formOf b)) (formOf b) =
-        word-head m d h ∙ ap (λ (f : Form). turnLetter f ∷ tailOf (total (turnForm f)) (turnForm f)) (sym e) ∙ ap (λ (f : Form). turnLetter (formOf a) ∷ tailOf (total f) f) (sym e') in
+        word-head m d h ∙ ap (λ (f : Form). turnLetter f ∷ tailOf (total (turnForm f)) (turnForm f)) (sym e)
+        ∙ ap (λ (f : Form). turnLetter (formOf a) ∷ tailOf (total f) f) (sym e') in
         let one = onward-step (tailOf (total (formOf b)) (formOf b)) s in
         record {
           sound = record {
@@ -169,29 +179,31 @@ module _ {v : ℕ} {t : List ℤ} (g : Polygon v t) {start limit : ℕ} where
             few = omega (arith, stepped-few s, o .few, ap total form-is, ap total e, less);
           };
           onward = onward-from word
-              (subst (λ (i : ℕ). Onward v t start limit (turnLetter (formOf a) ∷ tailOf (total (formOf b)) (formOf b)) x i out (tailOf (total (formOf b)) (formOf b)) (b .at) (b .count) out') zero
-              (subst (λ (y : ℕ). Onward v t start limit (turnLetter (formOf a) ∷ tailOf (total (formOf b)) (formOf b)) y (a .count) out (tailOf (total (formOf b)) (formOf b)) (b .at) (b .count) out') at-x one));
+              (subst (λ (i : ℕ). Onward v t start limit (turnLetter (formOf a) ∷ tailOf (total (formOf b)) (formOf b)) x i out
+              (tailOf (total (formOf b)) (formOf b)) (b .at) (b .count) out') zero
+              (subst (λ (y : ℕ). Onward v t start limit (turnLetter (formOf a) ∷ tailOf (total (formOf b)) (formOf b)) y (a .count) out
+              (tailOf (total (formOf b)) (formOf b)) (b .at) (b .count) out') at-x one));
         }
 
 -- ---- a power of Q, by which row is the smaller one
 
 powered : {v : ℕ} {t : List ℤ} {start limit : ℕ} {a b : Way} {out out' : List ℤ} (x : Letter) (f : Form) → turnLetter (formOf a) ≡ x → turnForm (formOf a) ≡ f
-    → Stepped v t start limit x a out b out' → formOf b ≡ f → Stepped v t start limit (turnLetter (formOf a)) a out b out' × (formOf b ≡ turnForm (formOf a))
-powered {v} {t} {start} {limit} {a} {b} {out} {out'} x f e g s h = (subst (λ (y : Letter). Stepped v t start limit y a out b out') (sym e) s, h ∙ sym g)
+    → WayStepped v t start limit x a out b out' → formOf b ≡ f → WayStepped v t start limit (turnLetter (formOf a)) a out b out' × (formOf b ≡ turnForm (formOf a))
+powered {v} {t} {start} {limit} {a} {b} {out} {out'} x f e g s h = (subst (λ (y : Letter). WayStepped v t start limit y a out b out') (sym e) s, h ∙ sym g)
 
-pub powered-Q : {v : ℕ} {t : List ℤ} {start limit : ℕ} {a b : Way} {out out' : List ℤ} → a .p + a .q ≤ a .r + a .s → Stepped v t start limit Q a out b out'
-    → formOf b ≡ form (a .r - a .p) (a .s - a .q) (a .p) (a .q) → Stepped v t start limit (turnLetter (formOf a)) a out b out' × (formOf b ≡ turnForm (formOf a))
+pub powered-Q : {v : ℕ} {t : List ℤ} {start limit : ℕ} {a b : Way} {out out' : List ℤ} → a .p + a .q ≤ a .r + a .s → WayStepped v t start limit Q a out b out'
+    → formOf b ≡ form (a .r - a .p) (a .s - a .q) (a .p) (a .q) → WayStepped v t start limit (turnLetter (formOf a)) a out b out' × (formOf b ≡ turnForm (formOf a))
 powered-Q {a} h s e =
     let k = le-leb (a .p + a .q) (a .r + a .s) h in
-    powered Q (form (a .r - a .p) (a .s - a .q) (a .p) (a .q)) (pick-true (byQ (formOf a)) Q P k)
-    (pick-true (byQ (formOf a)) (form (a .r - a .p) (a .s - a .q) (a .p) (a .q)) (form (a .r) (a .s) (a .p - a .r) (a .q - a .s)) k) s e
+    powered Q (form (a .r - a .p) (a .s - a .q) (a .p) (a .q)) (pick-true (beginsWithQ (formOf a)) Q P k)
+    (pick-true (beginsWithQ (formOf a)) (form (a .r - a .p) (a .s - a .q) (a .p) (a .q)) (form (a .r) (a .s) (a .p - a .r) (a .q - a .s)) k) s e
 
-pub powered-P : {v : ℕ} {t : List ℤ} {start limit : ℕ} {a b : Way} {out out' : List ℤ} → a .r + a .s < a .p + a .q → Stepped v t start limit P a out b out'
-    → formOf b ≡ form (a .r) (a .s) (a .p - a .r) (a .q - a .s) → Stepped v t start limit (turnLetter (formOf a)) a out b out' × (formOf b ≡ turnForm (formOf a))
+pub powered-P : {v : ℕ} {t : List ℤ} {start limit : ℕ} {a b : Way} {out out' : List ℤ} → a .r + a .s < a .p + a .q → WayStepped v t start limit P a out b out'
+    → formOf b ≡ form (a .r) (a .s) (a .p - a .r) (a .q - a .s) → WayStepped v t start limit (turnLetter (formOf a)) a out b out' × (formOf b ≡ turnForm (formOf a))
 powered-P {a} h s e =
     let k = lt-leb (a .p + a .q) (a .r + a .s) h in
-    powered P (form (a .r) (a .s) (a .p - a .r) (a .q - a .s)) (pick-false (byQ (formOf a)) Q P k)
-    (pick-false (byQ (formOf a)) (form (a .r - a .p) (a .s - a .q) (a .p) (a .q)) (form (a .r) (a .s) (a .p - a .r) (a .q - a .s)) k) s e
+    powered P (form (a .r) (a .s) (a .p - a .r) (a .q - a .s)) (pick-false (beginsWithQ (formOf a)) Q P k)
+    (pick-false (beginsWithQ (formOf a)) (form (a .r - a .p) (a .s - a .q) (a .p) (a .q)) (form (a .r) (a .s) (a .p - a .r) (a .q - a .s)) k) s e
 
 -- ---- the whole walk
 
@@ -199,10 +211,12 @@ module _ {v : ℕ} {t : List ℤ} {start limit : ℕ} where
   pub going-none : {a : Way} {out : List ℤ} → Sound v t (2 ^ 60) a → Going v t start limit a out a out
   going-none {a} {out} o = record { sound = o; onward = onward-refl (restOf a) (a .at) (a .count) out }
 
-  pub going-more : {a b c : Way} {out out1 out2 : List ℤ} → Going v t start limit a out b out1 → Going v t start limit b out1 c out2 → Going v t start limit a out c out2
+  pub going-more : {a b c : Way} {out out1 out2 : List ℤ} → Going v t start limit a out b out1 → Going v t start limit b out1 c out2
+      → Going v t start limit a out c out2
   going-more g h = record { sound = h .sound; onward = onward-trans (g .onward) (h .onward) }
 
-  pub walked : {m : Mat} {x : ℕ} {a b c : Way} {out out1 out2 out3 : List ℤ} → Begun v t start limit m x out a out1 → Going v t start limit a out1 b out2 → Ended v t start limit b out2 c out3
+  pub walked : {m : Mat} {x : ℕ} {a b c : Way} {out out1 out2 out3 : List ℤ} → Begun v t start limit m x out a out1 → Going v t start limit a out1 b out2
+      → Ended v t start limit b out2 c out3
       → Walked v t start limit m x out c out3
   walked b g e =
       let o = onward-trans (b .onward) (onward-trans (g .onward) (e .onward)) in

@@ -13,8 +13,8 @@ use lib.ListN.{length, set, length-set}
 use lib.Seq.{sets, sets-eq}
 use lib.IntN.{ℤ}
 use borrow.Author.Tests.{lt-ltb, le-ltb}
-use Rattle.matrix.specs.Euclid.{pick}
-use Rattle.symbol.proofs.Choice.{pick-true, pick-false}
+use Rattle.basics.specs.Choice.{pick}
+use Rattle.basics.proofs.Choice.{pick-true, pick-false}
 use Rattle.walk.specs.Inner.Way.{stored, putFrom}
 
 module _ (start limit : ℕ) where

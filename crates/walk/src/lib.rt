@@ -18,7 +18,7 @@ ghost use Rattle.matrix.specs.Euclid.{total, swap, positive, agree, sizes};
 ghost use Rattle.matrix.specs.Bounds.{Small};
 ghost use Rattle.polygon.specs.Step.{Real};
 ghost use Rattle.polygon.specs.Inner.Tables.{lettersOf};
-ghost use Rattle.walk.specs.Inner.Way.{formOf, properOf, turnLetter, turnForm, stored, Setting, Stepped, Sound, Begun, Going, Ended, Walked};
+ghost use Rattle.walk.specs.Inner.Way.{formOf, properOf, turnLetter, turnForm, stored, Setting, WayStepped, Sound, Begun, Going, Ended, Walked};
 
 // What is left of the matrix, (p q; r s) in size, the position, and how many letters are written so far.
 pub struct Way {
@@ -56,7 +56,7 @@ fn cross(
     limit: usize,
 ) -> Way
     requires { ⌜ Setting (now t) v (now w) (now out) start limit × Real v (now t) (way .at) × (way .count ≤ 2 ^ 61) ⌝ }
-    ensures { λ r. ⌜ Stepped v (now (t .entry)) start limit S way (now (out .entry)) r (now (out .exit)) × (formOf r ≡ swap (formOf way)) ⌝ }
+    ensures { λ r. ⌜ WayStepped v (now (t .entry)) start limit S way (now (out .entry)) r (now (out .exit)) × (formOf r ≡ swap (formOf way)) ⌝ }
 {
     let at = way.at;
     let z = letter(t, v, w, at);
@@ -83,7 +83,7 @@ fn power(
     limit: usize,
 ) -> Way
     requires { ⌜ Setting (now t) v (now w) (now out) start limit × Sound v (now t) (2 ^ 61) way × (properOf (formOf way) ≡ true) ⌝ }
-    ensures { λ r. ⌜ Stepped v (now (t .entry)) start limit (turnLetter (formOf way)) way (now (out .entry)) r (now (out .exit)) × (formOf r ≡ turnForm (formOf way)) ⌝ }
+    ensures { λ r. ⌜ WayStepped v (now (t .entry)) start limit (turnLetter (formOf way)) way (now (out .entry)) r (now (out .exit)) × (formOf r ≡ turnForm (formOf way)) ⌝ }
 {
     let at = way.at;
     if way.p + way.q <= way.r + way.s {

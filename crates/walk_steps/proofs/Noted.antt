@@ -19,19 +19,19 @@ use borrow.Author.Tests.{lt-ltb, le-ltb, ltb-true, ltb-false}
 use borrow.Author.Count.{below-more}
 use Rattle.matrix.specs.Matrix.{nth}
 use Rattle.matrix.specs.Words.{S}
-use Rattle.symbol.specs.Table.{pairing}
+use Rattle.symbol.specs.Table.{pairingEntry}
 use Rattle.symbol.specs.Symbol.{IsSymbol}
 use Rattle.pairing.specs.Generator.{generators, isLeader}
 use Rattle.pairing.specs.Subgroup.{IsWord}
-use Rattle.symbol.proofs.Choice.{clash}
+use Rattle.basics.proofs.Choice.{clash}
 use Rattle.polygon.specs.Cut.{corners, places}
 use Rattle.polygon.specs.Step.{oddAt, real, Real, stepS, turnQ, written}
-use Rattle.polygon.specs.Inner.Tables.{Tables, lettersOf}
+use Rattle.polygon.specs.Inner.Tables.{PolygonTables, lettersOf}
 use Rattle.polygon.proofs.Flip.{real-in, turn-face, turn-last, turn-next}
 use Rattle.polygon.proofs.Polygon.{polygon}
 use Rattle.polygon.proofs.Partners.{tables-set}
 use Rattle.polygon.proofs.SymbolFacts.{length-generators, count-most}
-use Rattle.walk_steps.specs.Inner.Steps.{NEXT, LETTER, Prepared}
+use Rattle.walk_steps.specs.Inner.Steps.{NEXT, LETTER, StepsReady}
 
 -- ---- which places are positions
 
@@ -45,7 +45,7 @@ module _ (v : ℕ) (t : List ℤ) (p : ℕ) where
   real-high h = sym (ap (λ (b : Bool). b || oddAt v t (p - corners v)) (le-ltb p (corners v) h))
 
   -- the entry that the code reads there
-  pub face-entry : nth t (2 * v + (p - corners v)) ≡ pairing v t (p - corners v)
+  pub face-entry : nth t (2 * v + (p - corners v)) ≡ pairingEntry v t (p - corners v)
   face-entry = sym (getD-drop (2 * v) t (p - corners v) (pos 0))
 
 -- ---- codes
@@ -96,11 +96,11 @@ letter-most v t ok p z r e =
 
 -- ---- one step noted
 
-pub prepared-none : {t : List ℤ} {v : ℕ} {w : List ℕ} → Tables t v w → Prepared t v w 0
+pub prepared-none : {t : List ℤ} {v : ℕ} {w : List ℕ} → PolygonTables t v w → StepsReady t v w 0
 prepared-none g = record { tables = g; steps = λ p h. absurd (omega arith); codes = λ p h. absurd (omega arith); letters = λ p h. absurd (omega arith) }
 
-module _ {t : List ℤ} {v : ℕ} {w : List ℕ} {p : ℕ} (g : Prepared t v w p) (h : p < places v) where
-  pub prepared-skip : real v t p ≡ false → Prepared t v w (p + 1)
+module _ {t : List ℤ} {v : ℕ} {w : List ℕ} {p : ℕ} (g : StepsReady t v w p) (h : p < places v) where
+  pub prepared-skip : real v t p ≡ false → StepsReady t v w (p + 1)
   prepared-skip e = record {
     tables = g .tables;
     steps = below-more _ p (g .steps) (λ r. clash r e);
@@ -109,7 +109,7 @@ module _ {t : List ℤ} {v : ℕ} {w : List ℕ} {p : ℕ} (g : Prepared t v w p
   }
 
   pub prepared-more : (to code : ℕ) (z : ℤ) → to ≡ stepS v t p → code ≤ 2048 → pos code -ℤ pos 1024 ≡ z → lettersOf z ≡ written v t S p
-      → Prepared t v (set (set w (NEXT + p) to) (LETTER + p) code) (p + 1)
+      → StepsReady t v (set (set w (NEXT + p) to) (LETTER + p) code) (p + 1)
   prepared-more to code z e f k l =
       let most = g .tables .symbol .most in
       let long = g .tables .long in
@@ -121,14 +121,15 @@ module _ {t : List ℤ} {v : ℕ} {w : List ℕ} {p : ℕ} (g : Prepared t v w p
       record {
         tables = tables-set (LETTER + p) code (tables-set (NEXT + p) to (g .tables) (omega arith) (omega arith)) (omega arith) (omega arith);
         steps = below-more _ p
-            (λ j b r. getD-set-other w1 (LETTER + p) (NEXT + j) code 0 (λ y. omega arith) ∙ getD-set-other w (NEXT + p) (NEXT + j) to 0 (λ y. omega arith) ∙ g .steps j b r)
+            (λ j b r. getD-set-other w1 (LETTER + p) (NEXT + j) code 0 (λ y. omega arith) ∙ getD-set-other w (NEXT + p) (NEXT + j) to 0 (λ y. omega arith)
+            ∙ g .steps j b r)
             (λ r. getD-set-other w1 (LETTER + p) (NEXT + p) code 0 (λ y. omega arith) ∙ getD-set-same w (NEXT + p) to 0 (omega arith) ∙ e);
         codes = below-more _ p (λ j b r. rw (other j b) (g .codes j b r)) (λ r. rw here f);
         letters = below-more _ p (λ j b r. ap (λ (n : ℕ). lettersOf (pos n -ℤ pos 1024)) (other j b) ∙ g .letters j b r)
             (λ r. ap (λ (n : ℕ). lettersOf (pos n -ℤ pos 1024)) here ∙ ap lettersOf k ∙ l);
       }
 
-pub prepared-all : {t : List ℤ} {v : ℕ} {w : List ℕ} (p : ℕ) → Prepared t v w p → p ≡ places v → Prepared t v w (places v)
+pub prepared-all : {t : List ℤ} {v : ℕ} {w : List ℕ} (p : ℕ) → StepsReady t v w p → p ≡ places v → StepsReady t v w (places v)
 prepared-all p g e = rw (sym e) g
 
 -- where S leads is a position
@@ -148,5 +149,7 @@ module _ (v p : ℕ) where
   back-other h e = go (ltb (p % 3) 2) refl
     where
       go : (b : Bool) → ltb (p % 3) 2 ≡ b → p - 1 ≡ turnQ v (turnQ v p)
-      go true f = let k = ltb-true (p % 3) 2 f in let m : p % 3 ≡ 1 = omega arith in sym (ap (turnQ v) (turn-next v p h (λ z. omega arith)) ∙ turn-last v (p + 1) (omega arith) (omega arith) ∙ omega arith)
-      go false f = let k = ltb-false (p % 3) 2 f in let m : p % 3 ≡ 2 = omega arith in sym (ap (turnQ v) (turn-last v p h m) ∙ turn-next v (p - 2) (omega arith) (λ z. omega arith) ∙ omega arith)
+      go true f = let k = ltb-true (p % 3) 2 f in let m : p % 3 ≡ 1 = omega arith in
+          sym (ap (turnQ v) (turn-next v p h (λ z. omega arith)) ∙ turn-last v (p + 1) (omega arith) (omega arith) ∙ omega arith)
+      go false f = let k = ltb-false (p % 3) 2 f in let m : p % 3 ≡ 2 = omega arith in
+          sym (ap (turnQ v) (turn-last v p h m) ∙ turn-next v (p - 2) (omega arith) (λ z. omega arith) ∙ omega arith)

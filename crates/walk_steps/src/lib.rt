@@ -9,8 +9,8 @@ ghost use Rattle.matrix.specs.Words.{S};
 ghost use Rattle.symbol.specs.Symbol.{IsSymbol};
 ghost use Rattle.polygon.specs.Cut.{places};
 ghost use Rattle.polygon.specs.Step.{real, Real, stepS, turnQ, written};
-ghost use Rattle.polygon.specs.Inner.Tables.{Tables, lettersOf};
-ghost use Rattle.walk_steps.specs.Inner.Steps.{Prepared};
+ghost use Rattle.polygon.specs.Inner.Tables.{PolygonTables, lettersOf};
+ghost use Rattle.walk_steps.specs.Inner.Steps.{StepsReady};
 
 pub const NEXT: usize = 8192;
 
@@ -39,8 +39,8 @@ fn coded(letter: i16) -> u16
 
 // The step from the real position p is noted.
 fn note_step(t: &[i64], v: usize, w: &mut [u16], p: usize)
-    requires { ⌜ Prepared (now t) v (now w) p × (p < places v) × Real v (now t) p ⌝ }
-    ensures { λ _. ⌜ Prepared (now (t .entry)) v (now (w .exit)) (p + 1) × (length (now (w .exit)) ≡ length (now (w .entry))) ⌝ }
+    requires { ⌜ StepsReady (now t) v (now w) p × (p < places v) × Real v (now t) p ⌝ }
+    ensures { λ _. ⌜ StepsReady (now (t .entry)) v (now (w .exit)) (p + 1) × (length (now (w .exit)) ≡ length (now (w .entry))) ⌝ }
 {
     let to = step_s(t, v, w, p);
     let letter = letter_s(t, v, w, p);
@@ -51,8 +51,8 @@ fn note_step(t: &[i64], v: usize, w: &mut [u16], p: usize)
 
 // The same for any place p, where nothing is noted if it is no position.
 fn note_place(t: &[i64], v: usize, w: &mut [u16], p: usize)
-    requires { ⌜ Prepared (now t) v (now w) p × (p < places v) ⌝ }
-    ensures { λ _. ⌜ Prepared (now (t .entry)) v (now (w .exit)) (p + 1) × (length (now (w .exit)) ≡ length (now (w .entry))) ⌝ }
+    requires { ⌜ StepsReady (now t) v (now w) p × (p < places v) ⌝ }
+    ensures { λ _. ⌜ StepsReady (now (t .entry)) v (now (w .exit)) (p + 1) × (length (now (w .exit)) ≡ length (now (w .entry))) ⌝ }
 {
     if is_real(t, v, p) {
         note_step(t, v, w, p);
@@ -62,8 +62,8 @@ fn note_place(t: &[i64], v: usize, w: &mut [u16], p: usize)
 
 // The steps from all positions are noted.
 pub fn prepare(t: &[i64], v: usize, w: &mut [u16])
-    requires { ⌜ Tables (now t) v (now w) ⌝ }
-    ensures { λ _. ⌜ Prepared (now (t .entry)) v (now (w .exit)) (places v) × (length (now (w .exit)) ≡ length (now (w .entry))) ⌝ }
+    requires { ⌜ PolygonTables (now t) v (now w) ⌝ }
+    ensures { λ _. ⌜ StepsReady (now (t .entry)) v (now (w .exit)) (places v) × (length (now (w .exit)) ≡ length (now (w .entry))) ⌝ }
 {
     let end = 3 * (v - 1) + (v + 1);
     let mut p: usize = 0;
@@ -75,7 +75,7 @@ pub fn prepare(t: &[i64], v: usize, w: &mut [u16])
 
 // S at the real position p of the symbol t.
 pub fn next(t: &[i64], v: usize, w: &[u16], p: usize) -> usize
-    requires { ⌜ Prepared (now t) v (now w) (places v) × Real v (now t) p ⌝ }
+    requires { ⌜ StepsReady (now t) v (now w) (places v) × Real v (now t) p ⌝ }
     ensures { λ r. ⌜ r ≡ stepS v (now (t .entry)) p ⌝ }
 {
     workspace::index(w[NEXT + p])
@@ -91,7 +91,7 @@ fn decoded(code: u16) -> i16
 
 // The letter that S writes there, 0 for none.
 pub fn letter(t: &[i64], v: usize, w: &[u16], p: usize) -> i16
-    requires { ⌜ Prepared (now t) v (now w) (places v) × Real v (now t) p ⌝ }
+    requires { ⌜ StepsReady (now t) v (now w) (places v) × Real v (now t) p ⌝ }
     ensures { λ r. ⌜ lettersOf r ≡ written v (now (t .entry)) S p ⌝ }
 {
     decoded(w[LETTER + p])

@@ -1,7 +1,8 @@
 -- THE CLAIM (specs/Claim.antt), from what the crate `polygon` promises of an accepted symbol: its steps, frames and start.
 --
--- In order: the walk comes home exactly where a word exists (`joined-home`, `home-product`), and where A and B lead to the same point (`joined-same`, `same-joined`); the word's letters, its length (`letters-of`,
--- `bound-of`, `sixteen-of`); the word in its place (`part-placed`); the three answers (`absent`, `fitting`, `too-short`); the claim (`answered`).
+-- In order: the walk comes home exactly where a word exists (`joined-home`, `home-product`), and where A and B lead to the same point
+-- (`joined-same`, `same-joined`); the word's letters, its length (`letters-of`, `bound-of`, `sixteen-of`); the word in its place (`part-placed`);
+-- the three answers (`absent`, `fitting`, `too-short`); the claim (`answered`).
 --
 -- Why: a product W of generators has W A ≈ B exactly where W ≈ B A⁻¹, so such a product exists exactly where B A⁻¹ is in H, and H is the
 -- stabiliser of the start.
@@ -24,7 +25,7 @@ use Rattle.symbol.specs.Symbol.{IsSymbol}
 use Rattle.pairing.specs.Generator as generator
 use Rattle.pairing.specs.Generator.{generators}
 use Rattle.pairing.specs.Subgroup.{IsWord, valueOf}
-use Rattle.symbol.proofs.Choice.{either, clash, pick-true, pick-false, and-left, and-right}
+use Rattle.basics.proofs.Choice.{either, clash, pick-true, pick-false, and-left, and-right}
 use Rattle.polygon.specs.Step.{startOf}
 use Rattle.polygon.specs.Walk.{followed, walkEnds}
 use Rattle.polygon.specs.Theorem.{Polygon}
@@ -34,7 +35,7 @@ use Rattle.coset.specs.Theorem.{leads}
 use Rattle.coset.proofs.Answer.{meaning}
 use Rattle.refusal.specs.Refusal.{noWord, tooShort}
 use Rattle.refusal.specs.declared.Refusal.{Refusal}
-use Rattle.word.specs.Answer.{placed, home, foundWord, fits, roomOf, foundOf, wordLeft, partOf}
+use Rattle.word.specs.Answer.{placed, closes, foundWord, wordFits, wordOrShort, foundOf, wordLeft, partOf}
 use Rattle.word.specs.Claim.{Joined, Fits, Answered}
 use Rattle.word.specs.declared.Queried.{Queried}
 use Rattle.word.specs.declared.Queried.the-variants as queried
@@ -50,8 +51,9 @@ pub part-placed : (start : ℕ) (l out : List ℤ) → start ≤ length out → 
 part-placed start l out h k =
     let rest = drop (start + length l) out in
     let long : length (placed start l out) ≡ length out = ap length (sym (sets-eq l out start (omega arith))) ∙ length-sets out start l in
-    pick-true (fits start (length l) (length (placed start l out))) (take (length l) (drop start (placed start l out))) []
-    (ap (fits start (length l)) long ∙ ap (λ (b : Bool). b && leb (length l) (length out - start)) (le-leb start (length out) h) ∙ le-leb (length l) (length out - start) k)
+    pick-true (wordFits start (length l) (length (placed start l out))) (take (length l) (drop start (placed start l out))) []
+    (ap (wordFits start (length l)) long ∙ ap (λ (b : Bool). b && leb (length l) (length out - start)) (le-leb start (length out) h)
+    ∙ le-leb (length l) (length out - start) k)
     ∙ ap (λ (m : List ℤ). take (length l) (drop start m)) (append-assoc (take start out) l rest)
     ∙ ap (take (length l)) (drop-at (take start out) (l ++ rest) start (length-take-le start out h))
     ∙ take-at l rest (length l) refl
@@ -81,15 +83,15 @@ module _ {v : ℕ} {t : List ℤ} (ok : IsSymbol v t) (A B : Mat) (d : det A ≡
 
   -- ---- the walk comes home exactly where a word exists
 
-  joined-home : Joined v t A B → home v t A B ≡ true
-  unfolding home
+  joined-home : Joined v t A B → closes v t A B ≡ true
+  unfolding closes
   joined-home j =
       let W = valueOf (generators v t) (j .word) in
       let is : X ≈ W = ≈-sym (≈-right (adj A) (j .is)) ∙≈ inl (⊗-assoc W A (adj A) ∙ ap (λ (m : Mat). W ⊗ m) (⊗-adj A d) ∙ ⊗-idr W) in
       eq-eqb (walkEnds v t X) (startOf v t) (g .stabiliser X X-unit .0 (record { word = j .word; letters = j .letters; is = is }))
 
-  home-product : home v t A B ≡ true → valueOf (generators v t) word ⊗ A ≈ B
-  unfolding home foundWord
+  home-product : closes v t A B ≡ true → valueOf (generators v t) word ⊗ A ≈ B
+  unfolding closes foundWord
   home-product h = ≈-right A (≈-sym (g .found X X-unit (eqb-true (walkEnds v t X) (startOf v t) h))) ∙≈ inl X-times
 
   letters-of : IsWord (length (generators v t)) word
@@ -101,9 +103,16 @@ module _ {v : ℕ} {t : List ℤ} (ok : IsSymbol v t) (A B : Mat) (d : det A ≡
   bound-of = omega (arith, g .walks .walk-short (euclid.wordOf (followed v t X)) (startOf v t), followed-length X X-unit v t)
 
   sixteen-of : (i : ℕ) → i < length word → natAbs (getD word i (pos 0)) ≤ 1024
-  sixteen-of i h = omega (arith, letter-most (length (generators v t)) word letters-of i h, length-generators v t, count-most (generator.isLeader v t) (v + 1), ok .most)
+  sixteen-of i h = omega (
+    arith,
+    letter-most (length (generators v t)) word letters-of i h,
+    length-generators v t,
+    count-most (generator.isLeader v t)
+        (v + 1),
+    ok .most,
+  )
 
-  home-joined : home v t A B ≡ true → Joined v t A B
+  home-joined : closes v t A B ≡ true → Joined v t A B
   home-joined h = record { word = word; letters = letters-of; is = home-product h }
 
   -- ---- the same point of the tables
@@ -120,16 +129,17 @@ module _ {v : ℕ} {t : List ℤ} (ok : IsSymbol v t) (A B : Mat) (d : det A ≡
     abbrev Here : Queried → List ℤ → Type 0
     Here r out' = Answered v t A B word out start r out'
 
-    fits-yes : fits start (length word) (length out) ≡ true → Fits start (length word) (length out)
+    fits-yes : wordFits start (length word) (length out) ≡ true → Fits start (length word) (length out)
     fits-yes h = record {
       inside = leb-true start (length out) (and-left (leb start (length out)) (leb (length word) (length out - start)) h);
       enough = leb-true (length word) (length out - start) (and-right (leb start (length out)) (leb (length word) (length out - start)) h);
     }
 
-    yes-fits : Fits start (length word) (length out) → fits start (length word) (length out) ≡ true
-    yes-fits f = ap (λ (b : Bool). b && leb (length word) (length out - start)) (le-leb start (length out) (f .inside)) ∙ le-leb (length word) (length out - start) (f .enough)
+    yes-fits : Fits start (length word) (length out) → wordFits start (length word) (length out) ≡ true
+    yes-fits f = ap (λ (b : Bool). b && leb (length word) (length out - start)) (le-leb start (length out) (f .inside))
+        ∙ le-leb (length word) (length out - start) (f .enough)
 
-    absent : home v t A B ≡ false → Here (queried.Refused noWord) out
+    absent : closes v t A B ≡ false → Here (queried.Refused noWord) out
     absent h =
         let no : Joined v t A B → ⊥ = λ j. clash (joined-home j) h in
         record {
@@ -147,7 +157,7 @@ module _ {v : ℕ} {t : List ℤ} (ok : IsSymbol v t) (A B : Mat) (d : det A ≡
           sixteen = sixteen-of;
         }
 
-    fitting : home v t A B ≡ true → fits start (length word) (length out) ≡ true → Here (queried.Word start (length word)) (placed start word out)
+    fitting : closes v t A B ≡ true → wordFits start (length word) (length out) ≡ true → Here (queried.Word start (length word)) (placed start word out)
     fitting h k =
         let j = home-joined h in
         let f = fits-yes k in
@@ -166,7 +176,7 @@ module _ {v : ℕ} {t : List ℤ} (ok : IsSymbol v t) (A B : Mat) (d : det A ≡
           sixteen = sixteen-of;
         }
 
-    too-short : home v t A B ≡ true → fits start (length word) (length out) ≡ false → Here (queried.Refused (tooShort (length word))) out
+    too-short : closes v t A B ≡ true → wordFits start (length word) (length out) ≡ false → Here (queried.Refused (tooShort (length word))) out
     too-short h k =
         let j = home-joined h in
         record {
@@ -193,23 +203,24 @@ module _ {v : ℕ} {t : List ℤ} (ok : IsSymbol v t) (a b : List ℤ) (d : det 
   Left r = Answered v t (ofList a) (ofList b) l out start r (wordLeft r l out)
 
   abbrev Home : Bool → Type 0
-  Home h = home v t (ofList a) (ofList b) ≡ h
+  Home h = closes v t (ofList a) (ofList b) ≡ h
 
   abbrev Room : Bool → Type 0
-  Room k = fits start (length l) (length out) ≡ k
+  Room k = wordFits start (length l) (length out) ≡ k
 
-  in-room : Home true → roomOf (length l) start (length out) ≡ foundOf v t a b start (length out)
-  in-room h = sym (pick-true (home v t (ofList a) (ofList b)) (roomOf (length l) start (length out)) (queried.Refused noWord) h)
+  in-room : Home true → wordOrShort (length l) start (length out) ≡ foundOf v t a b start (length out)
+  in-room h = sym (pick-true (closes v t (ofList a) (ofList b)) (wordOrShort (length l) start (length out)) (queried.Refused noWord) h)
 
   answered-by : Home true ⊎ Home false → Room true ⊎ Room false → Left (foundOf v t a b start (length out))
   answered-by (inr h) k =
-      subst Left (sym (pick-false (home v t (ofList a) (ofList b)) (roomOf (length l) start (length out)) (queried.Refused noWord) h)) (absent ok (ofList a) (ofList b) d e out start h)
+      subst Left (sym (pick-false (closes v t (ofList a) (ofList b)) (wordOrShort (length l) start (length out)) (queried.Refused noWord) h))
+      (absent ok (ofList a) (ofList b) d e out start h)
   answered-by (inl h) (inl k) =
-      subst Left (sym (pick-true (fits start (length l) (length out)) (queried.Word start (length l)) (queried.Refused (tooShort (length l))) k) ∙ in-room h)
+      subst Left (sym (pick-true (wordFits start (length l) (length out)) (queried.Word start (length l)) (queried.Refused (tooShort (length l))) k) ∙ in-room h)
       (fitting ok (ofList a) (ofList b) d e out start h k)
   answered-by (inl h) (inr k) =
-      subst Left (sym (pick-false (fits start (length l) (length out)) (queried.Word start (length l)) (queried.Refused (tooShort (length l))) k) ∙ in-room h)
+      subst Left (sym (pick-false (wordFits start (length l) (length out)) (queried.Word start (length l)) (queried.Refused (tooShort (length l))) k) ∙ in-room h)
       (too-short ok (ofList a) (ofList b) d e out start h k)
 
   pub answered : Left (foundOf v t a b start (length out))
-  answered = answered-by (either (home v t (ofList a) (ofList b))) (either (fits start (length l) (length out)))
+  answered = answered-by (either (closes v t (ofList a) (ofList b))) (either (wordFits start (length l) (length out)))

@@ -12,31 +12,31 @@ use lib.ListN.{length}
 use lib.IntN.{ℤ, pos}
 use borrow.Author.Tests.{eq-eqb, ne-eqb, le-leb, lt-leb}
 use Rattle.matrix.specs.Matrix.{Mat, _⊗_, adj, det, ofList, toList}
-use Rattle.matrix.specs.Bounds.{Small, Room}
+use Rattle.matrix.specs.Bounds.{Small, ProductFits}
 use Rattle.matrix.specs.Euclid.{wordOf}
 use Rattle.matrix.specs.Action as action
 use Rattle.matrix.proofs.Matrix.{det-adj, det-one}
 use Rattle.matrix.proofs.Bounds.{small-adj, small-⊗, room}
-use Rattle.symbol.proofs.Choice.{pick-true, pick-false}
+use Rattle.basics.proofs.Choice.{pick-true, pick-false}
 use Rattle.polygon.specs.Cut.{places}
 use Rattle.polygon.specs.Step.{Real, startOf}
 use Rattle.polygon.specs.Walk.{followed, ends}
 use Rattle.polygon.proofs.Polygon.{polygon}
-use Rattle.walk_steps.specs.Inner.Steps.{Prepared}
+use Rattle.walk_steps.specs.Inner.Steps.{StepsReady}
 use Rattle.walk.specs.Inner.Way.{stored, Setting, Walked}
 use Rattle.walk.specs.declared.Way.{Way}
 use Rattle.walk.proofs.Stored.{stored-none, stored-all}
 use Rattle.refusal.specs.Refusal.{noWord, tooShort}
-use Rattle.word.specs.Answer.{placed, home, foundWord, fits, roomOf, foundOf}
+use Rattle.word.specs.Answer.{placed, closes, foundWord, wordFits, wordOrShort, foundOf}
 use Rattle.word.specs.Claim.{Asked}
-use Rattle.word.specs.Inner.Ready.{lettersAlong, endOf, Ready}
+use Rattle.word.specs.Inner.Ready.{lettersAlong, endOf, WalkReady}
 use Rattle.word.specs.declared.Queried.the-variants as queried
 use Rattle.word.proofs.Turned.{followed-unit, followed-small}
 
 -- ---- the matrix that is followed
 
 module _ (A B : Mat) (s : Small 1000000 A) (u : Small 1000000 B) where
-  pub between-room : Room B (adj A)
+  pub between-room : ProductFits B (adj A)
   between-room = room 1000000 1000000 B (adj A) (lit< tt) u (small-adj 1000000 A s)
 
   pub between-small : Small (2 * (1000000 * 1000000)) (B ⊗ adj A)
@@ -44,7 +44,7 @@ module _ (A B : Mat) (s : Small 1000000 A) (u : Small 1000000 B) where
 
 -- what the answer asks for, and what it is, by the list m of the matrix that is followed
 module _ {v : ℕ} {t a b m : List ℤ} {w₀ w : List ℕ} {x : ℕ} (q : Asked v t a b w₀) (m-is : m ≡ toList (followed v t (ofList b ⊗ adj (ofList a)))) where
-  pub ready : Prepared t v w (places v) → x ≡ startOf v t → Ready t v w m x
+  pub ready : StepsReady t v w (places v) → x ≡ startOf v t → WalkReady t v w m x
   ready prepared e =
       let A = ofList a in
       let B = ofList b in
@@ -61,7 +61,7 @@ module _ (v : ℕ) (t a b : List ℤ) {m : List ℤ} (m-is : m ≡ toList (follo
   along-found = ap (λ (l : List ℤ). lettersAlong v t (ofList l)) m-is
 
   pub end-found : (start room : ℕ) → endOf v t (ofList m) start room ≡ foundOf v t a b start room
-  unfolding lettersAlong home foundWord action.at
+  unfolding lettersAlong closes foundWord action.at
   end-found start room = ap (λ (l : List ℤ). endOf v t (ofList l) start room) m-is
 
 -- ---- what a walk finds
@@ -71,8 +71,9 @@ pub record Result (v : ℕ) (t : List ℤ) (m : Mat) (start limit : ℕ) (out : 
   pub count : b .count ≡ length (lettersAlong v t m)
   pub left : out' ≡ stored start limit 0 (lettersAlong v t m) out
 
-module _ {v : ℕ} {t m : List ℤ} {w : List ℕ} {x : ℕ} (q : Ready t v w m x) where
-  pub setting : (start limit : ℕ) (out : List ℤ) → limit ≤ length out - start → Setting t v w out start limit × Real v t x × (det (ofList m) ≡ pos 1) × Small (2 ^ 50) (ofList m)
+module _ {v : ℕ} {t m : List ℤ} {w : List ℕ} {x : ℕ} (q : WalkReady t v w m x) where
+  pub setting : (start limit : ℕ) (out : List ℤ) → limit ≤ length out - start → Setting t v w out start limit × Real v t x × (det (ofList m) ≡ pos 1)
+      × Small (2 ^ 50) (ofList m)
   setting start limit out h =
       (record { prepared = q .prepared; room = h }, subst (Real v t) (sym (q .start)) (polygon v t (q .prepared .tables .symbol) .start), q .unit, q .small)
 
@@ -86,7 +87,8 @@ module _ {v : ℕ} {t m : List ℤ} {w : List ℕ} {x : ℕ} (q : Ready t v w m 
 pub kept-out : {v : ℕ} {t : List ℤ} {m : Mat} {start : ℕ} {out out' : List ℤ} {end : Way} → Result v t m start 0 out end out' → out' ≡ out
 kept-out {v} {t} {m} {start} {out} r = r .left ∙ stored-none start (lettersAlong v t m) 0 out
 
-pub placed-out : {v : ℕ} {t : List ℤ} {m : Mat} {start n : ℕ} {out out1 out2 : List ℤ} {end : Way} → out1 ≡ out → n ≡ length (lettersAlong v t m) → start ≤ length out → n ≤ length out - start
+pub placed-out : {v : ℕ} {t : List ℤ} {m : Mat} {start n : ℕ} {out out1 out2 : List ℤ} {end : Way} → out1 ≡ out → n ≡ length (lettersAlong v t m)
+    → start ≤ length out → n ≤ length out - start
     → Result v t m start n out1 end out2 → out2 ≡ placed start (lettersAlong v t m) out
 placed-out {v} {t} {m} {start} {n} {out} {out1} {out2} e f h k r =
     let l = lettersAlong v t m in
@@ -102,21 +104,23 @@ module _ (v : ℕ) (t : List ℤ) (m : Mat) (start room : ℕ) where
   last = ends v t (startOf v t) (wordOf m)
 
   pub not-home : (x : ℕ) → x ≡ last → (x ≡ startOf v t → ⊥) → (queried.Refused noWord) ≡ endOf v t m start room
-  not-home x e h = sym (pick-false (eqb last (startOf v t)) (roomOf n start room) (queried.Refused noWord) (ne-eqb last (startOf v t) (λ z. h (e ∙ z))))
+  not-home x e h = sym (pick-false (eqb last (startOf v t)) (wordOrShort n start room) (queried.Refused noWord) (ne-eqb last (startOf v t) (λ z. h (e ∙ z))))
 
-  at-home : (x : ℕ) → x ≡ last → x ≡ startOf v t → roomOf n start room ≡ endOf v t m start room
-  at-home x e h = sym (pick-true (eqb last (startOf v t)) (roomOf n start room) (queried.Refused noWord) (eq-eqb last (startOf v t) (sym e ∙ h)))
+  at-home : (x : ℕ) → x ≡ last → x ≡ startOf v t → wordOrShort n start room ≡ endOf v t m start room
+  at-home x e h = sym (pick-true (eqb last (startOf v t)) (wordOrShort n start room) (queried.Refused noWord) (eq-eqb last (startOf v t) (sym e ∙ h)))
 
   module _ (x : ℕ) (e : x ≡ last) (h : x ≡ startOf v t) where
     pub too-far : room < start → queried.Refused (tooShort n) ≡ endOf v t m start room
     too-far k =
-        sym (pick-false (fits start n room) (queried.Word start n) (queried.Refused (tooShort n)) (ap (λ (c : Bool). c && leb n (room - start)) (lt-leb start room k))) ∙ at-home x e h
+        sym (pick-false (wordFits start n room) (queried.Word start n) (queried.Refused (tooShort n))
+        (ap (λ (c : Bool). c && leb n (room - start)) (lt-leb start room k))) ∙ at-home x e h
 
-    fits-by : start ≤ room → fits start n room ≡ leb n (room - start)
+    fits-by : start ≤ room → wordFits start n room ≡ leb n (room - start)
     fits-by k = ap (λ (c : Bool). c && leb n (room - start)) (le-leb start room k)
 
     pub too-long : start ≤ room → room - start < n → queried.Refused (tooShort n) ≡ endOf v t m start room
-    too-long k l = sym (pick-false (fits start n room) (queried.Word start n) (queried.Refused (tooShort n)) (fits-by k ∙ lt-leb n (room - start) l)) ∙ at-home x e h
+    too-long k l = sym (pick-false (wordFits start n room) (queried.Word start n) (queried.Refused (tooShort n)) (fits-by k ∙ lt-leb n (room - start) l))
+        ∙ at-home x e h
 
     pub fitting : start ≤ room → n ≤ room - start → queried.Word start n ≡ endOf v t m start room
-    fitting k l = sym (pick-true (fits start n room) (queried.Word start n) (queried.Refused (tooShort n)) (fits-by k ∙ le-leb n (room - start) l)) ∙ at-home x e h
+    fitting k l = sym (pick-true (wordFits start n room) (queried.Word start n) (queried.Refused (tooShort n)) (fits-by k ∙ le-leb n (room - start) l)) ∙ at-home x e h

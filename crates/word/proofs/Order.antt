@@ -12,23 +12,23 @@ use lib.ListN.{length}
 use lib.IntN.{ℤ}
 use borrow.Author.Tests.{lt-ltb, le-ltb}
 use Rattle.matrix.specs.Matrix.{ofList}
-use Rattle.matrix.specs.Euclid.{pick}
+use Rattle.basics.specs.Choice.{pick}
 use Rattle.matrix.specs.Bounds.{Small}
 use Rattle.workspace.specs.Space.{workLength, zeros}
-use Rattle.symbol.specs.Count.{first}
-use Rattle.symbol.specs.Check.{checkOf}
+use Rattle.basics.specs.Count.{first}
+use Rattle.symbol.specs.Check.{symbolCheck}
 use Rattle.symbol.specs.Symbol.{IsSymbol}
 use Rattle.pairing.specs.Generator.{workAfter}
 use Rattle.refusal.specs.declared.Refusal.{Refusal}
 use Rattle.refusal.specs.declared.Checked.{Checked}
 use Rattle.refusal.specs.declared.Checked.the-variants.{Accepted, Refused}
 use Rattle.symbol.proofs.Accepted.{accepted, check-among}
-use Rattle.symbol.proofs.Choice.{either, pick-true, pick-false}
-use Rattle.symbol.proofs.Count.{first-clear, clear-first, first-le}
+use Rattle.basics.proofs.Choice.{either, pick-true, pick-false}
+use Rattle.basics.proofs.Count.{first-clear, clear-first, first-le}
 use Rattle.refusal.specs.Refusal.{noRefusal, matrixEntry, badDeterminant, noWord, tooShort}
 use Rattle.refusal.proofs.Numbered.{Among}
-use Rattle.word.specs.Answer.{queryRefusal, large, unit, passes, foundWord, foundOf, byWork, byDeterminants, byEntries, byCheck, queryOf, workLeft, wordLeft}
-use Rattle.word.specs.Claim.{Asked, Answered, Claim}
+use Rattle.word.specs.Answer.{queryRefusal, large, unit, passes, foundWord, foundOf, queryByWork, byDeterminants, byEntries, byCheck, queryOf, queryWork, wordLeft}
+use Rattle.word.specs.Claim.{Asked, ShortWork, Answered, Claim}
 use Rattle.word.specs.Inner.Ready.{judgedOf}
 use Rattle.word.specs.declared.Queried.{Queried}
 use Rattle.word.specs.declared.Queried.the-variants as queried
@@ -44,7 +44,7 @@ module _ (v : ℕ) (t a b : List ℤ) (w : List ℕ) (room start : ℕ) where
   found = foundOf v t a b start room
 
   abbrev worked : Queried
-  worked = byWork (length w) found
+  worked = queryByWork (length w) found
 
   abbrev unital : Queried
   unital = byDeterminants a b worked
@@ -59,7 +59,7 @@ module _ (v : ℕ) (t a b : List ℤ) (w : List ℕ) (room start : ℕ) where
   i = first (large a b) 8
 
   -- what is left to test where some tests were passed
-  past-check : checkOf v t ≡ Accepted → entered ≡ all
+  past-check : symbolCheck v t ≡ Accepted → entered ≡ all
   past-check e = sym (ap (λ (c : Checked). byCheck c entered) e)
 
   past-entries : 8 ≤ i → unital ≡ entered
@@ -78,20 +78,20 @@ module _ (v : ℕ) (t a b : List ℤ) (w : List ℕ) (room start : ℕ) where
   passes-is : (x y z : Bool) → not (ltb i 8) ≡ x → unit a ≡ y → unit b ≡ z → passes a b ≡ (x && (y && z))
   passes-is x y z e f g = cc (e, f, g)
 
-  work-kept : passes a b ≡ false → w ≡ workLeft v t a b w
-  work-kept e = sym (pick-false (passes a b) (workAfter (checkOf v t) w) w e)
+  work-kept : passes a b ≡ false → w ≡ queryWork v t a b w
+  work-kept e = sym (pick-false (passes a b) (workAfter (symbolCheck v t) w) w e)
 
-  work-by : passes a b ≡ true → checkOf v t ≡ Accepted → pick (ltb (length w) workLength) w (zeros (length w)) ≡ workLeft v t a b w
-  work-by e f = sym (pick-true (passes a b) (workAfter (checkOf v t) w) w e ∙ ap (λ (c : Checked). workAfter c w) f)
+  work-by : passes a b ≡ true → symbolCheck v t ≡ Accepted → pick (ltb (length w) workLength) w (zeros (length w)) ≡ queryWork v t a b w
+  work-by e f = sym (pick-true (passes a b) (workAfter (symbolCheck v t) w) w e ∙ ap (λ (c : Checked). workAfter c w) f)
 
-  pub by-fault : (f : Refusal) → checkOf v t ≡ Refused f → (queried.Refused f ≡ all) × (w ≡ workLeft v t a b w)
+  pub by-fault : (f : Refusal) → symbolCheck v t ≡ Refused f → (queried.Refused f ≡ all) × (w ≡ queryWork v t a b w)
   by-fault f e = (
     sym (ap (λ (c : Checked). byCheck c entered) e),
     sym (ap (λ (c : Checked). pick (passes a b) (workAfter c w) w) e ∙ same (passes a b) w),
   )
 
-  module _ (e : checkOf v t ≡ Accepted) where
-    pub by-entry : i < 8 → (queried.Refused (matrixEntry i) ≡ all) × (w ≡ workLeft v t a b w)
+  module _ (e : symbolCheck v t ≡ Accepted) where
+    pub by-entry : i < 8 → (queried.Refused (matrixEntry i) ≡ all) × (w ≡ queryWork v t a b w)
     by-entry h = (
       sym (pick-true (ltb i 8) (queried.Refused (matrixEntry i)) unital (lt-ltb i 8 h)) ∙ past-check e,
       work-kept (ap (λ (x : Bool). not x && (unit a && unit b)) (lt-ltb i 8 h)),
@@ -101,14 +101,14 @@ module _ (v : ℕ) (t a b : List ℤ) (w : List ℕ) (room start : ℕ) where
       small-entries : not (ltb i 8) ≡ true
       small-entries = ap not (le-ltb i 8 h)
 
-      pub by-A : unit a ≡ false → (queried.Refused (badDeterminant 0) ≡ all) × (w ≡ workLeft v t a b w)
+      pub by-A : unit a ≡ false → (queried.Refused (badDeterminant 0) ≡ all) × (w ≡ queryWork v t a b w)
       by-A f = (
         sym (pick-false (unit a) (pick (unit b) worked (queried.Refused (badDeterminant 1))) (queried.Refused (badDeterminant 0)) f) ∙ past-entries h ∙ past-check e,
         work-kept (passes-is true false (unit b) small-entries f refl),
       )
 
       module _ (f : unit a ≡ true) where
-        pub by-B : unit b ≡ false → (queried.Refused (badDeterminant 1) ≡ all) × (w ≡ workLeft v t a b w)
+        pub by-B : unit b ≡ false → (queried.Refused (badDeterminant 1) ≡ all) × (w ≡ queryWork v t a b w)
         by-B g = (
           sym (pick-false (unit b) worked (queried.Refused (badDeterminant 1)) g) ∙ past-A f ∙ past-entries h ∙ past-check e,
           work-kept (passes-is true true false small-entries f g),
@@ -118,14 +118,14 @@ module _ (v : ℕ) (t a b : List ℤ) (w : List ℕ) (room start : ℕ) where
           passed : passes a b ≡ true
           passed = passes-is true true true small-entries f g
 
-          pub by-short : length w < workLength → (queried.Refused (tooShort workLength) ≡ all) × (w ≡ workLeft v t a b w)
+          pub by-short : length w < workLength → (queried.Refused (tooShort workLength) ≡ all) × (w ≡ queryWork v t a b w)
           by-short k =
               let z = lt-ltb (length w) workLength k in (
                 sym (pick-true (ltb (length w) workLength) (queried.Refused (tooShort workLength)) found z) ∙ past-B g ∙ past-A f ∙ past-entries h ∙ past-check e,
                 sym (pick-true (ltb (length w) workLength) w (zeros (length w)) z) ∙ work-by passed e,
               )
 
-          pub by-long : workLength ≤ length w → (found ≡ all) × (zeros (length w) ≡ workLeft v t a b w)
+          pub by-long : workLength ≤ length w → (found ≡ all) × (zeros (length w) ≡ queryWork v t a b w)
           by-long k = (
             past-work k ∙ past-B g ∙ past-A f ∙ past-entries h ∙ past-check e,
             sym (pick-false (ltb (length w) workLength) w (zeros (length w)) (le-ltb (length w) workLength k)) ∙ work-by passed e,
@@ -177,8 +177,8 @@ module _ (a b : List ℤ) where
         )
   ]
 
-module _ (v : ℕ) (t a b : List ℤ) (w : List ℕ) (room start : ℕ) (e : checkOf v t ≡ Accepted) (k : ℕ) (j : k ≡ judgedOf a b) where
-  pub by-large : k < 8 → (queried.Refused (matrixEntry k) ≡ queryOf v t a b (length w) room start) × (w ≡ workLeft v t a b w)
+module _ (v : ℕ) (t a b : List ℤ) (w : List ℕ) (room start : ℕ) (e : symbolCheck v t ≡ Accepted) (k : ℕ) (j : k ≡ judgedOf a b) where
+  pub by-large : k < 8 → (queried.Refused (matrixEntry k) ≡ queryOf v t a b (length w) room start) × (w ≡ queryWork v t a b w)
   by-large h = elim (decLt (first (large a b) 8) 8) [
     | yes l ↦ (let z = by-entry v t a b w room start e l in (ap (λ (i : ℕ). queried.Refused (matrixEntry i)) (j ∙ judged-entry a b l) ∙ z .0, z .1))
     | no l ↦ (
@@ -190,7 +190,7 @@ module _ (v : ℕ) (t a b : List ℤ) (w : List ℕ) (room start : ℕ) (e : che
         )
   ]
 
-  pub by-determinant : 8 ≤ k → k < 10 → (queried.Refused (badDeterminant (k - 8)) ≡ queryOf v t a b (length w) room start) × (w ≡ workLeft v t a b w)
+  pub by-determinant : 8 ≤ k → k < 10 → (queried.Refused (badDeterminant (k - 8)) ≡ queryOf v t a b (length w) room start) × (w ≡ queryWork v t a b w)
   by-determinant h h' = elim (decLt (first (large a b) 8) 8) [
     | yes l ↦ (let z = judged-entry a b l in absurd (omega arith))
     | no l ↦ (
@@ -232,46 +232,62 @@ asked a b ok k p =
 -- a query that gets to its walk answers what the walk finds
 asked-found : (v : ℕ) (t a b : List ℤ) (w : List ℕ) (room start : ℕ) → Asked v t a b w → foundOf v t a b start room ≡ queryOf v t a b (length w) room start
 asked-found v t a b w room start q =
-    by-long v t a b w room start (accepted v t .1 (q .symbol)) (omega (arith, first-clear (large a b) 8 (small-clear a b (q .entries-A) (q .entries-B)))) (is-unit a (q .unit-A)) (is-unit b (q .unit-B)) (q .work) .0
+    by-long v t a b w room start (accepted v t .1 (q .symbol)) (omega (arith, first-clear (large a b) 8 (small-clear a b (q .entries-A) (q .entries-B))))
+    (is-unit a (q .unit-A)) (is-unit b (q .unit-B)) (q .work) .0
 
--- a word, or 'none', is answered only where the query gets to its walk
-asked-by : (v : ℕ) (t a b : List ℤ) (w : List ℕ) (room start : ℕ) (r : Queried) → r ≡ queryOf v t a b (length w) room start
-    → (queryRefusal r ≡ noRefusal) ⊎ (queryRefusal r ≡ noWord) → Asked v t a b w
-asked-by v t a b w room start r e h = go (checkOf v t) refl
+-- a query gets to its walk, or it is refused: for its work space, or with 1 to 9 before that
+reaches : (v : ℕ) (t a b : List ℤ) (w : List ℕ) (room start : ℕ) (r : Queried) → r ≡ queryOf v t a b (length w) room start
+    → Asked v t a b w ⊎ ShortWork w r ⊎ ((1 ≤ queryRefusal r .number) × (queryRefusal r .number ≤ 9))
+reaches v t a b w room start r e = go (symbolCheck v t) refl
   where
-    -- the answer is no other refusal
-    other : {A : Type 0} (f : Refusal) → queried.Refused f ≡ queryOf v t a b (length w) room start → (f .number ≡ 0 → ⊥) → (f .number ≡ 10 → ⊥) → A
-    other f q low ten =
-        let k : queryRefusal r ≡ f = ap queryRefusal (e ∙ sym q) in
-        elim h [ inl z ↦ absurd (low (same-number (sym k ∙ z))) | inr z ↦ absurd (ten (same-number (sym k ∙ z))) ]
+    early : (f : Refusal) → queried.Refused f ≡ queryOf v t a b (length w) room start → 1 ≤ f .number → f .number ≤ 9
+        → Asked v t a b w ⊎ ShortWork w r ⊎ ((1 ≤ queryRefusal r .number) × (queryRefusal r .number ≤ 9))
+    early f q low high = let k = same-number (ap queryRefusal (e ∙ sym q)) in inr (inr (omega (arith, k, low), omega (arith, k, high)))
 
-    long : checkOf v t ≡ Accepted → 8 ≤ first (large a b) 8 → unit a ≡ true → unit b ≡ true → Asked v t a b w
+    long : symbolCheck v t ≡ Accepted → 8 ≤ first (large a b) 8 → unit a ≡ true → unit b ≡ true
+        → Asked v t a b w ⊎ ShortWork w r ⊎ ((1 ≤ queryRefusal r .number) × (queryRefusal r .number ≤ 9))
     long ok m f g = elim (decLt (length w) workLength) [
-      | yes k ↦ other (tooShort workLength) (by-short v t a b w room start ok m f g k .0) (λ z. omega (arith, z)) (λ z. omega (arith, z))
-      | no k ↦ asked a b (accepted v t .0 ok) (omega arith) (record { entries = m; A = f; B = g })
+      | yes k ↦ inr (inl (k, ap queryRefusal (e ∙ sym (by-short v t a b w room start ok m f g k .0))))
+      | no k ↦ inl (asked a b (accepted v t .0 ok) (omega arith) (record { entries = m; A = f; B = g }))
     ]
 
-    units : checkOf v t ≡ Accepted → 8 ≤ first (large a b) 8 → (unit a ≡ true) ⊎ (unit a ≡ false) → (unit b ≡ true) ⊎ (unit b ≡ false) → Asked v t a b w
-    units ok m (inr f) g = other (badDeterminant 0) (by-A v t a b w room start ok m f .0) (λ z. omega (arith, z)) (λ z. omega (arith, z))
-    units ok m (inl f) (inr g) = other (badDeterminant 1) (by-B v t a b w room start ok m f g .0) (λ z. omega (arith, z)) (λ z. omega (arith, z))
+    units : symbolCheck v t ≡ Accepted → 8 ≤ first (large a b) 8 → (unit a ≡ true) ⊎ (unit a ≡ false) → (unit b ≡ true) ⊎ (unit b ≡ false)
+        → Asked v t a b w ⊎ ShortWork w r ⊎ ((1 ≤ queryRefusal r .number) × (queryRefusal r .number ≤ 9))
+    units ok m (inr f) g = early (badDeterminant 0) (by-A v t a b w room start ok m f .0) (omega arith) (omega arith)
+    units ok m (inl f) (inr g) = early (badDeterminant 1) (by-B v t a b w room start ok m f g .0) (omega arith) (omega arith)
     units ok m (inl f) (inl g) = long ok m f g
 
-    go : (c : Checked) → checkOf v t ≡ c → Asked v t a b w
+    go : (c : Checked) → symbolCheck v t ≡ c → Asked v t a b w ⊎ ShortWork w r ⊎ ((1 ≤ queryRefusal r .number) × (queryRefusal r .number ≤ 9))
     go (Refused f) q =
         let k = subst (Among 1 7) q (check-among v t) in
-        other f (by-fault v t a b w room start f q .0) (λ z. omega (arith, k .0, z)) (λ z. omega (arith, k .1, z))
+        early f (by-fault v t a b w room start f q .0) (omega (arith, k .0)) (omega (arith, k .1))
     go Accepted q = elim (decLt (first (large a b) 8) 8) [
-      | yes l ↦ other (matrixEntry (first (large a b) 8)) (by-entry v t a b w room start q l .0) (λ z. omega (arith, z)) (λ z. omega (arith, z))
+      | yes l ↦ early (matrixEntry (first (large a b) 8)) (by-entry v t a b w room start q l .0) (omega arith) (omega arith)
       | no l ↦ units q (omega arith) (either (unit a)) (either (unit b))
     ]
 
 pub claim : {v : ℕ} {t a b : List ℤ} {w : List ℕ} {out : List ℤ} {start : ℕ} {r : Queried} {out' : List ℤ} → r ≡ queryOf v t a b (length w) (length out) start
     → out' ≡ wordLeft r (foundWord v t (ofList a) (ofList b)) out → Claim v t a b w out start r out'
-claim {v} {t} {a} {b} {w} {out} {start} {r} {out'} e f = record { asked = asked-by v t a b w (length out) start r e; answered = by-walk }
+claim {v} {t} {a} {b} {w} {out} {start} {r} {out'} e f = record { asked = by-number; short = by-eleven; answered = by-walk }
   where
+    by-number : (queryRefusal r .number ≡ 0) ⊎ (queryRefusal r .number ≡ noWord .number) → Asked v t a b w
+    by-number h = elim (reaches v t a b w (length out) start r e) [
+      | inl q ↦ q
+      | inr (inl s) ↦ elim h [ inl z ↦ absurd (omega (arith, same-number (s .1), z)) | inr z ↦ absurd (omega (arith, same-number (s .1), z)) ]
+      | inr (inr s) ↦ elim h [ inl z ↦ absurd (omega (arith, s .0, z)) | inr z ↦ absurd (omega (arith, s .1, z)) ]
+    ]
+
+    by-eleven : (n : ℕ) → queryRefusal r .number ≡ tooShort n .number → Asked v t a b w ⊎ ShortWork w r
+    by-eleven n z = elim (reaches v t a b w (length out) start r e) [
+      | inl q ↦ inl q
+      | inr (inl s) ↦ inr s
+      | inr (inr s) ↦ absurd (omega (arith, s .1, z))
+    ]
+
     by-walk : Asked v t a b w → Answered v t (ofList a) (ofList b) (foundWord v t (ofList a) (ofList b)) out start r out'
     by-walk q =
         let l = foundWord v t (ofList a) (ofList b) in
         let z : r ≡ foundOf v t a b start (length out) = e ∙ sym (asked-found v t a b w (length out) start q) in
         subst (λ (o : List ℤ). Answered v t (ofList a) (ofList b) l out start r o) (sym f)
-        (subst (λ (x : Queried). Answered v t (ofList a) (ofList b) l out start x (wordLeft x l out)) (sym z) (answered (q .symbol) a b (q .unit-A) (q .unit-B) out start))
+        (subst (λ (x : Queried). Answered v t (ofList a) (ofList b) l out start x (wordLeft x l out)) (sym z)
+        (answered (q .symbol) a b (q .unit-A) (q .unit-B) out start))

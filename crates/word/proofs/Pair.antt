@@ -14,8 +14,9 @@ use lib.IntN.{ℤ, pos, natAbs}
 use borrow.Author.Tests.{lt-ltb, le-ltb, le-leb, leb-true, not-false}
 use Rattle.matrix.specs.Matrix.{nth, ofList, det}
 use Rattle.matrix.specs.Bounds.{Small}
-use Rattle.symbol.proofs.Choice.{pick-true, pick-false, eqZ-true, eq-eqZ}
-use Rattle.symbol.proofs.Count.{Clear}
+use Rattle.symbol.proofs.Choice.{eqZ-true, eq-eqZ}
+use Rattle.basics.proofs.Choice.{pick-true, pick-false}
+use Rattle.basics.proofs.Count.{Clear}
 use Rattle.word.specs.Answer.{entryAt, large, unit}
 
 module _ (a b : List ℤ) (i : ℕ) where

@@ -13,15 +13,16 @@ use lib.ListN.{length}
 use lib.IntN.{ℤ}
 use borrow.Author.Tests.{leb-true}
 use Rattle.matrix.specs.Matrix.{ofList}
-use Rattle.matrix.specs.Euclid.{pick}
+use Rattle.basics.specs.Choice.{pick}
 use Rattle.workspace.specs.Space.{workLength}
-use Rattle.symbol.specs.Count.{first}
-use Rattle.symbol.specs.Check.{checkOf}
+use Rattle.basics.specs.Count.{first}
+use Rattle.symbol.specs.Check.{symbolCheck}
 use Rattle.refusal.specs.declared.Checked.{Checked}
 use Rattle.refusal.specs.declared.Checked.the-variants.{Accepted, Refused}
-use Rattle.symbol.proofs.Choice.{and-left, and-right}
+use Rattle.basics.proofs.Choice.{and-left, and-right}
 use Rattle.refusal.specs.Refusal.{matrixEntry, badDeterminant, noWord, tooShort}
-use Rattle.word.specs.Answer.{placed, large, unit, home, foundWord, fits, roomOf, foundOf, byWork, byDeterminants, byEntries, byCheck, queryOf, partOf}
+use Rattle.word.specs.Answer.{placed, large, unit, closes, foundWord, wordFits, wordOrShort, foundOf, queryByWork, byDeterminants, byEntries}
+use Rattle.word.specs.Answer.{byCheck, queryOf, partOf}
 use Rattle.word.specs.declared.Queried.{Queried}
 use Rattle.word.specs.declared.Queried.the-variants as queried
 use Rattle.word.proofs.Claim.{part-placed}
@@ -58,12 +59,12 @@ module _ (s n : ℕ) where
   record Named (k start room : ℕ) : Type 0 where
     pub place-is : s ≡ start
     pub length-is : n ≡ k
-    pub fitting : fits start k room ≡ true
+    pub fitting : wordFits start k room ≡ true
 
-  by-room : (k start room : ℕ) → Is (roomOf k start room) → Named k start room
-  by-room k start room e = go (fits start k room) refl
+  by-room : (k start room : ℕ) → Is (wordOrShort k start room) → Named k start room
+  by-room k start room e = go (wordFits start k room) refl
     where
-      go : (b : Bool) → fits start k room ≡ b → Named k start room
+      go : (b : Bool) → wordFits start k room ≡ b → Named k start room
       go true h = let f : Is (queried.Word start k) = rw h at e in record { place-is = cc; length-is = cc; fitting = h }
       go false h = let f : Is (queried.Refused (tooShort k)) = rw h at e in absurd (no-short k f)
 
@@ -74,13 +75,14 @@ module _ (s n : ℕ) where
     names-word : Named (length word) start (length out)
     names-word =
         let found = foundOf v t a b start (length out) in
-        let enough = byWork work found in
-        let e1 = by-check (checkOf v t) (byEntries a b (byDeterminants a b enough)) e in
-        let e2 = second (ltb (first (large a b) 8) 8) (queried.Refused (matrixEntry (first (large a b) 8))) (byDeterminants a b enough) (no-entry (first (large a b) 8)) e1 in
+        let enough = queryByWork work found in
+        let e1 = by-check (symbolCheck v t) (byEntries a b (byDeterminants a b enough)) e in
+        let e2 = second (ltb (first (large a b) 8) 8) (queried.Refused (matrixEntry (first (large a b) 8))) (byDeterminants a b enough)
+        (no-entry (first (large a b) 8)) e1 in
         let e3 = first-one (unit a) (pick (unit b) enough (queried.Refused (badDeterminant 1))) (queried.Refused (badDeterminant 0)) (no-determinant 0) e2 in
         let e4 = first-one (unit b) enough (queried.Refused (badDeterminant 1)) (no-determinant 1) e3 in
         let e5 = second (ltb work workLength) (queried.Refused (tooShort workLength)) found (no-short workLength) e4 in
-        let e6 = first-one (home v t (ofList a) (ofList b)) (roomOf (length word) start (length out)) (queried.Refused noWord) no-absent e5 in
+        let e6 = first-one (closes v t (ofList a) (ofList b)) (wordOrShort (length word) start (length out)) (queried.Refused noWord) no-absent e5 in
         by-room (length word) start (length out) e6
 
     pub part-found : partOf (placed s word out) s n ≡ word
@@ -93,4 +95,8 @@ module _ (s n : ℕ) where
         ∙ part-placed start word out in-it enough
 
     pub word-most : length word ≤ length out
-    word-most = omega (arith, leb-true (length word) (length out - start) (and-right (leb start (length out)) (leb (length word) (length out - start)) (names-word .fitting)))
+    word-most = omega (
+      arith,
+      leb-true (length word) (length out - start)
+          (and-right (leb start (length out)) (leb (length word) (length out - start)) (names-word .fitting)),
+    )

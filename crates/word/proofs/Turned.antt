@@ -23,7 +23,7 @@ use Rattle.matrix.proofs.Bounds.{small-more, small-adj, small-⊗}
 use Rattle.matrix.proofs.Action.{pre, reduce, reduce-alternating, reduce-value, value-++}
 use Rattle.matrix.proofs.Uniqueness.{uniqueness}
 use Rattle.matrix.proofs.Existence.{existence}
-use Rattle.symbol.proofs.Choice.{either, pick-true, pick-false}
+use Rattle.basics.proofs.Choice.{either, pick-true, pick-false}
 use Rattle.polygon.specs.Step.{turned}
 use Rattle.polygon.specs.Walk.{followed}
 
@@ -99,7 +99,8 @@ module _ (m : Mat) (d : det m ≡ pos 1) where
   around-length =
       let n = adj matS ⊗ (m ⊗ matS) in
       let k = existence n (around-unit m d) in
-      let same : wordOf n ≡ reduce between = uniqueness (wordOf n) (reduce between) (k .0) (reduce-alternating between) (k .1 ∙≈ ≈-sym (reduce-value between ∙≈ between-value)) in
+      let same : wordOf n ≡ reduce between = uniqueness (wordOf n) (reduce between) (k .0) (reduce-alternating between)
+      (k .1 ∙≈ ≈-sym (reduce-value between ∙≈ between-value)) in
       omega (arith, ap length same, length-reduce between, length-append (wordOf m) (S ∷ []))
 
   pub followed-length : (v : ℕ) (t : List ℤ) → length (wordOf (followed v t m)) ≤ length (wordOf m) + 2

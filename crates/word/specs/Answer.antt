@@ -4,14 +4,14 @@
 --   queryRefusal                the refusal that the answer is, noRefusal for a word
 --   entryAt a b i               the entry i of the pair: 0 to 3 in A, 4 to 7 in B
 --   large a b i                 whether it is beyond 1,000,000 in size
---   unit m                      whether the badDeterminant of m is 1
+--   unit m                      whether the determinant of m is 1
 --   passes a b                  whether the pair passes 8 and 9
---   home v t m n                whether the walk from m to n, which follows n m⁻¹, ends where it began
+--   closes v t m n              whether the walk from m to n, which follows n m⁻¹, ends where it began
 --   foundWord v t m n           the word that it writes
---   fits start n room           whether n letters fit in a space of `room` letters from the place `start` on
---   roomOf, foundOf             the word, or 11 with its length; the same, or 10 where the walk doesn't come home
+--   wordFits start n room       whether n letters fit in a space of `room` letters from the place `start` on
+--   wordOrShort, foundOf        the word, or 11 with its length; the same, or 10 where the walk doesn't come home
 --   queryOf v t a b work room start     the refusals in the order of docs/CONVENTIONS.md, or the word
---   workLeft v t a b w          what the call leaves in the work space: zeros where it got past the length check, else all as it was
+--   queryWork v t a b w         what the call leaves in the work space: zeros where it got past the length check, else all as it was
 --   placed start l out          the letters l in place of those that stood from `start` on
 --   wordLeft r l out            what the call leaves in the word space: the letters l from the start place on, or all as it was
 --   partOf out start n          the part of n letters from `start` on, empty where it doesn't fit
@@ -22,12 +22,12 @@ use lib.Dec.{leb, ltb, eqb}
 use lib.ListN.{length, take, drop}
 use lib.IntN.{ℤ, pos, natAbs}
 use Rattle.matrix.specs.Matrix.{Mat, _⊗_, adj, det, nth, ofList}
-use Rattle.matrix.specs.Euclid.{pick}
+use Rattle.basics.specs.Choice.{pick}
 use Rattle.workspace.specs.Space.{workLength}
 use Rattle.refusal.specs.Refusal.{noRefusal, matrixEntry, badDeterminant, noWord, tooShort}
 use Rattle.refusal.specs.declared.Refusal.{Refusal}
-use Rattle.symbol.specs.Count.{first}
-use Rattle.symbol.specs.Check.{eqZ, checkOf}
+use Rattle.basics.specs.Count.{first}
+use Rattle.symbol.specs.Check.{eqZ, symbolCheck}
 use Rattle.pairing.specs.Generator.{workAfter}
 use Rattle.refusal.specs.declared.Checked.{Checked}
 use Rattle.refusal.specs.declared.Checked.the-variants.{Accepted, Refused}
@@ -56,25 +56,25 @@ passes a b = not (ltb (first (large a b) 8) 8) && (unit a && unit b)
 
 -- ---- the walk
 
-unfoldable pub home : ℕ → List ℤ → Mat → Mat → Bool
-home v t m n = eqb (walkEnds v t (n ⊗ adj m)) (startOf v t)
+unfoldable pub closes : ℕ → List ℤ → Mat → Mat → Bool
+closes v t m n = eqb (walkEnds v t (n ⊗ adj m)) (startOf v t)
 
 unfoldable pub foundWord : ℕ → List ℤ → Mat → Mat → List ℤ
 foundWord v t m n = walkWrites v t (n ⊗ adj m)
 
 -- ---- the answer
 
-abbrev pub fits : (start n room : ℕ) → Bool
-fits start n room = leb start room && leb n (room - start)
+abbrev pub wordFits : (start n room : ℕ) → Bool
+wordFits start n room = leb start room && leb n (room - start)
 
-abbrev pub roomOf : (n start room : ℕ) → Queried
-roomOf n start room = pick (fits start n room) (queried.Word start n) (queried.Refused (tooShort n))
+abbrev pub wordOrShort : (n start room : ℕ) → Queried
+wordOrShort n start room = pick (wordFits start n room) (queried.Word start n) (queried.Refused (tooShort n))
 
 abbrev pub foundOf : (v : ℕ) (t a b : List ℤ) (start room : ℕ) → Queried
-foundOf v t a b start room = pick (home v t (ofList a) (ofList b)) (roomOf (length (foundWord v t (ofList a) (ofList b))) start room) (queried.Refused noWord)
+foundOf v t a b start room = pick (closes v t (ofList a) (ofList b)) (wordOrShort (length (foundWord v t (ofList a) (ofList b))) start room) (queried.Refused noWord)
 
-abbrev pub byWork : (work : ℕ) → Queried → Queried
-byWork work r = pick (ltb work workLength) (queried.Refused (tooShort workLength)) r
+abbrev pub queryByWork : (work : ℕ) → Queried → Queried
+queryByWork work r = pick (ltb work workLength) (queried.Refused (tooShort workLength)) r
 
 -- 9, A before B
 abbrev pub byDeterminants : (a b : List ℤ) → Queried → Queried
@@ -89,12 +89,12 @@ byCheck (Refused f) r = queried.Refused f
 byCheck Accepted r = r
 
 abbrev pub queryOf : (v : ℕ) (t a b : List ℤ) (work room start : ℕ) → Queried
-queryOf v t a b work room start = byCheck (checkOf v t) (byEntries a b (byDeterminants a b (byWork work (foundOf v t a b start room))))
+queryOf v t a b work room start = byCheck (symbolCheck v t) (byEntries a b (byDeterminants a b (queryByWork work (foundOf v t a b start room))))
 
 -- ---- what it leaves
 
-abbrev pub workLeft : (v : ℕ) (t a b : List ℤ) → List ℕ → List ℕ
-workLeft v t a b w = pick (passes a b) (workAfter (checkOf v t) w) w
+abbrev pub queryWork : (v : ℕ) (t a b : List ℤ) → List ℕ → List ℕ
+queryWork v t a b w = pick (passes a b) (workAfter (symbolCheck v t) w) w
 
 abbrev pub placed : ℕ → (l out : List ℤ) → List ℤ
 placed start l out = take start out ++ l ++ drop (start + length l) out
@@ -104,4 +104,4 @@ wordLeft (queried.Word start n) l out = placed start l out
 wordLeft (queried.Refused f) l out = out
 
 abbrev pub partOf : List ℤ → (start n : ℕ) → List ℤ
-partOf out start n = pick (fits start n (length out)) (take n (drop start out)) []
+partOf out start n = pick (wordFits start n (length out)) (take n (drop start out)) []

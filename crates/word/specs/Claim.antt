@@ -17,7 +17,11 @@
 --     names, stands         a word that is returned stands where the answer says, from the start place on, and all else is as before
 --     untouched             any other answer leaves the word space as it was, whatever stood in it
 --     bound, sixteen        the word has at most two letters more than the alternating word of B A⁻¹, and each fits 16 signed bits
---   Claim                   a word, or 'none', is answered only where the query gets to its walk; and where it does, this is what it answers
+--   ShortWork w r           the work space is too short, and the query is refused for it
+--   Claim                   a word, or 'none', is answered only where the query gets to its walk, and 11 only there or for the work space; and
+--                           where it gets there, this is what it answers
+--   QuerySays               the same by what the exported call returns, its number n and the place or the word's length: 10 means that the query
+--                           got to its walk and there is no such product; 0 that the letters from the start place on are such a product
 use mathlib.Core.Path.{_≡_}
 use mathlib.Core.Logic.{_⊎_, _↔_}
 use mathlib.Core.List.{List}
@@ -71,6 +75,16 @@ pub record Answered (v : ℕ) (t : List ℤ) (A B : Mat) (word out : List ℤ) (
   pub bound : length word ≤ length (euclid.wordOf (B ⊗ adj A)) + 2
   pub sixteen : (i : ℕ) → i < length word → natAbs (getD word i (pos 0)) ≤ 1024
 
+abbrev pub ShortWork : List ℕ → Queried → Type 0
+ShortWork w r = (length w < workLength) × (queryRefusal r ≡ tooShort workLength)
+
 pub record Claim (v : ℕ) (t a b : List ℤ) (w : List ℕ) (out : List ℤ) (start : ℕ) (r : Queried) (out' : List ℤ) : Type 0 where
-  pub asked : (queryRefusal r ≡ noRefusal) ⊎ (queryRefusal r ≡ noWord) → Asked v t a b w
+  pub asked : (queryRefusal r .number ≡ 0) ⊎ (queryRefusal r .number ≡ noWord .number) → Asked v t a b w
+  pub short : (n : ℕ) → queryRefusal r .number ≡ tooShort n .number → Asked v t a b w ⊎ ShortWork w r
   pub answered : Asked v t a b w → Answered v t (ofList a) (ofList b) (foundWord v t (ofList a) (ofList b)) out start r out'
+
+pub record QuerySays (v : ℕ) (t a b : List ℤ) (w : List ℕ) (start n place : ℕ) (out' : List ℤ) : Type 0 where
+  pub none : n ≡ noWord .number → Asked v t a b w × (Joined v t (ofList a) (ofList b) → ⊥)
+  pub asked : n ≡ 0 → Asked v t a b w
+  pub letters : n ≡ 0 → IsWord (length (generators v t)) (partOf out' start place)
+  pub product : n ≡ 0 → valueOf (generators v t) (partOf out' start place) ⊗ ofList a ≈ ofList b

@@ -23,12 +23,12 @@ ghost use lib.IntN.{natAbs};
 ghost use Rattle.matrix.specs.Matrix.{ofList, toList, _⊗_, adj};
 ghost use Rattle.matrix.specs.Bounds.{Small};
 ghost use Rattle.workspace.specs.Space.{zeros};
-ghost use Rattle.symbol.specs.Count.{first};
+ghost use Rattle.basics.specs.Count.{first};
 ghost use Rattle.symbol.specs.Symbol.{IsSymbol};
 ghost use Rattle.polygon.specs.Walk.{followed};
-ghost use Rattle.word.specs.Answer.{queryRefusal, entryAt, large, unit, foundWord, foundOf, queryOf, workLeft, wordLeft, partOf};
+ghost use Rattle.word.specs.Answer.{queryRefusal, entryAt, large, unit, foundWord, foundOf, queryOf, queryWork, wordLeft, partOf};
 ghost use Rattle.word.specs.Claim.{Asked, Claim};
-ghost use Rattle.word.specs.Inner.Ready.{judgedOf, lettersAlong, endOf, Ready};
+ghost use Rattle.word.specs.Inner.Ready.{judgedOf, lettersAlong, endOf, WalkReady};
 
 // The answer of `query`.
 pub enum Queried {
@@ -121,7 +121,7 @@ fn find(
     out: &mut [i16],
     start: usize,
 ) -> Queried
-    requires { ⌜ Ready (now t) v (now w) m home ⌝ }
+    requires { ⌜ WalkReady (now t) v (now w) m home ⌝ }
     ensures { λ r. ⌜ r ≡ endOf v (now (t .entry)) (ofList m) start (length (now (out .entry))) ⌝ }
     ensures { λ r. ⌜ now (out .exit) ≡ wordLeft r (lettersAlong v (now (t .entry)) (ofList m)) (now (out .entry)) ⌝ }
 {
@@ -184,7 +184,7 @@ pub fn query(
     start: usize,
 ) -> Queried
     ensures { λ r. ⌜ r ≡ queryOf v (now (t .entry)) a b (length (now (w .entry))) (length (now (out .entry))) start ⌝ }
-    ensures { λ r. ⌜ now (w .exit) ≡ workLeft v (now (t .entry)) a b (now (w .entry)) ⌝ }
+    ensures { λ r. ⌜ now (w .exit) ≡ queryWork v (now (t .entry)) a b (now (w .entry)) ⌝ }
     ensures { λ r. ⌜ now (out .exit) ≡ wordLeft r (foundWord v (now (t .entry)) (ofList a) (ofList b)) (now (out .entry)) ⌝ }
     ensures { λ r. ⌜ Claim v (now (t .entry)) a b (now (w .entry)) (now (out .entry)) start r (now (out .exit)) ⌝ }
 {

@@ -1,7 +1,7 @@
 //! `figures`: index, e2, e3, cusps, genus and level; refusals 1 to 7, 11 for
 //! the work space.
 //!
-//! 17 spoils the level only. 18 would spoil the genus only, but isn't known to
+//! 17 makes the level alone unavailable. 18 would make the genus so, but isn't known to
 //! happen: the cosets of a symbol that passes the checks make up a surface, and
 //! a surface's genus is a whole number from 0.
 
@@ -32,7 +32,7 @@ pub fn case(rng: &mut Rng) -> Outcome {
     let part = expected.part(|figures: &[u64; FIGURES]| figures);
     outcome.filled("out", &out, 0, part);
     if let &[.., genus, _, level, _] = part {
-        outcome.about = spoiled(genus, level);
+        outcome.about = unavailable(genus, level);
     }
     outcome.on(|| format!("{}, work {}", lent.told(), work.length()))
 }
@@ -68,7 +68,7 @@ fn figure(value: Result<u64, Refusal>) -> [u64; 2] {
 }
 
 /// Which figure is refused by itself.
-fn spoiled(genus: u64, level: u64) -> &'static str {
+fn unavailable(genus: u64, level: u64) -> &'static str {
     match (genus, level) {
         (0, 0) => "",
         (0, 17) => "level 17",

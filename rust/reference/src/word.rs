@@ -37,7 +37,7 @@ impl Turn {
 }
 
 /// The alternating word of x: turns whose product is x up to sign, every other
-/// one of them an S. There is just one such word, since PSL2(Z) is the free
+/// one of them an S. There is exactly one such word, since PSL2(Z) is the free
 /// product of the groups that S and Q generate.
 ///
 /// The first turn shows in where the edge of x lies, seen from the edge from 0

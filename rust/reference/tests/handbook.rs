@@ -239,7 +239,7 @@ fn refusals_are_met() {
         for came in answers(program, &file(&row.example)) {
             let found = came.lines().any(|line| line == row.answer);
             assert!(found, "{}: no line {}", row.example, row.answer);
-            // 17 spoils only its own line; any other refusal is all there is.
+            // 17 is about its own line alone; any other refusal is all there is.
             assert_eq!(
                 came.lines().count() == 1,
                 row.number != 17,

@@ -20,7 +20,7 @@ fn action(pair: &Pair) -> Action {
     Action::new(&pair.s, &pair.r).unwrap_or_else(|r| panic!("{r} for {pair:?}"))
 }
 
-/// The symbol generates just the matrices that fix point 0: its own tables are
+/// The symbol generates precisely the matrices that fix point 0: its own tables are
 /// the pair, numbered from 0 on.
 fn check_symbol(action: &Action, imported: &Imported) {
     let numbers = imported.numbers();

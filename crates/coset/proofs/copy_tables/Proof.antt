@@ -22,8 +22,11 @@ returns-3 : tie.Need-returns-3
 returns-3 c =
     let f = c .before in
     let e = f .before in
-    let s = e .before .before .before .before .before in
-    (room-third (s .args .n) (length (s .args .s .now)) (length (s .args .r .now)) (length (s .args .u .now)) (e .if1 .left) (f .if2 .left) (c .if3 .taken), (refl, (refl, refl)))
+    let s = e .before .before .before .before .before in (
+      room-third (s .args .n) (length (s .args .s .now)) (length (s .args .r .now)) (length (s .args .u .now)) (e .if1 .left) (f .if2 .left)
+          (c .if3 .taken),
+      (refl, (refl, refl)),
+    )
 
 copy-out-requires : tie.Need-copy-out-requires
 copy-out-requires c κs = search needs
@@ -51,8 +54,11 @@ returns-4 c =
     let g = k1 .before .before in
     let f = g .before in
     let e = f .before in
-    let s = e .before .before .before .before .before in
-    (room-all (s .args .n) (length (s .args .s .now)) (length (s .args .r .now)) (length (s .args .u .now)) (e .if1 .left) (f .if2 .left) (g .if3 .left), (k1 .copy-out .ensures, (k2 .copy-out2 .ensures, k3 .copy-out3 .ensures)))
+    let s = e .before .before .before .before .before in (
+      room-all (s .args .n) (length (s .args .s .now)) (length (s .args .r .now)) (length (s .args .u .now)) (e .if1 .left) (f .if2 .left)
+          (g .if3 .left),
+      (k1 .copy-out .ensures, (k2 .copy-out2 .ensures, k3 .copy-out3 .ensures)),
+    )
 
 pub copy-tables-spec : {M : Type 1} → statement M
 copy-tables-spec =

@@ -6,14 +6,14 @@ use mathlib.Core.List.{List}
 use Prim.Native.Nat.{ℕ, _≤_}
 use lib.ListN.{length}
 use lib.IntN.{ℤ}
-use Rattle.numbering.specs.Inner.Space.{ROOM, S-TABLE, WIDTHS, R-TABLE, T-TABLE, entries}
+use Rattle.numbering.specs.Inner.Space.{ROOM, S-TABLE, WIDTHS, R-TABLE, T-TABLE}
+use Rattle.workspace.specs.Space.{entries}
+use Rattle.figures.specs.declared.FigureRecord.{FigureRecord}
 use Rattle.coset.specs.Tables.{tableS, tableR, tableT}
-use Rattle.coset.specs.Answer.{widthsOf, saidBy, figuresOf}
-use Rattle.coset.specs.declared.FigureRecord.{FigureRecord}
-use Rattle.coset.specs.declared.Figured.the-variants as figured
+use Rattle.coset.specs.Answer.{widthsOf, figuresOf}
 
 pub record Surveyed (v : ℕ) (t : List ℤ) (w w' : List ℕ) (f : FigureRecord) : Type 0 where
-  pub figures : saidBy (figured.Made f) ≡ figuresOf v t
+  pub figures : f ≡ figuresOf v t
   pub same : length w' ≡ length w
   pub few : f .index ≤ ROOM
   pub few-cusps : f .cusps ≤ ROOM

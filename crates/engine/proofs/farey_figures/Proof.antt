@@ -4,10 +4,11 @@ use mathlib.Core.List.{List, [], _∷_}
 use Prim.Native.Nat.{ℕ}
 use native.Mathlib.Omega.{arith}
 use lib.ListN.{length}
-use Rattle.coset.specs.Answer.{Says, saidBy, saysRefusal}
-use Rattle.coset.specs.declared.FigureRecord.{FigureRecord}
+use Rattle.figures.specs.declared.FigureRecord.{FigureRecord}
+use Rattle.coset.specs.Answer.{figuredRefusal}
+use Rattle.coset.specs.declared.Figured.{Figured}
 use Rattle.engine.specs.Exported.{figuresLeft}
-use Rattle.engine.proofs.Zero.{AboveSaid, figured-above}
+use Rattle.engine.proofs.Zero.{AboveFigured, figured-above}
 use borrow.Author.Needs.{needs}
 use Rattle.engine.proofs.farey_figures.Statement.{statement}
 use Rattle.engine.proofs.farey_figures.Tie as tie
@@ -26,11 +27,11 @@ enum-known-answer c = search needs
 enum-known-answer-2 : tie.Need-enum-known-answer-2
 enum-known-answer-2 c = search needs
 
-of-genus-requires : tie.Need-of-genus-requires
-of-genus-requires c κs = search needs
+of-figure-requires : tie.Need-of-figure-requires
+of-figure-requires c κs = search needs
 
-of-level-requires : tie.Need-of-level-requires
-of-level-requires c κs = search needs
+of-figure-requires-2 : tie.Need-of-figure-requires-2
+of-figure-requires-2 c κs = search needs
 
 same-length : tie.Need-same-length
 same-length c = search needs
@@ -40,12 +41,12 @@ returns c =
     let q = c .before .before .before .before .before .figures in
     let s = c .before .before .before .before .before .before .before .before in
     let told = (c .before) .answer .given in
-    let k = sym (ap saidBy (told .1)) ∙ q .ensures .0 in
-    let above = subst AboveSaid (sym k) (figured-above (s .args .v) (s .args .t .now) (length (s .args .w .now))) in (
-      ap (λ (x : Says). saysRefusal x .number) k,
+    let k = sym (told .1) ∙ q .ensures .0 in
+    let above = subst AboveFigured (sym k) (figured-above (s .args .v) (s .args .t .now) (length (s .args .w .now))) in (
+      ap (λ (x : Figured). figuredRefusal x .number) k,
       (
-        ap (λ (x : Says). saysRefusal x .place) k,
-        (q .ensures .1 .0, (ap (λ (x : Says). figuresLeft x (s .args .out .now)) k, λ z. absurd (omega (arith, above, z)))),
+        ap (λ (x : Figured). figuredRefusal x .place) k,
+        (q .ensures .1 .0, (ap (λ (x : Figured). figuresLeft x (s .args .out .now)) k, λ z. absurd (omega (arith, above, z)))),
       ),
     )
 
@@ -57,13 +58,14 @@ returns-2 c =
     let q = c .before .before .before .before .before .before .before .before .figures in
     let s = c .before .before .before .before .before .before .before .before .before .before .before in
     let told = (c .before .before .before .before) .answer2 .given in
-    let k = sym (ap saidBy (told .1)) ∙ q .ensures .0 in
-    let g = c .before .before .of-genus .ensures in
-    let l = c .before .of-level .ensures in (
-      ap (λ (x : Says). saysRefusal x .number) k,
+    let k = sym (told .1) ∙ q .ensures .0 in
+    let g = c .before .before .of-figure .ensures in
+    let l = c .before .of-figure2 .ensures in
+    let all = eight (told .0 .0) (g .0) (g .1) (l .0) (l .1) ∙ ap (λ (x : Figured). figuresLeft x (s .args .out .now)) k in (
+      ap (λ (x : Figured). figuredRefusal x .number) k,
       (
-        ap (λ (x : Says). saysRefusal x .place) k,
-        (q .ensures .1 .0, (eight (told .0 .0) (g .0) (g .1) (l .0) (l .1) ∙ ap (λ (x : Says). figuresLeft x (s .args .out .now)) k, λ z. q .ensures .1 .1 (told .0 .0) (told .1))),
+        ap (λ (x : Figured). figuredRefusal x .place) k,
+        (q .ensures .1 .0, (all, λ z. q .ensures .1 .1 (told .0 .0) (told .1))),
       ),
     )
 
@@ -74,8 +76,8 @@ farey-figures-spec =
     figures-requires
     enum-known-answer
     enum-known-answer-2
-    of-genus-requires
-    of-level-requires
+    of-figure-requires
+    of-figure-requires-2
     same-length
     returns
     same-length-2

@@ -36,7 +36,9 @@ returns c =
           q .ensures .1 .0,
           (
             q .ensures .1 .1 .0 ∙ ap (λ (r : Filled). tableLeft r (generatorTable (s .args .v) (s .args .t .now)) (s .args .out .now)) e,
-            λ z. zero-means (λ (n : ℕ). Generates (s .args .v) (s .args .t .now)) (q .result) (subst AboveIn (sym e) (generated-above (s .args .v) (s .args .t .now) (length (s .args .w .now)) (length (s .args .out .now)))) (q .ensures .1 .1 .1) (sym (c .of-filled .ensures .0) ∙ z),
+            λ z. zero-means (λ (n : ℕ). Generates (s .args .v) (s .args .t .now)) (q .result)
+                (subst AboveIn (sym e) (generated-above (s .args .v) (s .args .t .now) (length (s .args .w .now)) (length (s .args .out .now))))
+                (q .ensures .1 .1 .1) (sym (c .of-filled .ensures .0) ∙ z),
           ),
         ),
       ),

@@ -2,7 +2,7 @@
 use mathlib.Core.Path.{_≡_, sym, ap, _∙_, subst}
 use Prim.Native.Nat.{ℕ, _+_, _*_}
 use lib.ListN.{length, take}
-use Rattle.permutations.specs.Import.{tableLeft, ruleFor, Symbolised}
+use Rattle.permutations.specs.Import.{importTable, ruleFor, Symbolised}
 use Rattle.refusal.specs.Refusal.{filledRefusal}
 use Rattle.refusal.specs.declared.Filled.{Filled}
 use Rattle.refusal.proofs.Numbered.{AboveIn}
@@ -39,7 +39,7 @@ returns c =
         (
           q .ensures .1 .0,
           (
-            l .0 ∙ ap (λ (a : Filled). tableLeft (ruleFor S R) a (s .args .out .now)) e,
+            l .0 ∙ ap (λ (a : Filled). importTable (ruleFor S R) a (s .args .out .now)) e,
             λ z. subst (λ (n : ℕ). Symbolised S R n (take (3 * n + 1) (q .last .1 .1 .1 .0))) (sym k)
                 (zero-means (λ (n : ℕ). Symbolised S R n (take (3 * n + 1) (q .last .1 .1 .1 .0))) (q .result)
                 (subst AboveIn (sym e) (import-above S R (length (s .args .w .now)) (length (s .args .out .now)))) (l .1) (sym (c .of-filled .ensures .0) ∙ z)),

@@ -5,6 +5,7 @@ use Rattle.word.specs.Answer.{queryRefusal, foundWord, wordLeft}
 use Rattle.word.specs.Claim.{Claim}
 use Rattle.word.specs.declared.Queried.{Queried}
 use Rattle.engine.specs.Exported.{queryPlace}
+use Rattle.engine.proofs.Said.{query-says}
 use borrow.Author.Needs.{needs}
 use Rattle.engine.proofs.farey_query.Statement.{statement}
 use Rattle.engine.proofs.farey_query.Tie as tie
@@ -39,7 +40,10 @@ returns c =
           q .ensures .1 .0,
           (
             l .0 ∙ ap (λ (r : Queried). wordLeft r (foundWord v t (ofList A) (ofList B)) O) e,
-            subst (λ (r : Queried). Claim v t A B (s .args .w .now) O (s .args .start) r (q .last .1 .1 .1 .1 .1 .0)) e (l .1),
+            (
+              subst (λ (r : Queried). Claim v t A B (s .args .w .now) O (s .args .start) r (q .last .1 .1 .1 .1 .1 .0)) e (l .1),
+              query-says (l .1) (c .of-query .result .number) (c .of-query .result .place) (c .of-query .ensures .0) (c .of-query .ensures .1),
+            ),
           ),
         ),
       ),

@@ -28,7 +28,8 @@ returns c =
         c .of-sameness .ensures .1 ∙ ap samenessPlace e,
         (
           q .ensures .1 .0,
-          λ z. same-says (s .args .v) (s .args .t .now) (s .args .m) (s .args .u .now) (length (s .args .w .now)) (q .result) e (q .ensures .1 .1) (c .of-sameness .ensures .1) (sym (c .of-sameness .ensures .0) ∙ z),
+          λ z. same-says (s .args .v) (s .args .t .now) (s .args .m) (s .args .u .now) (length (s .args .w .now)) (q .result) e (q .ensures .1 .1)
+              (c .of-sameness .ensures .1) (sym (c .of-sameness .ensures .0) ∙ z),
         ),
       ),
     )

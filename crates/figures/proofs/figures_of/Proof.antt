@@ -3,7 +3,9 @@
 use borrow.Author.Needs.{needs}
 use native.Mathlib.Omega.{arith}
 use Rattle.numbering.specs.Inner.Space.{S-TABLE, R-TABLE}
-use Rattle.figures.proofs.Scan.{fixed-few}
+use Rattle.workspace.specs.Space.{entries}
+use Rattle.figures.specs.Inner.Scan.{heldT}
+use Rattle.figures.proofs.Scan.{fixed-few, all-figures}
 use Rattle.figures.proofs.Filled.{widths-table}
 use Rattle.figures.proofs.figures_of.Statement.{statement}
 use Rattle.figures.proofs.figures_of.Tie as tie
@@ -46,13 +48,14 @@ returns c =
     let fixed-points = c .before .before .before .before .before .before .before .before .before .fixed-points in
     let fixed-points2 = c .before .before .before .before .before .before .before .fixed-points2 in
     let cusp-widths = c .before .before .before .before .before .cusp-widths in
-    let level-of = c .before .level-of in
+    let n = c .before .before .before .before .before .before .before .before .before .before .before .before .args .n in
+    let w = c .before .before .before .before .before .before .before .before .before .before .before .before .args .w .now in
+    let level = rw (cusp-widths .ensures .table) at (c .before .level-of .ensures) in
     record {
-      e2-is = fixed-points .ensures;
-      e3-is = fixed-points2 .ensures;
+      figures =
+          all-figures n (entries S-TABLE n w) (entries R-TABLE n w) (heldT n w)
+          (fixed-points .ensures) (fixed-points2 .ensures) (cusp-widths .ensures .count) (c .genus-of .ensures) level;
       cusps-are = cusp-widths .ensures;
-      genus-is = c .genus-of .ensures;
-      level-is = rw (cusp-widths .ensures .table) at (level-of .ensures);
     }
 
 pub figures-of-spec : {M : Type 1} → statement M

@@ -7,22 +7,21 @@ use Prim.Native.Nat.{_-_, _≤_}
 use native.Mathlib.Omega.{arith}
 use lib.ListN.{length}
 use Rattle.figures.specs.Cusps.{isFixed}
-use Rattle.numbering.specs.Select.{select}
-use Rattle.numbering.specs.Inner.Space.{entries}
-use Rattle.numbering.proofs.Select.{select-few}
+use Rattle.basics.specs.Count.{those}
+use Rattle.workspace.specs.Space.{entries}
+use Rattle.numbering.proofs.Those.{those-few}
 use Rattle.numbering.proofs.Space.{entries-length, entries-at}
 use Rattle.figures.proofs.Scan.{fixed-yes, fixed-no}
 use Rattle.figures.proofs.fixed_points.Statement.{statement}
 use Rattle.figures.proofs.fixed_points.Tie as tie
 
 abbrev Inv-loop : tie.InvT-loop
-Inv-loop w off n count₀ i₀ count i = (i ≤ n) × (count ≡ length (select (isFixed (entries off n w)) i))
+Inv-loop w off n count₀ i₀ count i = (i ≤ n) × (count ≡ length (those (isFixed (entries off n w)) i))
 
 abbrev μ-loop : tie.MeasureT-loop
 μ-loop w off n count₀ i₀ count i = n - i
 
 loop-holds : tie.Need-loop-holds Inv-loop μ-loop
-unfolding select
 loop-holds c = (omega arith, refl)
 
 add-index : tie.Need-add-index Inv-loop μ-loop
@@ -41,7 +40,7 @@ add-count : tie.Need-add-count Inv-loop μ-loop
 add-count c =
     let args = c .before .before .before .before .before .before .args in
     let loop = c .before .before .before .before .loop in
-    omega (arith, loop .inv .1, select-few (isFixed (entries (args .off) (args .n) (args .w .now))) (loop .i))
+    omega (arith, loop .inv .1, those-few (isFixed (entries (args .off) (args .n) (args .w .now))) (loop .i))
 
 add-i : tie.Need-add-i Inv-loop μ-loop
 add-i c = search needs

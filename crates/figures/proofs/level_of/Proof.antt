@@ -4,7 +4,7 @@
 use borrow.Author.Needs.{needs}
 use Prim.Native.Nat.{_-_, _≤_}
 use native.Mathlib.Omega.{arith}
-use Rattle.numbering.specs.Inner.Space.{entries}
+use Rattle.workspace.specs.Space.{entries}
 use Rattle.figures.proofs.Scan.{Levelling, level-start, level-positive, level-over, level-more, level-end}
 use Rattle.figures.proofs.level_of.Statement.{statement}
 use Rattle.figures.proofs.level_of.Tie as tie
@@ -48,7 +48,7 @@ returns c =
     let loop = c .before .before .before .before .before .before .loop in
     let wide64 = c .before .before .before .wide64 in
     let lcm-of = c .before .before .lcm-of in
-    level-over pre (loop .inv .1) (omega arith) (wide64 .ensures) (rw (c .enum-told .given .1) at (lcm-of .ensures))
+    level-over pre (loop .inv .1) (omega arith) (wide64 .ensures) (c .enum-told .given .0 .0) (c .enum-told .given .1) (lcm-of .ensures)
 
 add-i : tie.Need-add-i Inv-loop μ-loop
 add-i c = search needs

@@ -19,23 +19,23 @@ use Prim.Native.Nat.{ℕ, zero, suc, _-_}
 use lib.Dec.{eqb}
 use lib.ListN.{length}
 use lib.IntN.{ℤ, pos, negsuc}
-use Rattle.matrix.specs.Euclid.{pick}
+use Rattle.basics.specs.Choice.{pick}
 use Rattle.numbering.specs.Find.{isIn}
-use Rattle.import_rule.specs.Side.{Vertex, vertex, minusInfinity, infinity, Side, side, mediant, fits}
+use Rattle.import_rule.specs.Side.{Vertex, vertex, minusInfinity, infinity, Interval, interval, mediant, fits}
 use Rattle.import_rule.specs.Rule.{Mark, even, odd, free, Row, row, least}
 use Rattle.import_rule.specs.Symbol as symbol
-use Rattle.import_rule.specs.Symbol.{tableOf, Ruled, made, oneVertex}
+use Rattle.import_rule.specs.Symbol.{symbolTable, Ruled, made, oneVertex}
 
 pub record Placed : Type 0 where
   pub lo : Vertex
   pub hi : Vertex
   pub pt : ℕ
 
-abbrev pub placed : Vertex → Vertex → ℕ → Placed
-placed x y m = record { lo = x; hi = y; pt = m }
+abbrev pub placedSide : Vertex → Vertex → ℕ → Placed
+placedSide x y m = record { lo = x; hi = y; pt = m }
 
-abbrev pub bare : Placed → Side
-bare u = side (u .lo) (u .hi)
+abbrev pub bare : Placed → Interval
+bare u = interval (u .lo) (u .hi)
 
 abbrev pub pts : List Placed → List ℕ
 pts [] = []
@@ -62,10 +62,10 @@ goOn again l (over i) = refused i
 
 module _ (σ κ : ℕ → ℕ) where
   abbrev pub lowerAt : Placed → Placed
-  lowerAt u = placed (u .lo) (mediant (u .lo) (u .hi)) (σ (κ (u .pt)))
+  lowerAt u = placedSide (u .lo) (mediant (u .lo) (u .hi)) (σ (κ (u .pt)))
 
   abbrev pub upperAt : Placed → Placed
-  upperAt u = placed (mediant (u .lo) (u .hi)) (u .hi) (σ (κ (κ (u .pt))))
+  upperAt u = placedSide (mediant (u .lo) (u .hi)) (u .hi) (σ (κ (κ (u .pt))))
 
   abbrev pub isClosed : List ℕ → ℕ → Bool
   isClosed B m = eqb (κ m) m || isIn B (σ m)
@@ -94,11 +94,11 @@ module _ (σ κ : ℕ → ℕ) where
       let p = vertex (pos 1) 1 in
       let q = vertex (negsuc 0) 1 in
       pick (eqb (κ 0) 0)
-      (placed minusInfinity q (σ (κ (σ 0))) ∷ placed q o (σ (κ (κ (σ 0)))) ∷ placed o infinity 0 ∷ [])
-      (placed minusInfinity o (σ 0) ∷ placed o p (σ (κ 0)) ∷ placed p infinity (σ (κ (κ 0))) ∷ [])
+      (placedSide minusInfinity q (σ (κ (σ 0))) ∷ placedSide q o (σ (κ (κ (σ 0)))) ∷ placedSide o infinity 0 ∷ [])
+      (placedSide minusInfinity o (σ 0) ∷ placedSide o p (σ (κ 0)) ∷ placedSide p infinity (σ (κ (κ 0))) ∷ [])
 
   abbrev pub symbolBy : Grew → Ruled
-  symbolBy (finished l) = made (length l - 1) (tableOf (rowsOf l))
+  symbolBy (finished l) = made (length l - 1) (symbolTable (rowsOf l))
   symbolBy (refused i) = symbol.over i
 
   abbrev pub quickOf : ℕ → Ruled

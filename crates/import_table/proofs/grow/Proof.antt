@@ -44,7 +44,12 @@ returns-2 c =
     let R = s .args .r .now in
     let O = s .args .out .now in
     let z = s .pre in
-    answers _ _ _ O _ (rule-large S R (z .0) (moved-by-Q S R (z .0) _ (c .before .before .before .before .before .before .before .turned .ensures) (c .before .before .before .before .before .before .if1 .left)) (first-moved S R (z .0) _ (c .before .before .before .before .before .before .before .turned .ensures) (c .before .before .before .before .before .before .if1 .left))) (c .before .before .before .grow-large .ensures .0) (c .before .before .before .grow-large .ensures .1)
+    answers _ _ _ O _ (rule-large S R (z .0)
+    (moved-by-Q S R (z .0) _ (c .before .before .before .before .before .before .before .turned .ensures)
+    (c .before .before .before .before .before .before .if1 .left))
+    (first-moved S R (z .0) _ (c .before .before .before .before .before .before .before .turned .ensures)
+    (c .before .before .before .before .before .before .if1 .left))) (c .before .before .before .grow-large .ensures .0)
+    (c .before .before .before .grow-large .ensures .1)
 
 pub grow-spec : {M : Type 1} → statement M
 grow-spec =

@@ -23,7 +23,8 @@ returns c =
     let R = s .args .r .now in
     let O = s .args .out .now in
     let z = s .pre in
-    answers _ _ _ O _ (rule-first S R (z .0) (z .2) _ (c .before .before .before .before .image .ensures) (c .before .before .before .if1 .taken)) (c .before .grow-small .ensures .0) (c .before .grow-small .ensures .1)
+    answers _ _ _ O _ (rule-first S R (z .0) (z .2) _ (c .before .before .before .before .image .ensures) (c .before .before .before .if1 .taken))
+    (c .before .grow-small .ensures .0) (c .before .grow-small .ensures .1)
 
 turned-requires : tie.Need-turned-requires
 turned-requires c κs = search needs
@@ -41,7 +42,9 @@ returns-2 c =
     let R = s .args .r .now in
     let O = s .args .out .now in
     let z = s .pre in
-    answers _ _ _ O _ (rule-second S R (z .0) (z .2) _ _ (c .before .before .before .before .before .before .image .ensures) (c .before .before .before .before .before .if1 .left) (c .before .before .before .before .turned .ensures) (c .before .before .before .if2 .taken)) (c .before .grow-small2 .ensures .0) (c .before .grow-small2 .ensures .1)
+    answers _ _ _ O _ (rule-second S R (z .0) (z .2) _ _ (c .before .before .before .before .before .before .image .ensures)
+    (c .before .before .before .before .before .if1 .left) (c .before .before .before .before .turned .ensures) (c .before .before .before .if2 .taken))
+    (c .before .grow-small2 .ensures .0) (c .before .grow-small2 .ensures .1)
 
 grow-large-requires : tie.Need-grow-large-requires
 grow-large-requires c κs =
@@ -49,8 +52,12 @@ grow-large-requires c κs =
     let S = s .args .s .now in
     let R = s .args .r .now in
     let O = s .args .out .now in
-    let z = s .pre in
-    (z .0, z .1, neither S R (z .0) _ _ (c .before .before .before .before .before .image .ensures) (c .before .before .before .turned .ensures) (c .before .before .if2 .left))
+    let z = s .pre in (
+      z .0,
+      z .1,
+      neither S R (z .0) _ _ (c .before .before .before .before .before .image .ensures) (c .before .before .before .turned .ensures)
+          (c .before .before .if2 .left),
+    )
 
 same-length-3 : tie.Need-same-length-3
 same-length-3 c = search needs
@@ -65,7 +72,12 @@ returns-3 c =
     let R = s .args .r .now in
     let O = s .args .out .now in
     let z = s .pre in
-    answers _ _ _ O _ (rule-large S R (z .0) (neither S R (z .0) _ _ (c .before .before .before .before .before .before .before .before .before .image .ensures) (c .before .before .before .before .before .before .before .turned .ensures) (c .before .before .before .before .before .before .if2 .left)) (first-no S R (z .0) _ (c .before .before .before .before .before .before .before .before .before .image .ensures) (c .before .before .before .before .before .before .before .before .if1 .left))) (c .before .before .before .grow-large .ensures .0) (c .before .before .before .grow-large .ensures .1)
+    answers _ _ _ O _ (rule-large S R (z .0)
+    (neither S R (z .0) _ _ (c .before .before .before .before .before .before .before .before .before .image .ensures)
+    (c .before .before .before .before .before .before .before .turned .ensures) (c .before .before .before .before .before .before .if2 .left))
+    (first-no S R (z .0) _ (c .before .before .before .before .before .before .before .before .before .image .ensures)
+    (c .before .before .before .before .before .before .before .before .if1 .left))) (c .before .before .before .grow-large .ensures .0)
+    (c .before .before .before .grow-large .ensures .1)
 
 pub grow-fixed-spec : {M : Type 1} → statement M
 grow-fixed-spec =

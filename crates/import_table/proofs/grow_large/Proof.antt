@@ -82,7 +82,8 @@ sub-v c =
     let s = c .before .before .before .before .before .before .before .before .before .before .before .before .before .before .before .before .before .before .before in
     let S = s .args .s .now in
     let R = s .args .r .now in
-    let g = whole-of S R _ _ _ (c .before .before .before .before .before .before .before .before .before .before .walk .ensures) (c .before .before .before .before .before .before .before .if1 .left) in
+    let g = whole-of S R _ _ _ (c .before .before .before .before .before .before .before .before .before .before .walk .ensures)
+    (c .before .before .before .before .before .before .before .if1 .left) in
     let so = g .some in
     let mo = g .most in
     omega arith
@@ -98,7 +99,8 @@ returns-3 c =
     let s = c .before .before .before .before .before .before .before .before .before .before .before .before .before .before .before .before .before .before .before in
     let S = s .args .s .now in
     let R = s .args .r .now in
-    let g = whole-of S R _ _ _ (c .before .before .before .before .before .before .before .before .before .before .walk .ensures) (c .before .before .before .before .before .before .before .if1 .left) in
+    let g = whole-of S R _ _ _ (c .before .before .before .before .before .before .before .before .before .before .walk .ensures)
+    (c .before .before .before .before .before .before .before .if1 .left) in
     let so = g .some in
     let mo = g .most in
     large-made S R _ _ (s .args .out .now) _ g (c .before .before .before .before .before .before .if2 .left) (c .before .before .before .write-table .ensures)

@@ -5,7 +5,7 @@
 --   pairingsIn w d       the pairings of the d sides done
 --   paired w d out       out with these pairings behind the vertex entries
 --   written w d out      out with the symbol's table at its front
---   Side                 what writing one pairing asks for
+--   SideToWrite          what writing one pairing asks for
 use mathlib.Core.Path.{_≡_}
 use mathlib.Core.Bool.{Bool}
 use mathlib.Core.List.{List, [], _∷_, _++_}
@@ -14,35 +14,37 @@ use lib.ListN.{length, getD, set, take, drop}
 use lib.IntN.{ℤ, pos, negsuc}
 use Rattle.import_rule.specs.Fixed.{image, byQ, Pair}
 use Rattle.import_rule.specs.Rule.{Mark, even, odd, free, least}
-use Rattle.import_rule.specs.Symbol.{labelsOf, entries, tableOf}
+use Rattle.import_rule.specs.Symbol.{labelsOf, rowEntries, symbolTable}
 use Rattle.import_rule.specs.Inner.Placed.{rowsOf, markOf}
-use Rattle.import_walk.specs.Inner.Work.{LABEL, DONE, Whole, cell, endAt, pointAt, doneIn}
+use Rattle.import_walk.specs.Inner.Work.{LABEL, DONE, Whole, cellPlace, endAt, pointAt, doneIn}
 
 abbrev pub verticesTo : List ℕ → ℕ → List ℤ
 verticesTo w zero = []
-verticesTo w (suc i) = verticesTo w i ++ (endAt w (cell DONE i) .num ∷ pos (endAt w (cell DONE i) .den) ∷ [])
+verticesTo w (suc i) = verticesTo w i ++ (endAt w (cellPlace DONE i) .num ∷ pos (endAt w (cellPlace DONE i) .den) ∷ [])
 
 module _ (σ κ : ℕ → ℕ) where
   pub data Paired (w : List ℕ) (out : List ℤ) (m j c : ℕ) (w' : List ℕ) (out' : List ℤ) (c' : ℕ) : Type 0 where
     is-even : σ m ≡ m → w' ≡ w → out' ≡ set out j (negsuc 1) → c' ≡ c → Paired w out m j c w' out' c'
     is-odd : ¬ (σ m ≡ m) → κ m ≡ m → w' ≡ w → out' ≡ set out j (negsuc 2) → c' ≡ c → Paired w out m j c w' out' c'
-    is-new : ¬ (σ m ≡ m) → ¬ (κ m ≡ m) → getD w (LABEL + least m (σ m)) 0 ≡ 0 → w' ≡ set w (LABEL + least m (σ m)) (c + 1) → out' ≡ set out j (pos (c + 1)) → c' ≡ c + 1 → Paired w out m j c w' out' c'
-    is-old : ¬ (σ m ≡ m) → ¬ (κ m ≡ m) → ¬ (getD w (LABEL + least m (σ m)) 0 ≡ 0) → w' ≡ w → out' ≡ set out j (pos (getD w (LABEL + least m (σ m)) 0)) → c' ≡ c → Paired w out m j c w' out' c'
+    is-new : ¬ (σ m ≡ m) → ¬ (κ m ≡ m) → getD w (LABEL + least m (σ m)) 0 ≡ 0 → w' ≡ set w (LABEL + least m (σ m)) (c + 1) → out' ≡ set out j (pos (c + 1))
+        → c' ≡ c + 1 → Paired w out m j c w' out' c'
+    is-old : ¬ (σ m ≡ m) → ¬ (κ m ≡ m) → ¬ (getD w (LABEL + least m (σ m)) 0 ≡ 0) → w' ≡ w → out' ≡ set out j (pos (getD w (LABEL + least m (σ m)) 0)) → c' ≡ c
+        → Paired w out m j c w' out' c'
 
   abbrev pub pairingsIn : List ℕ → ℕ → List ℤ
-  pairingsIn w d = entries (labelsOf (rowsOf σ κ (doneIn w d))) (rowsOf σ κ (doneIn w d))
+  pairingsIn w d = rowEntries (labelsOf (rowsOf σ κ (doneIn w d))) (rowsOf σ κ (doneIn w d))
 
   abbrev pub paired : List ℕ → ℕ → List ℤ → List ℤ
   paired w d out = take (2 * (d - 1)) out ++ pairingsIn w d ++ drop (3 * (d - 1) + 1) out
 
   abbrev pub written : List ℕ → ℕ → List ℤ → List ℤ
-  written w d out = tableOf (rowsOf σ κ (doneIn w d)) ++ drop (3 * (d - 1) + 1) out
+  written w d out = symbolTable (rowsOf σ κ (doneIn w d)) ++ drop (3 * (d - 1) + 1) out
 
 -- what writing one pairing asks for
-pub record Side (s r w : List ℕ) (out : List ℤ) (i j c : ℕ) : Type 0 where
+pub record SideToWrite (s r w : List ℕ) (out : List ℤ) (i j c : ℕ) : Type 0 where
   pub pair : Pair s r
   pub long : 32768 ≤ length w
   pub side : i ≤ 1024
-  pub low : pointAt w (cell DONE i) < length s
+  pub low : pointAt w (cellPlace DONE i) < length s
   pub few : c ≤ 1024
   pub room : j < length out

@@ -3,7 +3,7 @@
 use mathlib.Core.Path.{_≡_, _∙_}
 use native.Mathlib.Omega.{arith}
 use Rattle.text_line.proofs.Placing.{puts-within, puts-front}
-use Rattle.import_text.specs.Answer.{asked, importedOf}
+use Rattle.import_text.specs.Answer.{requestOf, importedOf}
 use Rattle.import_text.proofs.ReadBack.{print-means}
 use borrow.Author.Needs.{needs}
 use Rattle.import_text.proofs.answer.Statement.{statement}
@@ -26,7 +26,7 @@ unfolding importedOf
 returns c =
     let l = c .import-text in
     let p = l .ensures .0 in
-    ((p, omega (arith, puts-within p (omega arith) (omega arith))), (l .ensures .1 .0, (l .ensures .1 .1, print-means (asked _ _) _ (puts-front p))))
+    ((p, omega (arith, puts-within p (omega arith) (omega arith))), (l .ensures .1 .0, (l .ensures .1 .1, print-means (requestOf _ _) _ (puts-front p))))
 
 pub answer-spec : {M : Type 1} → statement M
 answer-spec = tie.close (tie.spec import-text-requires returns)

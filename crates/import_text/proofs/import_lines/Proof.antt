@@ -8,9 +8,9 @@ use lib.ListN.{length, take}
 use Rattle.refusal.specs.declared.Filled.{Filled}
 use Rattle.text_line.proofs.Placing.{puts-as}
 use Rattle.symbol.specs.Symbol.{IsSymbol}
-use Rattle.import_table.specs.Answer.{tableIn}
-use Rattle.permutations.specs.Import.{ruleFor, tableLeft}
-use Rattle.import_text.specs.Answer.{symbolLines, madeOf, linesBy, answered}
+use Rattle.import_table.specs.Answer.{ruledTable}
+use Rattle.permutations.specs.Import.{ruleFor, importTable}
+use Rattle.import_text.specs.Answer.{symbolLines, madeOf, linesBy, importLines}
 use Rattle.import_text.proofs.Answering.{front-is, made-is, lines-are}
 use borrow.Author.Needs.{needs}
 use Rattle.import_text.proofs.import_lines.Statement.{statement}
@@ -30,11 +30,11 @@ module _ (m : tie.After-import) where
   made : m .import .result ≡ madeOf S R
   made = made-is S R (m .import .result) (length (start .args .w .now)) (length (start .args .table .now)) (start .pre .0) (start .pre .1) (m .import .ensures .0)
 
-  lines : linesBy (m .import .result) (tableIn (ruleFor S R)) ≡ answered S R
+  lines : linesBy (m .import .result) (ruledTable (ruleFor S R)) ≡ importLines S R
   lines = lines-are S R (m .import .result) (length (start .args .w .now)) (length (start .args .table .now)) (start .pre .0) (start .pre .1) (m .import .ensures .0)
 
-  result-left : m .import .last .1 .1 .1 .0 ≡ tableLeft (ruleFor S R) (madeOf S R) (start .args .table .now)
-  result-left = m .import .ensures .1 .1 .0 ∙ ap (λ (a : Filled). tableLeft (ruleFor S R) a (start .args .table .now)) made
+  result-left : m .import .last .1 .1 .1 .0 ≡ importTable (ruleFor S R) (madeOf S R) (start .args .table .now)
+  result-left = m .import .ensures .1 .1 .0 ∙ ap (λ (a : Filled). importTable (ruleFor S R) a (start .args .table .now)) made
 
 -- where a symbol was made
 module _ (k : tie.After-made) where
@@ -90,9 +90,10 @@ returns c =
     let k = c .before .before .before .before .before .before in
     let m = called k in
     let s = start m in
-    let left = m .import .ensures .1 .1 .0 ∙ ap (λ (a : Filled). tableLeft (ruleFor (S m) (R m)) a (s .args .table .now)) (k .made .given .1) in
-    let front = front-is (3 * v k + 1) (tableIn (ruleFor (S m) (R m))) (s .args .table .now) (m .import .last .1 .1 .1 .0) left (omega arith) (omega (arith, symbol k .most, s .pre .1)) in
-    let same = ap (symbolLines (v k)) front ∙ sym (ap (λ (a : Filled). linesBy a (tableIn (ruleFor (S m) (R m)))) (k .made .given .1)) ∙ lines m in
+    let left = m .import .ensures .1 .1 .0 ∙ ap (λ (a : Filled). importTable (ruleFor (S m) (R m)) a (s .args .table .now)) (k .made .given .1) in
+    let front = front-is (3 * v k + 1) (ruledTable (ruleFor (S m) (R m))) (s .args .table .now) (m .import .last .1 .1 .1 .0) left (omega arith)
+    (omega (arith, symbol k .most, s .pre .1)) in
+    let same = ap (symbolLines (v k)) front ∙ sym (ap (λ (a : Filled). linesBy a (ruledTable (ruleFor (S m) (R m)))) (k .made .given .1)) ∙ lines m in
     (puts-as same ((c .before .before) .symbol-lines .ensures), (m .import .ensures .1 .0, result-left m))
 
 same-length-4 : tie.Need-same-length-4
@@ -108,7 +109,7 @@ returns-2 : tie.Need-returns-2
 returns-2 c =
     let k = c .before .before .before .before .before in
     let m = k .before .before .before .before .before in
-    let same = sym (ap (λ (a : Filled). linesBy a (tableIn (ruleFor (S m) (R m)))) (k .made2 .given .1)) ∙ lines m in
+    let same = sym (ap (λ (a : Filled). linesBy a (ruledTable (ruleFor (S m) (R m)))) (k .made2 .given .1)) ∙ lines m in
     (puts-as same ((c .before .before) .refusal-line .ensures), (m .import .ensures .1 .0, result-left m))
 
 pub import-lines-spec : {M : Type 1} → statement M

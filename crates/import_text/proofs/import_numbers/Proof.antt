@@ -7,7 +7,7 @@ use lib.ListN.{length, take}
 use lib.Seq.{length-take-le}
 use Rattle.text_line.proofs.Placing.{puts-as}
 use Rattle.refusal.specs.Refusal.{pointCount}
-use Rattle.import_text.specs.Answer.{tableOf, answered, linesFor}
+use Rattle.import_text.specs.Answer.{pointsFrom, importLines, linesFor}
 use Rattle.import_text.proofs.Answering.{few-numbers, enough-numbers, untouched, leaves-as, leaves}
 use Rattle.import_text.proofs.Entries.{part-length, part-filled, filled-take}
 use borrow.Author.Needs.{needs}
@@ -23,8 +23,11 @@ same-length c = search needs
 returns : tie.Need-returns
 returns c =
     let s = c .before .before .before .before .before .before .before .before .before in
-    let e = few-numbers (s .args .numbers .now) ((c .before .before .before .before) .if1 .taken) in
-    (puts-as (ap linesFor e) ((c .before .before) .refusal-line .ensures), leaves-as e (untouched pointCount (s .args .s .now) (s .args .r .now) (s .args .w .now) (s .args .table .now)))
+    let e = few-numbers (s .args .numbers .now) ((c .before .before .before .before) .if1 .taken) in (
+      puts-as (ap linesFor e) ((c .before .before) .refusal-line .ensures),
+      leaves-as e
+          (untouched pointCount (s .args .s .now) (s .args .r .now) (s .args .w .now) (s .args .table .now)),
+    )
 
 sub-n : tie.Need-sub-n
 sub-n c = search needs
@@ -47,7 +50,13 @@ part-fill-points-end c = search needs
 fill-points-requires : tie.Need-fill-points-requires
 fill-points-requires c κs =
     let s = c .before .before .before .before .before .before .before in
-    omega (arith, s .pre .1, s .pre .2 .s-long, part-length 1 (((length (s .args .numbers .now) - 1) / 2) + 1 - 1) ((length (s .args .numbers .now) - 1) / 2) (s .args .numbers .now) (omega arith) (omega arith))
+    omega (
+      arith,
+      s .pre .1,
+      s .pre .2 .s-long,
+      part-length 1 (((length (s .args .numbers .now) - 1) / 2) + 1 - 1) ((length (s .args .numbers .now) - 1) / 2)
+          (s .args .numbers .now) (omega arith) (omega arith),
+    )
 
 mul-fill-points : tie.Need-mul-fill-points
 mul-fill-points c = search needs
@@ -64,7 +73,14 @@ part-fill-points-end-2 c = search needs
 fill-points-requires-2 : tie.Need-fill-points-requires-2
 fill-points-requires-2 c κs =
     let s = c .before .before .before .before .before .before .before .before .before .before .before .before in
-    omega (arith, s .pre .1, s .pre .2 .r-long, part-length (((length (s .args .numbers .now) - 1) / 2) + 1) (((length (s .args .numbers .now) - 1) / 2) + 1 + ((length (s .args .numbers .now) - 1) / 2) - (((length (s .args .numbers .now) - 1) / 2) + 1)) ((length (s .args .numbers .now) - 1) / 2) (s .args .numbers .now) (omega arith) (omega arith))
+    omega (
+      arith,
+      s .pre .1,
+      s .pre .2 .r-long,
+      part-length (((length (s .args .numbers .now) - 1) / 2) + 1)
+          (((length (s .args .numbers .now) - 1) / 2) + 1 + ((length (s .args .numbers .now) - 1) / 2) - (((length (s .args .numbers .now) - 1) / 2) + 1))
+          ((length (s .args .numbers .now) - 1) / 2) (s .args .numbers .now) (omega arith) (omega arith),
+    )
 
 slice-reshare-prefix-import-lines : tie.Need-slice-reshare-prefix-import-lines
 slice-reshare-prefix-import-lines c = search needs
@@ -72,7 +88,8 @@ slice-reshare-prefix-import-lines c = search needs
 slice-aggregate-import-lines : tie.Need-slice-aggregate-import-lines
 slice-aggregate-import-lines c =
     let s = c .before .before .before .before .before .before .before .before .before .before .before .before .before .before .before .before in
-    sym (length-take-le ((length (s .args .numbers .now) - 1) / 2) ((c .before .before .before .before .before .before .before .before) .fill-points .last .1 .0) (omega (arith, s .pre .1, s .pre .2 .s-long)))
+    sym (length-take-le ((length (s .args .numbers .now) - 1) / 2)
+    ((c .before .before .before .before .before .before .before .before) .fill-points .last .1 .0) (omega (arith, s .pre .1, s .pre .2 .s-long)))
 
 slice-reshare-prefix-import-lines-2 : tie.Need-slice-reshare-prefix-import-lines-2
 slice-reshare-prefix-import-lines-2 c = search needs
@@ -80,7 +97,8 @@ slice-reshare-prefix-import-lines-2 c = search needs
 slice-aggregate-import-lines-2 : tie.Need-slice-aggregate-import-lines-2
 slice-aggregate-import-lines-2 c =
     let s = c .before .before .before .before .before .before .before .before .before .before .before .before .before .before .before .before .before in
-    sym (length-take-le ((length (s .args .numbers .now) - 1) / 2) ((c .before .before .before .before) .fill-points2 .last .1 .0) (omega (arith, s .pre .1, s .pre .2 .r-long)))
+    sym (length-take-le ((length (s .args .numbers .now) - 1) / 2) ((c .before .before .before .before) .fill-points2 .last .1 .0)
+    (omega (arith, s .pre .1, s .pre .2 .r-long)))
 
 import-lines-requires : tie.Need-import-lines-requires
 import-lines-requires c κs =
@@ -116,8 +134,10 @@ returns-2 c =
     let S = filled-take 1 n ns (s .args .s .now) (a .fill-points .last .1 .0) first (omega (arith, d .if1 .left)) in
     let R = filled-take (n + 1) n ns (s .args .r .now) (b .fill-points2 .last .1 .0) second (omega (arith, d .if1 .left)) in
     let e = enough-numbers ns (d .if1 .left) in (
-      puts-as (ap (λ (x : List ℕ). answered x (take n (b .fill-points2 .last .1 .0))) S ∙ ap (answered (tableOf 1 n ns)) R ∙ ap linesFor e) (l .import-lines .ensures .0),
-      leaves-as e (leaves _ _ _ _ (s .args .s .now) (s .args .r .now) (s .args .w .now) _ _ _ (s .args .table .now) _ S R first second (l .import-lines .ensures .1 .0) (l .import-lines .ensures .1 .1)),
+      puts-as (ap (λ (x : List ℕ). importLines x (take n (b .fill-points2 .last .1 .0))) S ∙ ap (importLines (pointsFrom 1 n ns)) R ∙ ap linesFor e)
+          (l .import-lines .ensures .0),
+      leaves-as e (leaves _ _ _ _ (s .args .s .now) (s .args .r .now) (s .args .w .now) _ _ _ (s .args .table .now) _ S R first second
+          (l .import-lines .ensures .1 .0) (l .import-lines .ensures .1 .1)),
     )
 
 pub import-numbers-spec : {M : Type 1} → statement M

@@ -14,7 +14,7 @@ use Rattle.text.specs.declared.Reading.{Reading}
 use Rattle.text.specs.declared.Reading.the-variants.{Numbers}
 use Rattle.text.proofs.Handed.{Handed, input-on}
 use Rattle.text_line.proofs.Placing.{puts-as}
-use Rattle.import_text.specs.Answer.{tablesIn, importFormat, askedBy, asked}
+use Rattle.import_text.specs.Answer.{tablesIn, importFormat, requestBy, requestOf}
 use Rattle.import_text.specs.Spaces.{numbersLeft}
 use Rattle.import_text.proofs.Answering.{asked-by, numbers-by, lines-as, handed-numbers, untouched, leaves-as}
 use borrow.Author.Needs.{needs}
@@ -35,7 +35,7 @@ module _ (d : tie.After-read-input) where
   told : d .read-input .result ≡ inputOf longer importFormat text 6133
   told = d .read-input .ensures .0 ∙ ap (inputOf longer importFormat text) (start .pre .0)
 
-  asks : (r : Reading) → d .read-input .result ≡ r → askedBy r (numbers (pieces text)) ≡ asked longer text
+  asks : (r : Reading) → d .read-input .result ≡ r → requestBy r (numbers (pieces text)) ≡ requestOf longer text
   asks r e = asked-by longer text r (sym e ∙ told)
 
   numbers-are : d .read-input .last .1 .1 .1 .0 ≡ numbersLeft longer text (start .args .numbers .now)
@@ -57,7 +57,8 @@ module _ (k : tie.After-read2) where
 
   handed : take count stood ≡ take count (numbers (pieces (text called)))
   handed =
-      ap (take count) (called .read-input .ensures .1 ∙ ap (λ (x : Reading). leftBy x (numbers (pieces (text called))) (start called .args .numbers .now)) (k .read2 .given .1))
+      ap (take count) (called .read-input .ensures .1
+      ∙ ap (λ (x : Reading). leftBy x (numbers (pieces (text called))) (start called .args .numbers .now)) (k .read2 .given .1))
       ∙ handed-numbers count (numbers (pieces (text called))) (start called .args .numbers .now) (some-numbers .there)
 
   handed-length : length (take count stood) ≡ count
@@ -97,8 +98,15 @@ returns c =
     let k = c .before .before .before .before .before in
     let d = k .before .before .before in
     let s = start d in
-    let e = asks d _ (k .read .given .1) in
-    (puts-as (lines-as (longer d) (text d) e) ((c .before .before) .refusal-line .ensures), (numbers-are d, leaves-as e (untouched _ (s .args .s .now) (s .args .r .now) (s .args .w .now) (s .args .table .now))))
+    let e = asks d _ (k .read .given .1) in (
+      puts-as (lines-as (longer d) (text d) e)
+          ((c .before .before) .refusal-line .ensures),
+      (
+        numbers-are d,
+        leaves-as e
+            (untouched _ (s .args .s .now) (s .args .r .now) (s .args .w .now) (s .args .table .now)),
+      ),
+    )
 
 same-length-3 : tie.Need-same-length-3
 same-length-3 c = search needs

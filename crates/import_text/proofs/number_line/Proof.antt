@@ -61,7 +61,9 @@ returns-2 c =
     let s = c .before .before .before .before .before .before .before .before .before .before .before .before .before .before .before .before .before in
     let xs = s .args .xs .now in
     let some = (c .before .before .before .before .before .before .before .before .before .before .before .before .before .before .before) .if1 .left in
-    let p = rw (toZ-ofZ {w = w64} {z = getD xs 0 (pos 0)} (record { sfits = (c .before .before .before .before .before .before .before .before .before .before .before .before .before .before) .put-decimal-arg .given })) at ((c .before .before .before .before .before .before .before .before .before .before .before .before) .put-decimal .ensures) in
+    let p = rw (toZ-ofZ {w = w64} {z = getD xs 0 (pos 0)}
+    (record { sfits = (c .before .before .before .before .before .before .before .before .before .before .before .before .before .before) .put-decimal-arg .given }))
+    at ((c .before .before .before .before .before .before .before .before .before .before .before .before) .put-decimal .ensures) in
     let q = (c .before .before .before .before .before .before .before) .put-integers .ensures in
     let e = (c .before .before) .put2 .ensures in
     let n = length-take-le (length xs - 1) (drop 1 xs) (omega (arith, length-drop 1 xs)) in

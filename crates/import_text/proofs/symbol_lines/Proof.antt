@@ -27,7 +27,15 @@ slice-aggregate-number-line c =
 number-line-requires : tie.Need-number-line-requires
 number-line-requires c κs =
     let s = c .before .before .before .before .before .before .before in
-    omega (arith, s .pre .0, s .pre .1, s .pre .2, (c .before .before .before .before) .count-line .ensures .1, length-take-le (2 * s .args .v) (s .args .table .now) (omega (arith, s .pre .1)))
+    omega (
+      arith,
+      s .pre .0,
+      s .pre .1,
+      s .pre .2,
+      (c .before .before .before .before) .count-line .ensures .1,
+      length-take-le (2 * s .args .v)
+          (s .args .table .now) (omega (arith, s .pre .1)),
+    )
 
 mul-number-line : tie.Need-mul-number-line
 mul-number-line c = search needs

@@ -6,9 +6,9 @@
 --   12288   DONE    the sides done, from the left: five numbers for each
 --   20480   TODO    the sides to do, the leftmost on top: five numbers for each
 --
---   cell b i             where the five numbers of side i of the table at b begin: the right end's numerator plus 10⁹, its denominator, each
+--   cellPlace b i        where the five numbers of side i of the table at b begin: the right end's numerator plus 10⁹, its denominator, each
 --                        in two numbers, and the point
---   numberAt w at        the number in two cells
+--   twoCells w at        the number in two cells
 --   endAt w at, pointAt  the right end and the point of the side whose numbers begin there
 --   doneIn w d           the d sides done; lastIn w d: the right end of the last one, -1/0 where there is none
 --   todoIn x w k         the k sides to do, x being the left end of the first
@@ -16,7 +16,7 @@
 --   closedIn w m         whether a side with the point m is closed, by the table HELD
 --   fitsIn w d k         whether the first side to do can be split within the limit
 --   splitBy w k e c      w with the first side to do split at the vertex whose numbers are e and c; splitIn w d k: at its mediant
---   Turned               what one turn of the walk does: a closed side moves on, an open one is split, or can't be
+--   SideTaken            what one turn of the walk does: a closed side moves on, an open one is split, or can't be
 --   startIn w            w with the sides of the start to do
 --   Ground s r w         what the walk asks for; Walked s r w stop d: what it leaves, with Whole where the rule ends with d sides
 use mathlib.Core.Path.{_≡_}
@@ -26,10 +26,10 @@ use Prim.Native.Nat.{ℕ, zero, suc, _+_, _-_, _*_, _/_, _%_, _≤_, _<_}
 use lib.Dec.{eqb, leb}
 use lib.ListN.{length, getD, set}
 use lib.IntN.{ℤ, pos, _-ℤ_}
-use Rattle.matrix.specs.Euclid.{pick}
+use Rattle.basics.specs.Choice.{pick}
 use Rattle.import_rule.specs.Fixed.{image, byQ, Permuting, Pair}
 use Rattle.import_rule.specs.Side.{Vertex, vertex, minusInfinity, limit}
-use Rattle.import_rule.specs.Inner.Placed.{Placed, placed, finished, refused, grow, startPlaced}
+use Rattle.import_rule.specs.Inner.Placed.{Placed, placedSide, finished, refused, grow, startPlaced}
 
 abbrev pub LABEL : ℕ
 LABEL = 4096
@@ -45,29 +45,29 @@ TODO = 20480
 
 -- ---- sides
 
-abbrev pub cell : ℕ → ℕ → ℕ
-cell b i = b + 5 * i
+abbrev pub cellPlace : ℕ → ℕ → ℕ
+cellPlace b i = b + 5 * i
 
-unfoldable pub numberAt : List ℕ → ℕ → ℕ
-numberAt w at = getD w at 0 * 65536 + getD w (at + 1) 0
+unfoldable pub twoCells : List ℕ → ℕ → ℕ
+twoCells w at = getD w at 0 * 65536 + getD w (at + 1) 0
 
 abbrev pub endAt : List ℕ → ℕ → Vertex
-endAt w at = vertex (pos (numberAt w at) -ℤ pos limit) (numberAt w (at + 2))
+endAt w at = vertex (pos (twoCells w at) -ℤ pos limit) (twoCells w (at + 2))
 
 abbrev pub pointAt : List ℕ → ℕ → ℕ
 pointAt w at = getD w (at + 4) 0
 
 abbrev pub lastIn : List ℕ → ℕ → Vertex
 lastIn w zero = minusInfinity
-lastIn w (suc d) = endAt w (cell DONE d)
+lastIn w (suc d) = endAt w (cellPlace DONE d)
 
 abbrev pub doneIn : List ℕ → ℕ → List Placed
 doneIn w zero = []
-doneIn w (suc d) = doneIn w d ++ (placed (lastIn w d) (endAt w (cell DONE d)) (pointAt w (cell DONE d)) ∷ [])
+doneIn w (suc d) = doneIn w d ++ (placedSide (lastIn w d) (endAt w (cellPlace DONE d)) (pointAt w (cellPlace DONE d)) ∷ [])
 
 abbrev pub todoIn : Vertex → List ℕ → ℕ → List Placed
 todoIn x w zero = []
-todoIn x w (suc k) = placed x (endAt w (cell TODO k)) (pointAt w (cell TODO k)) ∷ todoIn (endAt w (cell TODO k)) w k
+todoIn x w (suc k) = placedSide x (endAt w (cellPlace TODO k)) (pointAt w (cellPlace TODO k)) ∷ todoIn (endAt w (cellPlace TODO k)) w k
 
 unfoldable pub cellSet : List ℕ → (at e d m : ℕ) → List ℕ
 cellSet w at e d m = set (set (set (set (set w at (e / 65536)) (at + 1) (e % 65536)) (at + 2) (d / 65536)) (at + 2 + 1) (d % 65536)) (at + 4) m
@@ -75,27 +75,27 @@ cellSet w at e d m = set (set (set (set (set w at (e / 65536)) (at + 1) (e % 655
 -- ---- one turn
 
 -- numerator plus 10⁹, and denominator, of the right end of the last side done
-abbrev pub leftNum : List ℕ → ℕ → ℕ
-leftNum w d = pick (eqb d 0) 999999999 (numberAt w (cell DONE (d - 1)))
+abbrev pub leftEndNum : List ℕ → ℕ → ℕ
+leftEndNum w d = pick (eqb d 0) 999999999 (twoCells w (cellPlace DONE (d - 1)))
 
-abbrev pub leftDen : List ℕ → ℕ → ℕ
-leftDen w d = pick (eqb d 0) 0 (numberAt w (cell DONE (d - 1) + 2))
+abbrev pub leftEndDen : List ℕ → ℕ → ℕ
+leftEndDen w d = pick (eqb d 0) 0 (twoCells w (cellPlace DONE (d - 1) + 2))
 
 -- the sums for the mediant of the first side to do
 abbrev pub sumNum : List ℕ → (d k : ℕ) → ℕ
-sumNum w d k = leftNum w d + numberAt w (cell TODO (k - 1))
+sumNum w d k = leftEndNum w d + twoCells w (cellPlace TODO (k - 1))
 
 abbrev pub sumDen : List ℕ → (d k : ℕ) → ℕ
-sumDen w d k = leftDen w d + numberAt w (cell TODO (k - 1) + 2)
+sumDen w d k = leftEndDen w d + twoCells w (cellPlace TODO (k - 1) + 2)
 
 abbrev pub fitsIn : List ℕ → (d k : ℕ) → Bool
 fitsIn w d k = leb 1000000000 (sumNum w d k) && leb (sumNum w d k) 3000000000 && leb (sumDen w d k) 1000000000
 
 abbrev pub topPoint : List ℕ → ℕ → ℕ
-topPoint w k = pointAt w (cell TODO (k - 1))
+topPoint w k = pointAt w (cellPlace TODO (k - 1))
 
 abbrev pub movedIn : List ℕ → (d k : ℕ) → List ℕ
-movedIn w d k = cellSet w (cell DONE d) (numberAt w (cell TODO (k - 1))) (numberAt w (cell TODO (k - 1) + 2)) (topPoint w k)
+movedIn w d k = cellSet w (cellPlace DONE d) (twoCells w (cellPlace TODO (k - 1))) (twoCells w (cellPlace TODO (k - 1) + 2)) (topPoint w k)
 
 -- the point m is no side's any more, a and b are
 abbrev pub heldSet : List ℕ → (x m a b : ℕ) → List ℕ
@@ -110,15 +110,15 @@ module _ (σ κ : ℕ → ℕ) where
       let m = topPoint w k in
       let a = σ (κ m) in
       let b = σ (κ (κ m)) in
-      cellSet (set (heldSet w 0 m a b) (cell TODO (k - 1) + 4) b) (cell TODO k) e c a
+      cellSet (set (heldSet w 0 m a b) (cellPlace TODO (k - 1) + 4) b) (cellPlace TODO k) e c a
 
   abbrev pub splitIn : List ℕ → (d k : ℕ) → List ℕ
   splitIn w d k = splitBy w k (sumNum w d k - 1000000000) (sumDen w d k)
 
-  pub data Turned (w : List ℕ) (d k : ℕ) (w' : List ℕ) (stop : Bool) (d' k' : ℕ) : Type 0 where
-    moved : closedIn w (topPoint w k) ≡ true → w' ≡ movedIn w d k → stop ≡ false → d' ≡ d + 1 → k' ≡ k - 1 → Turned w d k w' stop d' k'
-    over : closedIn w (topPoint w k) ≡ false → fitsIn w d k ≡ false → w' ≡ w → stop ≡ true → d' ≡ d → Turned w d k w' stop d' k'
-    parted : closedIn w (topPoint w k) ≡ false → fitsIn w d k ≡ true → w' ≡ splitIn w d k → stop ≡ false → d' ≡ d → k' ≡ k + 1 → Turned w d k w' stop d' k'
+  pub data SideTaken (w : List ℕ) (d k : ℕ) (w' : List ℕ) (stop : Bool) (d' k' : ℕ) : Type 0 where
+    moved : closedIn w (topPoint w k) ≡ true → w' ≡ movedIn w d k → stop ≡ false → d' ≡ d + 1 → k' ≡ k - 1 → SideTaken w d k w' stop d' k'
+    over : closedIn w (topPoint w k) ≡ false → fitsIn w d k ≡ false → w' ≡ w → stop ≡ true → d' ≡ d → SideTaken w d k w' stop d' k'
+    parted : closedIn w (topPoint w k) ≡ false → fitsIn w d k ≡ true → w' ≡ splitIn w d k → stop ≡ false → d' ≡ d → k' ≡ k + 1 → SideTaken w d k w' stop d' k'
 
 -- what a turn asks for
 pub record Top (s r w : List ℕ) (d k : ℕ) : Type 0 where
@@ -155,9 +155,9 @@ pub record Whole (s r w : List ℕ) (d : ℕ) : Type 0 where
   pub is : grow (image s) (byQ (image s) (image r)) (length s) (startPlaced (image s) (byQ (image s) (image r))) ≡ finished (doneIn w d)
   pub some : 3 ≤ d
   pub most : d ≤ 1024
-  pub points : (i : ℕ) → i < d → pointAt w (cell DONE i) < length s
+  pub points : (i : ℕ) → i < d → pointAt w (cellPlace DONE i) < length s
   pub labels : (x : ℕ) → x < 4096 → getD w (LABEL + x) 0 ≡ 0
 
-pub data Walked (s r w : List ℕ) (stop : Bool) (d : ℕ) : Type 0 where
-  halted : stop ≡ true → grow (image s) (byQ (image s) (image r)) (length s) (startPlaced (image s) (byQ (image s) (image r))) ≡ refused d → Walked s r w stop d
-  whole : stop ≡ false → Whole s r w d → Walked s r w stop d
+pub data WalkLeaves (s r w : List ℕ) (stop : Bool) (d : ℕ) : Type 0 where
+  halted : stop ≡ true → grow (image s) (byQ (image s) (image r)) (length s) (startPlaced (image s) (byQ (image s) (image r))) ≡ refused d → WalkLeaves s r w stop d
+  whole : stop ≡ false → Whole s r w d → WalkLeaves s r w stop d

@@ -40,8 +40,11 @@ same-length-2 c = search needs
 returns : tie.Need-returns
 returns c =
     let f = (c .before .before .before .before .before .before .before .before .before .before .before) .survey .ensures in
-    let s = c .before .before .before .before .before .before .before .before .before .before .before .before .before .before .before in
-    (puts-as (parts-listed (s .args .g) (s .args .rows .now) f (s .pre .1) (s .pre .2)) ((c .before .before .before .before .before .before) .list-parts .ensures), (c .before .before) .clear .ensures ∙ ap zeros (f .same))
+    let s = c .before .before .before .before .before .before .before .before .before .before .before .before .before .before .before in (
+      puts-as (parts-listed (s .args .g) (s .args .rows .now) f (s .pre .1) (s .pre .2))
+          ((c .before .before .before .before .before .before) .list-parts .ensures),
+      (c .before .before) .clear .ensures ∙ ap zeros (f .same),
+    )
 
 pub list-accepted-spec : {M : Type 1} → statement M
 list-accepted-spec =

@@ -10,12 +10,11 @@ use Rattle.workspace.specs.Space.{zeros}
 use Rattle.text_line.proofs.Placing.{puts-as}
 use Rattle.refusal.specs.declared.Checked.the-variants.{Accepted}
 use Rattle.refusal.specs.declared.Filled.{Filled}
-use Rattle.refusal.specs.declared.Filled.the-variants as filled
-use Rattle.symbol.specs.Check.{checkOf}
+use Rattle.symbol.specs.Check.{symbolCheck}
 use Rattle.symbol.specs.Symbol.{IsSymbol}
 use Rattle.pairing.specs.Generator.{leaders, generatorTable, tableLeft}
-use Rattle.coset.proofs.Answer.{by-long}
-use Rattle.listing_text.specs.Listing.{tableIn}
+use Rattle.pairing.proofs.Admitted.{admit-both, work-by}
+use Rattle.listing_text.specs.Listing.{generatorsLeft}
 use Rattle.listing_text.proofs.Gathered.{leaders-most, Gathered, gathered, gathered-made, gathered-refused, rows-filled}
 use Rattle.listing_text.proofs.Listed.{listed-refused, listed-accepted}
 use borrow.Author.Needs.{needs}
@@ -28,12 +27,13 @@ module _ (f : tie.After-generators) where
   begun = f .before .before .before .before .before
 
   told : Gathered (begun .args .v) (begun .args .t .now) (f .generators .result)
-  told = gathered (begun .args .v) (begun .args .t .now) (length (begun .args .w .now)) (length (begun .args .table .now)) (f .generators .result) (begun .pre .work) (begun .pre .table-long) (f .generators .ensures .0)
+  told = gathered (begun .args .v) (begun .args .t .now) (length (begun .args .w .now)) (length (begun .args .table .now)) (f .generators .result)
+      (begun .pre .work) (begun .pre .table-long) (f .generators .ensures .0)
 
   abbrev rows : List ℤ
   rows = f .generators .last .1 .1 .1 .0
 
-  table-is : rows ≡ tableIn (begun .args .v) (begun .args .t .now) (length (begun .args .w .now)) (begun .args .table .now)
+  table-is : rows ≡ generatorsLeft (begun .args .v) (begun .args .t .now) (length (begun .args .w .now)) (begun .args .table .now)
   table-is =
       f .generators .ensures .1 .1 .0
       ∙ ap (λ (r : Filled). tableLeft r (generatorTable (begun .args .v) (begun .args .t .now)) (begun .args .table .now)) (f .generators .ensures .0)
@@ -49,7 +49,8 @@ module _ (d : tie.After-made2) where
   abbrev count : ℕ
   count = d .made2 .given .0 .0
 
-  made : (checkOf (st .args .v) (st .args .t .now) ≡ Accepted) × IsSymbol (st .args .v) (st .args .t .now) × (count ≡ length (leaders (st .args .v) (st .args .t .now)))
+  made : (symbolCheck (st .args .v) (st .args .t .now) ≡ Accepted) × IsSymbol (st .args .v) (st .args .t .now)
+      × (count ≡ length (leaders (st .args .v) (st .args .t .now)))
   made = gathered-made (told f) count (d .made2 .given .1)
 
   few : count ≤ 1024
@@ -71,20 +72,28 @@ mul-end : tie.Need-mul-end
 mul-end c = omega (arith, few (c .before))
 
 slice-reshare-prefix-list-accepted : tie.Need-slice-reshare-prefix-list-accepted
-slice-reshare-prefix-list-accepted c = omega (arith, few (c .before), (c .before .before .before) .table .given, (c .before .before .before .before .before .before .before .before .before .before .before) .pre .table-long)
+slice-reshare-prefix-list-accepted c = omega
+    (arith, few (c .before), (c .before .before .before) .table .given, (c .before .before .before .before .before .before .before .before .before .before .before) .pre .table-long)
 
 slice-aggregate-list-accepted : tie.Need-slice-aggregate-list-accepted
 slice-aggregate-list-accepted c =
     let d = c .before .before in
-    sym (length-take-le (5 * count d) (rows (f d)) (omega (arith, few d, (c .before .before .before .before) .table .given, (c .before .before .before .before .before .before .before .before .before .before .before .before) .pre .table-long)))
+    sym (length-take-le (5 * count d) (rows (f d))
+    (omega (arith, few d, (c .before .before .before .before) .table .given, (c .before .before .before .before .before .before .before .before .before .before .before .before) .pre .table-long)))
 
 list-accepted-requires : tie.Need-list-accepted-requires
 list-accepted-requires c κs =
     let d = c .before .before .before .before in
     let g = made d in
     let s = c .before .before .before .before .before .before .before .before .before .before .before .before .before .before in
-    let e = (c .before .before .before .before .before .before .before .before .before) .generators .ensures .1 .1 .0 in
-    (g .1, g .2, rows-filled (s .args .v) (s .args .t .now) (count d) (s .args .table .now) (g .2) (d .made2 .given .1) e, omega (arith, s .pre .work, (c .before .before .before .before .before .before .before .before) .w .given), s .pre .out-long)
+    let e = (c .before .before .before .before .before .before .before .before .before) .generators .ensures .1 .1 .0 in (
+      g .1,
+      g .2,
+      rows-filled (s .args .v) (s .args .t .now) (count d) (s .args .table .now) (g .2) (d .made2 .given .1) e,
+      omega
+          (arith, s .pre .work, (c .before .before .before .before .before .before .before .before) .w .given),
+      s .pre .out-long,
+    )
 
 same-length : tie.Need-same-length
 same-length c = search needs
@@ -101,7 +110,8 @@ returns c =
     let f = c .before .before .before .before .before .before .before .before .before .before in
     let s = c .before .before .before .before .before .before .before .before .before .before .before .before .before .before .before in
     let refusal = a .made .given .0 .0 in (
-      puts-as (listed-refused (s .args .v) (s .args .t .now) refusal (gathered-refused (told f) refusal (a .made .given .1))) ((c .before .before) .refusal-line .ensures),
+      puts-as (listed-refused (s .args .v) (s .args .t .now) refusal (gathered-refused (told f) refusal (a .made .given .1)))
+          ((c .before .before) .refusal-line .ensures),
       (f .generators .ensures .1 .0, table-is f),
     )
 
@@ -121,7 +131,8 @@ returns-2 c =
     let s = c .before .before .before .before .before .before .before .before .before .before .before .before .before .before .before .before .before .before .before in
     let e = (c .before .before .before .before) .list-accepted .ensures in
     let ok = made d .0 in
-    let cleared = by-long (s .args .v) (s .args .t .now) (s .args .w .now) (filled.Made 0) ok (s .pre .work) .1 in (
+    let both = admit-both (s .args .v) (s .args .t .now) (length (s .args .w .now)) ok (s .pre .work) in
+    let cleared = work-by (s .args .v) (s .args .t .now) (s .args .w .now) Accepted both in (
       puts-as (listed-accepted (s .args .v) (s .args .t .now) ok) (e .0),
       (e .1 ∙ ap zeros ((c .before .before .before .before .before .before .before .before .before .before .before .before .before) .w .given) ∙ cleared, table-is f),
     )

@@ -14,9 +14,9 @@ use Rattle.text.specs.declared.Reading.{Reading}
 use Rattle.text.specs.declared.Reading.the-variants.{Numbers, Refused}
 use Rattle.text.proofs.Handed.{Handed, input-on, first-entry, other-entries}
 use Rattle.text_line.proofs.Placing.{puts-as}
-use Rattle.symbol.specs.Check.{checkOf}
+use Rattle.symbol.specs.Check.{symbolCheck}
 use Rattle.pairing.specs.Generator.{workAfter}
-use Rattle.listing_text.specs.Listing.{listed, tableIn}
+use Rattle.listing_text.specs.Listing.{listingLines, generatorsLeft}
 use Rattle.listing_text.proofs.Listed.{listing-by, leaves-by}
 use borrow.Author.Needs.{needs}
 use Rattle.listing_text.proofs.list_text.Statement.{statement}
@@ -64,7 +64,8 @@ module _ (d : tie.After-known-told2) where
   first = ap (λ (l : List ℤ). getD l 0 (pos 0)) numbers-left ∙ first-entry ns (start .args .numbers .now) count (some-numbers .some-one) (some-numbers .there)
 
   others : take (count - 1) (drop 1 (stood read)) ≡ drop 1 (take count ns)
-  others = ap (λ (l : List ℤ). take (count - 1) (drop 1 l)) numbers-left ∙ other-entries ns (start .args .numbers .now) count (some-numbers .some-one) (some-numbers .there)
+  others = ap (λ (l : List ℤ). take (count - 1) (drop 1 l)) numbers-left
+      ∙ other-entries ns (start .args .numbers .now) count (some-numbers .some-one) (some-numbers .there)
 
 read-input-requires : tie.Need-read-input-requires
 read-input-requires c κs = search needs
@@ -90,12 +91,24 @@ sub-list-symbol c = omega (arith, some-numbers (c .before .before) .some-one)
 part-list-symbol-start : tie.Need-part-list-symbol-start
 part-list-symbol-start c =
     let h = some-numbers (c .before .before .before) in
-    omega (arith, h .some-one, h .fitting, (c .before .before .before .before .before .before) .numbers .given, (c .before .before .before .before .before .before .before .before .before .before .before .before) .pre .0)
+    omega (
+      arith,
+      h .some-one,
+      h .fitting,
+      (c .before .before .before .before .before .before) .numbers .given,
+      (c .before .before .before .before .before .before .before .before .before .before .before .before) .pre .0,
+    )
 
 part-list-symbol-end : tie.Need-part-list-symbol-end
 part-list-symbol-end c =
     let h = some-numbers (c .before .before .before) in
-    omega (arith, h .some-one, h .fitting, (c .before .before .before .before .before .before) .numbers .given, (c .before .before .before .before .before .before .before .before .before .before .before .before) .pre .0)
+    omega (
+      arith,
+      h .some-one,
+      h .fitting,
+      (c .before .before .before .before .before .before) .numbers .given,
+      (c .before .before .before .before .before .before .before .before .before .before .before .before) .pre .0,
+    )
 
 list-symbol-requires : tie.Need-list-symbol-requires
 list-symbol-requires c κs = search needs
@@ -137,16 +150,19 @@ returns-2 c =
     let k = count d in
     let w = s .args .w .now in
     let table = s .args .table .now in
-    let e = rw (toZ-ofZ {w = w64} {z = getD (stood r) 0 (pos 0)} (record { sfits = (c .before .before .before .before .before .before .before .before .before .before .before .before) .vertex-count-arg .given })) at (v .vertex-count .ensures) in
+    let e = rw (toZ-ofZ {w = w64} {z = getD (stood r) 0 (pos 0)}
+    (record { sfits = (c .before .before .before .before .before .before .before .before .before .before .before .before) .vertex-count-arg .given })) at
+    (v .vertex-count .ensures) in
     let n = e ∙ ap vertexCount (first d) in
     let t = take (k - 1) (drop 1 (stood r)) in
     let first = vertexCount (nth (ns d) 0) in
     let x = Numbers k in
-    let same : listed (v .vertex-count .result) t ≡ listed first (drop 1 (take k (ns d))) = ap (λ (m : ℕ). listed m t) n ∙ ap (listed first) (others d) in (
+    let same : listingLines (v .vertex-count .result) t ≡ listingLines first (drop 1 (take k (ns d))) = ap (λ (m : ℕ). listingLines m t) n
+    ∙ ap (listingLines first) (others d) in (
       puts-as (same ∙ listing-by (s .args .longer) (s .args .text .now) x (numbered d)) (l .0),
       leaves-by x (numbered d) (numbers-left d)
-          (l .1 .0 ∙ ap (λ (m : ℕ). workAfter (checkOf m t) w) n ∙ ap (λ (m : List ℤ). workAfter (checkOf first m) w) (others d))
-          (l .1 .1 ∙ ap (λ (m : ℕ). tableIn m t (length w) table) n ∙ ap (λ (m : List ℤ). tableIn first m (length w) table) (others d)),
+          (l .1 .0 ∙ ap (λ (m : ℕ). workAfter (symbolCheck m t) w) n ∙ ap (λ (m : List ℤ). workAfter (symbolCheck first m) w) (others d))
+          (l .1 .1 ∙ ap (λ (m : ℕ). generatorsLeft m t (length w) table) n ∙ ap (λ (m : List ℤ). generatorsLeft first m (length w) table) (others d)),
     )
 
 pub list-text-spec : {M : Type 1} → statement M

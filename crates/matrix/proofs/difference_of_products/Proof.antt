@@ -12,10 +12,27 @@ mul-result-2 : tie.Need-mul-result-2
 mul-result-2 c = rw (toZ-ofZ (c .fits .z), toZ-ofZ (c .fits .w)) (right-fits (c .pre))
 
 sub-result : tie.Need-sub-result
-sub-result c = rw (toZ-ofZ (c .fits .x), toZ-ofZ (c .fits .y), toZ-ofZ (c .fits .z), toZ-ofZ (c .fits .w), toZ-ofZ (left-fits (c .pre)), toZ-ofZ (right-fits (c .pre))) (difference-fits (c .pre))
+sub-result c = rw (
+  toZ-ofZ (c .fits .x),
+  toZ-ofZ (c .fits .y),
+  toZ-ofZ (c .fits .z),
+  toZ-ofZ (c .fits .w),
+  toZ-ofZ (left-fits (c .pre)),
+  toZ-ofZ
+      (right-fits (c .pre)),
+) (difference-fits (c .pre))
 
 returns : tie.Need-returns
-returns c = rw (toZ-ofZ (c .fits .x), toZ-ofZ (c .fits .y), toZ-ofZ (c .fits .z), toZ-ofZ (c .fits .w), toZ-ofZ (left-fits (c .pre)), toZ-ofZ (right-fits (c .pre)), toZ-ofZ (difference-fits (c .pre)))
+returns c = rw (
+  toZ-ofZ (c .fits .x),
+  toZ-ofZ (c .fits .y),
+  toZ-ofZ (c .fits .z),
+  toZ-ofZ (c .fits .w),
+  toZ-ofZ (left-fits (c .pre)),
+  toZ-ofZ
+      (right-fits (c .pre)),
+  toZ-ofZ (difference-fits (c .pre)),
+)
 
 pub difference-of-products-spec : {M : Type 1} → statement M
 difference-of-products-spec = tie.close (tie.spec mul-result mul-result-2 sub-result returns)

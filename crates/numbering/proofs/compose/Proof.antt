@@ -6,17 +6,18 @@ use native.Mathlib.Omega.{arith}
 use Prim.Native.Nat.{_-_, _≤_}
 use lib.ListN.{length, length-set}
 use Rattle.numbering.specs.Table.{_thenTable_}
-use Rattle.numbering.specs.Inner.Space.{entries, putTo}
+use Rattle.numbering.specs.Inner.Space.{putTo}
+use Rattle.workspace.specs.Space.{entries}
 use Rattle.numbering.proofs.Space.{put-none}
 use Rattle.numbering.proofs.Marks.{compose-low, compose-more}
 use Rattle.numbering.proofs.compose.Statement.{statement}
 use Rattle.numbering.proofs.compose.Tie as tie
 
 abbrev Inv-loop : tie.InvT-loop
-Inv-loop w₀ a b to n j₀ w j = (w ≡ putTo w₀ to (entries a n w₀ thenTable entries b n w₀) j) × (j ≤ n) × (length w ≡ length w₀)
+Inv-loop w₀ a b to n m j₀ w j = (w ≡ putTo w₀ to (entries a n w₀ thenTable entries b m w₀) j) × (j ≤ n) × (length w ≡ length w₀)
 
 abbrev μ-loop : tie.MeasureT-loop
-μ-loop w₀ a b to n j₀ w j = n - j
+μ-loop w₀ a b to n m j₀ w j = n - j
 
 loop-holds : tie.Need-loop-holds Inv-loop μ-loop
 loop-holds c = (put-none (c .before .args .w .now) (c .before .args .to) _, omega arith, refl)

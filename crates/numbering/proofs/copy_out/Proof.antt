@@ -6,7 +6,7 @@ use mathlib.Core.List.{_++_}
 use Prim.Native.Nat.{_-_, _≤_}
 use native.Mathlib.Omega.{arith}
 use lib.ListN.{length, drop, length-set}
-use Rattle.numbering.specs.Inner.Space.{entries}
+use Rattle.workspace.specs.Space.{entries}
 use Rattle.numbering.proofs.Space.{copy-more}
 use Rattle.numbering.proofs.copy_out.Statement.{statement}
 use Rattle.numbering.proofs.copy_out.Tie as tie
@@ -49,8 +49,12 @@ loop-again c =
     let args = c .before .before .before .before .before .before .args in
     let pre = c .before .before .before .before .before .before .pre in
     let loop = c .before .before .before .loop in
-    let wide32 = c .wide32 in
-    (rw (loop .inv .0) (copy-more (args .off) (loop .j) (wide32 .result) (args .w .now) (args .out .now) (omega (arith, pre .fits)) (omega (arith, pre .room)) (wide32 .ensures)), omega arith, simp length-set (loop .inv .2))
+    let wide32 = c .wide32 in (
+      rw (loop .inv .0) (copy-more (args .off) (loop .j) (wide32 .result) (args .w .now) (args .out .now) (omega (arith, pre .fits)) (omega (arith, pre .room))
+          (wide32 .ensures)),
+      omega arith,
+      simp length-set (loop .inv .2),
+    )
 
 same-length : tie.Need-same-length Inv-loop μ-loop
 same-length c = c .before .loop .inv .2

@@ -1,5 +1,5 @@
--- `numbering::number` meets its contract. The loop's invariant: the positions listed are those of the numbering after i visits.
--- The measure is what is left of the positions.
+-- `numbering::number` meets its contract. The loop's invariant: the points listed are those of the numbering after i visits.
+-- The measure is what is left of the points.
 -- Assumes nothing.
 use mathlib.Core.Path.{_∙_}
 use native.Mathlib.Omega.{arith}

@@ -1,4 +1,4 @@
--- `numbering::visit_at` meets its contract: two positions are entered in a row, the S image first.
+-- `numbering::visit_at` meets its contract: two points are entered in a row, the S image first.
 -- Assumes nothing.
 use borrow.Author.Needs.{needs}
 use native.Mathlib.Omega.{arith}
@@ -87,7 +87,8 @@ returns c =
     let wide3 = c .before .before .before .before .before .before .before .before .index3 in
     let enter = c .before .before .before .before .before .before .enter in
     let enter2 = c .before .before .enter2 in
-    rw (← visit-image pre SIGMA (wide .ensures) (wide2 .ensures), ← visit-image pre RHO (wide .ensures) (wide3 .ensures)) (marked-then (wide3 .result) (enter .ensures) (enter2 .ensures))
+    rw (← visit-image pre SIGMA (wide .ensures) (wide2 .ensures), ← visit-image pre RHO (wide .ensures) (wide3 .ensures))
+    (marked-then (wide3 .result) (enter .ensures) (enter2 .ensures))
 
 pub visit-at-spec : {M : Type 1} → statement M
 visit-at-spec =

@@ -11,7 +11,7 @@ use Prim.Native.Nat.{ℕ, _+_, _≤_}
 use lib.Dec.{ltb}
 use lib.IntN.{ℤ}
 use Rattle.matrix.specs.Matrix.{nth}
-use Rattle.symbol.specs.Count.{first}
+use Rattle.basics.specs.Count.{first}
 use Rattle.symbol.specs.Table.{pairingOf}
 use Rattle.symbol.specs.Check.{eqZ}
 use Rattle.pairing.specs.Generator.{partnerIn}

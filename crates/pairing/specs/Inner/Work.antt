@@ -9,7 +9,7 @@
 --   PairedTo v p i w    w holds the tables of the first i sides of the pairings p
 --   FirstsBounded v w   what w remembers of labels are sides
 --   Partnered v p w     w holds every free side's partner
---   Prepared, putRow, RowsTo, Listed     listing the generators, side by side
+--   PartnersReady, putRow, RowsTo, SideListed  listing the generators, side by side
 use mathlib.Core.Path.{_≡_}
 use mathlib.Core.Bool.{Bool, false}
 use mathlib.Core.List.{List, _++_}
@@ -18,13 +18,13 @@ use lib.Dec.{ltb, eqb}
 use lib.ListN.{length, getD, set, take, drop}
 use lib.IntN.{ℤ, pos}
 use Rattle.matrix.specs.Matrix.{nth}
-use Rattle.matrix.specs.Euclid.{pick}
+use Rattle.basics.specs.Choice.{pick}
 use Rattle.workspace.specs.Space.{workLength}
-use Rattle.symbol.specs.Count.{first, count, those}
-use Rattle.symbol.specs.Table.{pairings, pairingOf}
+use Rattle.basics.specs.Count.{first, count, those}
+use Rattle.symbol.specs.Table.{pairingEntries, pairingOf}
 use Rattle.symbol.specs.Check.{eqZ, unpairedIn}
 use Rattle.symbol.specs.Symbol.{IsSymbol}
-use Rattle.pairing.specs.Generator.{partnerIn, isLeader, row, rows}
+use Rattle.pairing.specs.Generator.{partnerIn, isLeader, generatorRow, generatorRows}
 use Rattle.symbol.specs.declared.Pairing.{Pairing}
 use Rattle.symbol.specs.declared.Pairing.the-variants.{Even, Odd, Free, Bad}
 
@@ -73,9 +73,9 @@ pub record FirstsBounded (v : ℕ) (w : List ℕ) : Type 0 where
 -- ---- listing the generators
 
 -- a symbol, the part of its table with the pairings, and a work space that holds the partners
-pub record Prepared (v : ℕ) (t p : List ℤ) (w : List ℕ) : Type 0 where
+pub record PartnersReady (v : ℕ) (t p : List ℤ) (w : List ℕ) : Type 0 where
   pub symbol : IsSymbol v t
-  pub part : p ≡ pairings v t
+  pub part : p ≡ pairingEntries v t
   pub partnered : Partnered v p w
 
 -- five numbers in place of those that stood at 5 n
@@ -85,9 +85,9 @@ putRow n r out = take (5 * n) out ++ r ++ drop (5 * n + 5) out
 -- the generators of the first i sides stand in front
 pub record RowsTo (v : ℕ) (t : List ℤ) (i n : ℕ) (out out' : List ℤ) : Type 0 where
   pub number : n ≡ count (isLeader v t) i
-  pub table : out' ≡ rows v t (those (isLeader v t) i) ++ drop (5 * n) out
+  pub table : out' ≡ generatorRows v t (those (isLeader v t) i) ++ drop (5 * n) out
 
 -- side i was listed, if it leads: whatever stood behind the rows at the start
-pub record Listed (v : ℕ) (t : List ℤ) (i n r : ℕ) (out out' : List ℤ) : Type 0 where
+pub record SideListed (v : ℕ) (t : List ℤ) (i n r : ℕ) (out out' : List ℤ) : Type 0 where
   pub more : (first : List ℤ) → RowsTo v t i n first out → RowsTo v t (i + 1) r first out'
   pub long : length out' ≡ length out

@@ -29,7 +29,8 @@ returns-2 c =
     let s = b .before .before .before .before in
     let S = s .args .s .now in
     let R = s .args .r .now in
-    refuse-at (badEntry R) (length R) tableEntry _ (c .before .first-bad2 .ensures) (check14 twiceMoved S orElse check14 thriceMoved R orElse check15 S R) (c .if2 .taken)
+    refuse-at (badEntry R) (length R) tableEntry _ (c .before .first-bad2 .ensures) (check14 twiceMoved S orElse check14 thriceMoved R orElse check15 S R)
+    (c .if2 .taken)
     ∙ accept-at (badEntry S) (length S) tableEntry _ (b .before .first-bad .ensures)
     (check13 R orElse check14 twiceMoved S orElse check14 thriceMoved R orElse check15 S R) (b .if1 .left)
 
@@ -40,7 +41,13 @@ check-moves-requires c κs =
     let S = s .args .s .now in
     let R = s .args .r .now in
     let z = s .pre in
-    record { S = entries-of S _ (z .1) (b .before .first-bad .ensures) (b .if1 .left); R = entries-of R _ (rw (z .2) (z .1)) (c .before .first-bad2 .ensures) (c .if2 .left); even = z .2; some = z .0 }
+    record {
+      S = entries-of S _ (z .1) (b .before .first-bad .ensures) (b .if1 .left);
+      R =
+          entries-of R _ (rw (z .2) (z .1)) (c .before .first-bad2 .ensures) (c .if2 .left);
+      even = z .2;
+      some = z .0;
+    }
 
 returns-3 : tie.Need-returns-3
 returns-3 c =
@@ -50,7 +57,8 @@ returns-3 c =
     let S = s .args .s .now in
     let R = s .args .r .now in
     c .check-moves .ensures
-    ∙ accept-at (badEntry R) (length R) tableEntry _ (a .before .first-bad2 .ensures) (check14 twiceMoved S orElse check14 thriceMoved R orElse check15 S R) (a .if2 .left)
+    ∙ accept-at (badEntry R) (length R) tableEntry _ (a .before .first-bad2 .ensures) (check14 twiceMoved S orElse check14 thriceMoved R orElse check15 S R)
+    (a .if2 .left)
     ∙ accept-at (badEntry S) (length S) tableEntry _ (b .before .first-bad .ensures)
     (check13 R orElse check14 twiceMoved S orElse check14 thriceMoved R orElse check15 S R) (b .if1 .left)
 

@@ -6,7 +6,7 @@ use Prim.Native.Nat.{ℕ, _≤_}
 use lib.ListN.{length}
 use Rattle.refusal.specs.Refusal.{_orElse_, wrongOrder, unreached}
 use Rattle.refusal.specs.declared.Checked.{Checked}
-use Rattle.symbol.specs.Count.{first}
+use Rattle.basics.specs.Count.{first}
 use Rattle.permutations.specs.Check.{twiceMoved, thriceMoved, notReached, check14, check15}
 use Rattle.permutations.proofs.Marks.{refuse-at, accept-at, refuse-last, accept-last}
 use borrow.Author.Needs.{needs}

@@ -20,7 +20,8 @@ returns c =
     let k = c .before in
     let d = k .before .before in
     let s = d .before .before .before .before in
-    let b = short (s .args .s .now) (s .args .r .now) (s .args .w .now) (s .args .out .now) (sym (d .check .ensures .returned) ∙ k .enum-told .given .1) (c .if1 .taken) in
+    let b = short (s .args .s .now) (s .args .r .now) (s .args .w .now) (s .args .out .now) (sym (d .check .ensures .returned) ∙ k .enum-told .given .1)
+    (c .if1 .taken) in
     (b .returned, (b .work, (b .result, b .means)))
 
 import-accepted-requires : tie.Need-import-accepted-requires
@@ -53,7 +54,8 @@ returns-3 c =
     let d = k .before .before in
     let s = d .before .before .before .before in
     let a = g .import-accepted .ensures in
-    let b = long (s .args .s .now) (s .args .r .now) (s .args .w .now) (s .args .out .now) (sym (d .check .ensures .returned) ∙ k .enum-told .given .1) (f .if1 .left) _ _ _ (a .0) (a .1 .0) (a .1 .1) in
+    let b = long (s .args .s .now) (s .args .r .now) (s .args .w .now) (s .args .out .now) (sym (d .check .ensures .returned) ∙ k .enum-told .given .1)
+    (f .if1 .left) _ _ _ (a .0) (a .1 .0) (a .1 .1) in
     (b .returned, (b .work, (b .result, b .means)))
 
 pub import-spec : {M : Type 1} → statement M

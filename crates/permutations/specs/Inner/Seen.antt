@@ -9,8 +9,8 @@ use mathlib.Core.List.{List}
 use Prim.Native.Nat.{ℕ, _≤_, _<_}
 use lib.Dec.{ltb, eqb}
 use lib.ListN.{length, getD}
-use Rattle.matrix.specs.Euclid.{pick}
-use Rattle.symbol.specs.Count.{first}
+use Rattle.basics.specs.Choice.{pick}
+use Rattle.basics.specs.Count.{first}
 use Rattle.import_rule.specs.Fixed.{image}
 
 abbrev pub earlierIn : List ℕ → ℕ → ℕ → Bool

@@ -4,12 +4,12 @@ use mathlib.Core.Path.{_≡_, _∙_, ap}
 use native.Mathlib.Omega.{arith}
 use lib.ListN.{length}
 use Rattle.workspace.proofs.Zeros.{length-zeros}
-use Rattle.symbol.specs.Table.{pairings}
+use Rattle.symbol.specs.Table.{pairingEntries}
 use Rattle.symbol.proofs.Order.{behind}
 use Rattle.pairing.proofs.Partners.{paired-none}
 use Rattle.pairing.proofs.Rows.{symbol-paired}
-use Rattle.polygon.specs.Inner.Partners.{Partnered}
-use Rattle.polygon.specs.Inner.Tables.{Tables}
+use Rattle.polygon.specs.Inner.Partners.{PartnersHeld}
+use Rattle.polygon.specs.Inner.Tables.{PolygonTables}
 use Rattle.polygon.proofs.Space.{still}
 use Rattle.polygon.proofs.Partners.{partnered-in, tables-built}
 use borrow.Author.Needs.{needs}
@@ -39,8 +39,12 @@ pair-sides-requires c κs =
     let k = c .before .before .before .before in
     let s = k .before .before .before in
     let v = s .args .v in
-    let t = s .args .t .now in
-    (s .pre .0 .most, rw (behind v t) (symbol-paired v t (s .pre .0)), rw (behind v t, k .clear .ensures) (paired-none v (pairings v t) (length (s .args .w .now)) (s .pre .1)))
+    let t = s .args .t .now in (
+      s .pre .0 .most,
+      rw (behind v t) (symbol-paired v t (s .pre .0)),
+      rw (behind v t, k .clear .ensures)
+          (paired-none v (pairingEntries v t) (length (s .args .w .now)) (s .pre .1)),
+    )
 
 -- the sides are paired
 module _ (q : tie.After-pair-sides) where
@@ -53,7 +57,7 @@ module _ (q : tie.After-pair-sides) where
   paired-length : length (q .pair-sides .last .1 .1 .0) ≡ length (st .args .w .now)
   paired-length = q .pair-sides .ensures .1 ∙ ap length (k .clear .ensures) ∙ length-zeros (length (st .args .w .now))
 
-  paired : Partnered (st .args .t .now) (st .args .v) (q .pair-sides .last .1 .1 .0)
+  paired : PartnersHeld (st .args .t .now) (st .args .v) (q .pair-sides .last .1 .1 .0)
   paired = partnered-in (rw (behind (st .args .v) (st .args .t .now)) at (q .pair-sides .ensures .0))
 
 number-sides-requires : tie.Need-number-sides-requires
@@ -82,7 +86,7 @@ module _ (c : tie.After-cut) where
   abbrev st₁ : tie.Start
   st₁ = st (q₁ n₁)
 
-  filled : Tables (st₁ .args .t .now) (st₁ .args .v) (c .cut .last .1 .1 .0)
+  filled : PolygonTables (st₁ .args .t .now) (st₁ .args .v) (c .cut .last .1 .1 .0)
   filled = tables-built (st₁ .pre .0) (still (numbered-length n₁) (st₁ .pre .1)) (n₁ .number-sides .ensures .1) (n₁ .number-sides .ensures .2) (c .cut .ensures)
 
 start-position-requires : tie.Need-start-position-requires

@@ -2,16 +2,15 @@
 --
 --   FLIP          the other side of each position, 4,090 of them at most
 --   STACK         the vertices on the stack of the scan, and at HANDLE the handle of each
---   PARTNER       each free side's partner
 --   GENERATOR     the number of each side's generator
---   table off n w     the n numbers of w from off on
 --   joined w p q      p and q noted as the two sides of one edge
---   Frame w w'        w' is w but for the other sides and the stack
+--   CutFrame w w'     w' is w but for the other sides and the stack
 --   Above w w'        w' is w but for what lies from the stack on
 use mathlib.Core.Path.{_≡_}
 use mathlib.Core.List.{List}
 use Prim.Native.Nat.{ℕ, _+_, _≤_, _<_}
-use lib.ListN.{length, getD, set, take, drop}
+use lib.ListN.{length, getD, set}
+use Rattle.pairing.specs.Inner.Work.{PARTNER}
 
 abbrev pub FLIP : ℕ
 FLIP = 4096
@@ -22,19 +21,13 @@ STACK = 28672
 abbrev pub HANDLE : ℕ
 HANDLE = 29696
 
-abbrev pub PARTNER : ℕ
-PARTNER = 30720
-
 abbrev pub GENERATOR : ℕ
 GENERATOR = 31744
-
-abbrev pub table : ℕ → ℕ → List ℕ → List ℕ
-table off n w = take n (drop off w)
 
 abbrev pub joined : List ℕ → ℕ → ℕ → List ℕ
 joined w p q = set (set w (FLIP + p) q) (FLIP + q) p
 
-pub record Frame (w w' : List ℕ) : Type 0 where
+pub record CutFrame (w w' : List ℕ) : Type 0 where
   pub same : length w' ≡ length w
   pub low : (k : ℕ) → k < FLIP → getD w' k 0 ≡ getD w k 0
   pub middle : (k : ℕ) → 8192 ≤ k → k < STACK → getD w' k 0 ≡ getD w k 0

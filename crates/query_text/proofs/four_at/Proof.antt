@@ -47,7 +47,13 @@ returns c =
     let s = c .before .before .before .before in
     let ns = s .args .ns .now in
     let i = s .args .i in
-    rw (kept (nth ns i) ((c .before .before .before) .t5 .given), kept (nth ns (i + 1)) ((c .before .before) .t9 .given), kept (nth ns (i + 2)) ((c .before) .t13 .given), kept (nth ns (i + 3)) (c .t17 .given)) refl
+    rw (
+      kept (nth ns i) ((c .before .before .before) .t5 .given),
+      kept (nth ns (i + 1)) ((c .before .before) .t9 .given),
+      kept (nth ns (i + 2))
+          ((c .before) .t13 .given),
+      kept (nth ns (i + 3)) (c .t17 .given),
+    ) refl
 
 pub four-at-spec : {M : Type 1} → statement M
 four-at-spec =

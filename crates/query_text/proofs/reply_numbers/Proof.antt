@@ -9,7 +9,7 @@ use mir.Syntax.{w64}
 use mir.Facts.{toZ-ofZ}
 use Rattle.matrix.specs.Matrix.{nth}
 use Rattle.text.specs.Reading.{vertexCount}
-use Rattle.word.specs.Answer.{workLeft}
+use Rattle.word.specs.Answer.{queryWork}
 use Rattle.text_line.proofs.Placing.{puts-as}
 use Rattle.query_text.specs.Reply.{replied, lettersLeft, four}
 use Rattle.query_text.proofs.Replied.{asked-as, few-line, few-work, few-letters, enough-line, enough-work, enough-letters}
@@ -80,13 +80,18 @@ returns-2 c =
     let letters = s .args .letters .now in
     let p = (c .before .before .before .before .before) .reply-pair .ensures in
     let h = (c .before .before .before .before .before .before .before .before .before .before .before .before .before .before) .if1 .left in
-    let e = rw (toZ-ofZ {w = w64} {z = nth ns 0} (record { sfits = (c .before .before .before .before .before .before .before .before .before .before .before .before .before) .vertex-count-arg .given })) at (n .vertex-count .ensures) in
+    let e = rw (toZ-ofZ {w = w64} {z = nth ns 0}
+    (record { sfits = (c .before .before .before .before .before .before .before .before .before .before .before .before .before) .vertex-count-arg .given })) at (n .vertex-count .ensures) in
     let less : length ns - 8 - 1 ≡ length ns - 9 = omega arith in
     let t = ap (λ (m : ℕ). take m (drop 1 ns)) less in
     let x = a .four-at .ensures in
     let y = b .four-at2 .ensures in (
       puts-as (asked-as replied e t x y ∙ enough-line ns h) (p .0),
-      (p .1 .0 ∙ asked-as (λ (m : ℕ) (u i j : List ℤ). workLeft m u i j w) e t x y ∙ enough-work ns w h, p .1 .1 ∙ asked-as (λ (m : ℕ) (u i j : List ℤ). lettersLeft m u i j letters) e t x y ∙ enough-letters ns letters h),
+      (
+        p .1 .0 ∙ asked-as (λ (m : ℕ) (u i j : List ℤ). queryWork m u i j w) e t x y ∙ enough-work ns w h,
+        p .1 .1
+            ∙ asked-as (λ (m : ℕ) (u i j : List ℤ). lettersLeft m u i j letters) e t x y ∙ enough-letters ns letters h,
+      ),
     )
 
 pub reply-numbers-spec : {M : Type 1} → statement M

@@ -59,7 +59,13 @@ module _ (n : tie.After-word-part) where
       ∙ part-found from count (start .args .v) (start .args .t .now) (start .args .a) (start .args .b) (length (start .args .w .now)) 0 letters named
 
   part-most : length (n .word-part .result .now) ≤ 16384
-  part-most = omega (arith, ap length part-is, start .pre .lent, word-most from count (start .args .v) (start .args .t .now) (start .args .a) (start .args .b) (length (start .args .w .now)) 0 letters named)
+  part-most = omega (
+    arith,
+    ap length part-is,
+    start .pre .lent,
+    word-most from count (start .args .v) (start .args .t .now) (start .args .a) (start .args .b)
+        (length (start .args .w .now)) 0 letters named,
+  )
 
 query-requires : tie.Need-query-requires
 query-requires c κs = search needs
@@ -99,7 +105,12 @@ returns c =
     ∙ said-other r (foundWord v t (ofList a) (ofList b)) (never-word r ((c .before .before .before .before .before .before) .match .keys2))
     ∙ replied-as v t a b r (length (s .args .w .now)) (length (s .args .letters .now)) (s .pre .work) (s .pre .lent) (q .query .ensures .0) in (
       puts-as same ((c .before .before) .refusal-line .ensures),
-      (q .query .ensures .1 .0, q .query .ensures .1 .1 .0 ∙ letters-as v t a b r (length (s .args .w .now)) (length (s .args .letters .now)) (s .pre .work) (s .pre .lent) (q .query .ensures .0) (s .args .letters .now)),
+      (
+        q .query .ensures .1 .0,
+        q .query .ensures .1 .1 .0
+            ∙ letters-as v t a b r (length (s .args .w .now)) (length (s .args .letters .now)) (s .pre .work) (s .pre .lent) (q .query .ensures .0)
+            (s .args .letters .now),
+      ),
     )
 
 word-part-requires : tie.Need-word-part-requires
@@ -109,7 +120,12 @@ slice-aggregate-line-of-letters : tie.Need-slice-aggregate-line-of-letters
 slice-aggregate-line-of-letters c = search needs
 
 line-of-letters-requires : tie.Need-line-of-letters-requires
-line-of-letters-requires c κs = omega (arith, part-most (c .before .before), (c .before .before .before .before .before .before .before .before .before .before .before .before .before .before .before) .pre .out-long)
+line-of-letters-requires c κs = omega (
+  arith,
+  part-most
+      (c .before .before),
+  (c .before .before .before .before .before .before .before .before .before .before .before .before .before .before .before) .pre .out-long,
+)
 
 same-length-4 : tie.Need-same-length-4
 same-length-4 c = search needs
@@ -135,7 +151,12 @@ returns-2 c =
     ∙ ap (λ (x : Queried). said x (word n)) (sym (told n .answer .given .1))
     ∙ replied-as v t a b r (length (s .args .w .now)) (length (s .args .letters .now)) (s .pre .work) (s .pre .lent) (q .query .ensures .0) in (
       puts-as same ((c .before .before) .line-of-letters .ensures .0),
-      (q .query .ensures .1 .0, q .query .ensures .1 .1 .0 ∙ letters-as v t a b r (length (s .args .w .now)) (length (s .args .letters .now)) (s .pre .work) (s .pre .lent) (q .query .ensures .0) (s .args .letters .now)),
+      (
+        q .query .ensures .1 .0,
+        q .query .ensures .1 .1 .0
+            ∙ letters-as v t a b r (length (s .args .w .now)) (length (s .args .letters .now)) (s .pre .work) (s .pre .lent) (q .query .ensures .0)
+            (s .args .letters .now),
+      ),
     )
 
 pub reply-pair-spec : {M : Type 1} → statement M

@@ -72,12 +72,14 @@ enum-known-read-2 : tie.Need-enum-known-read-2
 enum-known-read-2 c = search needs
 
 slice-reshare-prefix-reply-numbers : tie.Need-slice-reshare-prefix-reply-numbers
-slice-reshare-prefix-reply-numbers c = omega (arith, some-numbers c .fitting, (c .before .before .before) .numbers .given, (c .before .before .before .before .before .before .before .before .before) .pre .0)
+slice-reshare-prefix-reply-numbers c = omega
+    (arith, some-numbers c .fitting, (c .before .before .before) .numbers .given, (c .before .before .before .before .before .before .before .before .before) .pre .0)
 
 slice-aggregate-reply-numbers : tie.Need-slice-aggregate-reply-numbers
 slice-aggregate-reply-numbers c =
     let d = c .before in
-    sym (length-take-le (count d) (stood (read d)) (omega (arith, some-numbers d .fitting, (c .before .before .before .before) .numbers .given, (c .before .before .before .before .before .before .before .before .before .before) .pre .0)))
+    sym (length-take-le (count d) (stood (read d))
+    (omega (arith, some-numbers d .fitting, (c .before .before .before .before) .numbers .given, (c .before .before .before .before .before .before .before .before .before .before) .pre .0)))
 
 reply-numbers-requires : tie.Need-reply-numbers-requires
 reply-numbers-requires c κs = search needs

@@ -20,7 +20,8 @@ product-requires-2 c κs =
     let n = ofList (s .args .n) in
     let x = ofList (s .args .x) in
     let m = ofList (s .args .m) in
-    rw (a .product .ensures, c .inverse .ensures) (room 2000000000 1000000000 (n ⊗ x) (adj m) (lit< tt) (small-⊗ 1000000000 1 n x (s .pre .0) (s .pre .1)) (small-adj 1000000000 m (s .pre .2)))
+    rw (a .product .ensures, c .inverse .ensures)
+    (room 2000000000 1000000000 (n ⊗ x) (adj m) (lit< tt) (small-⊗ 1000000000 1 n x (s .pre .0) (s .pre .1)) (small-adj 1000000000 m (s .pre .2)))
 
 returns : tie.Need-returns
 returns c = let b = c .before in let a = b .before in rw (c .product2 .ensures, a .product .ensures, b .inverse .ensures)

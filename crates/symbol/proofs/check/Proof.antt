@@ -7,8 +7,8 @@ use native.Mathlib.Omega.{arith}
 use borrow.Author.Needs.{needs}
 use lib.IntN.{ℤ}
 use lib.ListN.{length, length-drop}
-use Rattle.symbol.specs.Table.{pairings}
-use Rattle.symbol.specs.Check.{check6, check7, checkOf}
+use Rattle.symbol.specs.Table.{pairingEntries}
+use Rattle.symbol.specs.Check.{check6, check7, symbolCheck}
 use Rattle.refusal.specs.Refusal.{_orElse_}
 use Rattle.refusal.specs.declared.Checked.{Checked}
 use Rattle.symbol.proofs.Accepted.{verdict}
@@ -40,7 +40,9 @@ check-vertices-requires : tie.Need-check-vertices-requires
 check-vertices-requires c κs = (c .before .before .if2 .left, c .before .if3 .left)
 
 -- what the checks from the third on say, once the first two passed
-rest : (c : tie.After-check-vertices) → checkOf (c .before .before .before .before .before .args .v) (c .before .before .before .before .before .args .t .now) ≡ later (c .before .before .before .before .before .args .v) (c .before .before .before .before .before .args .t .now)
+rest : (c : tie.After-check-vertices) → symbolCheck (c .before .before .before .before .before .args .v)
+    (c .before .before .before .before .before .args .t .now) ≡ later (c .before .before .before .before .before .args .v)
+    (c .before .before .before .before .before .args .t .now)
 rest c =
     let d = c .before .before in
     let s = d .before .before .before in
@@ -93,4 +95,22 @@ returns-5 c =
     ∙ sym (rest r ∙ next-check _ (sym (r .check-vertices .ensures) ∙ e .enum-told .given .1)))
 
 pub check-spec : {M : Type 1} → statement M
-check-spec = tie.close (tie.spec returns returns-2 mul-if3 add-if3 returns-3 check-vertices-requires enum-known-vertices enum-told mul-check-pairings mul-check-pairings-2 sub-check-pairings part-check-pairings-start part-check-pairings-end check-pairings-requires returns-4 returns-5)
+check-spec =
+    tie.close
+    (tie.spec
+    returns
+    returns-2
+    mul-if3
+    add-if3
+    returns-3
+    check-vertices-requires
+    enum-known-vertices
+    enum-told
+    mul-check-pairings
+    mul-check-pairings-2
+    sub-check-pairings
+    part-check-pairings-start
+    part-check-pairings-end
+    check-pairings-requires
+    returns-4
+    returns-5)

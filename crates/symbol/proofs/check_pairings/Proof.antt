@@ -28,7 +28,8 @@ returns : tie.Need-returns
 returns c =
     let s = c .before .before .before .before .before in
     let v = s .args .v in
-    sym (first-refused _ (refuse-at (unpairedIn v (s .args .p .now)) (v + 1) (c .before .first-place .result) badPairing (c .before .first-place .ensures) (c .if1 .taken)))
+    sym (first-refused _ (refuse-at (unpairedIn v (s .args .p .now)) (v + 1) (c .before .first-place .result) badPairing (c .before .first-place .ensures)
+    (c .if1 .taken)))
 
 lacks-odd-requires : tie.Need-lacks-odd-requires
 lacks-odd-requires c κs = let s = c .before .before .before .before .before in (s .pre .0, s .pre .2)

@@ -8,7 +8,7 @@ use lib.Dec.{ltb}
 use lib.ListN.{length}
 use borrow.Author.Tests.{lt-ltb, le-ltb}
 use mathlib.Core.Bool.{not}
-use Rattle.symbol.specs.Count.{first}
+use Rattle.basics.specs.Count.{first}
 use Rattle.symbol.specs.Check.{outOfRange, apart, isZero, check3, check4, check5}
 use Rattle.refusal.specs.Refusal.{vertexEntry, notNeighbours, noZero}
 use Rattle.refusal.specs.declared.Checked.the-variants.{Accepted}
@@ -49,8 +49,11 @@ first-place-requires-2 : tie.Need-first-place-requires-2
 first-place-requires-2 c κs =
     let s = c .before .before in
     let v = s .args .v in
-    let t = s .args .t .now in
-    (ready-4 v t (s .args .marks .now) (s .pre .0) (long s) (none-found (outOfRange t) (2 * v) (c .before .first-place .result) (c .before .first-place .ensures) (c .if1 .left)), refl)
+    let t = s .args .t .now in (
+      ready-4 v t (s .args .marks .now) (s .pre .0) (long s)
+          (none-found (outOfRange t) (2 * v) (c .before .first-place .result) (c .before .first-place .ensures) (c .if1 .left)),
+      refl,
+    )
 
 add-if2 : tie.Need-add-if2
 add-if2 c = search needs
@@ -61,7 +64,8 @@ returns-2 c =
     let s = d .before .before in
     let v = s .args .v in
     let t = s .args .t .now in
-    sym (next-check _ (three d) ∙ first-refused (check5 v t) (refuse-at (apart v t) (v + 1) (c .before .first-place2 .result) notNeighbours (c .before .first-place2 .ensures) (c .if2 .taken)))
+    sym (next-check _ (three d) ∙ first-refused (check5 v t)
+    (refuse-at (apart v t) (v + 1) (c .before .first-place2 .result) notNeighbours (c .before .first-place2 .ensures) (c .if2 .taken)))
 
 first-place-requires-3 : tie.Need-first-place-requires-3
 first-place-requires-3 c κs =
@@ -82,7 +86,8 @@ returns-3 c =
     let v = s .args .v in
     let t = s .args .t .now in
     let k = first (isZero t) v in
-    sym (next-check _ (three (d .before .before)) ∙ next-check _ (four d) ∙ refuse-no (not (ltb k v)) noZero (ap not (lt-ltb k v (omega (arith, c .before .first-place3 .ensures, c .if3 .taken)))))
+    sym (next-check _ (three (d .before .before)) ∙ next-check _ (four d)
+    ∙ refuse-no (not (ltb k v)) noZero (ap not (lt-ltb k v (omega (arith, c .before .first-place3 .ensures, c .if3 .taken)))))
 
 returns-4 : tie.Need-returns-4
 returns-4 c =
@@ -91,7 +96,21 @@ returns-4 c =
     let v = s .args .v in
     let t = s .args .t .now in
     let k = first (isZero t) v in
-    sym (next-check _ (three (d .before .before)) ∙ next-check _ (four d) ∙ refuse-yes (not (ltb k v)) noZero (ap not (le-ltb k v (omega (arith, c .before .first-place3 .ensures, c .if3 .left)))))
+    sym (next-check _ (three (d .before .before)) ∙ next-check _ (four d)
+    ∙ refuse-yes (not (ltb k v)) noZero (ap not (le-ltb k v (omega (arith, c .before .first-place3 .ensures, c .if3 .left)))))
 
 pub check-vertices-spec : {M : Type 1} → statement M
-check-vertices-spec = tie.close (tie.spec mul-first-place first-place-requires mul-if1 returns add-first-place first-place-requires-2 add-if2 returns-2 first-place-requires-3 returns-3 returns-4)
+check-vertices-spec =
+    tie.close
+    (tie.spec
+    mul-first-place
+    first-place-requires
+    mul-if1
+    returns
+    add-first-place
+    first-place-requires-2
+    add-if2
+    returns-2
+    first-place-requires-3
+    returns-3
+    returns-4)

@@ -32,7 +32,8 @@ neighbours-requires : tie.Need-neighbours-requires
 neighbours-requires c κs =
     let s = c .before .before .before in
     let e = c .before .if2 .taken in
-    rw (c .at .ensures) (side-small (s .args .v) (s .args .t .now) (s .pre .0 .ranged e) (s .args .i) (omega (arith, places-4 (s .args .check) (s .args .v) e, s .pre .1)))
+    rw (c .at .ensures) (side-small (s .args .v) (s .args .t .now) (s .pre .0 .ranged e) (s .args .i)
+    (omega (arith, places-4 (s .args .check) (s .args .v) e, s .pre .1)))
 
 returns-2 : tie.Need-returns-2
 returns-2 c =

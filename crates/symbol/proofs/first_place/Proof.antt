@@ -5,7 +5,7 @@ use native.Mathlib.Omega.{arith}
 use native.Mathlib.Numerals.{add-one}
 use borrow.Author.Needs.{needs}
 use Rattle.symbol.specs.Inner.Ready.{failsOf}
-use Rattle.symbol.proofs.Count.{Clear, clear-zero, clear-more, clear-less, first-clear, first-hit}
+use Rattle.basics.proofs.Count.{Clear, clear-zero, clear-more, clear-less, first-clear, first-hit}
 use Rattle.symbol.proofs.first_place.Statement.{statement}
 use Rattle.symbol.proofs.first_place.Tie as tie
 
@@ -25,7 +25,8 @@ returns : tie.Need-returns Inv-loop μ-loop
 returns c =
     let l = c .before .before .before in
     let s = l .before in
-    sym (first-hit (failsOf (s .args .check) (s .args .v) (s .args .t .now)) (l .loop .i) (s .args .n) (omega arith) (l .loop .inv .1) (sym (c .before .finds .ensures) ∙ c .if1 .taken))
+    sym (first-hit (failsOf (s .args .check) (s .args .v) (s .args .t .now)) (l .loop .i) (s .args .n) (omega arith) (l .loop .inv .1)
+    (sym (c .before .finds .ensures) ∙ c .if1 .taken))
 
 add-i : tie.Need-add-i Inv-loop μ-loop
 add-i c = search needs
@@ -36,8 +37,11 @@ loop-less c = search needs
 loop-again : tie.Need-loop-again Inv-loop μ-loop
 loop-again c =
     let l = c .before .before .before in
-    let s = l .before in
-    (search needs, rw add-one (clear-more (failsOf (s .args .check) (s .args .v) (s .args .t .now)) (l .loop .i) (l .loop .inv .1) (sym (c .before .finds .ensures) ∙ c .if1 .left)))
+    let s = l .before in (
+      search needs,
+      rw add-one (clear-more (failsOf (s .args .check) (s .args .v) (s .args .t .now)) (l .loop .i) (l .loop .inv .1)
+          (sym (c .before .finds .ensures) ∙ c .if1 .left)),
+    )
 
 returns-2 : tie.Need-returns-2 Inv-loop μ-loop
 returns-2 c =

@@ -24,7 +24,8 @@ read-pairing-requires : tie.Need-read-pairing-requires
 read-pairing-requires c κs = search needs
 
 -- what was read is the pairing of side i
-is-read : (c : tie.After-read-pairing) → c .read-pairing .result ≡ pairingOf (c .before .before .args .v) (nth (c .before .before .args .p .now) (c .before .before .args .i))
+is-read : (c : tie.After-read-pairing) → c .read-pairing .result ≡ pairingOf (c .before .before .args .v)
+    (nth (c .before .before .args .p .now) (c .before .before .args .i))
 is-read c =
     let s = c .before .before in
     rw (kept (nth (s .args .p .now) (s .args .i)) (c .before .read-pairing-arg .given)) at (c .read-pairing .ensures)
@@ -39,7 +40,8 @@ enum-known-pairing : tie.Need-enum-known-pairing
 enum-known-pairing c = search needs
 
 -- the label that side i has
-label : (c : tie.After-pairing) → pairingOf (c .before .before .before .before .args .v) (nth (c .before .before .before .before .args .p .now) (c .before .before .before .before .args .i)) ≡ Free (c .pairing .given .0 .0)
+label : (c : tie.After-pairing) → pairingOf (c .before .before .before .before .args .v)
+    (nth (c .before .before .before .before .args .p .now) (c .before .before .before .before .args .i)) ≡ Free (c .pairing .given .0 .0)
 label c = sym (is-read (c .before .before)) ∙ c .pairing .given .1
 
 sub-counted : tie.Need-sub-counted
@@ -74,7 +76,8 @@ returns-3 : tie.Need-returns-3
 returns-3 c =
     let a = c .before .before in
     let s = a .before .before .before .before in
-    ap (λ (d : ℕ). not (eqb d 2)) (c .counted .ensures) ∙ sym (unpaired-free (s .args .v) (s .args .p .now) (s .args .i) (a .pairing .given .0 .0) (s .args .marks .now) (label a) (s .pre .3))
+    ap (λ (d : ℕ). not (eqb d 2)) (c .counted .ensures)
+    ∙ sym (unpaired-free (s .args .v) (s .args .p .now) (s .args .i) (a .pairing .given .0 .0) (s .args .marks .now) (label a) (s .pre .3))
 
 returns-4 : tie.Need-returns-4
 returns-4 c =
@@ -83,4 +86,19 @@ returns-4 c =
     sym (unpaired-by (s .args .v) (s .args .p .now) (s .args .i) Bad (sym (is-read r) ∙ c .enum-told3 .given .1))
 
 pub is-unpaired-spec : {M : Type 1} → statement M
-is-unpaired-spec = tie.close (tie.spec mul-read-pairing shared-slice-copy-out-read-pairing read-pairing-requires enum-told enum-told-2 enum-known-pairing sub-counted counted-requires enum-told-3 returns returns-2 returns-3 returns-4)
+is-unpaired-spec =
+    tie.close
+    (tie.spec
+    mul-read-pairing
+    shared-slice-copy-out-read-pairing
+    read-pairing-requires
+    enum-told
+    enum-told-2
+    enum-known-pairing
+    sub-counted
+    counted-requires
+    enum-told-3
+    returns
+    returns-2
+    returns-3
+    returns-4)

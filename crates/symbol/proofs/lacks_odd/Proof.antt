@@ -19,7 +19,8 @@ returns : tie.Need-returns
 returns c =
     let a = c .before in
     let s = a .before .before in
-    sym (odd-first (s .args .v) (s .args .p .now) (a .before .if1 .taken) (bits-negative (nth (s .args .p .now) 0) 2 (record { sfits = a .if22 .given }) (lit< tt) (c .if2 .taken)))
+    sym (odd-first (s .args .v) (s .args .p .now) (a .before .if1 .taken)
+    (bits-negative (nth (s .args .p .now) 0) 2 (record { sfits = a .if22 .given }) (lit< tt) (c .if2 .taken)))
 
 shared-slice-copy-out-result : tie.Need-shared-slice-copy-out-result
 shared-slice-copy-out-result c = search needs

@@ -25,7 +25,8 @@ returns-2 c =
 returns-3 : tie.Need-returns-3
 returns-3 c =
     let s = c .before .before .before in
-    sym (pairing-below (s .args .v) (s .args .x) (rw (toZ-ofZ (s .fits .x)) at (c .if3 .taken)) (λ e. c .before .before .if1 .left (ap (ofZ w64) e)) (λ e. c .before .if2 .left (ap (ofZ w64) e)))
+    sym (pairing-below (s .args .v) (s .args .x) (rw (toZ-ofZ (s .fits .x)) at (c .if3 .taken)) (λ e. c .before .before .if1 .left (ap (ofZ w64) e))
+    (λ e. c .before .if2 .left (ap (ofZ w64) e)))
 
 -- from the third test on the number is at least 1
 least : (c : tie.Else3) → AtLeastOne (c .before .before .before .args .x)

@@ -41,8 +41,11 @@ loop-again c =
     let l = a .before .before .before in
     let s = l .before in
     let p = s .args .p .now in
-    let i = l .loop .i in
-    (search needs, rw add-one (tallied-more (s .args .v) p i (l .loop .marks) _ (l .loop .inv .1) (rw (kept (nth p i) (a .before .note-arg .given)) at (c .note .ensures))))
+    let i = l .loop .i in (
+      search needs,
+      rw add-one (tallied-more (s .args .v) p i (l .loop .marks) _ (l .loop .inv .1)
+          (rw (kept (nth p i) (a .before .note-arg .given)) at (c .note .ensures))),
+    )
 
 returns : tie.Need-returns Inv-loop μ-loop
 returns c = let l = c .before in let e : l .loop .i ≡ l .before .args .v + 1 = omega arith in rw e at (l .loop .inv .1)

@@ -3,7 +3,7 @@
 --   digit w k        what is counted at k: the low or the high half of the byte k / 2
 --   capped n         n up to 3
 --   more d           one more than d, up to 3
---   Marked w w' k    w' counts one more than w at k, and the same elsewhere
+--   CountedAt w w' k  w' counts one more than w at k, and the same elsewhere
 --   Noted v x w w'   the same at the label that x is, and nothing more where x is no label
 --   Tallied v p i w  w counts, up to 3, how often each label 1 to v + 1 stands among the first i pairings p
 use mathlib.Core.Path.{_≡_}
@@ -14,8 +14,8 @@ use lib.Dec.{ltb, eqb}
 use lib.ListN.{length, getD}
 use lib.IntN.{ℤ, pos}
 use Rattle.matrix.specs.Matrix.{nth}
-use Rattle.matrix.specs.Euclid.{pick}
-use Rattle.symbol.specs.Count.{count}
+use Rattle.basics.specs.Choice.{pick}
+use Rattle.basics.specs.Count.{count}
 use Rattle.symbol.specs.Check.{eqZ}
 
 abbrev pub digit : List ℕ → ℕ → ℕ
@@ -27,7 +27,7 @@ capped n = pick (ltb n 3) n 3
 abbrev pub more : ℕ → ℕ
 more d = pick (ltb d 3) (d + 1) d
 
-pub record Marked (w w' : List ℕ) (k : ℕ) : Type 0 where
+pub record CountedAt (w w' : List ℕ) (k : ℕ) : Type 0 where
   pub long : length w' ≡ length w
   pub here : digit w' k ≡ more (digit w k)
   pub others : (j : ℕ) → (j ≡ k → ⊥) → digit w' j ≡ digit w j

@@ -40,8 +40,14 @@ loop-less c = search needs
 loop-again : tie.Need-loop-again Inv-loop μ-loop
 loop-again c = let l = c .before .loop in
     let t = tenth (l .at - 1) (l .rest) (omega arith) (l .inv .3) in
-    let s = front-store (l .buffer) (l .at) (last (l .rest)) (omega arith) (omega arith) in
-    (l .inv .0 ∙ digits-more (l .rest) (drop (l .at) (l .buffer)) (omega arith) ∙ ap (inFront (l .rest / 10)) (sym s), omega arith, omega arith, t .1, length-set (l .buffer) _ _ ∙ l .inv .4)
+    let s = front-store (l .buffer) (l .at) (last (l .rest)) (omega arith) (omega arith) in (
+      l .inv .0 ∙ digits-more (l .rest) (drop (l .at) (l .buffer)) (omega arith)
+          ∙ ap (inFront (l .rest / 10)) (sym s),
+      omega arith,
+      omega arith,
+      t .1,
+      length-set (l .buffer) _ _ ∙ l .inv .4,
+    )
 
 sub-at-2 : tie.Need-sub-at-2 Inv-loop μ-loop
 sub-at-2 c = search needs

@@ -32,7 +32,9 @@ same-length : tie.Need-same-length Inv-loop μ-loop
 same-length c = c .before .before .before .before .loop .inv .3
 
 returns : tie.Need-returns Inv-loop μ-loop
-returns c = let e = walked-end (c .before .before .before .before .loop .inv .0) (at-end (c .before .before .before .before .before .before .args .text .now) (c .before .before .before .before .loop .from) (c .before .before .next .ensures) (c .enum-told .given .1)) in
+returns c = let e = walked-end (c .before .before .before .before .loop .inv .0)
+    (at-end (c .before .before .before .before .before .before .args .text .now) (c .before .before .before .before .loop .from)
+    (c .before .before .next .ensures) (c .enum-told .given .1)) in
     absurd (omega arith)
 
 enum-told-2 : tie.Need-enum-told-2 Inv-loop μ-loop
@@ -42,7 +44,9 @@ same-length-2 : tie.Need-same-length-2 Inv-loop μ-loop
 same-length-2 c = c .before .before .before .before .loop .inv .3
 
 returns-2 : tie.Need-returns-2 Inv-loop μ-loop
-returns-2 c = absurd (sound-clash (c .before .before .before .before .loop .inv .0) (c .before .before .before .before .before .before .pre .0) (at-bad (c .before .before .before .before .before .before .args .text .now) (c .before .before .before .before .loop .from) (c .before .before .next .ensures) (c .enum-told2 .given .1)))
+returns-2 c = absurd (sound-clash (c .before .before .before .before .loop .inv .0) (c .before .before .before .before .before .before .pre .0)
+    (at-bad (c .before .before .before .before .before .before .args .text .now) (c .before .before .before .before .loop .from)
+    (c .before .before .next .ensures) (c .enum-told2 .given .1)))
 
 enum-known-n : tie.Need-enum-known-n Inv-loop μ-loop
 enum-known-n c = search needs
@@ -60,10 +64,17 @@ loop-less : tie.Need-loop-less Inv-loop μ-loop
 loop-less c = omega arith
 
 loop-again : tie.Need-loop-again Inv-loop μ-loop
-loop-again c = let s = at-number (c .before .before .before .before .before .before .before .args .text .now) (c .before .before .before .before .before .loop .from) (c .before .before .before .next .ensures) (c .before .n .given .1) in
+loop-again c = let s = at-number (c .before .before .before .before .before .before .before .args .text .now)
+    (c .before .before .before .before .before .loop .from) (c .before .before .before .next .ensures) (c .before .n .given .1) in
     let l = c .before .before .before .before .before .loop in
-    let e = toZ-ofZ {w = w64} {z = c .before .n .given .0 .0} (record { sfits = omega arith }) in
-    (walked-more (l .inv .0) s, omega arith, rw (e, l .inv .2) (store-next (l .inv .0) (c .before .before .before .before .before .before .before .pre .0) s (c .before .before .before .before .before .before .before .args .out .now) (omega arith)), length-set (l .out) (l .i) _ ∙ l .inv .3)
+    let e = toZ-ofZ {w = w64} {z = c .before .n .given .0 .0} (record { sfits = omega arith }) in (
+      walked-more (l .inv .0) s,
+      omega arith,
+      rw (e, l .inv .2)
+          (store-next (l .inv .0) (c .before .before .before .before .before .before .before .pre .0) s
+          (c .before .before .before .before .before .before .before .args .out .now) (omega arith)),
+      length-set (l .out) (l .i) _ ∙ l .inv .3,
+    )
 
 same-length-3 : tie.Need-same-length-3 Inv-loop μ-loop
 same-length-3 c = c .before .loop .inv .3

@@ -28,8 +28,12 @@ element-write-buffer c = search needs
 
 returns : tie.Need-returns
 returns c = let d = c .before .digits-back in
-    let e = c .before .before .before .size .ensures ∙ ap natAbs (toZ-ofZ (c .before .before .before .before .fits .n)) in
-    (front-store (d .last .1 .0) (d .result) 45 (omega arith) (omega arith) ∙ ap (λ (t : List ℕ). 45 ∷ t) (d .ensures .0 ∙ ap digits e) ∙ form-minus (c .before .before .before .before .fits .n) (c .if1 .taken), omega arith, length-set (d .last .1 .0) _ _ ∙ d .ensures .3)
+    let e = c .before .before .before .size .ensures ∙ ap natAbs (toZ-ofZ (c .before .before .before .before .fits .n)) in (
+      front-store (d .last .1 .0) (d .result) 45 (omega arith) (omega arith) ∙ ap (λ (t : List ℕ). 45 ∷ t) (d .ensures .0 ∙ ap digits e)
+          ∙ form-minus (c .before .before .before .before .fits .n) (c .if1 .taken),
+      omega arith,
+      length-set (d .last .1 .0) _ _ ∙ d .ensures .3,
+    )
 
 returns-2 : tie.Need-returns-2
 returns-2 c = let d = c .before .digits-back in

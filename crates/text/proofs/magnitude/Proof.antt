@@ -3,7 +3,7 @@ use mathlib.Core.Path.{_≡_, sym, _∙_, ap}
 use Prim.Native.Nat.{_≤_, _-_}
 use native.Mathlib.Omega.{arith}
 use lib.ListN.{length, getD, drop}
-use Rattle.text.specs.Number.{natural, onward, within}
+use Rattle.text.specs.Number.{naturalFrom, onward, within}
 use Rattle.text.specs.Inner.Inside.{naturalOf}
 use Rattle.text.proofs.Numbers.{digits-bad, digits-more, digits-end, natural-onward, push-within, as-some, natural-empty}
 use borrow.Author.Needs.{needs}
@@ -11,7 +11,7 @@ use Rattle.text.proofs.magnitude.Statement.{statement}
 use Rattle.text.proofs.magnitude.Tie as tie
 
 abbrev Inv-loop : tie.InvT-loop
-Inv-loop digits most m₀ i₀ m i = (i ≤ length digits) × (m ≤ most) × (within most (natural digits) ≡ within most (onward m (drop i digits)))
+Inv-loop digits most m₀ i₀ m i = (i ≤ length digits) × (m ≤ most) × (within most (naturalFrom digits) ≡ within most (onward m (drop i digits)))
 
 abbrev μ-loop : tie.MeasureT-loop
 μ-loop digits most m₀ i₀ m i = length digits - i
@@ -33,7 +33,9 @@ enum-told c = search needs
 
 returns-2 : tie.Need-returns-2 Inv-loop μ-loop
 returns-2 c = let t = c .before .before .before .before .before .before .before .before .args .digits .now in
-    ap naturalOf (sym (c .before .before .before .before .before .loop .inv .2 ∙ digits-bad (c .before .before .before .before .before .before .before .before .args .most) (c .before .before .before .before .before .loop .m) t (c .before .before .before .before .before .loop .i) (omega arith) (sym (c .enum-told .given .1) ∙ c .before .before .push .ensures)))
+    ap naturalOf (sym (c .before .before .before .before .before .loop .inv .2
+    ∙ digits-bad (c .before .before .before .before .before .before .before .before .args .most) (c .before .before .before .before .before .loop .m) t
+    (c .before .before .before .before .before .loop .i) (omega arith) (sym (c .enum-told .given .1) ∙ c .before .before .push .ensures)))
 
 enum-known-n : tie.Need-enum-known-n Inv-loop μ-loop
 enum-known-n c = search needs
@@ -48,8 +50,12 @@ loop-again : tie.Need-loop-again Inv-loop μ-loop
 loop-again c = let a = c .before .before .before .before .before .before .before .before .before .args in
     let l = c .before .before .before .before .before .before .loop in
     let n = c .before .n .given .0 .0 in
-    let e = sym (c .before .n .given .1) ∙ c .before .before .before .push .ensures in
-    (omega arith, push-within (a .most) (l .m) (getD (a .digits .now) (l .i) 0) n (as-some _ n e), l .inv .2 ∙ digits-more (a .most) (l .m) (a .digits .now) (l .i) (omega arith) n e)
+    let e = sym (c .before .n .given .1) ∙ c .before .before .before .push .ensures in (
+      omega arith,
+      push-within (a .most) (l .m) (getD (a .digits .now) (l .i) 0) n (as-some _ n e),
+      l .inv .2
+          ∙ digits-more (a .most) (l .m) (a .digits .now) (l .i) (omega arith) n e,
+    )
 
 returns-3 : tie.Need-returns-3 Inv-loop μ-loop
 returns-3 c = let t = c .before .before .before .before .args .digits .now in

@@ -15,7 +15,8 @@ stretch-end-requires : tie.Need-stretch-end-requires
 stretch-end-requires c κs = search needs
 
 returns : tie.Need-returns
-returns c = left-end (c .before .before .before .args .text .now) (c .before .before .before .args .from) (c .before .stretch-end .result) (c .before .before .before .pre) (c .before .stretch-end .ensures) (c .if1 .taken)
+returns c = left-end (c .before .before .before .args .text .now) (c .before .before .before .args .from) (c .before .stretch-end .result)
+    (c .before .before .before .pre) (c .before .stretch-end .ensures) (c .if1 .taken)
 
 stretch-end-requires-2 : tie.Need-stretch-end-requires-2
 stretch-end-requires-2 c κs = search needs
@@ -29,7 +30,8 @@ part-signed-start c = search needs
 part-signed-end : tie.Need-part-signed-end
 part-signed-end c = let a = c .before .before .before .before .args in
     let h : c .stretch-end2 .result ≤ length (a .text .now) =
-    step-inside (a .text .now) (a .from) (c .before .before .stretch-end .result) (c .before .before .before .before .pre) (c .before .before .stretch-end .ensures) (c .before .if1 .left) (c .stretch-end2 .result) (c .stretch-end2 .ensures) in
+    step-inside (a .text .now) (a .from) (c .before .before .stretch-end .result) (c .before .before .before .before .pre)
+    (c .before .before .stretch-end .ensures) (c .before .if1 .left) (c .stretch-end2 .result) (c .stretch-end2 .ensures) in
     search needs
 
 signed-requires : tie.Need-signed-requires
@@ -43,14 +45,20 @@ enum-known-n c = search needs
 
 returns-2 : tie.Need-returns-2
 returns-2 c = let a = c .before .before .before .before .before .before .before .before .args in
-    piece-bad (a .text .now) (a .from) (c .before .before .before .before .before .before .stretch-end .result) (c .before .before .before .before .before .before .before .before .pre) (c .before .before .before .before .before .before .stretch-end .ensures) (c .before .before .before .before .before .if1 .left) (c .before .before .before .before .stretch-end2 .result) (c .before .before .before .before .stretch-end2 .ensures)
+    piece-bad (a .text .now) (a .from) (c .before .before .before .before .before .before .stretch-end .result)
+    (c .before .before .before .before .before .before .before .before .pre) (c .before .before .before .before .before .before .stretch-end .ensures)
+    (c .before .before .before .before .before .if1 .left) (c .before .before .before .before .stretch-end2 .result)
+    (c .before .before .before .before .stretch-end2 .ensures)
     (sym (c .enum-told .given .1) ∙ c .before .before .signed .ensures)
 
 returns-3 : tie.Need-returns-3
 returns-3 c = let a = c .before .before .before .before .before .before .before .before .before .args in
     let n = c .before .n .given .0 .0 in
     rw (toZ-ofZ {w = w64} {z = n} (record { sfits = omega arith }))
-    (piece-is (a .text .now) (a .from) (c .before .before .before .before .before .before .before .stretch-end .result) (c .before .before .before .before .before .before .before .before .before .pre) (c .before .before .before .before .before .before .before .stretch-end .ensures) (c .before .before .before .before .before .before .if1 .left) (c .before .before .before .before .before .stretch-end2 .result) (c .before .before .before .before .before .stretch-end2 .ensures)
+    (piece-is (a .text .now) (a .from) (c .before .before .before .before .before .before .before .stretch-end .result)
+    (c .before .before .before .before .before .before .before .before .before .pre)
+    (c .before .before .before .before .before .before .before .stretch-end .ensures) (c .before .before .before .before .before .before .if1 .left)
+    (c .before .before .before .before .before .stretch-end2 .result) (c .before .before .before .before .before .stretch-end2 .ensures)
     n (sym (c .before .n .given .1) ∙ c .before .before .before .signed .ensures))
 
 pub next-spec : {M : Type 1} → statement M

@@ -30,11 +30,19 @@ add-n c = search needs
 
 returns-4 : tie.Need-returns-4
 returns-4 c = let a = c .before .before .before .before .before .args in
-    rw (digit-yes (a .b) (c .before .before .before .before .if1 .left) (c .before .before .before .if2 .left), lt-leb (a .m * 10 + (a .b - 48)) (a .most) (omega arith))
+    rw (
+      digit-yes (a .b) (c .before .before .before .before .if1 .left) (c .before .before .before .if2 .left),
+      lt-leb (a .m * 10 + (a .b - 48)) (a .most)
+          (omega arith),
+    )
 
 returns-5 : tie.Need-returns-5
 returns-5 c = let a = c .before .before .before .before .before .args in
-    rw (digit-yes (a .b) (c .before .before .before .before .if1 .left) (c .before .before .before .if2 .left), le-leb (a .m * 10 + (a .b - 48)) (a .most) (omega arith)) (ap (λ (k : ℕ). natural.Is (a .m * 10 + k)) (c .before .wide .ensures))
+    rw (
+      digit-yes (a .b) (c .before .before .before .before .if1 .left) (c .before .before .before .if2 .left),
+      le-leb (a .m * 10 + (a .b - 48)) (a .most)
+          (omega arith),
+    ) (ap (λ (k : ℕ). natural.Is (a .m * 10 + k)) (c .before .wide .ensures))
 
 pub push-spec : {M : Type 1} → statement M
 push-spec =

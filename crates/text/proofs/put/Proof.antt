@@ -35,8 +35,12 @@ loop-less c = search needs
 
 loop-again : tie.Need-loop-again Inv-loop μ-loop
 loop-again c = let a = c .before .before .before .args in
-    let l = c .before .before .loop in
-    (omega arith, rw (l .inv .1) (put-more (a .out .now) (a .at) (a .bytes .now) (l .i) (c .before .before .before .pre) (c .before .loop-test .taken)), length-set (l .out) _ _ ∙ l .inv .2)
+    let l = c .before .before .loop in (
+      omega arith,
+      rw (l .inv .1) (put-more (a .out .now) (a .at) (a .bytes .now) (l .i) (c .before .before .before .pre)
+          (c .before .loop-test .taken)),
+      length-set (l .out) _ _ ∙ l .inv .2,
+    )
 
 same-length : tie.Need-same-length Inv-loop μ-loop
 same-length c = c .before .loop .inv .2

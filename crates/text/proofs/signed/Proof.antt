@@ -7,7 +7,7 @@ use mir.Facts.{toZ-ofZ, toZ-pos}
 use Rattle.text.specs.Inner.Inside.{integerOf}
 use Rattle.text.specs.declared.Integer.the-variants as integer
 use Rattle.text.proofs.Numbers.{within-le, number-empty, minus-bad, minus-is, plain-bad, plain-is}
-use Rattle.text.specs.Number.{natural}
+use Rattle.text.specs.Number.{naturalFrom}
 use borrow.Author.Needs.{needs}
 use Rattle.text.proofs.signed.Statement.{statement}
 use Rattle.text.proofs.signed.Tie as tie
@@ -49,23 +49,35 @@ enum-known-m-2 : tie.Need-enum-known-m-2
 enum-known-m-2 c = search needs
 
 cast-t18 : tie.Need-cast-t18
-cast-t18 c = record { sfits = omega (arith, within-le 9223372036854775807 (natural (c .before .before .before .before .before .before .before .before .args .piece .now)) (c .before .m2 .given .0 .0) (sym (c .before .m2 .given .1) ∙ c .before .before .before .magnitude2 .ensures)) }
+cast-t18 c = record {
+  sfits = omega (
+    arith,
+    within-le 9223372036854775807
+        (naturalFrom (c .before .before .before .before .before .before .before .before .args .piece .now)) (c .before .m2 .given .0 .0)
+        (sym (c .before .m2 .given .1) ∙ c .before .before .before .magnitude2 .ensures),
+  );
+}
 
 returns-2 : tie.Need-returns-2
-returns-2 c = minus-bad (c .before .before .before .before .before .before .before .before .args .piece .now) (omega arith) (c .before .before .before .before .if2 .taken) (sym (c .enum-told .given .1) ∙ c .before .before .magnitude .ensures)
+returns-2 c = minus-bad (c .before .before .before .before .before .before .before .before .args .piece .now) (omega arith)
+    (c .before .before .before .before .if2 .taken) (sym (c .enum-told .given .1) ∙ c .before .before .magnitude .ensures)
 
 returns-3 : tie.Need-returns-3
 returns-3 c = ap integer.Is (toZ-ofZ {w = w64} {z = c .negative .result} (record { sfits = c .negative .ok }) ∙ c .negative .ensures)
-    ∙ minus-is (c .before .before .before .before .before .before .before .before .before .before .args .piece .now) (omega arith) (c .before .before .before .before .before .before .if2 .taken) (c .before .before .m .given .0 .0) (sym (c .before .before .m .given .1) ∙ c .before .before .before .before .magnitude .ensures)
+    ∙ minus-is (c .before .before .before .before .before .before .before .before .before .before .args .piece .now) (omega arith)
+    (c .before .before .before .before .before .before .if2 .taken) (c .before .before .m .given .0 .0)
+    (sym (c .before .before .m .given .1) ∙ c .before .before .before .before .magnitude .ensures)
 
 returns-4 : tie.Need-returns-4
-returns-4 c = plain-bad (c .before .before .before .before .before .before .before .args .piece .now) (omega arith) (c .before .before .before .if2 .left) (sym (c .enum-told2 .given .1) ∙ c .before .before .magnitude2 .ensures)
+returns-4 c = plain-bad (c .before .before .before .before .before .before .before .args .piece .now) (omega arith) (c .before .before .before .if2 .left)
+    (sym (c .enum-told2 .given .1) ∙ c .before .before .magnitude2 .ensures)
 
 returns-5 : tie.Need-returns-5
 returns-5 c = let p = c .before .before .before .before .before .before .before .before .args .piece .now in
     let m = c .before .m2 .given .0 .0 in
     let e = sym (c .before .m2 .given .1) ∙ c .before .before .before .magnitude2 .ensures in
-    ap integer.Is (toZ-pos w64 (omega (arith, within-le 9223372036854775807 (natural p) m e))) ∙ plain-is p (omega arith) (c .before .before .before .before .if2 .left) m e
+    ap integer.Is (toZ-pos w64 (omega (arith, within-le 9223372036854775807 (naturalFrom p) m e)))
+    ∙ plain-is p (omega arith) (c .before .before .before .before .if2 .left) m e
 
 pub signed-spec : {M : Type 1} → statement M
 signed-spec =

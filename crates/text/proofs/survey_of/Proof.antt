@@ -3,7 +3,7 @@ use native.Mathlib.Omega.{arith}
 use Prim.Native.Nat.{_≤_, _-_}
 use lib.ListN.{length}
 use Rattle.text.proofs.Walks.{Walked, walked-start, walked-more, walked-past, walked-count, walked-bad, at-end, at-bad, at-number}
-use Rattle.text.specs.Inner.Inside.{Stepped}
+use Rattle.text.specs.Inner.Inside.{PieceRead}
 use borrow.Author.Needs.{needs}
 use Rattle.text.proofs.survey_of.Statement.{statement}
 use Rattle.text.proofs.survey_of.Tie as tie
@@ -16,8 +16,10 @@ abbrev μ-loop : tie.MeasureT-loop
 
 -- the number that a turn goes past
 step : (c : tie.After-known-told2 Inv-loop μ-loop)
-    → Stepped (c .before .before .before .before .before .before .before .args .text .now) (c .before .before .before .before .before .loop .from) (c .before .to .given .0 .0) (c .before .to .given .0 .1 .0) (c .before .to .given .0 .1 .1 .0)
-step c = at-number (c .before .before .before .before .before .before .before .args .text .now) (c .before .before .before .before .before .loop .from) (c .before .before .before .next .ensures) (c .before .to .given .1)
+    → PieceRead (c .before .before .before .before .before .before .before .args .text .now) (c .before .before .before .before .before .loop .from)
+    (c .before .to .given .0 .0) (c .before .to .given .0 .1 .0) (c .before .to .given .0 .1 .1 .0)
+step c = at-number (c .before .before .before .before .before .before .before .args .text .now) (c .before .before .before .before .before .loop .from)
+    (c .before .before .before .next .ensures) (c .before .to .given .1)
 
 loop-holds : tie.Need-loop-holds Inv-loop μ-loop
 loop-holds c = (walked-start (c .before .args .text .now), omega arith)
@@ -30,14 +32,16 @@ enum-told c = search needs
 
 returns : tie.Need-returns Inv-loop μ-loop
 returns c = let t = c .before .before .before .before .before .before .args .text .now in
-    walked-count (c .before .before .before .before .loop .inv .0) (at-end t (c .before .before .before .before .loop .from) (c .before .before .next .ensures) (c .enum-told .given .1))
+    walked-count (c .before .before .before .before .loop .inv .0)
+    (at-end t (c .before .before .before .before .loop .from) (c .before .before .next .ensures) (c .enum-told .given .1))
 
 enum-known-at : tie.Need-enum-known-at Inv-loop μ-loop
 enum-known-at c = search needs
 
 returns-2 : tie.Need-returns-2 Inv-loop μ-loop
 returns-2 c = let t = c .before .before .before .before .before .before .before .args .text .now in
-    walked-bad (c .before .before .before .before .before .loop .inv .0) (at-bad t (c .before .before .before .before .before .loop .from) (c .before .before .before .next .ensures) (c .before .at .given .1))
+    walked-bad (c .before .before .before .before .before .loop .inv .0)
+    (at-bad t (c .before .before .before .before .before .loop .from) (c .before .before .before .next .ensures) (c .before .at .given .1))
 
 enum-known-to : tie.Need-enum-known-to Inv-loop μ-loop
 enum-known-to c = search needs

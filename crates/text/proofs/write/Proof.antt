@@ -36,9 +36,13 @@ returns c = let a = c .before .before .before .before .before .before .before .b
     let f = c .before .before .before .before .before .before .form in
     let tail = drop (f .result) (f .last .1 .0) in
     let whole : take (21 - f .result) tail ≡ decimalOf (a .n) =
-    take-all (21 - f .result) tail (omega (arith, length-drop (f .result) (f .last .1 .0))) ∙ f .ensures .0 ∙ ap decimalOf (toZ-ofZ (c .before .before .before .before .before .before .before .before .before .fits .n)) in
-    let w = c .before .before .copy in
-    (w .ensures .0 ∙ ap (λ (l : List ℕ). writtenOf (length l) (length (a .out .now)) (a .at)) whole, w .ensures .1 ∙ ap (λ (l : List ℕ). standing (w .result) l (a .at) (a .out .now)) whole)
+    take-all (21 - f .result) tail (omega (arith, length-drop (f .result) (f .last .1 .0))) ∙ f .ensures .0
+    ∙ ap decimalOf (toZ-ofZ (c .before .before .before .before .before .before .before .before .before .fits .n)) in
+    let w = c .before .before .copy in (
+      w .ensures .0 ∙ ap (λ (l : List ℕ). writtenOf (length l) (length (a .out .now)) (a .at)) whole,
+      w .ensures .1
+          ∙ ap (λ (l : List ℕ). standing (w .result) l (a .at) (a .out .now)) whole,
+    )
 
 pub write-spec : {M : Type 1} → statement M
 write-spec =

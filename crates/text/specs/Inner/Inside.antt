@@ -1,11 +1,11 @@
 -- What the functions inside the crate promise each other.
 --     naturalOf n             a natural number or none, as the code's answer
 --     integerOf n             a signed number or none, as the code's answer
---     pushed most m b         the number with the digits of m and then the digit b, where it is at most `most`
+--     digitPushed most m b    the number with the digits of m and then the digit b, where it is at most `most`
 --     wantedOf w              how many numbers are wanted, as the code's answer
 --     stretch kind t          how many bytes t starts with that are all blank (kind is true), or all not blank (false)
 --     left t from             the pieces of t from the offset `from` on, where no piece is under way
---     Stepped t from n at to  the first of them begins at `at` and says n, and the others are those from `to` on
+--     PieceRead t from n at to  the first of them begins at `at` and says n, and the others are those from `to` on
 --     Stuck t from at         the first of them begins at `at` and is no number
 --     Steps t from s          s says which of the two holds, or that no piece is left
 --     badOrCount o n          the place o of a piece that is no number, or else the count n, as the code's answer
@@ -20,7 +20,7 @@ use mathlib.Core.Option.{Option, none, some}
 use lib.Dec.{leb}
 use lib.IntN.{ℤ}
 use lib.ListN.{length, drop}
-use Rattle.text.specs.Choice.{pick}
+use Rattle.basics.specs.Choice.{pick}
 use Rattle.text.specs.Blank.{isBlank}
 use Rattle.text.specs.Number.{isDigit}
 use Rattle.text.specs.Piece.{Piece, piecesFrom, pieces, firstBad, numbers}
@@ -46,8 +46,8 @@ abbrev pub integerOf : Option ℤ → Integer
 integerOf none = integer.Bad
 integerOf (some n) = integer.Is n
 
-abbrev pub pushed : ℕ → ℕ → ℕ → Option ℕ
-pushed most m b =
+abbrev pub digitPushed : ℕ → ℕ → ℕ → Option ℕ
+digitPushed most m b =
     pick (isDigit b) (pick (leb (m * 10 + (b - 48)) most) (some (m * 10 + (b - 48))) none) none
 
 abbrev pub wantedOf : Option ℕ → Wanted
@@ -61,7 +61,7 @@ stretch kind (b ∷ t) = elim (Bool·beq (isBlank b) kind) [ true ↦ suc (stret
 unfoldable pub left : List ℕ → ℕ → List Piece
 left t from = piecesFrom from false (drop from t)
 
-pub record Stepped (t : List ℕ) (from : ℕ) (n : ℤ) (at to : ℕ) : Type 0 where
+pub record PieceRead (t : List ℕ) (from : ℕ) (n : ℤ) (at to : ℕ) : Type 0 where
   pub here : left t from ≡ record { at = at; says = some n } ∷ left t to
   pub onward : from < to
   pub inside : to ≤ length t
@@ -73,7 +73,7 @@ pub record Stuck (t : List ℕ) (from at : ℕ) : Type 0 where
 abbrev pub Steps : List ℕ → ℕ → Step → Type 0
 Steps t from step.End = left t from ≡ []
 Steps t from (step.Bad at) = Stuck t from at
-Steps t from (step.Number n at to) = Stepped t from n at to
+Steps t from (step.Number n at to) = PieceRead t from n at to
 
 abbrev pub badOrCount : Option ℕ → ℕ → Survey
 badOrCount none n = survey.Count n

@@ -30,8 +30,12 @@ returns c =
     let p = n .before .before .before .before in
     let s = p .before .before .before .before in
     let g = puts-as (spaced-one (natural (s .args .a))) (n .put-natural .ensures .0) in
-    let h = e .put2 .ensures in
-    (line-put (s .args .name .now) (natural (s .args .a) ∷ []) (p .put .ensures) g h (omega (arith, s .pre, p .put .ensures .end-is, g .end-is, n .put-natural .ensures .1)), omega (arith, h .end-is, p .put .ensures .end-is, n .put-natural .ensures .1))
+    let h = e .put2 .ensures in (
+      line-put (s .args .name .now) (natural (s .args .a) ∷ []) (p .put .ensures) g h
+          (omega (arith, s .pre, p .put .ensures .end-is, g .end-is, n .put-natural .ensures .1)),
+      omega
+          (arith, h .end-is, p .put .ensures .end-is, n .put-natural .ensures .1),
+    )
 
 pub line-of-one-spec : {M : Type 1} → statement M
 line-of-one-spec =

@@ -34,8 +34,12 @@ returns c =
     let p = m .before .before .before .before in
     let s = p .before .before .before .before in
     let g = puts-as (spaced-two (natural (s .args .a)) (natural (s .args .b))) (puts-then (m .put-natural .ensures .0) (n .put-natural2 .ensures .0) (omega arith)) in
-    let h = e .put2 .ensures in
-    (line-put (s .args .name .now) (natural (s .args .a) ∷ natural (s .args .b) ∷ []) (p .put .ensures) g h (omega (arith, s .pre, p .put .ensures .end-is, g .end-is, m .put-natural .ensures .1, n .put-natural2 .ensures .1)), omega (arith, h .end-is, p .put .ensures .end-is, m .put-natural .ensures .1, n .put-natural2 .ensures .1))
+    let h = e .put2 .ensures in (
+      line-put (s .args .name .now) (natural (s .args .a) ∷ natural (s .args .b) ∷ []) (p .put .ensures) g h
+          (omega (arith, s .pre, p .put .ensures .end-is, g .end-is, m .put-natural .ensures .1, n .put-natural2 .ensures .1)),
+      omega
+          (arith, h .end-is, p .put .ensures .end-is, m .put-natural .ensures .1, n .put-natural2 .ensures .1),
+    )
 
 pub line-of-two-spec : {M : Type 1} → statement M
 line-of-two-spec =

@@ -21,7 +21,8 @@ returns c =
     let k = c .before in
     let m = k .before .before .before .before in
     let s = m .before .before .before .before in
-    by-writing (s .args .bytes .now) (s .args .out .now) _ (s .args .at) (m .copy .result) (m .copy .ensures .0) (m .copy .ensures .1) (s .pre) (k .written .given .0 .0) (k .written .given .1)
+    by-writing (s .args .bytes .now) (s .args .out .now) _ (s .args .at) (m .copy .result) (m .copy .ensures .0) (m .copy .ensures .1) (s .pre)
+    (k .written .given .0 .0) (k .written .given .1)
 
 same-length-2 : tie.Need-same-length-2
 same-length-2 c = search needs
@@ -30,7 +31,8 @@ returns-2 : tie.Need-returns-2
 returns-2 c =
     let m = c .before .before .before .before in
     let s = m .before .before .before .before in
-    no-refusal (s .args .bytes .now) (s .args .out .now) _ (s .args .at) (m .copy .result) (m .copy .ensures .0) (m .copy .ensures .1) (s .pre) (c .enum-told .given .0 .0) (c .enum-told .given .1)
+    no-refusal (s .args .bytes .now) (s .args .out .now) _ (s .args .at) (m .copy .result) (m .copy .ensures .0) (m .copy .ensures .1) (s .pre)
+    (c .enum-told .given .0 .0) (c .enum-told .given .1)
 
 pub put-spec : {M : Type 1} → statement M
 put-spec =

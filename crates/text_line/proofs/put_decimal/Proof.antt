@@ -26,7 +26,8 @@ returns c =
     let m = k .before .before .before .before in
     let s = m .before .before .before in
     let few = integer-most (s .args .n) (s .fits .n) in
-    let p = by-writing (decimalOf (s .args .n)) (s .args .out .now) _ (s .args .at) (m .write .result) (rw (toZ-ofZ (s .fits .n)) at (m .write .ensures .0)) (rw (toZ-ofZ (s .fits .n)) at (m .write .ensures .1)) (omega (arith, s .pre, few)) (k .written .given .0 .0) (k .written .given .1) in
+    let p = by-writing (decimalOf (s .args .n)) (s .args .out .now) _ (s .args .at) (m .write .result) (rw (toZ-ofZ (s .fits .n)) at (m .write .ensures .0))
+    (rw (toZ-ofZ (s .fits .n)) at (m .write .ensures .1)) (omega (arith, s .pre, few)) (k .written .given .0 .0) (k .written .given .1) in
     (p, omega (arith, p .end-is, few))
 
 same-length-2 : tie.Need-same-length-2
@@ -37,7 +38,8 @@ returns-2 c =
     let m = c .before .before .before .before in
     let s = m .before .before .before in
     let few = integer-most (s .args .n) (s .fits .n) in
-    no-refusal (decimalOf (s .args .n)) (s .args .out .now) _ (s .args .at) (m .write .result) (rw (toZ-ofZ (s .fits .n)) at (m .write .ensures .0)) (rw (toZ-ofZ (s .fits .n)) at (m .write .ensures .1)) (omega (arith, s .pre, few)) (c .enum-told .given .0 .0) (c .enum-told .given .1)
+    no-refusal (decimalOf (s .args .n)) (s .args .out .now) _ (s .args .at) (m .write .result) (rw (toZ-ofZ (s .fits .n)) at (m .write .ensures .0))
+    (rw (toZ-ofZ (s .fits .n)) at (m .write .ensures .1)) (omega (arith, s .pre, few)) (c .enum-told .given .0 .0) (c .enum-told .given .1)
 
 pub put-decimal-spec : {M : Type 1} → statement M
 put-decimal-spec =

@@ -25,7 +25,8 @@ returns c =
     let m = k .before .before .before .before in
     let s = m .before .before .before in
     let few = digits-most 20 (s .args .n) (omega arith) (omega (arith, s .fits .n .fits)) in
-    let p = by-writing (digits (s .args .n)) (s .args .out .now) _ (s .args .at) (m .write-natural .result) (m .write-natural .ensures .0) (m .write-natural .ensures .1) (omega (arith, s .pre, few)) (k .written .given .0 .0) (k .written .given .1) in
+    let p = by-writing (digits (s .args .n)) (s .args .out .now) _ (s .args .at) (m .write-natural .result) (m .write-natural .ensures .0)
+    (m .write-natural .ensures .1) (omega (arith, s .pre, few)) (k .written .given .0 .0) (k .written .given .1) in
     (p, omega (arith, p .end-is, few))
 
 same-length-2 : tie.Need-same-length-2
@@ -36,7 +37,8 @@ returns-2 c =
     let m = c .before .before .before .before in
     let s = m .before .before .before in
     let few = digits-most 20 (s .args .n) (omega arith) (omega (arith, s .fits .n .fits)) in
-    no-refusal (digits (s .args .n)) (s .args .out .now) _ (s .args .at) (m .write-natural .result) (m .write-natural .ensures .0) (m .write-natural .ensures .1) (omega (arith, s .pre, few)) (c .enum-told .given .0 .0) (c .enum-told .given .1)
+    no-refusal (digits (s .args .n)) (s .args .out .now) _ (s .args .at) (m .write-natural .result) (m .write-natural .ensures .0)
+    (m .write-natural .ensures .1) (omega (arith, s .pre, few)) (c .enum-told .given .0 .0) (c .enum-told .given .1)
 
 pub put-digits-spec : {M : Type 1} → statement M
 put-digits-spec =

@@ -1,29 +1,24 @@
 -- `text_line::put_integers` meets its contract: after i turns the first i numbers stand. Assumes nothing.
-use mathlib.Core.Path.{_≡_, refl, sym, ap, _∙_}
-use mathlib.Core.List.{List, map}
-use Prim.Native.Nat.{ℕ, _+_, _-_, _*_, _≤_}
+use mathlib.Core.Path.{refl}
+use Prim.Native.Nat.{_-_}
 use native.Mathlib.Omega.{arith}
 use lib.IntN.{pos}
-use lib.ListN.{length, getD, take}
-use lib.Seq.{take-all}
+use lib.ListN.{length, getD}
 use mir.Syntax.{w64}
 use mir.Facts.{toZ-ofZ}
-use Rattle.text_line.specs.Line.{natural, spaced, Puts}
-use Rattle.text_line.proofs.Placing.{puts-as, puts-none, puts-then, puts-same}
-use Rattle.text_line.proofs.Spacing.{integers-more}
+use Rattle.text_line.proofs.Spacing.{Spaced, spaced-none, spaced-more, spaced-all}
 use borrow.Author.Needs.{needs}
 use Rattle.text_line.proofs.put_integers.Statement.{statement}
 use Rattle.text_line.proofs.put_integers.Tie as tie
 
 abbrev Inv-loop : tie.InvT-loop
-Inv-loop xs out₀ at end₀ i₀ out end i = Puts (spaced (take i xs)) at end out₀ out × (end ≤ at + 21 * i) × (i ≤ length xs) × (length out ≡ length out₀)
+Inv-loop xs out₀ at end₀ i₀ out end i = Spaced 21 xs at i end out₀ out
 
 abbrev μ-loop : tie.MeasureT-loop
 μ-loop xs out₀ at end₀ i₀ out end i = length xs - i
 
 loop-holds : tie.Need-loop-holds Inv-loop μ-loop
-unfolding spaced
-loop-holds c = let s = c .before in (puts-none (s .args .at) (s .args .out .now), omega arith, omega arith, refl)
+loop-holds c = let s = c .before in spaced-none 21 (s .args .xs .now) (s .args .at) (s .args .out .now)
 
 mul-put-integer : tie.Need-mul-put-integer Inv-loop μ-loop
 mul-put-integer c = search needs
@@ -43,28 +38,19 @@ loop-less c = search needs
 loop-again : tie.Need-loop-again Inv-loop μ-loop
 loop-again c =
     let m = c .before .before in
-    let t = m .before .before .before in
-    let q = t .before .loop in
-    let s = t .before .before .before in
     let a = m .before .before in
+    let q = a .before .before .loop in
+    let s = a .before .before .before .before in
     let z = getD (s .args .xs .now) (q .i) (pos 0) in
     let e = rw (toZ-ofZ {w = w64} {z = z} (record { sfits = a .put-integer-arg .given })) at (m .put-integer .ensures) in
-    let most = puts-same (e .0) (omega (arith, e .0 .end-is, e .1, q .inv .3, s .pre)) in (
-      puts-as (sym (integers-more (s .args .xs .now) (q .i) (t .loop-test .taken))) (puts-then (q .inv .0) (e .0) (omega (arith, s .pre))),
-      omega (arith, e .1, q .inv .1),
-      omega (arith, t .loop-test .taken),
-      most ∙ q .inv .3,
-    )
+    spaced-more (q .inv) (omega arith) refl (e .0) (omega (arith, e .1, q .inv .most, q .inv .same, s .pre)) (e .1)
 
 same-length : tie.Need-same-length Inv-loop μ-loop
 same-length c = search needs
 
 returns : tie.Need-returns Inv-loop μ-loop
 returns c =
-    let q = c .before .loop in
-    let s = c .before .before .before in
-    let all : take (q .i) (s .args .xs .now) ≡ s .args .xs .now = take-all (q .i) (s .args .xs .now) (c .loop-test .left) in
-    (puts-as (ap spaced all) (q .inv .0), omega (arith, q .inv .1, q .inv .2, c .loop-test .left))
+    spaced-all (c .before .loop .inv) (c .loop-test .left)
 
 pub put-integers-spec : {M : Type 1} → statement M
 put-integers-spec =

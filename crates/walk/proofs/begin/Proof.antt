@@ -1,4 +1,4 @@
--- `begin` writes the first power of Q exactly where the rows of m agree, for the word of m begins with one just then (`begun-head`); where
+-- `begin` writes the first power of Q exactly where the rows of m agree, for the word of m begins with one exactly then (`begun-head`); where
 -- they don't, all of the word is still to come (`begun-tail`). Assumes nothing.
 use native.Mathlib.Omega.{arith}
 use mathlib.Core.Path.{refl, sym, _∙_}
@@ -20,8 +20,12 @@ power-requires : tie.Need-power-requires
 power-requires c κs =
     let s = c .before .before .before .before .before in
     let e = c .before .before .before .whole .ensures in
-    let m = ofList (s .args .m) in
-    (s .pre .0, sound-more (2 ^ 60) (2 ^ 61) (omega arith) (whole-sound m (s .pre .2) (s .pre .3) (s .pre .1) (e .0) (e .1) (e .2)), whole-proper m (s .pre .2) (c .before .before .before .whole .result) (e .0) (sym (c .before .before .rows-agree .ensures) ∙ c .before .if1 .taken))
+    let m = ofList (s .args .m) in (
+      s .pre .0,
+      sound-more (2 ^ 60) (2 ^ 61) (omega arith) (whole-sound m (s .pre .2) (s .pre .3) (s .pre .1) (e .0) (e .1) (e .2)),
+      whole-proper m (s .pre .2)
+          (c .before .before .before .whole .result) (e .0) (sym (c .before .before .rows-agree .ensures) ∙ c .before .if1 .taken),
+    )
 
 same-length : tie.Need-same-length
 same-length c = search needs
@@ -32,8 +36,11 @@ returns c =
     let g = polygon (s .args .v) (s .args .t .now) (s .pre .0 .prepared .tables .symbol) in
     let e = c .before .before .before .before .before .whole .ensures in
     let f = c .before .power .ensures in
-    let m = ofList (s .args .m) in
-    (begun-head g m (s .pre .2) (s .pre .3) (s .pre .1) (e .0) (e .1) (e .2) (sym (c .before .before .before .before .rows-agree .ensures) ∙ c .before .before .before .if1 .taken) (f .0) (f .1), stepped-long g (f .0))
+    let m = ofList (s .args .m) in (
+      begun-head g m (s .pre .2) (s .pre .3) (s .pre .1) (e .0) (e .1) (e .2)
+          (sym (c .before .before .before .before .rows-agree .ensures) ∙ c .before .before .before .if1 .taken) (f .0) (f .1),
+      stepped-long g (f .0),
+    )
 
 returns-2 : tie.Need-returns-2
 returns-2 c =

@@ -15,8 +15,12 @@ power-requires : tie.Need-power-requires
 power-requires c κs =
     let s = c .before .before .before .before .before in
     let g = polygon (s .args .v) (s .args .t .now) (s .pre .0 .prepared .tables .symbol) in
-    let e = c .before .before .cross .ensures in
-    (record { prepared = s .pre .0 .prepared; room = omega (arith, s .pre .0 .room, stepped-long g (e .0)) }, crossed-sound g (s .pre .1) (s .pre .2) (e .0) (e .1), crossed-proper g (s .pre .1) (s .pre .2) (e .0) (e .1))
+    let e = c .before .before .cross .ensures in (
+      record { prepared = s .pre .0 .prepared; room = omega (arith, s .pre .0 .room, stepped-long g (e .0)) },
+      crossed-sound g (s .pre .1) (s .pre .2) (e .0)
+          (e .1),
+      crossed-proper g (s .pre .1) (s .pre .2) (e .0) (e .1),
+    )
 
 same-length : tie.Need-same-length
 same-length c = search needs
@@ -26,8 +30,12 @@ returns c =
     let s = c .before .before .before .before .before .before .before in
     let g = polygon (s .args .v) (s .args .t .now) (s .pre .0 .prepared .tables .symbol) in
     let e = c .before .before .before .before .cross .ensures in
-    let f = c .before .power .ensures in
-    (block-going g (s .pre .1) (s .pre .2) (e .0) (e .1) (f .0) (f .1), block-less g (s .pre .1) (s .pre .2) (e .0) (e .1) (f .0) (f .1), stepped-long g (f .0) ∙ stepped-long g (e .0))
+    let f = c .before .power .ensures in (
+      block-going g (s .pre .1) (s .pre .2) (e .0) (e .1) (f .0) (f .1),
+      block-less g (s .pre .1) (s .pre .2) (e .0) (e .1) (f .0) (f .1),
+      stepped-long g (f .0)
+          ∙ stepped-long g (e .0),
+    )
 
 pub block-spec : {M : Type 1} → statement M
 block-spec = tie.close (tie.spec cross-requires power-requires same-length returns)

@@ -26,7 +26,8 @@ same-length c = search needs
 returns-2 : tie.Need-returns-2
 returns-2 c =
     let s = c .before .before .before .before .before .before in
-    ended-S (polygon (s .args .v) (s .args .t .now) (s .pre .0 .prepared .tables .symbol)) (s .pre .1) (omega (arith, c .before .before .before .if1 .left)) (improper (formOf (s .args .way)) (s .pre .2) (omega (arith, c .before .before .before .if1 .left))) (c .before .cross .ensures .0)
+    ended-S (polygon (s .args .v) (s .args .t .now) (s .pre .0 .prepared .tables .symbol)) (s .pre .1) (omega (arith, c .before .before .before .if1 .left))
+    (improper (formOf (s .args .way)) (s .pre .2) (omega (arith, c .before .before .before .if1 .left))) (c .before .cross .ensures .0)
 
 pub finish-spec : {M : Type 1} → statement M
 finish-spec = tie.close (tie.spec add-if1 returns cross-requires same-length returns-2)

@@ -23,7 +23,8 @@ returns c =
 
 cast-result-2 : tie.Need-cast-result-2
 cast-result-2 c =
-    rw (toZ-ofZ (c .before .fits .x), size-above (c .before .args .x) (rw (toZ-ofZ (c .before .fits .x)) at (c .if1 .left))) (tt, record { fits = omega (arith, c .before .pre) })
+    rw (toZ-ofZ (c .before .fits .x), size-above (c .before .args .x) (rw (toZ-ofZ (c .before .fits .x)) at (c .if1 .left)))
+    (tt, record { fits = omega (arith, c .before .pre) })
 
 returns-2 : tie.Need-returns-2
 returns-2 c = search needs

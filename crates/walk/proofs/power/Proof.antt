@@ -47,7 +47,9 @@ returns : tie.Need-returns
 returns c =
     let l = c .before .before .before .before .before .before in
     let k = toZ-ofZ {w = w16} {z = l .letter-q .result} (record { sfits = l .letter-q .ok }) in
-    powered-Q (c .before .before .before .before .before .before .before .if1 .taken) (stepped (toZ w16 (ofZ w16 (l .letter-q .result))) (ap lettersOf k ∙ l .letter-q .ensures) (c .before .before .turn-q .ensures) (c .before .before .before .before .put .ensures)) refl
+    powered-Q (c .before .before .before .before .before .before .before .if1 .taken)
+    (stepped (toZ w16 (ofZ w16 (l .letter-q .result))) (ap lettersOf k ∙ l .letter-q .ensures) (c .before .before .turn-q .ensures)
+    (c .before .before .before .before .put .ensures)) refl
 
 letter-q-requires-2 : tie.Need-letter-q-requires-2
 letter-q-requires-2 c κs = search needs
@@ -77,7 +79,9 @@ returns-2 : tie.Need-returns-2
 returns-2 c =
     let l = c .before .before .before .before .before .before in
     let k = toZ-ofZ {w = w16} {z = l .letter-q2 .result} (record { sfits = l .letter-q2 .ok }) in
-    powered-P (c .before .before .before .before .before .before .before .if1 .left) (stepped (toZ w16 (ofZ w16 (l .letter-q2 .result))) (ap lettersOf k ∙ l .letter-q2 .ensures) (c .before .before .turn-back .ensures) (c .before .before .before .before .put2 .ensures)) refl
+    powered-P (c .before .before .before .before .before .before .before .if1 .left)
+    (stepped (toZ w16 (ofZ w16 (l .letter-q2 .result))) (ap lettersOf k ∙ l .letter-q2 .ensures) (c .before .before .turn-back .ensures)
+    (c .before .before .before .before .put2 .ensures)) refl
 
 pub power-spec : {M : Type 1} → statement M
 power-spec =

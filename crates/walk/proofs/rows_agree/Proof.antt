@@ -19,7 +19,8 @@ same-sign-requires c κs = search needs
 returns : tie.Need-returns
 returns c =
     let m = c .before .before .before .before .args .t1 in
-    agree-first (ofList m) _ _ (kept (nth m 0) (c .before .before .before .same-sign-arg .given)) (kept (nth m 2) (c .before .before .same-sign-arg2 .given)) (sym (c .before .same-sign .ensures) ∙ c .if1 .taken)
+    agree-first (ofList m) _ _ (kept (nth m 0) (c .before .before .before .same-sign-arg .given)) (kept (nth m 2) (c .before .before .same-sign-arg2 .given))
+    (sym (c .before .same-sign .ensures) ∙ c .if1 .taken)
 
 array-copy-out-same-sign-3 : tie.Need-array-copy-out-same-sign-3
 array-copy-out-same-sign-3 c = search needs
@@ -33,7 +34,9 @@ same-sign-requires-2 c κs = search needs
 returns-2 : tie.Need-returns-2
 returns-2 c =
     let m = c .before .before .before .before .before .before .before .args .t1 in
-    c .same-sign2 .ensures ∙ agree-second (ofList m) _ _ _ _ (kept (nth m 0) (c .before .before .before .before .before .before .same-sign-arg .given)) (kept (nth m 2) (c .before .before .before .before .before .same-sign-arg2 .given)) (kept (nth m 1) (c .before .before .same-sign-arg3 .given)) (kept (nth m 3) (c .before .same-sign-arg4 .given)) (sym (c .before .before .before .before .same-sign .ensures) ∙ c .before .before .before .if1 .left)
+    c .same-sign2 .ensures ∙ agree-second (ofList m) _ _ _ _ (kept (nth m 0) (c .before .before .before .before .before .before .same-sign-arg .given))
+    (kept (nth m 2) (c .before .before .before .before .before .same-sign-arg2 .given)) (kept (nth m 1) (c .before .before .same-sign-arg3 .given))
+    (kept (nth m 3) (c .before .same-sign-arg4 .given)) (sym (c .before .before .before .before .same-sign .ensures) ∙ c .before .before .before .if1 .left)
 
 pub rows-agree-spec : {M : Type 1} → statement M
 rows-agree-spec =

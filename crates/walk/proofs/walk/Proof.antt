@@ -30,29 +30,49 @@ is-proper-requires c κs =
 block-requires : tie.Need-block-requires Inv-loop μ-loop
 block-requires c κs =
     let s = c .before .before .before .before .before .before .before .before in
-    let l = c .before .before .before in
-    (record { prepared = s .pre .0 .prepared; room = omega (arith, s .pre .0 .room, c .before .before .before .before .before .begin .ensures .1, l .loop .inv .1) }, l .loop .inv .0 .sound, sym (c .before .before .is-proper .ensures) ∙ c .before .if1 .taken)
+    let l = c .before .before .before in (
+      record {
+        prepared = s .pre .0 .prepared;
+        room =
+            omega (arith, s .pre .0 .room, c .before .before .before .before .before .begin .ensures .1, l .loop .inv .1);
+      },
+      l .loop .inv .0 .sound,
+      sym
+          (c .before .before .is-proper .ensures) ∙ c .before .if1 .taken,
+    )
 
 loop-less : tie.Need-loop-less Inv-loop μ-loop
 loop-less c =
     c .before .block .ensures .1
 
 loop-again : tie.Need-loop-again Inv-loop μ-loop
-loop-again c =
-    (going-more (c .before .before .before .before .before .loop .inv .0) (c .before .block .ensures .0), c .before .block .ensures .2 ∙ c .before .before .before .before .before .loop .inv .1)
+loop-again c = (
+  going-more (c .before .before .before .before .before .loop .inv .0) (c .before .block .ensures .0),
+  c .before .block .ensures .2
+      ∙ c .before .before .before .before .before .loop .inv .1,
+)
 
 finish-requires : tie.Need-finish-requires Inv-loop μ-loop
 finish-requires c κs =
     let s = c .before .before .before .before .before .before .before .before in
-    let l = c .before .before .before in
-    (record { prepared = s .pre .0 .prepared; room = omega (arith, s .pre .0 .room, c .before .before .before .before .before .begin .ensures .1, l .loop .inv .1) }, l .loop .inv .0 .sound, sym (c .before .before .is-proper .ensures) ∙ c .before .if1 .left)
+    let l = c .before .before .before in (
+      record {
+        prepared = s .pre .0 .prepared;
+        room =
+            omega (arith, s .pre .0 .room, c .before .before .before .before .before .begin .ensures .1, l .loop .inv .1);
+      },
+      l .loop .inv .0 .sound,
+      sym
+          (c .before .before .is-proper .ensures) ∙ c .before .if1 .left,
+    )
 
 same-length : tie.Need-same-length Inv-loop μ-loop
 same-length c = search needs
 
 returns : tie.Need-returns Inv-loop μ-loop
 returns c =
-    walked (c .before .before .before .before .before .before .before .begin .ensures .0) (c .before .before .before .before .before .loop .inv .0) (c .before .finish .ensures)
+    walked (c .before .before .before .before .before .before .before .begin .ensures .0) (c .before .before .before .before .before .loop .inv .0)
+    (c .before .finish .ensures)
 
 pub walk-spec : {M : Type 1} → statement M
 walk-spec =

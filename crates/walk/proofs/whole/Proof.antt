@@ -43,8 +43,15 @@ magnitude-requires-4 c κs =
 
 returns : tie.Need-returns
 returns c =
-    let m = c .before .before .before .before .before .before .before .before .args .t1 in
-    (form-eq (c .before .before .before .before .before .before .magnitude .ensures ∙ ap natAbs (kept (nth m 0) (c .before .before .before .before .before .before .before .magnitude-arg .given))) (c .before .before .before .before .magnitude2 .ensures ∙ ap natAbs (kept (nth m 1) (c .before .before .before .before .before .magnitude-arg2 .given))) (c .before .before .magnitude3 .ensures ∙ ap natAbs (kept (nth m 2) (c .before .before .before .magnitude-arg3 .given))) (c .magnitude4 .ensures ∙ ap natAbs (kept (nth m 3) (c .before .magnitude-arg4 .given))), refl, refl)
+    let m = c .before .before .before .before .before .before .before .before .args .t1 in (
+      form-eq (c .before .before .before .before .before .before .magnitude .ensures
+          ∙ ap natAbs (kept (nth m 0) (c .before .before .before .before .before .before .before .magnitude-arg .given)))
+          (c .before .before .before .before .magnitude2 .ensures ∙ ap natAbs (kept (nth m 1) (c .before .before .before .before .before .magnitude-arg2 .given)))
+          (c .before .before .magnitude3 .ensures ∙ ap natAbs (kept (nth m 2) (c .before .before .before .magnitude-arg3 .given)))
+          (c .magnitude4 .ensures ∙ ap natAbs (kept (nth m 3) (c .before .magnitude-arg4 .given))),
+      refl,
+      refl,
+    )
 
 pub whole-spec : {M : Type 1} → statement M
 whole-spec =

@@ -9,7 +9,7 @@
 --                           each where its number is below the limit
 --   putFrom start l out     the letters l in place of those that stood from `start` on
 --   Setting                 the tables of steps are there, and `limit` letters fit from the start place on
---   Stepped x a out b out'  the letter x leads from the state a to b, and what it writes is counted, and stored
+--   WayStepped x a out b out'  the letter x leads from the state a to b, and what it writes is counted, and stored
 --   Onward                  from l at x with n letters it is the same way as from m at y with k letters
 --   OneApart f              p s and q r are one apart
 --   Sound v t most a        the position is real, the form is one apart, and what is written and left has at most so many letters
@@ -25,11 +25,12 @@ use lib.ListN.{length, set, take, drop}
 use lib.IntN.{ℤ}
 use Rattle.matrix.specs.Matrix.{Mat}
 use Rattle.matrix.specs.Words.{Letter, Q, P}
-use Rattle.matrix.specs.Euclid.{Form, form, total, pick, tailOf, wordOf}
+use Rattle.matrix.specs.Euclid.{Form, form, total, tailOf, wordOf}
+use Rattle.basics.specs.Choice.{pick}
 use Rattle.polygon.specs.Cut.{places}
 use Rattle.polygon.specs.Step.{Real, written}
 use Rattle.polygon.specs.Walk.{goes, ends, writes}
-use Rattle.walk_steps.specs.Inner.Steps.{Prepared}
+use Rattle.walk_steps.specs.Inner.Steps.{StepsReady}
 use Rattle.walk.specs.declared.Way.{Way}
 
 abbrev pub formOf : Way → Form
@@ -41,14 +42,14 @@ restOf a = tailOf (total (formOf a)) (formOf a)
 abbrev pub properOf : Form → Bool
 properOf f = not (eqb (f .q + f .r) 0) && not (eqb (f .p + f .t) 0)
 
-abbrev pub byQ : Form → Bool
-byQ f = leb (f .p + f .q) (f .r + f .t)
+abbrev pub beginsWithQ : Form → Bool
+beginsWithQ f = leb (f .p + f .q) (f .r + f .t)
 
 abbrev pub turnLetter : Form → Letter
-turnLetter f = pick (byQ f) Q P
+turnLetter f = pick (beginsWithQ f) Q P
 
 abbrev pub turnForm : Form → Form
-turnForm f = pick (byQ f) (form (f .r - f .p) (f .t - f .q) (f .p) (f .q)) (form (f .r) (f .t) (f .p - f .r) (f .q - f .t))
+turnForm f = pick (beginsWithQ f) (form (f .r - f .p) (f .t - f .q) (f .p) (f .q)) (form (f .r) (f .t) (f .p - f .r) (f .q - f .t))
 
 abbrev pub stored : (start limit n : ℕ) → List ℤ → List ℤ → List ℤ
 stored start limit n [] out = out
@@ -58,10 +59,10 @@ abbrev pub putFrom : ℕ → (l out : List ℤ) → List ℤ
 putFrom start l out = take start out ++ l ++ drop (start + length l) out
 
 pub record Setting (t : List ℤ) (v : ℕ) (w : List ℕ) (out : List ℤ) (start limit : ℕ) : Type 0 where
-  pub prepared : Prepared t v w (places v)
+  pub prepared : StepsReady t v w (places v)
   pub room : limit ≤ length out - start
 
-pub record Stepped (v : ℕ) (t : List ℤ) (start limit : ℕ) (x : Letter) (a : Way) (out : List ℤ) (b : Way) (out' : List ℤ) : Type 0 where
+pub record WayStepped (v : ℕ) (t : List ℤ) (start limit : ℕ) (x : Letter) (a : Way) (out : List ℤ) (b : Way) (out' : List ℤ) : Type 0 where
   pub at : b .at ≡ goes v t x (a .at)
   pub count : b .count ≡ a .count + length (written v t x (a .at))
   pub left : out' ≡ stored start limit (a .count) (written v t x (a .at)) out

@@ -40,7 +40,8 @@ returns-2 c =
     let v = s .args .v in
     let t = s .args .t .now in
     let p = s .args .p in
-    is-minus-three (nth t (2 * v + (p - 3 * (v - 1)))) (record { sfits = c .x .given }) ∙ ap (λ (z : ℤ). eqZ z (negsuc 2)) (face-entry v t p) ∙ real-high v t p (c .before .if1 .left)
+    is-minus-three (nth t (2 * v + (p - 3 * (v - 1)))) (record { sfits = c .x .given }) ∙ ap (λ (z : ℤ). eqZ z (negsuc 2)) (face-entry v t p)
+    ∙ real-high v t p (c .before .if1 .left)
 
 pub is-real-spec : {M : Type 1} → statement M
 is-real-spec =

@@ -1,4 +1,4 @@
--- `letter` reads the code at p and decodes it. A real position is below `places v`, so its code is one of those noted, and `Prepared` says
+-- `letter` reads the code at p and decodes it. A real position is below `places v`, so its code is one of those noted, and `StepsReady` says
 -- which letter it stands for. Assumes nothing.
 use native.Mathlib.Omega.{arith}
 use mathlib.Core.Path.{_∙_, ap}
@@ -32,7 +32,8 @@ decoded-requires c κs =
 returns : tie.Need-returns
 returns c =
     let s = c .before .before .before in
-    ap lettersOf (toZ-ofZ {w = w16} {z = c .decoded .result} (record { sfits = c .decoded .ok }) ∙ c .decoded .ensures) ∙ s .pre .0 .letters (s .args .p) (real-in (s .args .v) (s .args .t .now) (s .pre .0 .tables .symbol) (s .args .p) (s .pre .1)) (s .pre .1)
+    ap lettersOf (toZ-ofZ {w = w16} {z = c .decoded .result} (record { sfits = c .decoded .ok }) ∙ c .decoded .ensures)
+    ∙ s .pre .0 .letters (s .args .p) (real-in (s .args .v) (s .args .t .now) (s .pre .0 .tables .symbol) (s .args .p) (s .pre .1)) (s .pre .1)
 
 pub letter-spec : {M : Type 1} → statement M
 letter-spec =

@@ -1,4 +1,4 @@
--- `next` reads where S leads: a real position is below `places v`, so its step is one of those that `Prepared` tells of. Assumes nothing.
+-- `next` reads where S leads: a real position is below `places v`, so its step is one of those that `StepsReady` tells of. Assumes nothing.
 use native.Mathlib.Omega.{arith}
 use mathlib.Core.Path.{_∙_}
 use Rattle.polygon.proofs.Flip.{real-in}

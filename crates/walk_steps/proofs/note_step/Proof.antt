@@ -26,7 +26,12 @@ coded-requires c κs =
 cast-w : tie.Need-cast-w
 cast-w c =
     let s = c .before .before .before .before .before .before in
-    omega (arith, step-low (s .args .v) (s .args .t .now) (s .pre .0 .tables .symbol) (s .args .p) (c .before .before .before .step-s .result) (s .pre .2) (c .before .before .before .step-s .ensures), s .pre .0 .tables .symbol .most)
+    omega (
+      arith,
+      step-low (s .args .v) (s .args .t .now) (s .pre .0 .tables .symbol) (s .args .p) (c .before .before .before .step-s .result) (s .pre .2)
+          (c .before .before .before .step-s .ensures),
+      s .pre .0 .tables .symbol .most,
+    )
 
 add-w : tie.Need-add-w
 add-w c = search needs
@@ -58,7 +63,8 @@ returns c =
     let to = c .before .before .before .step-s .result in
     let code = c .coded .result in
     let l = c .before .letter-s in (
-      prepared-more (s .pre .0) (s .pre .1) to code (l .result) (c .before .before .before .step-s .ensures) (c .coded .ensures .0) (c .coded .ensures .1 ∙ toZ-ofZ {w = w16} {z = l .result} (record { sfits = l .ok })) (l .ensures),
+      prepared-more (s .pre .0) (s .pre .1) to code (l .result) (c .before .before .before .step-s .ensures) (c .coded .ensures .0)
+          (c .coded .ensures .1 ∙ toZ-ofZ {w = w16} {z = l .result} (record { sfits = l .ok })) (l .ensures),
       length-set (set w (8192 + s .args .p) to) (12288 + s .args .p) code ∙ length-set w (8192 + s .args .p) to,
     )
 

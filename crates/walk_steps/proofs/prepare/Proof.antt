@@ -1,17 +1,17 @@
--- `prepare` goes over all places. The loop's invariant: the steps from the positions below p are noted (`Prepared`); at first there are
+-- `prepare` goes over all places. The loop's invariant: the steps from the positions below p are noted (`StepsReady`); at first there are
 -- none (`prepared-none`), at the end they are all (`prepared-all`). Assumes nothing.
 use native.Mathlib.Omega.{arith}
 use mathlib.Core.Path.{_≡_, refl, _∙_}
 use Prim.Native.Nat.{_-_, _≤_}
 use lib.ListN.{length}
-use Rattle.walk_steps.specs.Inner.Steps.{Prepared}
+use Rattle.walk_steps.specs.Inner.Steps.{StepsReady}
 use Rattle.walk_steps.proofs.Noted.{prepared-none, prepared-all}
 use borrow.Author.Needs.{needs}
 use Rattle.walk_steps.proofs.prepare.Statement.{statement}
 use Rattle.walk_steps.proofs.prepare.Tie as tie
 
 abbrev Inv-loop : tie.InvT-loop
-Inv-loop t v w₀ end p₀ w p = Prepared t v w p × (p ≤ end) × (length w ≡ length w₀)
+Inv-loop t v w₀ end p₀ w p = StepsReady t v w p × (p ≤ end) × (length w ≡ length w₀)
 
 abbrev μ-loop : tie.MeasureT-loop
 μ-loop t v w₀ end p₀ w p = end - p

@@ -23,7 +23,8 @@ matrix-between-requires c κs = search needs
 find-requires : tie.Need-find-requires
 find-requires c κs =
     let s = c .before .before .before .before .before .before .before .before .before .before .before .before in
-    ready (s .pre) (c .before .before .matrix-between .ensures) (c .before .before .before .before .before .prepare .ensures .0) (c .before .before .before .before .before .before .before .before .before .build .ensures .0 .start)
+    ready (s .pre) (c .before .before .matrix-between .ensures) (c .before .before .before .before .before .prepare .ensures .0)
+    (c .before .before .before .before .before .before .before .before .before .build .ensures .0 .start)
 
 clear-requires : tie.Need-clear-requires
 clear-requires c κs = search needs
@@ -43,7 +44,12 @@ returns c =
     let t = s .args .t .now in
     let out = s .args .out .now in (
       f .ensures .0 ∙ end-found v t (s .args .a) (s .args .b) m-is (s .args .start) (length out),
-      (f .ensures .1 ∙ ap (λ (l : List ℤ). wordLeft (f .result) l out) (along-found v t (s .args .a) (s .args .b) m-is), c .before .before .clear .ensures ∙ ap zeros (c .before .before .before .before .before .before .before .before .before .before .before .prepare .ensures .1 ∙ c .before .before .before .before .before .before .before .before .before .before .before .before .before .before .before .build .ensures .1)),
+      (
+        f .ensures .1 ∙ ap (λ (l : List ℤ). wordLeft (f .result) l out) (along-found v t (s .args .a) (s .args .b) m-is),
+        c .before .before .clear .ensures
+            ∙ ap zeros (c .before .before .before .before .before .before .before .before .before .before .before .prepare .ensures .1
+            ∙ c .before .before .before .before .before .before .before .before .before .before .before .before .before .before .before .build .ensures .1),
+      ),
     )
 
 pub answer-spec : {M : Type 1} → statement M

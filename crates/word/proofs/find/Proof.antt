@@ -49,8 +49,11 @@ returns-2 c =
     let room = length (s .args .out .now) in
     let end = w .walk .result in
     let r = result q (w .walk .ensures) in
-    let e = kept-out r in
-    (ap (λ (i : ℕ). queried.Refused (tooShort i)) (r .count) ∙ too-far v t m start room (end .at) (r .at) (c .before .if1 .left ∙ q .start) (omega (arith, ap length e, c .if2 .taken)), e)
+    let e = kept-out r in (
+      ap (λ (i : ℕ). queried.Refused (tooShort i)) (r .count)
+          ∙ too-far v t m start room (end .at) (r .at) (c .before .if1 .left ∙ q .start) (omega (arith, ap length e, c .if2 .taken)),
+      e,
+    )
 
 sub-if3 : tie.Need-sub-if3
 sub-if3 c = search needs
@@ -70,8 +73,12 @@ returns-3 c =
     let room = length (s .args .out .now) in
     let end = w .walk .result in
     let r = result q (w .walk .ensures) in
-    let e = kept-out r in
-    (ap (λ (i : ℕ). queried.Refused (tooShort i)) (r .count) ∙ too-long v t m start room (end .at) (r .at) (c .before .before .if1 .left ∙ q .start) (omega (arith, ap length e, c .before .if2 .left)) (omega (arith, ap length e, c .if3 .taken, r .count)), e)
+    let e = kept-out r in (
+      ap (λ (i : ℕ). queried.Refused (tooShort i)) (r .count)
+          ∙ too-long v t m start room (end .at) (r .at) (c .before .before .if1 .left ∙ q .start) (omega (arith, ap length e, c .before .if2 .left))
+          (omega (arith, ap length e, c .if3 .taken, r .count)),
+      e,
+    )
 
 walk-requires-2 : tie.Need-walk-requires-2
 walk-requires-2 c κs =
@@ -97,7 +104,8 @@ returns-4 c =
     let e = kept-out r in
     let in-room = c .before .before .before .before .if2 .left in
     let enough = c .before .before .before .if3 .left in (
-      ap (queried.Word start) (r .count) ∙ fitting v t m start room (end .at) (r .at) (c .before .before .before .before .before .if1 .left ∙ q .start) (omega (arith, ap length e, in-room)) (omega (arith, ap length e, enough, r .count)),
+      ap (queried.Word start) (r .count) ∙ fitting v t m start room (end .at) (r .at) (c .before .before .before .before .before .if1 .left ∙ q .start)
+          (omega (arith, ap length e, in-room)) (omega (arith, ap length e, enough, r .count)),
       placed-out e (r .count) (omega (arith, ap length e, in-room)) (omega (arith, ap length e, enough)) (result q (c .before .walk2 .ensures)),
     )
 

@@ -4,7 +4,7 @@ use Prim.Native.Nat.{_-_, _≤_}
 use native.Mathlib.Omega.{arith}
 use native.Mathlib.Numerals.{add-one}
 use Rattle.matrix.proofs.Bounds.{kept}
-use Rattle.symbol.proofs.Count.{Clear, clear-zero, clear-more, clear-less, first-clear, first-hit}
+use Rattle.basics.proofs.Count.{Clear, clear-zero, clear-more, clear-less, first-clear, first-hit}
 use Rattle.word.specs.Answer.{large}
 use Rattle.word.proofs.Pair.{large-by}
 use borrow.Author.Needs.{needs}
@@ -34,7 +34,8 @@ returns c =
     let s = c .before .before .before .before .before in
     let e = c .before .before .entry-at in
     sym (first-hit (large (s .args .a) (s .args .b)) (l .loop .i) 8 (omega (arith, c .before .before .before .loop-test .taken)) (l .loop .inv .1)
-    (large-by (s .args .a) (s .args .b) (l .loop .i) _ (c .before .is-small .result) (kept (e .result) (e .ok) ∙ e .ensures) (c .before .is-small .ensures) ∙ c .if1 .taken))
+    (large-by (s .args .a) (s .args .b) (l .loop .i) _ (c .before .is-small .result) (kept (e .result) (e .ok) ∙ e .ensures) (c .before .is-small .ensures)
+    ∙ c .if1 .taken))
 
 add-i : tie.Need-add-i Inv-loop μ-loop
 add-i c = search needs
@@ -49,7 +50,8 @@ loop-again c =
     let e = c .before .before .entry-at in (
       search needs,
       rw add-one (clear-more (large (s .args .a) (s .args .b)) (l .loop .i) (l .loop .inv .1)
-          (large-by (s .args .a) (s .args .b) (l .loop .i) _ (c .before .is-small .result) (kept (e .result) (e .ok) ∙ e .ensures) (c .before .is-small .ensures) ∙ c .if1 .left)),
+          (large-by (s .args .a) (s .args .b) (l .loop .i) _ (c .before .is-small .result) (kept (e .result) (e .ok) ∙ e .ensures)
+          (c .before .is-small .ensures) ∙ c .if1 .left)),
     )
 
 returns-2 : tie.Need-returns-2 Inv-loop μ-loop

@@ -5,7 +5,7 @@ use mathlib.Core.Bool.{Bool, true, false, not}
 use Prim.Native.Nat.{_≤_}
 use native.Mathlib.Omega.{arith}
 use borrow.Author.Tests.{not-true, not-false}
-use Rattle.symbol.specs.Count.{first}
+use Rattle.basics.specs.Count.{first}
 use Rattle.word.specs.Answer.{large}
 use Rattle.word.proofs.Order.{passed-small, judged-first, judged-A, judged-B, judged-passed}
 use borrow.Author.Needs.{needs}
@@ -50,12 +50,14 @@ is-unit-requires-2 c κs =
 returns-3 : tie.Need-returns-3
 returns-3 c =
     let s = c .before .before .before .before .before .before in
-    judged-B (s .args .a) (s .args .b) (large-none (c .before .before .before .before)) (on (c .before .before .before .is-unit .ensures) (c .before .before .if2 .left)) (off (c .before .is-unit2 .ensures) (c .if3 .taken))
+    judged-B (s .args .a) (s .args .b) (large-none (c .before .before .before .before))
+    (on (c .before .before .before .is-unit .ensures) (c .before .before .if2 .left)) (off (c .before .is-unit2 .ensures) (c .if3 .taken))
 
 returns-4 : tie.Need-returns-4
 returns-4 c =
     let s = c .before .before .before .before .before .before in
-    judged-passed (s .args .a) (s .args .b) (large-none (c .before .before .before .before)) (on (c .before .before .before .is-unit .ensures) (c .before .before .if2 .left)) (on (c .before .is-unit2 .ensures) (c .if3 .left))
+    judged-passed (s .args .a) (s .args .b) (large-none (c .before .before .before .before))
+    (on (c .before .before .before .is-unit .ensures) (c .before .before .if2 .left)) (on (c .before .is-unit2 .ensures) (c .if3 .left))
 
 pub judge-spec : {M : Type 1} → statement M
 judge-spec =

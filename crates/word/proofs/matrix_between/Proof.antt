@@ -6,7 +6,7 @@ use Prim.Native.Nat.{_*_, _-_, _^_}
 use lib.Dec.{lit<, lit≤}
 use lib.IntN.{ℤ}
 use Rattle.matrix.specs.Matrix.{Mat, _⊗_, adj, matS, ofList, toList}
-use Rattle.matrix.specs.Bounds.{Small, Room}
+use Rattle.matrix.specs.Bounds.{Small, ProductFits}
 use Rattle.matrix.proofs.Bounds.{small-more, small-adj, small-⊗, room}
 use Rattle.word.proofs.Turned.{S-small, followed-turned, followed-upright}
 use Rattle.word.proofs.Finding.{between-room, between-small}
@@ -21,7 +21,8 @@ inverse-requires c κs =
 product-requires : tie.Need-product-requires
 product-requires c κs =
     let s = c .before in
-    subst (λ (l : List ℤ). Room (ofList (s .args .b)) (ofList l)) (sym (c .inverse .ensures)) (between-room (ofList (s .args .a)) (ofList (s .args .b)) (s .pre .1) (s .pre .2))
+    subst (λ (l : List ℤ). ProductFits (ofList (s .args .b)) (ofList l)) (sym (c .inverse .ensures))
+    (between-room (ofList (s .args .a)) (ofList (s .args .b)) (s .pre .1) (s .pre .2))
 
 -- b a⁻¹
 module _ (c : tie.After-product) where
@@ -41,7 +42,8 @@ turned-is c = ap ofList (c .inverse2 .ensures ∙ ap (λ (l : List ℤ). toList 
 -- b a⁻¹ S
 right-is : (c : tie.After-product2) → ofList (c .product2 .result) ≡ x (c .before .before .before .before .before .before) ⊗ matS
 right-is c =
-    ap ofList (c .product2 .ensures ∙ ap (λ (l : List ℤ). toList (ofList (c .before .before .before .before .before .before .product .result) ⊗ ofList l)) (c .before .matrix-s2 .ensures))
+    ap ofList (c .product2 .ensures ∙ ap (λ (l : List ℤ). toList (ofList (c .before .before .before .before .before .before .product .result) ⊗ ofList l))
+    (c .before .matrix-s2 .ensures))
     ∙ ap (λ (m : Mat). m ⊗ matS) (x-is (c .before .before .before .before .before .before))
 
 is-turned-requires : tie.Need-is-turned-requires
@@ -60,14 +62,16 @@ matrix-s-requires-2 c κs = search needs
 product-requires-2 : tie.Need-product-requires-2
 product-requires-2 c κs =
     let x = x-is (c .before .before .before .before .before) in
-    subst (λ (l : List ℤ). Room (ofList (c .before .before .before .before .before .product .result)) (ofList l)) (sym (c .matrix-s2 .ensures))
-    (subst (λ (m : Mat). Room m matS) (sym x) (room (2 * (1000000 * 1000000)) 1 _ matS (lit< tt) (x-small (c .before .before .before .before .before)) S-small))
+    subst (λ (l : List ℤ). ProductFits (ofList (c .before .before .before .before .before .product .result)) (ofList l)) (sym (c .matrix-s2 .ensures))
+    (subst (λ (m : Mat). ProductFits m matS) (sym x) (room (2 * (1000000 * 1000000)) 1 _ matS (lit< tt) (x-small (c .before .before .before .before .before)) S-small))
 
 product-requires-3 : tie.Need-product-requires-3
 product-requires-3 c κs =
     let p = c .before .before .before .before .before .before in
-    subst (λ (m : Mat). Room m (ofList (c .product2 .result))) (sym (turned-is (c .before .before)))
-    (subst (λ (m : Mat). Room (adj matS) m) (sym (right-is c)) (room 1 (2 * (2 * (1000000 * 1000000) * 1)) (adj matS) _ (lit< tt) (small-adj 1 matS S-small) (small-⊗ (2 * (1000000 * 1000000)) 1 _ matS (x-small p) S-small)))
+    subst (λ (m : Mat). ProductFits m (ofList (c .product2 .result))) (sym (turned-is (c .before .before)))
+    (subst (λ (m : Mat). ProductFits (adj matS) m) (sym (right-is c))
+    (room 1 (2 * (2 * (1000000 * 1000000) * 1)) (adj matS) _ (lit< tt) (small-adj 1 matS S-small)
+    (small-⊗ (2 * (1000000 * 1000000)) 1 _ matS (x-small p) S-small)))
 
 returns : tie.Need-returns
 returns c =
@@ -75,7 +79,8 @@ returns c =
     c .product3 .ensures
     ∙ ap (λ (m : Mat). toList (m ⊗ ofList (c .before .product2 .result))) (turned-is (c .before .before .before))
     ∙ ap (λ (m : Mat). toList (adj matS ⊗ m)) (right-is (c .before))
-    ∙ ap toList (followed-turned (s .args .v) (s .args .t .now) (ofList (s .args .b) ⊗ adj (ofList (s .args .a))) (sym (c .before .before .before .before .before .before .is-turned .ensures) ∙ c .before .before .before .before .before .if1 .taken))
+    ∙ ap toList (followed-turned (s .args .v) (s .args .t .now) (ofList (s .args .b) ⊗ adj (ofList (s .args .a)))
+    (sym (c .before .before .before .before .before .before .is-turned .ensures) ∙ c .before .before .before .before .before .if1 .taken))
 
 returns-2 : tie.Need-returns-2
 returns-2 c =

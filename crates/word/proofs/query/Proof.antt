@@ -2,7 +2,7 @@
 -- `by-long`), and the claim holds of each of them (`claim`). Assumes nothing.
 use mathlib.Core.Path.{_≡_, refl, sym, _∙_}
 use lib.ListN.{length}
-use Rattle.symbol.specs.Check.{checkOf}
+use Rattle.symbol.specs.Check.{symbolCheck}
 use Rattle.symbol.specs.Symbol.{IsSymbol}
 use Rattle.refusal.specs.declared.Checked.the-variants.{Accepted}
 use Rattle.symbol.proofs.Accepted.{accepted}
@@ -28,7 +28,7 @@ module _ (e : tie.After-enum-told) where
   abbrev st : tie.Start
   st = e .before .before .before .before
 
-  ok : checkOf (st .args .v) (st .args .t .now) ≡ Accepted
+  ok : symbolCheck (st .args .v) (st .args .t .now) ≡ Accepted
   ok = sym (e .before .before .check .ensures .returned) ∙ e .enum-told .given .1
 
   symbol : IsSymbol (st .args .v) (st .args .t .now)
@@ -85,13 +85,15 @@ answer-requires c κs =
     let e = c .before .before .before .before .before .before in
     let j = c .before .before .before .before .before .judge in
     let s = st e in
-    asked (s .args .a) (s .args .b) (symbol e) (c .before .before .if3 .left) (passed-by (s .args .a) (s .args .b) (j .result) (j .ensures) (c .before .before .before .if2 .left))
+    asked (s .args .a) (s .args .b) (symbol e) (c .before .before .if3 .left)
+    (passed-by (s .args .a) (s .args .b) (j .result) (j .ensures) (c .before .before .before .if2 .left))
 
 returns-4 : tie.Need-returns-4
 returns-4 c =
     let k = c .before in
     let s = c .before .before .before .before .before in
-    let b = by-fault (s .args .v) (s .args .t .now) (s .args .a) (s .args .b) (s .args .w .now) (length (s .args .out .now)) (s .args .start) (k .checked .given .0 .0) (sym (c .before .before .before .check .ensures .returned) ∙ k .checked .given .1) in
+    let b = by-fault (s .args .v) (s .args .t .now) (s .args .a) (s .args .b) (s .args .w .now) (length (s .args .out .now)) (s .args .start)
+    (k .checked .given .0 .0) (sym (c .before .before .before .check .ensures .returned) ∙ k .checked .given .1) in
     (b .0, (b .1, (refl, claim (b .0) refl)))
 
 same-length : tie.Need-same-length

@@ -4,7 +4,7 @@
 --                           9 where that of B isn't; 10 where the pair passes
 --   lettersAlong v t m      what the walk along the matrix m writes, from the start of the symbol
 --   endOf v t m start room  the answer by that walk: 10, 11 or the word
---   Ready t v w m x         the tables are in the work space, x is the start, and the matrix m can be followed
+--   WalkReady t v w m x     the tables are in the work space, x is the start, and the matrix m can be followed
 use mathlib.Core.Path.{_≡_}
 use mathlib.Core.List.{List}
 use Prim.Native.Nat.{ℕ, _^_}
@@ -13,14 +13,15 @@ use lib.ListN.{length}
 use lib.IntN.{ℤ, pos}
 use Rattle.matrix.specs.Matrix.{Mat, det, ofList}
 use Rattle.matrix.specs.Bounds.{Small}
-use Rattle.matrix.specs.Euclid.{pick, wordOf}
-use Rattle.symbol.specs.Count.{first}
+use Rattle.matrix.specs.Euclid.{wordOf}
+use Rattle.basics.specs.Choice.{pick}
+use Rattle.basics.specs.Count.{first}
 use Rattle.polygon.specs.Cut.{places}
 use Rattle.polygon.specs.Step.{startOf}
 use Rattle.polygon.specs.Walk.{ends, writes}
-use Rattle.walk_steps.specs.Inner.Steps.{Prepared}
+use Rattle.walk_steps.specs.Inner.Steps.{StepsReady}
 use Rattle.refusal.specs.Refusal.{noWord}
-use Rattle.word.specs.Answer.{large, unit, roomOf}
+use Rattle.word.specs.Answer.{large, unit, wordOrShort}
 use Rattle.word.specs.declared.Queried.{Queried}
 use Rattle.word.specs.declared.Queried.the-variants as queried
 
@@ -31,10 +32,10 @@ unfoldable pub lettersAlong : ℕ → List ℤ → Mat → List ℤ
 lettersAlong v t m = writes v t (startOf v t) (wordOf m)
 
 abbrev pub endOf : ℕ → List ℤ → Mat → (start room : ℕ) → Queried
-endOf v t m start room = pick (eqb (ends v t (startOf v t) (wordOf m)) (startOf v t)) (roomOf (length (lettersAlong v t m)) start room) (queried.Refused noWord)
+endOf v t m start room = pick (eqb (ends v t (startOf v t) (wordOf m)) (startOf v t)) (wordOrShort (length (lettersAlong v t m)) start room) (queried.Refused noWord)
 
-pub record Ready (t : List ℤ) (v : ℕ) (w : List ℕ) (m : List ℤ) (x : ℕ) : Type 0 where
-  pub prepared : Prepared t v w (places v)
+pub record WalkReady (t : List ℤ) (v : ℕ) (w : List ℕ) (m : List ℤ) (x : ℕ) : Type 0 where
+  pub prepared : StepsReady t v w (places v)
   pub start : x ≡ startOf v t
   pub unit : det (ofList m) ≡ pos 1
   pub small : Small (2 ^ 50) (ofList m)

@@ -6,7 +6,7 @@ use Rattle.polygon.specs.Step.{stepS, originOf}
 use Rattle.polygon.proofs.Polygon.{polygon}
 use Rattle.polygon.proofs.Space.{still}
 use Rattle.numbering.specs.Order.{Maps}
-use Rattle.numbering.specs.Inner.Marks.{Filled}
+use Rattle.numbering.specs.Inner.Marks.{MapsFilled}
 use Rattle.numbering.proofs.Filled.{filled-images, filled-tables}
 use Rattle.coset.specs.Tables.{stepR}
 use Rattle.coset.proofs.Theorem.{maps}
@@ -38,7 +38,7 @@ module _ (r : tie.After-fill-r) where
   abbrev st : tie.Start
   st = b .before .before .before
 
-  all : Filled (stepS (st .args .v) (st .args .t .now)) (stepR (st .args .v) (st .args .t .now)) (places (st .args .v)) (r .fill-r .last .1 .0)
+  all : MapsFilled (stepS (st .args .v) (st .args .t .now)) (stepR (st .args .v) (st .args .t .now)) (places (st .args .v)) (r .fill-r .last .1 .0)
   all = filled (f .fill-s .ensures .0) (r .fill-r .ensures)
 
   its : Maps (stepS (st .args .v) (st .args .t .now)) (stepR (st .args .v) (st .args .t .now)) (originOf (st .args .v) (st .args .t .now)) (places (st .args .v))

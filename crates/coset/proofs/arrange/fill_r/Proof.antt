@@ -5,14 +5,14 @@ use Prim.Native.Nat.{_+_, _-_, _≤_, _<_}
 use native.Mathlib.Omega.{arith}
 use lib.ListN.{length}
 use Rattle.polygon.specs.Cut.{places}
-use Rattle.coset.specs.Inner.Work.{Turned}
+use Rattle.coset.specs.Inner.Work.{FilledR}
 use Rattle.coset.proofs.Work.{turned-none, c-low, turned-more, turned-all}
 use borrow.Author.Needs.{needs}
 use Rattle.coset.proofs.arrange.fill_r.Statement.{statement}
 use Rattle.coset.proofs.arrange.fill_r.Tie as tie
 
 abbrev Inv-loop : tie.InvT-loop
-Inv-loop v w₀ end p₀ w p = Turned v w₀ w p × (p ≤ end)
+Inv-loop v w₀ end p₀ w p = FilledR v w₀ w p × (p ≤ end)
 
 abbrev μ-loop : tie.MeasureT-loop
 μ-loop v w₀ end p₀ w p = end - p
@@ -58,7 +58,14 @@ add-w c =
     let i = a .before .before in
     let l = i .before in
     let s = l .before .before .pre in
-    omega (arith, c-low s (l .loop .inv .0) (i .loop-test .taken) (a .index .result) (b .turn-q .result) (d .turn-q2 .result) (a .index .ensures) (b .turn-q .ensures) (d .turn-q2 .ensures), s .most, s .long, l .loop .inv .0 .same)
+    omega (
+      arith,
+      c-low s (l .loop .inv .0) (i .loop-test .taken) (a .index .result) (b .turn-q .result) (d .turn-q2 .result) (a .index .ensures)
+          (b .turn-q .ensures) (d .turn-q2 .ensures),
+      s .most,
+      s .long,
+      l .loop .inv .0 .same,
+    )
 
 mul-w : tie.Need-mul-w Inv-loop μ-loop
 mul-w c =
@@ -68,7 +75,14 @@ mul-w c =
     let i = a .before .before in
     let l = i .before in
     let s = l .before .before .pre in
-    omega (arith, c-low s (l .loop .inv .0) (i .loop-test .taken) (a .index .result) (b .turn-q .result) (d .turn-q2 .result) (a .index .ensures) (b .turn-q .ensures) (d .turn-q2 .ensures), s .most, s .long, l .loop .inv .0 .same)
+    omega (
+      arith,
+      c-low s (l .loop .inv .0) (i .loop-test .taken) (a .index .result) (b .turn-q .result) (d .turn-q2 .result) (a .index .ensures)
+          (b .turn-q .ensures) (d .turn-q2 .ensures),
+      s .most,
+      s .long,
+      l .loop .inv .0 .same,
+    )
 
 slice-read-w : tie.Need-slice-read-w Inv-loop μ-loop
 slice-read-w c =
@@ -78,7 +92,14 @@ slice-read-w c =
     let i = a .before .before in
     let l = i .before in
     let s = l .before .before .pre in
-    omega (arith, c-low s (l .loop .inv .0) (i .loop-test .taken) (a .index .result) (b .turn-q .result) (d .turn-q2 .result) (a .index .ensures) (b .turn-q .ensures) (d .turn-q2 .ensures), s .most, s .long, l .loop .inv .0 .same)
+    omega (
+      arith,
+      c-low s (l .loop .inv .0) (i .loop-test .taken) (a .index .result) (b .turn-q .result) (d .turn-q2 .result) (a .index .ensures)
+          (b .turn-q .ensures) (d .turn-q2 .ensures),
+      s .most,
+      s .long,
+      l .loop .inv .0 .same,
+    )
 
 add-w-2 : tie.Need-add-w-2 Inv-loop μ-loop
 add-w-2 c = search needs
@@ -101,8 +122,11 @@ loop-again c =
     let b = d .before in
     let a = b .before in
     let i = a .before .before in
-    let l = i .before in
-    (turned-more (l .before .before .pre) (l .loop .inv .0) (i .loop-test .taken) (a .index .result) (b .turn-q .result) (d .turn-q2 .result) (a .index .ensures) (b .turn-q .ensures) (d .turn-q2 .ensures), omega arith)
+    let l = i .before in (
+      turned-more (l .before .before .pre) (l .loop .inv .0) (i .loop-test .taken) (a .index .result) (b .turn-q .result) (d .turn-q2 .result)
+          (a .index .ensures) (b .turn-q .ensures) (d .turn-q2 .ensures),
+      omega arith,
+    )
 
 same-length : tie.Need-same-length Inv-loop μ-loop
 same-length c = search needs

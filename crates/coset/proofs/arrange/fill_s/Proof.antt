@@ -5,7 +5,7 @@ use Prim.Native.Nat.{_+_, _-_, _≤_, _<_}
 use native.Mathlib.Omega.{arith}
 use lib.ListN.{length, length-set}
 use Rattle.polygon.specs.Cut.{places}
-use Rattle.coset.specs.Inner.Work.{Moved}
+use Rattle.coset.specs.Inner.Work.{FilledS}
 use Rattle.numbering.specs.Inner.Space.{SIGMA}
 use Rattle.coset.proofs.Work.{image-low, moved-none, moved-more, moved-all}
 use borrow.Author.Needs.{needs}
@@ -13,7 +13,7 @@ use Rattle.coset.proofs.arrange.fill_s.Statement.{statement}
 use Rattle.coset.proofs.arrange.fill_s.Tie as tie
 
 abbrev Inv-loop : tie.InvT-loop
-Inv-loop t v w₀ end p₀ w p = Moved t v w p × (p ≤ end) × (length w ≡ length w₀)
+Inv-loop t v w₀ end p₀ w p = FilledS t v w p × (p ≤ end) × (length w ≡ length w₀)
 
 abbrev μ-loop : tie.MeasureT-loop
 μ-loop t v w₀ end p₀ w p = end - p
@@ -60,8 +60,12 @@ loop-less c = search needs
 loop-again : tie.Need-loop-again Inv-loop μ-loop
 loop-again c =
     let i = c .before .before in
-    let l = i .before in
-    (moved-more (l .loop .p) (c .image-s .result) (l .loop .inv .0) (i .loop-test .taken) (c .image-s .ensures), omega arith, length-set (l .loop .w) (SIGMA + l .loop .p) (c .image-s .result) ∙ l .loop .inv .2)
+    let l = i .before in (
+      moved-more (l .loop .p) (c .image-s .result) (l .loop .inv .0) (i .loop-test .taken) (c .image-s .ensures),
+      omega arith,
+      length-set (l .loop .w)
+          (SIGMA + l .loop .p) (c .image-s .result) ∙ l .loop .inv .2,
+    )
 
 same-length : tie.Need-same-length Inv-loop μ-loop
 same-length c = search needs

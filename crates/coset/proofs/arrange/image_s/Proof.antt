@@ -43,7 +43,8 @@ read-pairing-requires : tie.Need-read-pairing-requires
 read-pairing-requires c κs = search needs
 
 -- what was read is the pairing of the side
-is-read : (c : tie.After-read-pairing) → c .read-pairing .result ≡ pairingAt (c .before .before .before .before .args .v) (c .before .before .before .before .args .t .now) (c .before .before .before .before .args .p - corners (c .before .before .before .before .args .v))
+is-read : (c : tie.After-read-pairing) → c .read-pairing .result ≡ pairingAt (c .before .before .before .before .args .v)
+    (c .before .before .before .before .args .t .now) (c .before .before .before .before .args .p - corners (c .before .before .before .before .args .v))
 is-read c =
     let s = c .before .before .before .before in
     let v = s .args .v in
@@ -85,7 +86,8 @@ returns-4 c =
     let r = c .before .before in
     let e = r .before .before in
     let s = e .before .before in
-    face-still (s .args .v) (s .args .t .now) (s .pre .0 .symbol) (s .args .p) (e .if1 .left) (s .pre .1) (Free (c .enum-told3 .given .0 .0)) (sym (is-read r) ∙ c .enum-told3 .given .1) refl
+    face-still (s .args .v) (s .args .t .now) (s .pre .0 .symbol) (s .args .p) (e .if1 .left) (s .pre .1) (Free (c .enum-told3 .given .0 .0))
+    (sym (is-read r) ∙ c .enum-told3 .given .1) refl
 
 returns-5 : tie.Need-returns-5
 returns-5 c =

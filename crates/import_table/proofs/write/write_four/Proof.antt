@@ -27,7 +27,12 @@ same-length c = search needs
 returns : tie.Need-returns
 returns c =
     let s = c .before .before .before .before .before .before .before .before .before .before .before .before in
-    c .before .put4 .ensures ∙ ap (λ (l : List ℤ). set l 3 (negsuc 2)) ((rw (toZ-ofZ (s .fits .x)) at (c .before .before .before .before .put3 .ensures)) ∙ ap (λ (l : List ℤ). set l 2 (s .args .x)) (c .before .before .before .before .before .before .before .put2 .ensures ∙ ap (λ (l : List ℤ). set l 1 (pos 1)) (c .before .before .before .before .before .before .before .before .before .before .put .ensures))) ∙ four-stores (s .args .out .now) (s .args .x) (s .pre)
+    c .before .put4 .ensures ∙ ap (λ (l : List ℤ). set l 3 (negsuc 2))
+    ((rw (toZ-ofZ (s .fits .x)) at (c .before .before .before .before .put3 .ensures))
+    ∙ ap (λ (l : List ℤ). set l 2 (s .args .x))
+    (c .before .before .before .before .before .before .before .put2 .ensures
+    ∙ ap (λ (l : List ℤ). set l 1 (pos 1)) (c .before .before .before .before .before .before .before .before .before .before .put .ensures)))
+    ∙ four-stores (s .args .out .now) (s .args .x) (s .pre)
 
 pub write-four-spec : {M : Type 1} → statement M
 write-four-spec =

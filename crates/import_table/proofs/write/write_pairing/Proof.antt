@@ -2,7 +2,10 @@
 -- label, which gets the next number (`pair-new`) or has one (`pair-old`). Assumes nothing.
 use Rattle.import_table.proofs.Written.{least-low, pair-new, pair-old}
 use mathlib.Core.Path.{_≡_, refl, sym, _∙_, ap}
+use Prim.Native.Nat.{_≤_, _<_}
 use native.Mathlib.Omega.{arith}
+use lib.ListN.{length}
+use Rattle.workspace.specs.Space.{workLength}
 use Rattle.import_walk.proofs.Turn.{low-is}
 use Rattle.import_rule.proofs.Images.{low-S}
 use Rattle.import_rule.specs.Fixed.{image, byQ}
@@ -61,21 +64,26 @@ returns-2 c =
     let em = c .before .before .before .before .before .before .before .point-at .ensures .0 in
     let ex = c .before .before .before .before .before .before .image .ensures ∙ ap sg em in
     let eq = c .before .before .before .before .turned .ensures ∙ ap ka em in
-    is-odd (λ t. c .before .before .before .before .before .if1 .left (ex ∙ t ∙ sym em)) (sym eq ∙ c .before .before .before .if2 .taken ∙ em) refl (c .before .put2 .ensures) refl
+    is-odd (λ t. c .before .before .before .before .before .if1 .left (ex ∙ t ∙ sym em)) (sym eq ∙ c .before .before .before .if2 .taken ∙ em) refl
+    (c .before .put2 .ensures) refl
 
 least-requires : tie.Need-least-requires
 least-requires c κs = search needs
 
+-- the smaller of the two points is a point, and its label has a place in the work space
+module _ (l : tie.After-least) where
+  abbrev st : tie.Start
+  st = l .before .before .before .before .before .before .before .before .before .before
+
+  place : (l .least .result < 3066) × (workLength ≤ length (st .args .w .now))
+  place =
+      let z = st .pre in
+      let m = low-is _ _ _ (l .before .before .before .before .before .point-at .ensures .0) (z .low) in
+      let x = low-S _ _ (z .pair) _ _ m (l .before .before .before .before .image .ensures) .0 in
+      (omega (arith, z .pair .most, least-low _ _ _ m x, l .least .ensures), z .long)
+
 label-at-requires : tie.Need-label-at-requires
-label-at-requires c κs =
-    let z = c .before .before .before .before .before .before .before .before .before .before .before .pre in
-    let ml = low-is _ _ _ (c .before .before .before .before .before .before .point-at .ensures .0) (z .low) in
-    let xl = low-S _ _ (z .pair) _ _ ml (c .before .before .before .before .before .image .ensures) .0 in
-    let mo = z .pair .most in
-    let lo = z .long in
-    let ll = least-low _ _ _ ml xl in
-    let q = c .before .least .ensures in
-    (omega arith, lo)
+label-at-requires c κs = let p = place (c .before) in (omega (arith, p .0), p .1)
 
 add-signed : tie.Need-add-signed
 add-signed c = search needs
@@ -93,37 +101,13 @@ cast-w : tie.Need-cast-w
 cast-w c = search needs
 
 add-w-2 : tie.Need-add-w-2
-add-w-2 c =
-    let z = c .before .before .before .before .before .before .before .before .before .before .before .before .before .before .before .before .before .pre in
-    let ml = low-is _ _ _ (c .before .before .before .before .before .before .before .before .before .before .before .before .point-at .ensures .0) (z .low) in
-    let xl = low-S _ _ (z .pair) _ _ ml (c .before .before .before .before .before .before .before .before .before .before .before .image .ensures) .0 in
-    let mo = z .pair .most in
-    let lo = z .long in
-    let ll = least-low _ _ _ ml xl in
-    let q = c .before .before .before .before .before .before .before .least .ensures in
-    omega arith
+add-w-2 c = let p = place (c .before .before .before .before .before .before .before) in omega (arith, p .0, p .1)
 
 mul-w : tie.Need-mul-w
-mul-w c =
-    let z = c .before .before .before .before .before .before .before .before .before .before .before .before .before .before .before .before .before .pre in
-    let ml = low-is _ _ _ (c .before .before .before .before .before .before .before .before .before .before .before .before .point-at .ensures .0) (z .low) in
-    let xl = low-S _ _ (z .pair) _ _ ml (c .before .before .before .before .before .before .before .before .before .before .before .image .ensures) .0 in
-    let mo = z .pair .most in
-    let lo = z .long in
-    let ll = least-low _ _ _ ml xl in
-    let q = c .before .before .before .before .before .before .before .least .ensures in
-    omega arith
+mul-w c = let p = place (c .before .before .before .before .before .before .before) in omega (arith, p .0, p .1)
 
 slice-write-w : tie.Need-slice-write-w
-slice-write-w c =
-    let z = c .before .before .before .before .before .before .before .before .before .before .before .before .before .before .before .before .before .pre in
-    let ml = low-is _ _ _ (c .before .before .before .before .before .before .before .before .before .before .before .before .point-at .ensures .0) (z .low) in
-    let xl = low-S _ _ (z .pair) _ _ ml (c .before .before .before .before .before .before .before .before .before .before .before .image .ensures) .0 in
-    let mo = z .pair .most in
-    let lo = z .long in
-    let ll = least-low _ _ _ ml xl in
-    let q = c .before .before .before .before .before .before .before .least .ensures in
-    omega arith
+slice-write-w c = let p = place (c .before .before .before .before .before .before .before) in omega (arith, p .0, p .1)
 
 add-result : tie.Need-add-result
 add-result c = search needs
@@ -141,7 +125,15 @@ returns-3 c =
     let ka = byQ sg (image (s .args .r .now)) in
     let em = c .before .before .before .before .before .before .before .before .before .before .before .before .point-at .ensures .0 in
     let ex = c .before .before .before .before .before .before .before .before .before .before .before .image .ensures ∙ ap sg em in
-    pair-new sg ka (s .args .w .now) (s .args .out .now) (s .args .j) (s .args .c) _ _ _ _ _ _ (c .before .before .before .before .before .before .before .before .before .before .before .before .point-at .ensures .0) (c .before .before .before .before .before .before .before .before .before .before .before .image .ensures) (c .before .before .before .before .before .before .before .before .before .before .if1 .left) (c .before .before .before .before .before .before .before .before .before .turned .ensures) (c .before .before .before .before .before .before .before .before .if2 .left) (c .before .before .before .before .before .before .before .least .ensures) (c .before .before .before .before .before .label-at .ensures .0) (c .before .before .before .before .if3 .taken) _ _ (c .before .before .before .signed .ensures) (c .before .before .before .signed .ok) (c .before .put3 .ensures)
+    pair-new sg ka (s .args .w .now) (s .args .out .now) (s .args .j) (s .args .c) _ _ _ _ _ _
+    (c .before .before .before .before .before .before .before .before .before .before .before .before .point-at .ensures .0)
+    (c .before .before .before .before .before .before .before .before .before .before .before .image .ensures)
+    (c .before .before .before .before .before .before .before .before .before .before .if1 .left)
+    (c .before .before .before .before .before .before .before .before .before .turned .ensures)
+    (c .before .before .before .before .before .before .before .before .if2 .left)
+    (c .before .before .before .before .before .before .before .least .ensures) (c .before .before .before .before .before .label-at .ensures .0)
+    (c .before .before .before .before .if3 .taken) _ _ (c .before .before .before .signed .ensures) (c .before .before .before .signed .ok)
+    (c .before .put3 .ensures)
 
 signed-requires-2 : tie.Need-signed-requires-2
 signed-requires-2 c κs = search needs
@@ -162,7 +154,15 @@ returns-4 c =
     let ka = byQ sg (image (s .args .r .now)) in
     let em = c .before .before .before .before .before .before .before .before .before .before .before .before .point-at .ensures .0 in
     let ex = c .before .before .before .before .before .before .before .before .before .before .before .image .ensures ∙ ap sg em in
-    pair-old sg ka (s .args .w .now) (s .args .out .now) (s .args .j) (s .args .c) _ _ _ _ _ _ (c .before .before .before .before .before .before .before .before .before .before .before .before .point-at .ensures .0) (c .before .before .before .before .before .before .before .before .before .before .before .image .ensures) (c .before .before .before .before .before .before .before .before .before .before .if1 .left) (c .before .before .before .before .before .before .before .before .before .turned .ensures) (c .before .before .before .before .before .before .before .before .if2 .left) (c .before .before .before .before .before .before .before .least .ensures) (c .before .before .before .before .before .label-at .ensures .0) (c .before .before .before .before .if3 .left) _ _ (c .before .before .before .signed2 .ensures) (c .before .before .before .signed2 .ok) (c .before .put4 .ensures)
+    pair-old sg ka (s .args .w .now) (s .args .out .now) (s .args .j) (s .args .c) _ _ _ _ _ _
+    (c .before .before .before .before .before .before .before .before .before .before .before .before .point-at .ensures .0)
+    (c .before .before .before .before .before .before .before .before .before .before .before .image .ensures)
+    (c .before .before .before .before .before .before .before .before .before .before .if1 .left)
+    (c .before .before .before .before .before .before .before .before .before .turned .ensures)
+    (c .before .before .before .before .before .before .before .before .if2 .left)
+    (c .before .before .before .before .before .before .before .least .ensures) (c .before .before .before .before .before .label-at .ensures .0)
+    (c .before .before .before .before .if3 .left) _ _ (c .before .before .before .signed2 .ensures) (c .before .before .before .signed2 .ok)
+    (c .before .put4 .ensures)
 
 pub write-pairing-spec : {M : Type 1} → statement M
 write-pairing-spec =

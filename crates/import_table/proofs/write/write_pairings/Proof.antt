@@ -63,8 +63,11 @@ loop-again c =
     let O = s .args .out .now in
     let D = s .args .d in
     let z = s .pre in
-    let l = c .before .before .before .before .before .before .before .loop in
-    (omega arith, rw add-one (pairs-more S R W O D (z .0) (z .1) (l .w) (l .out) (l .i) (l .c) (l .inv .1) (omega arith) _ _ _ (c .before .before .before .write-pairing .ensures)))
+    let l = c .before .before .before .before .before .before .before .loop in (
+      omega arith,
+      rw add-one (pairs-more S R W O D (z .0) (z .1) (l .w) (l .out) (l .i) (l .c) (l .inv .1) (omega arith) _ _ _
+          (c .before .before .before .write-pairing .ensures)),
+    )
 
 same-length : tie.Need-same-length Inv-loop μ-loop
 same-length c =
@@ -88,7 +91,8 @@ same-length-2 c =
     let D = s .args .d in
     let z = s .pre in
     let l = c .before .loop in
-    labelled-length (image S) (byQ (image S) (image R)) W O D (l .w) (l .out) (l .i) (l .c) (l .inv .1) (let so = z .0 .some in let h = z .1 in omega (arith, l .inv .0))
+    labelled-length (image S) (byQ (image S) (image R)) W O D (l .w) (l .out) (l .i) (l .c) (l .inv .1)
+    (let so = z .0 .some in let h = z .1 in omega (arith, l .inv .0))
 
 returns : tie.Need-returns Inv-loop μ-loop
 returns c =

@@ -28,7 +28,8 @@ returns c =
     let s = c .before .before .before .before .before .before .before .before .before .before .before .before .before in
     let sg = image (s .args .s .now) in
     let ka = byQ sg (image (s .args .r .now)) in
-    table-written sg ka (s .args .w .now) (s .args .out .now) _ _ (s .args .d) (let z = s .pre .0 .some in omega arith) (s .pre .1) (c .before .before .before .before .before .before .before .write-vertices .ensures) (c .before .before .before .write-pairings .ensures)
+    table-written sg ka (s .args .w .now) (s .args .out .now) _ _ (s .args .d) (let z = s .pre .0 .some in omega arith) (s .pre .1)
+    (c .before .before .before .before .before .before .before .write-vertices .ensures) (c .before .before .before .write-pairings .ensures)
 
 pub write-table-spec : {M : Type 1} → statement M
 write-table-spec =

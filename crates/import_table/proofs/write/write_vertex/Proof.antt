@@ -50,7 +50,12 @@ same-length c = search needs
 returns : tie.Need-returns
 returns c =
     let s = c .before .before .before .before .before .before .before .before .before .before .before in
-    vertex-stored (s .args .w .now) (12288 + 5 * s .args .i) (s .args .i) _ _ _ _ (s .args .out .now) _ _ (c .before .before .before .before .before .before .before .before .before .number-at .ensures .0) (c .before .before .before .before .before .before .before .before .number-at2 .ensures .0) (c .before .before .before .before .before .before .before .numerator .ensures) (c .before .before .before .before .before .before .signed .ensures) (c .before .before .before .before .before .before .before .numerator .ok) (c .before .before .before .before .before .before .signed .ok) (c .before .before .before .before .put .ensures) (c .before .put2 .ensures)
+    vertex-stored (s .args .w .now) (12288 + 5 * s .args .i) (s .args .i) _ _ _ _ (s .args .out .now) _ _
+    (c .before .before .before .before .before .before .before .before .before .number-at .ensures .0)
+    (c .before .before .before .before .before .before .before .before .number-at2 .ensures .0)
+    (c .before .before .before .before .before .before .before .numerator .ensures) (c .before .before .before .before .before .before .signed .ensures)
+    (c .before .before .before .before .before .before .before .numerator .ok) (c .before .before .before .before .before .before .signed .ok)
+    (c .before .before .before .before .put .ensures) (c .before .put2 .ensures)
 
 pub write-vertex-spec : {M : Type 1} → statement M
 write-vertex-spec =

@@ -34,7 +34,8 @@ add-result c = search needs
 returns : tie.Need-returns
 returns c =
     let s = c .before .before .before .before .before in
-    number-is (s .args .w .now) (s .args .at) _ _ (c .before .before .long .ensures .0) (c .long2 .ensures .0) (c .before .before .long .ensures .1) (c .long2 .ensures .1)
+    number-is (s .args .w .now) (s .args .at) _ _ (c .before .before .long .ensures .0) (c .long2 .ensures .0) (c .before .before .long .ensures .1)
+    (c .long2 .ensures .1)
 
 pub number-at-spec : {M : Type 1} → statement M
 number-at-spec =

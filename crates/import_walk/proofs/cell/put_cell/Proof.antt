@@ -34,12 +34,14 @@ same-length c =
     let s = c .before .before .before .before .before .before .before .before .before in
     let y = c .before .before .before .before .before .before .put-number .last .0 in
     let x = c .before .before .put-number2 .last .0 in
-    length-set x (s .args .at + 4) (s .args .m) ∙ put-length y x (s .args .at + 2) (s .args .d) (c .before .before .put-number2 .ensures) ∙ put-length (s .args .w .now) y (s .args .at) (s .args .e) (c .before .before .before .before .before .before .put-number .ensures)
+    length-set x (s .args .at + 4) (s .args .m) ∙ put-length y x (s .args .at + 2) (s .args .d) (c .before .before .put-number2 .ensures)
+    ∙ put-length (s .args .w .now) y (s .args .at) (s .args .e) (c .before .before .before .before .before .before .put-number .ensures)
 
 returns : tie.Need-returns
 returns c =
     let s = c .before .before .before .before .before .before .before .before .before in
-    cell-set (s .args .w .now) _ _ (s .args .at) (s .args .e) (s .args .d) (s .args .m) (c .before .before .before .before .before .before .put-number .ensures) (c .before .before .put-number2 .ensures)
+    cell-set (s .args .w .now) _ _ (s .args .at) (s .args .e) (s .args .d) (s .args .m) (c .before .before .before .before .before .before .put-number .ensures)
+    (c .before .before .put-number2 .ensures)
 
 pub put-cell-spec : {M : Type 1} → statement M
 put-cell-spec =

@@ -48,7 +48,8 @@ returns-2 : tie.Need-returns-2
 returns-2 c =
     let s = c .before .before .before .before .before .before .before in
     let sg = image (s .args .s .now) in
-    closed-held sg (byQ sg (image (s .args .r .now))) (s .args .w .now) (s .args .m) _ (c .before .before .before .turned .ensures) (c .before .before .if1 .left) _ (c .before .image .ensures)
+    closed-held sg (byQ sg (image (s .args .r .now))) (s .args .w .now) (s .args .m) _ (c .before .before .before .turned .ensures)
+    (c .before .before .if1 .left) _ (c .before .image .ensures)
 
 pub is-closed-spec : {M : Type 1} → statement M
 is-closed-spec =

@@ -1,5 +1,5 @@
 -- `move_top` copies the five numbers of the first side to do behind the sides done; the contracts of the reads and the write, put together,
--- say just that. Assumes nothing.
+-- say exactly that. Assumes nothing.
 use mathlib.Core.Path.{_≡_, refl, sym, _∙_, ap}
 use borrow.Author.Needs.{needs}
 use Rattle.import_walk.proofs.walk.move_top.Statement.{statement}
@@ -39,7 +39,12 @@ same-length : tie.Need-same-length
 same-length c = search needs
 
 returns : tie.Need-returns
-returns c = c .before .before .put-cell .ensures ∙ cc (c .before .before .before .before .before .before .before .before .number-at .ensures .0, c .before .before .before .before .before .before .number-at2 .ensures .0, c .before .before .before .before .point-at .ensures .0)
+returns c = c .before .before .put-cell .ensures
+    ∙ cc (
+      c .before .before .before .before .before .before .before .before .number-at .ensures .0,
+      c .before .before .before .before .before .before .number-at2 .ensures .0,
+      c .before .before .before .before .point-at .ensures .0,
+    )
 
 pub move-top-spec : {M : Type 1} → statement M
 move-top-spec =

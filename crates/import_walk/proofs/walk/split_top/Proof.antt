@@ -82,21 +82,39 @@ put-cell-requires c κs =
     let plow = low-Q _ _ (z .0) _ _ mlow (c .before .before .before .before .before .before .before .before .turned .ensures) in
     let alow = low-S _ _ (z .0) _ _ plow (c .before .before .before .before .before .before .image .ensures) .0 in
     let mo = z .0 .most in
-    let ln = z .4 in
-    (rw (length-set (c .before .before .before .hold .last .0) (20480 + 5 * (s .args .k - 1) + 4) _, c .before .before .before .hold .ensures, held-length _ _ _ _ _) (omega (arith, z .2)), omega (arith, z .2), z .5, z .6, omega arith)
+    let ln = z .4 in (
+      rw (
+        length-set (c .before .before .before .hold .last .0)
+            (20480 + 5 * (s .args .k - 1) + 4) _,
+        c .before .before .before .hold .ensures,
+        held-length _ _ _ _ _,
+      ) (omega (arith, z .2)),
+      omega
+          (arith, z .2),
+      z .5,
+      z .6,
+      omega arith,
+    )
 
 same-length : tie.Need-same-length
 same-length c =
     let s = c .before .before .before .before .before .before .before .before .before .before .before .before .before .before .before .before .before in
     let h = c .before .before .before .before .before .before .hold .last .0 in
-    ap length (c .before .before .put-cell .ensures) ∙ cell-length _ _ _ _ _ ∙ length-set h (20480 + 5 * (s .args .k - 1) + 4) _ ∙ ap length (c .before .before .before .before .before .before .hold .ensures) ∙ held-length (s .args .w .now) _ _ _ _
+    ap length (c .before .before .put-cell .ensures) ∙ cell-length _ _ _ _ _ ∙ length-set h (20480 + 5 * (s .args .k - 1) + 4) _
+    ∙ ap length (c .before .before .before .before .before .before .hold .ensures) ∙ held-length (s .args .w .now) _ _ _ _
 
 returns : tie.Need-returns
 returns c =
     let s = c .before .before .before .before .before .before .before .before .before .before .before .before .before .before .before .before .before in
     let sg = image (s .args .s .now) in
     let ka = byQ sg (image (s .args .r .now)) in
-    split-by sg ka (s .args .w .now) _ _ (s .args .k) (s .args .e) (s .args .c) _ _ _ _ _ (c .before .before .before .before .before .before .before .before .before .before .before .before .point-at .ensures .0) (c .before .before .before .before .before .before .before .before .before .before .before .turned .ensures) (c .before .before .before .before .before .before .before .before .before .before .turned2 .ensures) (c .before .before .before .before .before .before .before .before .before .image .ensures) (c .before .before .before .before .before .before .before .before .image2 .ensures) (c .before .before .before .before .before .before .hold .ensures) (c .before .before .put-cell .ensures)
+    split-by sg ka (s .args .w .now) _ _ (s .args .k) (s .args .e) (s .args .c) _ _ _ _ _
+    (c .before .before .before .before .before .before .before .before .before .before .before .before .point-at .ensures .0)
+    (c .before .before .before .before .before .before .before .before .before .before .before .turned .ensures)
+    (c .before .before .before .before .before .before .before .before .before .before .turned2 .ensures)
+    (c .before .before .before .before .before .before .before .before .before .image .ensures)
+    (c .before .before .before .before .before .before .before .before .image2 .ensures) (c .before .before .before .before .before .before .hold .ensures)
+    (c .before .before .put-cell .ensures)
 
 pub split-top-spec : {M : Type 1} → statement M
 split-top-spec =

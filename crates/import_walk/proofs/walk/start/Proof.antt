@@ -48,7 +48,11 @@ returns c =
     let s = c .before .before .before .before .before .before .before .before .before .before .before .before .before .before in
     let sg = image (s .args .s .now) in
     let ka = byQ sg (image (s .args .r .now)) in
-    start-low sg ka (s .args .w .now) _ _ _ (c .before .before .before .before .before .before .before .before .before .before .image .ensures) (c .before .before .before .before .before .before .before .before .before .turned .ensures) (c .before .before .before .before .before .before .before .before .if1 .taken) _ _ _ _ (c .before .before .before .before .before .before .before .turned2 .ensures) (c .before .before .before .before .before .before .turned3 .ensures) (c .before .before .before .before .before .image2 .ensures) (c .before .before .before .before .image3 .ensures) (c .before .before .start-by .ensures)
+    start-low sg ka (s .args .w .now) _ _ _ (c .before .before .before .before .before .before .before .before .before .before .image .ensures)
+    (c .before .before .before .before .before .before .before .before .before .turned .ensures)
+    (c .before .before .before .before .before .before .before .before .if1 .taken) _ _ _ _
+    (c .before .before .before .before .before .before .before .turned2 .ensures) (c .before .before .before .before .before .before .turned3 .ensures)
+    (c .before .before .before .before .before .image2 .ensures) (c .before .before .before .before .image3 .ensures) (c .before .before .start-by .ensures)
 
 turned-requires-4 : tie.Need-turned-requires-4
 turned-requires-4 c κs = search needs
@@ -80,7 +84,11 @@ returns-2 c =
     let s = c .before .before .before .before .before .before .before .before .before .before .before .before .before in
     let sg = image (s .args .s .now) in
     let ka = byQ sg (image (s .args .r .now)) in
-    start-high sg ka (s .args .w .now) _ _ _ (c .before .before .before .before .before .before .before .before .before .image .ensures) (c .before .before .before .before .before .before .before .before .turned .ensures) (c .before .before .before .before .before .before .before .if1 .left) _ _ _ (c .before .before .before .before .before .before .turned4 .ensures) (c .before .before .before .before .before .image4 .ensures) (c .before .before .before .before .image5 .ensures) (c .before .before .start-by2 .ensures)
+    start-high sg ka (s .args .w .now) _ _ _ (c .before .before .before .before .before .before .before .before .before .image .ensures)
+    (c .before .before .before .before .before .before .before .before .turned .ensures)
+    (c .before .before .before .before .before .before .before .if1 .left) _ _ _ (c .before .before .before .before .before .before .turned4 .ensures)
+    (c .before .before .before .before .before .image4 .ensures) (c .before .before .before .before .image5 .ensures)
+    (c .before .before .start-by2 .ensures)
 
 pub start-spec : {M : Type 1} → statement M
 start-spec =

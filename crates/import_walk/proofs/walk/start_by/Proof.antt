@@ -26,7 +26,12 @@ same-length : tie.Need-same-length
 same-length c = search needs
 
 returns : tie.Need-returns
-returns c = three-cells (c .before .before .before .before .before .before .before .before .before .before .before .before .before .before .before .before .before .args .w .now) _ _ _ _ _ _ _ _ _ (c .before .before .before .before .before .before .before .before .before .before .before .before .before .before .hold .ensures) (c .before .before .before .before .before .before .before .before .before .before .put-cell .ensures) (c .before .before .before .before .before .before .put-cell2 .ensures) (c .before .before .put-cell3 .ensures)
+returns c = three-cells
+    (c .before .before .before .before .before .before .before .before .before .before .before .before .before .before .before .before .before .args .w .now) _ _ _ _ _ _ _ _ _
+    (c .before .before .before .before .before .before .before .before .before .before .before .before .before .before .hold .ensures)
+    (c .before .before .before .before .before .before .before .before .before .before .put-cell .ensures)
+    (c .before .before .before .before .before .before .put-cell2 .ensures)
+    (c .before .before .put-cell3 .ensures)
 
 pub start-by-spec : {M : Type 1} → statement M
 start-by-spec =

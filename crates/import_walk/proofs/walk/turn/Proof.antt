@@ -42,7 +42,8 @@ returns c =
     let s = c .before .before .before .before .before .before .before .before .before .before .before .before in
     let sg = image (s .args .s .now) in
     let ka = byQ sg (image (s .args .r .now)) in
-    let e = ap (closedIn sg ka (s .args .w .now)) (sym (c .before .before .before .before .before .before .before .point-at .ensures .0)) ∙ sym (c .before .before .before .before .before .is-closed .ensures) ∙ c .before .before .before .before .if1 .taken in
+    let e = ap (closedIn sg ka (s .args .w .now)) (sym (c .before .before .before .before .before .before .before .point-at .ensures .0))
+    ∙ sym (c .before .before .before .before .before .is-closed .ensures) ∙ c .before .before .before .before .if1 .taken in
     moved e (c .before .before .move-top .ensures) refl refl refl
 
 left-num-requires : tie.Need-left-num-requires
@@ -71,7 +72,11 @@ within-requires c κs = search needs
 
 sub-split-top : tie.Need-sub-split-top
 sub-split-top c =
-    let t = within-tells (c .before .before .before .before .before .before .before .before .before .left-num .result + c .before .before .before .before .before .before .before .number-at .result) (c .before .before .before .before .before .left-den .result + c .before .before .before .number-at2 .result) (sym (c .before .before .within .ensures) ∙ c .before .if2 .taken) in
+    let t = within-tells
+    (c .before .before .before .before .before .before .before .before .before .left-num .result + c .before .before .before .before .before .before .before .number-at .result)
+    (c .before .before .before .before .before .left-den .result + c .before .before .before .number-at2 .result)
+    (sym
+    (c .before .before .within .ensures) ∙ c .before .if2 .taken) in
     let a = t .0 in
     let b = t .1 in
     let d = t .2 in
@@ -79,7 +84,11 @@ sub-split-top c =
 
 split-top-requires : tie.Need-split-top-requires
 split-top-requires c κs =
-    let t = within-tells (c .before .before .before .before .before .before .before .before .before .left-num .result + c .before .before .before .before .before .before .before .number-at .result) (c .before .before .before .before .before .left-den .result + c .before .before .before .number-at2 .result) (sym (c .before .before .within .ensures) ∙ c .before .if2 .taken) in
+    let t = within-tells
+    (c .before .before .before .before .before .before .before .before .before .left-num .result + c .before .before .before .before .before .before .before .number-at .result)
+    (c .before .before .before .before .before .left-den .result + c .before .before .before .number-at2 .result)
+    (sym
+    (c .before .before .within .ensures) ∙ c .before .if2 .taken) in
     let a = t .0 in
     let b = t .1 in
     let d = t .2 in
@@ -97,10 +106,17 @@ returns-2 c =
     let s = c .before .before .before .before .before .before .before .before .before .before .before .before .before .before .before .before .before .before .before .before .before .before in
     let sg = image (s .args .s .now) in
     let ka = byQ sg (image (s .args .r .now)) in
-    let e = ap (closedIn sg ka (s .args .w .now)) (sym (c .before .before .before .before .before .before .before .before .before .before .before .before .before .before .before .before .before .point-at .ensures .0)) ∙ sym (c .before .before .before .before .before .before .before .before .before .before .before .before .before .before .before .is-closed .ensures) ∙ c .before .before .before .before .before .before .before .before .before .before .before .before .before .before .if1 .left in
-    let p = sums _ _ _ _ (c .before .before .before .before .before .before .before .before .before .before .before .before .left-num .ensures .0) (c .before .before .before .before .before .before .before .before .before .before .number-at .ensures .0) in
-    let q = sums _ _ _ _ (c .before .before .before .before .before .before .before .before .left-den .ensures .0) (c .before .before .before .before .before .before .number-at2 .ensures .0) in
-    parted e (sym (fits-eq sg ka (s .args .w .now) (s .args .k) _ _ _ _ p q) ∙ sym (c .before .before .before .before .before .within .ensures) ∙ c .before .before .before .before .if2 .taken) (c .before .before .split-top .ensures ∙ split-eq sg ka (s .args .w .now) (s .args .k) _ _ _ _ p q) refl refl refl
+    let e = ap (closedIn sg ka (s .args .w .now))
+    (sym (c .before .before .before .before .before .before .before .before .before .before .before .before .before .before .before .before .before .point-at .ensures .0))
+    ∙ sym (c .before .before .before .before .before .before .before .before .before .before .before .before .before .before .before .is-closed .ensures)
+    ∙ c .before .before .before .before .before .before .before .before .before .before .before .before .before .before .if1 .left in
+    let p = sums _ _ _ _ (c .before .before .before .before .before .before .before .before .before .before .before .before .left-num .ensures .0)
+    (c .before .before .before .before .before .before .before .before .before .before .number-at .ensures .0) in
+    let q = sums _ _ _ _ (c .before .before .before .before .before .before .before .before .left-den .ensures .0)
+    (c .before .before .before .before .before .before .number-at2 .ensures .0) in
+    parted e (sym (fits-eq sg ka (s .args .w .now) (s .args .k) _ _ _ _ p q) ∙ sym (c .before .before .before .before .before .within .ensures)
+    ∙ c .before .before .before .before .if2 .taken)
+    (c .before .before .split-top .ensures ∙ split-eq sg ka (s .args .w .now) (s .args .k) _ _ _ _ p q) refl refl refl
 
 same-length-3 : tie.Need-same-length-3
 same-length-3 c = search needs
@@ -110,8 +126,12 @@ returns-3 c =
     let s = c .before .before .before .before .before .before .before .before .before .before .before .before .before .before .before .before .before .before in
     let sg = image (s .args .s .now) in
     let ka = byQ sg (image (s .args .r .now)) in
-    let e = ap (closedIn sg ka (s .args .w .now)) (sym (c .before .before .before .before .before .before .before .before .before .before .before .before .before .point-at .ensures .0)) ∙ sym (c .before .before .before .before .before .before .before .before .before .before .before .is-closed .ensures) ∙ c .before .before .before .before .before .before .before .before .before .before .if1 .left in
-    let p = sums _ _ _ _ (c .before .before .before .before .before .before .before .before .left-num .ensures .0) (c .before .before .before .before .before .before .number-at .ensures .0) in
+    let e = ap (closedIn sg ka (s .args .w .now))
+    (sym (c .before .before .before .before .before .before .before .before .before .before .before .before .before .point-at .ensures .0))
+    ∙ sym (c .before .before .before .before .before .before .before .before .before .before .before .is-closed .ensures)
+    ∙ c .before .before .before .before .before .before .before .before .before .before .if1 .left in
+    let p = sums _ _ _ _ (c .before .before .before .before .before .before .before .before .left-num .ensures .0)
+    (c .before .before .before .before .before .before .number-at .ensures .0) in
     let q = sums _ _ _ _ (c .before .before .before .before .left-den .ensures .0) (c .before .before .number-at2 .ensures .0) in
     over e (sym (fits-eq sg ka (s .args .w .now) (s .args .k) _ _ _ _ p q) ∙ sym (c .before .within .ensures) ∙ c .if2 .left) refl refl refl
 

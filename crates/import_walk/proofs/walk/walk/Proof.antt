@@ -47,7 +47,9 @@ same-length c =
     let R = s .args .r .now in
     let st = startPlaced (image S) (byQ (image S) (image R)) in
     let l = c .before .before .before .before .before .before .loop in
-    turned-length S R st (l .w) _ (l .d) (l .k) _ _ _ (c .before .before .before .turn .ensures) ∙ l .inv .1 ∙ start-length (image S) (byQ (image S) (image R)) (s .args .w .now) _ (c .before .before .before .before .before .before .before .before .before .start .ensures)
+    turned-length S R st (l .w) _ (l .d) (l .k) _ _ _ (c .before .before .before .turn .ensures) ∙ l .inv .1
+    ∙ start-length (image S) (byQ (image S) (image R)) (s .args .w .now) _
+    (c .before .before .before .before .before .before .before .before .before .start .ensures)
 
 returns : tie.Need-returns Inv-loop μ-loop
 returns c =
@@ -66,7 +68,8 @@ loop-less c =
     let st = startPlaced (image S) (byQ (image S) (image R)) in
     let l = c .before .before .before .before .before .before .loop in
     let g = walk-turn S R st (l .w) _ (l .d) (l .k) _ _ _ (l .inv .0) (omega arith) (c .before .before .before .turn .ensures) (c .if1 .left) in
-    walk-less S R st (l .w) _ (l .d) (l .k) _ _ _ (walk-size S R st (l .w) (l .d) (l .k) (l .inv .0)) (walk-size S R st _ _ _ g) (omega arith) (c .before .before .before .turn .ensures) (c .if1 .left)
+    walk-less S R st (l .w) _ (l .d) (l .k) _ _ _ (walk-size S R st (l .w) (l .d) (l .k) (l .inv .0)) (walk-size S R st _ _ _ g) (omega arith)
+    (c .before .before .before .turn .ensures) (c .if1 .left)
 
 loop-again : tie.Need-loop-again Inv-loop μ-loop
 loop-again c =
@@ -74,8 +77,11 @@ loop-again c =
     let S = s .args .s .now in
     let R = s .args .r .now in
     let st = startPlaced (image S) (byQ (image S) (image R)) in
-    let l = c .before .before .before .before .before .before .loop in
-    (walk-turn S R st (l .w) _ (l .d) (l .k) _ _ _ (l .inv .0) (omega arith) (c .before .before .before .turn .ensures) (c .if1 .left), turned-length S R st (l .w) _ (l .d) (l .k) _ _ _ (c .before .before .before .turn .ensures) ∙ l .inv .1)
+    let l = c .before .before .before .before .before .before .loop in (
+      walk-turn S R st (l .w) _ (l .d) (l .k) _ _ _ (l .inv .0) (omega arith) (c .before .before .before .turn .ensures) (c .if1 .left),
+      turned-length S R st
+          (l .w) _ (l .d) (l .k) _ _ _ (c .before .before .before .turn .ensures) ∙ l .inv .1,
+    )
 
 same-length-2 : tie.Need-same-length-2 Inv-loop μ-loop
 same-length-2 c =

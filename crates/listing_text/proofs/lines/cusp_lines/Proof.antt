@@ -12,11 +12,17 @@ slice-aggregate-table-line c = search needs
 table-line-requires : tie.Need-table-line-requires
 table-line-requires c κs = search needs
 
-genus-line-requires : tie.Need-genus-line-requires
-genus-line-requires c κs = search needs
+slice-aggregate-figure-line : tie.Need-slice-aggregate-figure-line
+slice-aggregate-figure-line c = search needs
 
-level-line-requires : tie.Need-level-line-requires
-level-line-requires c κs = search needs
+figure-line-requires : tie.Need-figure-line-requires
+figure-line-requires c κs = search needs
+
+slice-aggregate-figure-line-2 : tie.Need-slice-aggregate-figure-line-2
+slice-aggregate-figure-line-2 c = search needs
+
+figure-line-requires-2 : tie.Need-figure-line-requires-2
+figure-line-requires-2 c κs = search needs
 
 same-length : tie.Need-same-length
 same-length c = search needs
@@ -24,10 +30,10 @@ same-length c = search needs
 returns : tie.Need-returns
 unfolding cuspLines
 returns c =
-    let third = (c .before .before) .level-line .ensures in
-    let second = (c .before .before .before .before .before .before) .genus-line .ensures in
-    let first = (c .before .before .before .before .before .before .before .before .before .before) .table-line .ensures in
-    let s = c .before .before .before .before .before .before .before .before .before .before .before .before .before .before .before in
+    let third = c .before .before .figure-line2 .ensures in
+    let second = c .before .before .before .before .before .before .before .figure-line .ensures in
+    let first = c .before .before .before .before .before .before .before .before .before .before .before .before .table-line .ensures in
+    let s = c .before .before .before .before .before .before .before .before .before .before .before .before .before .before .before .before .before in
     (puts-then (puts-then (first .0) (second .0) (omega (arith, s .pre .1))) (third .0) (omega (arith, s .pre .1)), omega (arith, first .1, second .1, third .1))
 
 pub cusp-lines-spec : {M : Type 1} → statement M
@@ -36,7 +42,9 @@ cusp-lines-spec =
     (tie.spec
     slice-aggregate-table-line
     table-line-requires
-    genus-line-requires
-    level-line-requires
+    slice-aggregate-figure-line
+    figure-line-requires
+    slice-aggregate-figure-line-2
+    figure-line-requires-2
     same-length
     returns)

@@ -40,8 +40,11 @@ returns c =
     let p = (c .before .before .before .before .before .before .before .before .before .before) .put-digits .ensures in
     let k = c .before .before .before .before .before .before .before in
     let row = s .args .row .now in
-    let word = first-kind (getD row 0 (pos 0)) (record { sfits = k .kind .given }) ((c .before .before .before .before .before .before) .if1 .taken) in
-    (row-put (s .args .j) row word (p .0) (e .0) (omega (arith, s .pre .1)), omega (arith, p .1, e .1, s .pre .0, length-take-le (length row - 1) (drop 1 row) (omega (arith, length-drop 1 row)), length-drop 1 row))
+    let word = first-kind (getD row 0 (pos 0)) (record { sfits = k .kind .given }) ((c .before .before .before .before .before .before) .if1 .taken) in (
+      row-put (s .args .j) row word (p .0) (e .0) (omega (arith, s .pre .1)),
+      omega
+          (arith, p .1, e .1, s .pre .0, length-take-le (length row - 1) (drop 1 row) (omega (arith, length-drop 1 row)), length-drop 1 row),
+    )
 
 slice-aggregate-line-of-integers-2 : tie.Need-slice-aggregate-line-of-integers-2
 slice-aggregate-line-of-integers-2 c = search needs
@@ -68,8 +71,11 @@ returns-2 c =
     let p = (c .before .before .before .before .before .before .before .before .before .before .before) .put-digits .ensures in
     let k = c .before .before .before .before .before .before .before .before in
     let row = s .args .row .now in
-    let word = second-kind (getD row 0 (pos 0)) (record { sfits = k .kind .given }) ((c .before .before .before .before .before .before) .if2 .taken) in
-    (row-put (s .args .j) row word (p .0) (e .0) (omega (arith, s .pre .1)), omega (arith, p .1, e .1, s .pre .0, length-take-le (length row - 1) (drop 1 row) (omega (arith, length-drop 1 row)), length-drop 1 row))
+    let word = second-kind (getD row 0 (pos 0)) (record { sfits = k .kind .given }) ((c .before .before .before .before .before .before) .if2 .taken) in (
+      row-put (s .args .j) row word (p .0) (e .0) (omega (arith, s .pre .1)),
+      omega
+          (arith, p .1, e .1, s .pre .0, length-take-le (length row - 1) (drop 1 row) (omega (arith, length-drop 1 row)), length-drop 1 row),
+    )
 
 slice-aggregate-line-of-integers-3 : tie.Need-slice-aggregate-line-of-integers-3
 slice-aggregate-line-of-integers-3 c = search needs
@@ -96,8 +102,12 @@ returns-3 c =
     let p = (c .before .before .before .before .before .before .before .before .before .before .before) .put-digits .ensures in
     let k = c .before .before .before .before .before .before .before .before in
     let row = s .args .row .now in
-    let word = third-kind (getD row 0 (pos 0)) ((c .before .before .before .before .before .before .before) .if1 .left) ((c .before .before .before .before .before .before) .if2 .left) in
-    (row-put (s .args .j) row word (p .0) (e .0) (omega (arith, s .pre .1)), omega (arith, p .1, e .1, s .pre .0, length-take-le (length row - 1) (drop 1 row) (omega (arith, length-drop 1 row)), length-drop 1 row))
+    let word = third-kind (getD row 0 (pos 0)) ((c .before .before .before .before .before .before .before) .if1 .left)
+    ((c .before .before .before .before .before .before) .if2 .left) in (
+      row-put (s .args .j) row word (p .0) (e .0) (omega (arith, s .pre .1)),
+      omega
+          (arith, p .1, e .1, s .pre .0, length-take-le (length row - 1) (drop 1 row) (omega (arith, length-drop 1 row)), length-drop 1 row),
+    )
 
 pub generator-line-spec : {M : Type 1} → statement M
 generator-line-spec =

@@ -4,9 +4,9 @@ use mathlib.Core.Logic.{⊎-elim}
 use Prim.Native.Nat.{ℕ, _+_, _-_, _≤_}
 use native.Mathlib.Omega.{arith}
 use native.Mathlib.Numerals.{add-one}
-use Rattle.symbol.specs.Count.{count}
+use Rattle.basics.specs.Count.{count}
 use Rattle.pairing.specs.Generator.{isLeaderIn}
-use Rattle.symbol.proofs.Count.{count-yes, count-no, count-le}
+use Rattle.basics.proofs.Count.{count-yes, count-no, count-le}
 use borrow.Author.Needs.{needs}
 use Rattle.pairing.proofs.generator.count_leaders.Statement.{statement}
 use Rattle.pairing.proofs.generator.count_leaders.Tie as tie

@@ -8,7 +8,7 @@ use lib.IntN.{ℤ}
 use lib.ListN.{length, length-drop}
 use Rattle.matrix.specs.Matrix.{nth, toList, matS, matQ}
 use Rattle.matrix.proofs.Bounds.{kept}
-use Rattle.symbol.specs.Table.{pairings, pairingOf, sideAt, frame, carried}
+use Rattle.symbol.specs.Table.{pairingEntries, pairingOf, sideAt, frame, carried}
 use Rattle.symbol.specs.Inner.Ready.{SmallSide}
 use Rattle.pairing.specs.Generator.{partnerIn, partner, pairingAt, frameAt, generatorBy, generator}
 use Rattle.symbol.specs.declared.Side.{Side}
@@ -39,7 +39,8 @@ read-pairing-requires : tie.Need-read-pairing-requires
 read-pairing-requires c κs = search needs
 
 -- what was read is the pairing of side i
-is-read : (c : tie.After-read-pairing) → c .read-pairing .result ≡ pairingAt (c .before .before .before .before .args .v) (c .before .before .before .before .args .t .now) (c .before .before .before .before .args .i)
+is-read : (c : tie.After-read-pairing) → c .read-pairing .result ≡ pairingAt (c .before .before .before .before .args .v)
+    (c .before .before .before .before .args .t .now) (c .before .before .before .before .args .i)
 is-read c =
     let s = c .before .before .before .before in
     let x = rw (kept (nth (s .args .p .now) (s .args .i)) (c .before .read-pairing-arg .given)) at (c .read-pairing .ensures) in
@@ -79,13 +80,17 @@ index-requires : tie.Need-index-requires
 index-requires c κs = search needs
 
 -- what stands in the work space is the partner
-partner-read : (c : tie.After-index) → c .index .result ≡ partner (c .before .before .before .before .before .before .before .before .args .v) (c .before .before .before .before .before .before .before .before .args .t .now) (c .before .before .before .before .before .before .before .before .args .i)
+partner-read : (c : tie.After-index) → c .index .result ≡ partner (c .before .before .before .before .before .before .before .before .args .v)
+    (c .before .before .before .before .before .before .before .before .args .t .now)
+    (c .before .before .before .before .before .before .before .before .args .i)
 partner-read c =
     let e = c .before .before in
     let r = e .before .before in
     let s = r .before .before .before .before in
-    let x : pairingOf (s .args .v) (nth (s .args .p .now) (s .args .i)) ≡ Free (e .enum-told3 .given .0 .0) = ap (λ (l : List ℤ). pairingOf (s .args .v) (nth l (s .args .i))) (s .pre .0 .part) ∙ sym (is-read r) ∙ e .enum-told3 .given .1 in
-    c .index .ensures ∙ s .pre .0 .partnered .partners (s .args .i) (e .enum-told3 .given .0 .0) (s .pre .1) x ∙ ap (λ (l : List ℤ). partnerIn (s .args .v) l (s .args .i)) (s .pre .0 .part)
+    let x : pairingOf (s .args .v) (nth (s .args .p .now) (s .args .i)) ≡ Free (e .enum-told3 .given .0 .0) =
+    ap (λ (l : List ℤ). pairingOf (s .args .v) (nth l (s .args .i))) (s .pre .0 .part) ∙ sym (is-read r) ∙ e .enum-told3 .given .1 in
+    c .index .ensures ∙ s .pre .0 .partnered .partners (s .args .i) (e .enum-told3 .given .0 .0) (s .pre .1) x
+    ∙ ap (λ (l : List ℤ). partnerIn (s .args .v) l (s .args .i)) (s .pre .0 .part)
 
 partner-within : (c : tie.After-index) → c .index .result ≤ c .before .before .before .before .before .before .before .before .args .v
 partner-within c =
@@ -93,7 +98,9 @@ partner-within c =
     let r = e .before .before in
     let s = r .before .before .before .before in
     let x = sym (is-read r) ∙ e .enum-told3 .given .1 in
-    rw (partner-read c) (partner-in (s .args .v) (pairings (s .args .v) (s .args .t .now)) (all-paired (s .args .v) (pairings (s .args .v) (s .args .t .now)) (symbol-paired (s .args .v) (s .args .t .now) (s .pre .0 .symbol))) (s .args .i) (e .enum-told3 .given .0 .0) (s .pre .1) x .within)
+    rw (partner-read c) (partner-in (s .args .v) (pairingEntries (s .args .v) (s .args .t .now))
+    (all-paired (s .args .v) (pairingEntries (s .args .v) (s .args .t .now)) (symbol-paired (s .args .v) (s .args .t .now) (s .pre .0 .symbol)))
+    (s .args .i) (e .enum-told3 .given .0 .0) (s .pre .1) x .within)
 
 at-requires-2 : tie.Need-at-requires-2
 at-requires-2 c κs =
@@ -113,7 +120,12 @@ identity-requires : tie.Need-identity-requires
 identity-requires c κs = search needs
 
 -- the generator of side i, for its pairing q
-made : (c : tie.After-read-pairing) (q : Pairing) → c .read-pairing .result ≡ q → generator (c .before .before .before .before .args .v) (c .before .before .before .before .args .t .now) (c .before .before .before .before .args .i) ≡ generatorBy q (frameAt (c .before .before .before .before .args .v) (c .before .before .before .before .args .t .now) (c .before .before .before .before .args .i)) (frameAt (c .before .before .before .before .args .v) (c .before .before .before .before .args .t .now) (partner (c .before .before .before .before .args .v) (c .before .before .before .before .args .t .now) (c .before .before .before .before .args .i)))
+made : (c : tie.After-read-pairing) (q : Pairing) → c .read-pairing .result ≡ q
+    → generator (c .before .before .before .before .args .v) (c .before .before .before .before .args .t .now)
+    (c .before .before .before .before .args .i) ≡ generatorBy q
+    (frameAt (c .before .before .before .before .args .v) (c .before .before .before .before .args .t .now) (c .before .before .before .before .args .i))
+    (frameAt (c .before .before .before .before .args .v) (c .before .before .before .before .args .t .now)
+    (partner (c .before .before .before .before .args .v) (c .before .before .before .before .args .t .now) (c .before .before .before .before .args .i)))
 made c q e = let s = c .before .before .before .before in generator-by (s .args .v) (s .args .t .now) (s .args .i) q (sym (is-read c) ∙ e)
 
 returns : tie.Need-returns

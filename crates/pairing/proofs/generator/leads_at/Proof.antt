@@ -22,13 +22,17 @@ read-pairing-requires : tie.Need-read-pairing-requires
 read-pairing-requires c κs = search needs
 
 -- what was read is the pairing of side i
-is-read : (c : tie.After-read-pairing) → c .read-pairing .result ≡ pairingOf (c .before .before .before .args .v) (nth (c .before .before .before .args .p .now) (c .before .before .before .args .i))
+is-read : (c : tie.After-read-pairing) → c .read-pairing .result ≡ pairingOf (c .before .before .before .args .v)
+    (nth (c .before .before .before .args .p .now) (c .before .before .before .args .i))
 is-read c =
     let s = c .before .before .before in
     rw (kept (nth (s .args .p .now) (s .args .i)) (c .before .read-pairing-arg .given)) at (c .read-pairing .ensures)
 
 -- whether side i leads, for its pairing q
-leading : (c : tie.After-read-pairing) (q : Pairing) → c .read-pairing .result ≡ q → isLeaderIn (c .before .before .before .args .v) (c .before .before .before .args .p .now) (c .before .before .before .args .i) ≡ isLeaderBy q (c .before .before .before .args .i) (partnerIn (c .before .before .before .args .v) (c .before .before .before .args .p .now) (c .before .before .before .args .i))
+leading : (c : tie.After-read-pairing) (q : Pairing) → c .read-pairing .result ≡ q
+    → isLeaderIn (c .before .before .before .args .v) (c .before .before .before .args .p .now) (c .before .before .before .args .i) ≡ isLeaderBy q
+    (c .before .before .before .args .i) (partnerIn (c .before .before .before .args .v) (c .before .before .before .args .p .now)
+    (c .before .before .before .args .i))
 leading c q e =
     let s = c .before .before .before in
     ap (λ (r : Pairing). isLeaderBy r (s .args .i) (partnerIn (s .args .v) (s .args .p .now) (s .args .i))) (sym (is-read c) ∙ e)

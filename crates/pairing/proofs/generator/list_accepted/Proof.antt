@@ -4,7 +4,7 @@ use mathlib.Core.Path.{_≡_, _∙_, ap}
 use lib.ListN.{length}
 use Rattle.workspace.specs.Space.{zeros}
 use Rattle.workspace.proofs.Zeros.{length-zeros}
-use Rattle.symbol.specs.Table.{pairings}
+use Rattle.symbol.specs.Table.{pairingEntries}
 use Rattle.symbol.proofs.Order.{behind}
 use Rattle.pairing.proofs.Partners.{paired-none}
 use Rattle.pairing.proofs.Rows.{symbol-paired}
@@ -35,8 +35,12 @@ pair-sides-requires c κs =
     let k = c .before .before .before in
     let s = k .before .before .before .before in
     let v = s .args .v in
-    let t = s .args .t .now in
-    (s .pre .0 .most, rw (behind v t) (symbol-paired v t (s .pre .0)), rw (behind v t, k .clear .ensures) (paired-none v (pairings v t) (length (s .args .w .now)) (s .pre .1)))
+    let t = s .args .t .now in (
+      s .pre .0 .most,
+      rw (behind v t) (symbol-paired v t (s .pre .0)),
+      rw (behind v t, k .clear .ensures)
+          (paired-none v (pairingEntries v t) (length (s .args .w .now)) (s .pre .1)),
+    )
 
 list-if-room-requires : tie.Need-list-if-room-requires
 list-if-room-requires c κs =
@@ -62,7 +66,8 @@ returns c =
     let q = m .before .before .before .before .before in
     let k = q .before .before .before .before in
     let s = k .before .before .before .before in
-    let same : length (q .pair-sides .last .1 .1 .0) ≡ length (s .args .w .now) = q .pair-sides .ensures .1 ∙ ap length (k .clear .ensures) ∙ length-zeros (length (s .args .w .now)) in
+    let same : length (q .pair-sides .last .1 .1 .0) ≡ length (s .args .w .now) = q .pair-sides .ensures .1 ∙ ap length (k .clear .ensures)
+    ∙ length-zeros (length (s .args .w .now)) in
     (m .list-if-room .ensures .0, (z .clear2 .ensures ∙ ap zeros same, m .list-if-room .ensures .1))
 
 pub list-accepted-spec : {M : Type 1} → statement M

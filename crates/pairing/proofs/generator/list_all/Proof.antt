@@ -4,10 +4,10 @@ use mathlib.Core.List.{_++_}
 use Prim.Native.Nat.{ℕ, suc, _+_, _-_, _*_, _≤_}
 use native.Mathlib.Omega.{arith}
 use lib.ListN.{length, drop}
-use Rattle.symbol.specs.Count.{count}
+use Rattle.basics.specs.Count.{count}
 use Rattle.pairing.specs.Generator.{isLeader, generatorTable}
 use Rattle.pairing.specs.Inner.Work.{RowsTo}
-use Rattle.symbol.proofs.Count.{count-le, count-yes, count-mono}
+use Rattle.basics.proofs.Count.{count-le, count-yes, count-mono}
 use Rattle.pairing.proofs.Rows.{rows-none, rows-all}
 use borrow.Author.Needs.{needs}
 use Rattle.pairing.proofs.generator.list_all.Statement.{statement}
@@ -28,8 +28,13 @@ list-side-requires c κs =
     let s = l .before .before in
     let test = isLeader (s .args .v) (s .args .t .now) in
     let r = l .loop .inv .1 in
-    let i = l .loop .i in
-    (s .pre .0, omega arith, omega (arith, r .number, count-le test i), λ e. omega (arith, r .number, count-yes test i e, count-mono test (suc i) (s .args .v + 1) (omega arith), l .loop .inv .2, s .pre .1))
+    let i = l .loop .i in (
+      s .pre .0,
+      omega arith,
+      omega (arith, r .number, count-le test i),
+      λ e. omega
+          (arith, r .number, count-yes test i e, count-mono test (suc i) (s .args .v + 1) (omega arith), l .loop .inv .2, s .pre .1),
+    )
 
 add-i : tie.Need-add-i Inv-loop μ-loop
 add-i c = search needs

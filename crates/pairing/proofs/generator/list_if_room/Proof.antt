@@ -10,8 +10,8 @@ use borrow.Author.Tests.{lt-ltb, le-ltb}
 use Rattle.pairing.specs.Generator.{isLeaderIn, isLeader, leaders, generatorTable}
 use Rattle.refusal.specs.Refusal.{tooShort}
 use Rattle.refusal.specs.declared.Filled.the-variants as filled
-use Rattle.symbol.proofs.Choice.{pick-true, pick-false}
-use Rattle.symbol.proofs.Count.{count-le, length-those}
+use Rattle.basics.proofs.Choice.{pick-true, pick-false}
+use Rattle.basics.proofs.Count.{count-le, length-those}
 use Rattle.pairing.proofs.Rows.{prepared-long, prepared-count}
 use borrow.Author.Needs.{needs}
 use Rattle.pairing.proofs.generator.list_if_room.Statement.{statement}
@@ -34,8 +34,12 @@ returns c =
     let a = c .before in
     let s = a .before .before in
     let n = length (leaders (s .args .v) (s .args .t .now)) in
-    let room = length (s .args .out .now) in
-    (ap (λ (k : ℕ). filled.Refused (tooShort (5 * k))) (number a) ∙ sym (pick-true (ltb room (5 * n)) (filled.Refused (tooShort (5 * n))) (filled.Made n) (lt-ltb room (5 * n) (omega (arith, number a, c .if1 .taken)))), refl)
+    let room = length (s .args .out .now) in (
+      ap (λ (k : ℕ). filled.Refused (tooShort (5 * k))) (number a)
+          ∙ sym (pick-true (ltb room (5 * n)) (filled.Refused (tooShort (5 * n))) (filled.Made n)
+          (lt-ltb room (5 * n) (omega (arith, number a, c .if1 .taken)))),
+      refl,
+    )
 
 list-all-requires : tie.Need-list-all-requires
 list-all-requires c κs =
@@ -57,7 +61,8 @@ returns-2 c =
     let out = s .args .out .now in
     let n = length (leaders v t) in
     let room = length out in (
-      ap filled.Made (number a) ∙ sym (pick-false (ltb room (5 * n)) (filled.Refused (tooShort (5 * n))) (filled.Made n) (le-ltb room (5 * n) (omega (arith, number a, d .if1 .left)))),
+      ap filled.Made (number a) ∙ sym (pick-false (ltb room (5 * n)) (filled.Refused (tooShort (5 * n))) (filled.Made n)
+          (le-ltb room (5 * n) (omega (arith, number a, d .if1 .left)))),
       e .list-all .ensures ∙ ap (λ (k : ℕ). generatorTable v t ++ drop (5 * k) out) (sym (length-those (isLeader v t) (v + 1)) ∙ sym (number a)),
     )
 

@@ -9,7 +9,7 @@ use lib.ListN.{length}
 use Rattle.matrix.specs.Matrix.{nth, ofList, toList}
 use Rattle.matrix.proofs.Bounds.{kept}
 use Rattle.symbol.specs.Table.{pairingOf}
-use Rattle.pairing.specs.Generator.{isLeader, row, kindOf}
+use Rattle.pairing.specs.Generator.{isLeader, generatorRow, kindOf}
 use Rattle.pairing.specs.Inner.Work.{putRow}
 use Rattle.pairing.proofs.Rows.{length-putRow, rows-yes, rows-no, prepared-long, prepared-leads, prepared-row}
 use borrow.Author.Needs.{needs}
@@ -56,14 +56,14 @@ returns c =
     let n = s .args .n in
     let out = s .args .out .now in
     let yes = sym (leading (d .before)) ∙ d .if1 .taken in
-    let is : p .put-row .last .0 ≡ putRow n (row v t i) out =
+    let is : p .put-row .last .0 ≡ putRow n (generatorRow v t i) out =
     p .put-row .ensures
     ∙ ap (λ (x : ℤ). putRow n (x ∷ toList (ofList (g .generator-at .result))) out) (kept (k .kind-at .result) (k .kind-at .ok) ∙ k .kind-at .ensures)
     ∙ ap (λ (m : List ℤ). putRow n (pos (kindOf (pairingOf v (nth (s .args .p .now) i))) ∷ toList (ofList m)) out) (g .generator-at .ensures)
     ∙ ap (λ (r : List ℤ). putRow n r out) (prepared-row _ _ _ _ (s .pre .0) i) in
     record {
       more = λ o r. rw (add-one, is) (rows-yes v t i n o out r yes);
-      long = ap length is ∙ length-putRow n (row v t i) out refl (s .pre .3 yes);
+      long = ap length is ∙ length-putRow n (generatorRow v t i) out refl (s .pre .3 yes);
     }
 
 returns-2 : tie.Need-returns-2

@@ -21,7 +21,8 @@ read-pairing-requires : tie.Need-read-pairing-requires
 read-pairing-requires c κs = search needs
 
 -- the kind of side i, for its pairing q
-kind : (c : tie.After-read-pairing) (q : Pairing) → c .read-pairing .result ≡ q → pos (kindOf (pairingOf (c .before .before .args .v) (nth (c .before .before .args .p .now) (c .before .before .args .i)))) ≡ pos (kindOf q)
+kind : (c : tie.After-read-pairing) (q : Pairing) → c .read-pairing .result ≡ q
+    → pos (kindOf (pairingOf (c .before .before .args .v) (nth (c .before .before .args .p .now) (c .before .before .args .i)))) ≡ pos (kindOf q)
 kind c q e =
     let s = c .before .before in
     ap (λ (r : Pairing). pos (kindOf r)) (sym (rw (kept (nth (s .args .p .now) (s .args .i)) (c .before .read-pairing-arg .given)) at (c .read-pairing .ensures)) ∙ e)

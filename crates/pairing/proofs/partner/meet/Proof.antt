@@ -7,7 +7,7 @@ use lib.Dec.{eqb}
 use lib.ListN.{getD, length-set}
 use borrow.Author.Tests.{eq-eqb, ne-eqb}
 use Rattle.pairing.specs.Inner.Work.{FIRST}
-use Rattle.symbol.proofs.Choice.{pick-true, pick-false}
+use Rattle.basics.proofs.Choice.{pick-true, pick-false}
 use borrow.Author.Needs.{needs}
 use Rattle.pairing.proofs.partner.meet.Statement.{statement}
 use Rattle.pairing.proofs.partner.meet.Tie as tie

@@ -20,7 +20,9 @@ is-read : (c : tie.After-read-pairing) → c .read-pairing .result ≡ pairingOf
 is-read c = rw (toZ-ofZ (c .before .before .fits .x)) at (c .read-pairing .ensures)
 
 -- what the tables become for a pairing q
-becomes : (c : tie.After-read-pairing) (q : Pairing) → c .read-pairing .result ≡ q → metBy (pairingOf (c .before .before .args .v) (c .before .before .args .x)) (c .before .before .args .i) (c .before .before .args .w .now) ≡ metBy q (c .before .before .args .i) (c .before .before .args .w .now)
+becomes : (c : tie.After-read-pairing) (q : Pairing) → c .read-pairing .result ≡ q
+    → metBy (pairingOf (c .before .before .args .v) (c .before .before .args .x)) (c .before .before .args .i) (c .before .before .args .w .now) ≡ metBy q
+    (c .before .before .args .i) (c .before .before .args .w .now)
 becomes c q e = ap (λ (r : Pairing). metBy r (c .before .before .args .i) (c .before .before .args .w .now)) (sym (is-read c) ∙ e)
 
 enum-told : tie.Need-enum-told

@@ -32,8 +32,15 @@ pair-side-requires : tie.Need-pair-side-requires Inv-loop μ-loop
 pair-side-requires c κs =
     let l = c .before .before .before in
     let s = l .before .before in
-    let t = l .loop .inv .1 in
-    (s .pre .0, omega arith, t .long, record { bound = λ k a b. let m = first-bound (s .args .v) (s .args .p .now) (l .loop .i) (l .loop .w) t k a b in omega (arith, s .pre .0) })
+    let t = l .loop .inv .1 in (
+      s .pre .0,
+      omega arith,
+      t .long,
+      record {
+        bound = λ k a b. let m = first-bound (s .args .v) (s .args .p .now) (l .loop .i) (l .loop .w) t k a b in
+            omega (arith, s .pre .0);
+      },
+    )
 
 add-i : tie.Need-add-i Inv-loop μ-loop
 add-i c = search needs

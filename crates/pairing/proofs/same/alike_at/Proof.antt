@@ -1,4 +1,4 @@
--- `alike_at` compares the pairings of side i in two symbols: other kinds, no; both even or both odd, yes; both free, just where in the
+-- `alike_at` compares the pairings of side i in two symbols: other kinds, no; both even or both odd, yes; both free, exactly where in the
 -- second symbol the side has the label of what is its partner in the first. Assumes nothing.
 use mathlib.Core.Path.{_≡_, sym, _∙_, ap}
 use Prim.Native.Nat.{ℕ, _≤_}
@@ -22,7 +22,10 @@ kind-at-requires-2 : tie.Need-kind-at-requires-2
 kind-at-requires-2 c κs = let s = c .before .before in (s .pre .0 .most, omega (arith, s .pre .1, s .pre .0 .other .long))
 
 -- the two numbers are the two kinds
-kinds : (c : tie.After-kind-at2) → (ofZ w64 (c .before .kind-at .result) ≡ kindOf (pairingOf (c .before .before .before .args .v) (nth (c .before .before .before .args .p .now) (c .before .before .before .args .i)))) × (ofZ w64 (c .kind-at2 .result) ≡ kindOf (pairingOf (c .before .before .before .args .v) (nth (c .before .before .before .args .q .now) (c .before .before .before .args .i))))
+kinds : (c : tie.After-kind-at2) → (ofZ w64 (c .before .kind-at .result) ≡ kindOf
+    (pairingOf (c .before .before .before .args .v) (nth (c .before .before .before .args .p .now) (c .before .before .before .args .i))))
+    × (ofZ w64 (c .kind-at2 .result) ≡ kindOf
+    (pairingOf (c .before .before .before .args .v) (nth (c .before .before .before .args .q .now) (c .before .before .before .args .i))))
 kinds c = (ap (ofZ w64) (c .before .kind-at .ensures), ap (ofZ w64) (c .kind-at2 .ensures))
 
 returns : tie.Need-returns
@@ -45,10 +48,13 @@ returns-2 c =
     let q = s .args .q .now in
     let i = s .args .i in
     let k = kinds b in
-    sym (kinds-closed (nth q (partnerIn v p i)) (nth q i) (pairingOf v (nth p i)) (pairingOf v (nth q i)) (sym (k .0) ∙ c .before .if1 .left ∙ k .1) (λ e. c .if2 .taken (k .0 ∙ e)) (not-bad v p i (s .pre .0 .one) (s .pre .1)))
+    sym (kinds-closed (nth q (partnerIn v p i)) (nth q i) (pairingOf v (nth p i)) (pairingOf v (nth q i)) (sym (k .0) ∙ c .before .if1 .left ∙ k .1)
+    (λ e. c .if2 .taken (k .0 ∙ e)) (not-bad v p i (s .pre .0 .one) (s .pre .1)))
 
 -- side i is free in the first list, and its partner stands in the work space
-partner-read : (c : tie.After-index) → (c .index .result ≡ partnerIn (c .before .before .before .before .before .before .before .args .v) (c .before .before .before .before .before .before .before .args .p .now) (c .before .before .before .before .before .before .before .args .i)) × (c .index .result ≤ c .before .before .before .before .before .before .before .args .v)
+partner-read : (c : tie.After-index) → (c .index .result ≡ partnerIn (c .before .before .before .before .before .before .before .args .v)
+    (c .before .before .before .before .before .before .before .args .p .now) (c .before .before .before .before .before .before .before .args .i))
+    × (c .index .result ≤ c .before .before .before .before .before .before .before .args .v)
 partner-read c =
     let d = c .before .before in
     let b = d .before .before in
@@ -101,7 +107,8 @@ returns-3 c =
     let k = kinds b in
     same-bits (nth q (x .index .result)) (nth q i) (record { sfits = a .result .given }) (record { sfits = c .result2 .given })
     ∙ ap (λ (j : ℕ). eqZ (nth q j) (nth q i)) (partner-read x .0)
-    ∙ sym (kinds-free (nth q (partnerIn v p i)) (nth q i) (pairingOf v (nth p i)) (pairingOf v (nth q i)) (sym (k .0) ∙ d .before .if1 .left ∙ k .1) (sym (k .0) ∙ d .if2 .left))
+    ∙ sym (kinds-free (nth q (partnerIn v p i)) (nth q i) (pairingOf v (nth p i)) (pairingOf v (nth q i)) (sym (k .0) ∙ d .before .if1 .left ∙ k .1)
+    (sym (k .0) ∙ d .if2 .left))
 
 pub alike-at-spec : {M : Type 1} → statement M
 alike-at-spec =

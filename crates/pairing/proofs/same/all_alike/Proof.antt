@@ -5,7 +5,7 @@ use Prim.Native.Nat.{ℕ, _+_, _-_, _≤_}
 use native.Mathlib.Omega.{arith}
 use native.Mathlib.Numerals.{add-one}
 use Rattle.pairing.specs.Inner.Alike.{alike}
-use Rattle.symbol.proofs.Count.{Clear, clear-zero, clear-more, clear-less}
+use Rattle.basics.proofs.Count.{Clear, clear-zero, clear-more, clear-less}
 use Rattle.pairing.proofs.Alike.{all-pass, one-fails}
 use borrow.Author.Needs.{needs}
 use Rattle.pairing.proofs.same.all_alike.Statement.{statement}

@@ -8,7 +8,7 @@ use lib.IntN.{ℤ}
 use lib.ListN.{length, take, drop}
 use Rattle.workspace.specs.Space.{zeros}
 use Rattle.workspace.proofs.Zeros.{length-zeros}
-use Rattle.symbol.specs.Table.{pairings}
+use Rattle.symbol.specs.Table.{pairingEntries}
 use Rattle.pairing.specs.Inner.Alike.{allAlike}
 use Rattle.symbol.proofs.Order.{behind}
 use Rattle.pairing.proofs.Partners.{paired-none}
@@ -44,8 +44,11 @@ returns-2 c =
     let a = c .before in
     let d = a .before in
     let k = d .before .before .before in
-    let s = k .before .before .before in
-    (sym (same-vertices (s .args .v) (s .args .t .now) (s .args .n) (s .args .u .now) (d .if1 .left) (sym (a .equal-entries .ensures) ∙ not-true (a .equal-entries .result) (c .if2 .taken))), k .clear .ensures)
+    let s = k .before .before .before in (
+      sym (same-vertices (s .args .v) (s .args .t .now) (s .args .n) (s .args .u .now) (d .if1 .left)
+          (sym (a .equal-entries .ensures) ∙ not-true (a .equal-entries .result) (c .if2 .taken))),
+      k .clear .ensures,
+    )
 
 mul-p : tie.Need-mul-p
 mul-p c = search needs
@@ -83,8 +86,12 @@ pair-sides-requires c κs =
     let k = d .before .before .before in
     let s = k .before .before .before in
     let v = s .args .v in
-    let t = s .args .t .now in
-    (s .pre .0 .most, rw (behind v t) (symbol-paired v t (s .pre .0)), rw (behind v t, k .clear .ensures) (paired-none v (pairings v t) (length (s .args .w .now)) (s .pre .2)))
+    let t = s .args .t .now in (
+      s .pre .0 .most,
+      rw (behind v t) (symbol-paired v t (s .pre .0)),
+      rw (behind v t, k .clear .ensures)
+          (paired-none v (pairingEntries v t) (length (s .args .w .now)) (s .pre .2)),
+    )
 
 all-alike-requires : tie.Need-all-alike-requires
 all-alike-requires c κs =
@@ -122,10 +129,11 @@ returns-3 c =
     let t = s .args .t .now in
     let u = s .args .u .now in
     let vertices = sym (e .equal-entries .ensures) ∙ not-false (e .equal-entries .result) (g .if2 .left) in
-    let lengths : length (x .pair-sides .last .1 .1 .0) ≡ length (s .args .w .now) = x .pair-sides .ensures .1 ∙ ap length (k .clear .ensures) ∙ length-zeros (length (s .args .w .now)) in (
+    let lengths : length (x .pair-sides .last .1 .1 .0) ≡ length (s .args .w .now) = x .pair-sides .ensures .1 ∙ ap length (k .clear .ensures)
+    ∙ length-zeros (length (s .args .w .now)) in (
       y .all-alike .ensures
           ∙ ap (λ (p : List ℤ). allAlike v p (take (length u - 2 * v) (drop (2 * v) u))) (behind v t)
-          ∙ ap (allAlike v (pairings v t)) (behind v u)
+          ∙ ap (allAlike v (pairingEntries v t)) (behind v u)
           ∙ sym (same-pairings v t (s .args .n) u (s .pre .0) (s .pre .1) (d .if1 .left) vertices),
       z .clear2 .ensures ∙ ap zeros lengths,
     )

@@ -6,7 +6,7 @@ use native.Mathlib.Omega.{arith}
 use native.Mathlib.Numerals.{add-one}
 use Rattle.matrix.specs.Matrix.{nth}
 use Rattle.symbol.specs.Check.{eqZ}
-use Rattle.symbol.proofs.Count.{Clear, clear-zero, clear-more, clear-less}
+use Rattle.basics.proofs.Count.{Clear, clear-zero, clear-more, clear-less}
 use Rattle.pairing.proofs.Alike.{all-pass, one-fails, entries-differ, entries-equal}
 use borrow.Author.Needs.{needs}
 use Rattle.pairing.proofs.same.equal_entries.Statement.{statement}
@@ -42,7 +42,8 @@ returns c =
     let t = s .args .t .now in
     let u = s .args .u .now in
     let i = l .loop .i in
-    sym (one-fails (λ (k : ℕ). not (eqZ (nth t k) (nth u k))) (s .args .n) i (omega arith) (l .loop .inv .1) (entries-differ (nth t i) (nth u i) (record { sfits = a .if12 .given }) (record { sfits = b .if13 .given }) (c .if1 .taken)))
+    sym (one-fails (λ (k : ℕ). not (eqZ (nth t k) (nth u k))) (s .args .n) i (omega arith) (l .loop .inv .1)
+    (entries-differ (nth t i) (nth u i) (record { sfits = a .if12 .given }) (record { sfits = b .if13 .given }) (c .if1 .taken)))
 
 add-i : tie.Need-add-i Inv-loop μ-loop
 add-i c = search needs
@@ -58,8 +59,11 @@ loop-again c =
     let s = l .before in
     let t = s .args .t .now in
     let u = s .args .u .now in
-    let i = l .loop .i in
-    (search needs, rw add-one (clear-more (λ (k : ℕ). not (eqZ (nth t k) (nth u k))) i (l .loop .inv .1) (entries-equal (nth t i) (nth u i) (record { sfits = a .if12 .given }) (record { sfits = b .if13 .given }) (c .if1 .left))))
+    let i = l .loop .i in (
+      search needs,
+      rw add-one (clear-more (λ (k : ℕ). not (eqZ (nth t k) (nth u k))) i (l .loop .inv .1)
+          (entries-equal (nth t i) (nth u i) (record { sfits = a .if12 .given }) (record { sfits = b .if13 .given }) (c .if1 .left))),
+    )
 
 returns-2 : tie.Need-returns-2 Inv-loop μ-loop
 returns-2 c =

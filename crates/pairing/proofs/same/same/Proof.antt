@@ -1,8 +1,8 @@
 -- `same` gives the first table's fault where it has one; where it has none, `same_second` has the rest of the answer. Assumes nothing.
 use mathlib.Core.Path.{_≡_, sym, _∙_, ap}
 use lib.ListN.{length}
-use Rattle.symbol.specs.Check.{checkOf}
-use Rattle.pairing.specs.Same.{answered, samenessBy, workAfterBoth}
+use Rattle.symbol.specs.Check.{symbolCheck}
+use Rattle.pairing.specs.Same.{samenessFor, samenessBy, workAfterBoth}
 use Rattle.refusal.specs.declared.Checked.{Checked}
 use Rattle.pairing.proofs.Meaning.{same-means}
 use borrow.Author.Needs.{needs}
@@ -28,9 +28,15 @@ returns c =
     let s = r .before .before in
     let w = s .args .w .now in
     let no = sym (r .check .ensures .returned) ∙ k .first .given .1 in
-    let said = answered (s .args .v) (s .args .t .now) (s .args .n) (s .args .u .now) (length w) in
-    let is = sym (ap (λ (x : Checked). samenessBy x (checkOf (s .args .n) (s .args .u .now)) said) no) in
-    (is, (sym (ap (λ (x : Checked). workAfterBoth x (checkOf (s .args .n) (s .args .u .now)) w) no), same-means (s .args .v) (s .args .t .now) (s .args .n) (s .args .u .now) (length w) _ is))
+    let said = samenessFor (s .args .v) (s .args .t .now) (s .args .n) (s .args .u .now) (length w) in
+    let is = sym (ap (λ (x : Checked). samenessBy x (symbolCheck (s .args .n) (s .args .u .now)) said) no) in (
+      is,
+      (
+        sym (ap (λ (x : Checked). workAfterBoth x (symbolCheck (s .args .n) (s .args .u .now)) w) no),
+        same-means (s .args .v) (s .args .t .now) (s .args .n)
+            (s .args .u .now) (length w) _ is,
+      ),
+    )
 
 same-length : tie.Need-same-length
 same-length c = search needs

@@ -5,14 +5,14 @@ use mathlib.Core.Bool.{Bool, true, false}
 use lib.Dec.{ltb}
 use lib.ListN.{length}
 use borrow.Author.Tests.{lt-ltb, le-ltb}
-use Rattle.matrix.specs.Euclid.{pick}
-use Rattle.symbol.specs.Check.{checkOf}
+use Rattle.basics.specs.Choice.{pick}
+use Rattle.symbol.specs.Check.{symbolCheck}
 use Rattle.pairing.specs.Generator.{workAfter}
-use Rattle.pairing.specs.Same.{answered, samenessBy, samenessOf, workAfterBoth}
+use Rattle.pairing.specs.Same.{samenessFor, samenessBy, samenessOf, workAfterBoth}
 use Rattle.refusal.specs.declared.Checked.{Checked}
 use Rattle.refusal.specs.declared.Checked.the-variants.{Accepted, Refused}
 use Rattle.pairing.specs.declared.same.Sameness.the-variants as sameness
-use Rattle.symbol.proofs.Choice.{pick-true, pick-false}
+use Rattle.basics.proofs.Choice.{pick-true, pick-false}
 use Rattle.symbol.proofs.Accepted.{accepted}
 use borrow.Author.Needs.{needs}
 use Rattle.pairing.proofs.same.same_second.Statement.{statement}
@@ -22,12 +22,16 @@ check-requires : tie.Need-check-requires
 check-requires c κs = search needs
 
 -- the answer and the work space, by what the second check said
-by-second : (s : tie.Start) (x : Checked) → checkOf (s .args .n) (s .args .u .now) ≡ x → (samenessOf (s .args .v) (s .args .t .now) (s .args .n) (s .args .u .now) (length (s .args .w .now)) ≡ samenessBy Accepted x (answered (s .args .v) (s .args .t .now) (s .args .n) (s .args .u .now) (length (s .args .w .now)))) × (workAfterBoth (checkOf (s .args .v) (s .args .t .now)) (checkOf (s .args .n) (s .args .u .now)) (s .args .w .now) ≡ workAfter x (s .args .w .now))
+by-second : (s : tie.Start) (x : Checked) → symbolCheck (s .args .n) (s .args .u .now) ≡ x
+    → (samenessOf (s .args .v) (s .args .t .now) (s .args .n) (s .args .u .now) (length (s .args .w .now)) ≡ samenessBy Accepted x
+    (samenessFor (s .args .v) (s .args .t .now) (s .args .n) (s .args .u .now) (length (s .args .w .now))))
+    × (workAfterBoth (symbolCheck (s .args .v) (s .args .t .now)) (symbolCheck (s .args .n) (s .args .u .now)) (s .args .w .now) ≡ workAfter x
+    (s .args .w .now))
 by-second s x e =
-    let a = answered (s .args .v) (s .args .t .now) (s .args .n) (s .args .u .now) (length (s .args .w .now)) in
+    let a = samenessFor (s .args .v) (s .args .t .now) (s .args .n) (s .args .u .now) (length (s .args .w .now)) in
     let w = s .args .w .now in (
-      ap (λ (y : Checked). samenessBy y (checkOf (s .args .n) (s .args .u .now)) a) (s .pre) ∙ ap (λ (y : Checked). samenessBy Accepted y a) e,
-      ap (λ (y : Checked). workAfterBoth y (checkOf (s .args .n) (s .args .u .now)) w) (s .pre) ∙ ap (λ (y : Checked). workAfter y w) e,
+      ap (λ (y : Checked). samenessBy y (symbolCheck (s .args .n) (s .args .u .now)) a) (s .pre) ∙ ap (λ (y : Checked). samenessBy Accepted y a) e,
+      ap (λ (y : Checked). workAfterBoth y (symbolCheck (s .args .n) (s .args .u .now)) w) (s .pre) ∙ ap (λ (y : Checked). workAfter y w) e,
     )
 
 enum-known-second : tie.Need-enum-known-second
@@ -51,11 +55,26 @@ compare-requires c κs =
     let d = c .before in
     let e = d .before in
     let r = e .before .before in
-    let s = r .before .before in
-    (accepted (s .args .v) (s .args .t .now) .0 (s .pre), accepted (s .args .n) (s .args .u .now) .0 (sym (r .check .ensures .returned) ∙ e .enum-told .given .1), d .if1 .left)
+    let s = r .before .before in (
+      accepted (s .args .v) (s .args .t .now) .0 (s .pre),
+      accepted (s .args .n) (s .args .u .now) .0
+          (sym (r .check .ensures .returned) ∙ e .enum-told .given .1),
+      d .if1 .left,
+    )
 
 -- past the length check the answer is that of the comparison, and the work space is cleared
-compared : (c : tie.After-slice-known2) (b : Bool) → c .before .before .compare .result ≡ b → (pick b sameness.Yes sameness.No ≡ samenessOf (c .before .before .before .before .before .before .before .before .before .args .v) (c .before .before .before .before .before .before .before .before .before .args .t .now) (c .before .before .before .before .before .before .before .before .before .args .n) (c .before .before .before .before .before .before .before .before .before .args .u .now) (length (c .before .before .before .before .before .before .before .before .before .args .w .now))) × (c .before .before .compare .last .1 .1 .1 .1 .0 ≡ workAfterBoth (checkOf (c .before .before .before .before .before .before .before .before .before .args .v) (c .before .before .before .before .before .before .before .before .before .args .t .now)) (checkOf (c .before .before .before .before .before .before .before .before .before .args .n) (c .before .before .before .before .before .before .before .before .before .args .u .now)) (c .before .before .before .before .before .before .before .before .before .args .w .now))
+compared : (c : tie.After-slice-known2) (b : Bool) → c .before .before .compare .result ≡ b
+    → (pick b sameness.Yes sameness.No ≡ samenessOf (c .before .before .before .before .before .before .before .before .before .args .v)
+    (c .before .before .before .before .before .before .before .before .before .args .t .now)
+    (c .before .before .before .before .before .before .before .before .before .args .n)
+    (c .before .before .before .before .before .before .before .before .before .args .u .now)
+    (length (c .before .before .before .before .before .before .before .before .before .args .w .now)))
+    × (c .before .before .compare .last .1 .1 .1 .1 .0 ≡ workAfterBoth
+    (symbolCheck (c .before .before .before .before .before .before .before .before .before .args .v)
+    (c .before .before .before .before .before .before .before .before .before .args .t .now))
+    (symbolCheck (c .before .before .before .before .before .before .before .before .before .args .n)
+    (c .before .before .before .before .before .before .before .before .before .args .u .now))
+    (c .before .before .before .before .before .before .before .before .before .args .w .now))
 compared c b is =
     let m = c .before .before in
     let d = m .before .before in

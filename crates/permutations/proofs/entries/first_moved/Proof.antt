@@ -2,7 +2,7 @@
 -- Assumes nothing.
 use mathlib.Core.Path.{_≡_, refl, sym, _∙_, ap}
 use native.Mathlib.Omega.{arith}
-use Rattle.symbol.proofs.Count.{Clear, clear-zero, clear-more}
+use Rattle.basics.proofs.Count.{Clear, clear-zero, clear-more}
 use native.Mathlib.Numerals.{add-one}
 use Prim.Native.Nat.{_+_, _-_, _≤_}
 use lib.ListN.{length}
@@ -28,7 +28,8 @@ returns : tie.Need-returns Inv-loop μ-loop
 returns c =
     let s = c .before .before .before .before .before in
     let l = c .before .before .before .loop in
-    at-first (movedBy (s .args .thrice) (s .args .t .now)) (length (s .args .t .now)) (l .x) (omega arith) (l .inv .1) (sym (c .before .is-moved .ensures) ∙ c .if1 .taken)
+    at-first (movedBy (s .args .thrice) (s .args .t .now)) (length (s .args .t .now)) (l .x) (omega arith) (l .inv .1)
+    (sym (c .before .is-moved .ensures) ∙ c .if1 .taken)
 
 add-x : tie.Need-add-x Inv-loop μ-loop
 add-x c =

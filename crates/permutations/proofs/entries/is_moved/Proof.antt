@@ -1,6 +1,6 @@
 -- `is_moved` asks the one or the other, as `thrice` says (`pick-true`, `pick-false`). Assumes nothing.
 use mathlib.Core.Path.{sym, _∙_}
-use Rattle.symbol.proofs.Choice.{pick-true, pick-false}
+use Rattle.basics.proofs.Choice.{pick-true, pick-false}
 use borrow.Author.Needs.{needs}
 use Rattle.permutations.proofs.entries.is_moved.Statement.{statement}
 use Rattle.permutations.proofs.entries.is_moved.Tie as tie

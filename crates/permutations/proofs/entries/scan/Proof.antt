@@ -2,7 +2,7 @@
 -- (`seen-more`); an entry that isn't bad is a point, so it has a mark. Assumes nothing.
 use mathlib.Core.Path.{_≡_, refl, sym, _∙_, ap}
 use native.Mathlib.Omega.{arith}
-use Rattle.symbol.proofs.Count.{Clear, clear-zero, clear-more}
+use Rattle.basics.proofs.Count.{Clear, clear-zero, clear-more}
 use native.Mathlib.Numerals.{add-one}
 use Prim.Native.Nat.{_+_, _-_, _≤_}
 use lib.ListN.{length}
@@ -54,8 +54,13 @@ loop-again : tie.Need-loop-again Inv-loop μ-loop
 loop-again c =
     let s = c .before .before .before .before .before .before .before .before in
     let l = c .before .before .before .before .before .before .loop in
-    let e = sym (c .before .before .before .is-bad .ensures) ∙ c .before .before .if1 .left in
-    (omega arith, rw (add-one, c .see .ensures) (seen-more (s .args .t .now) (l .seen) (l .i) (l .inv .1) (good-low (s .args .t .now) (l .i) e (s .pre .0))), rw add-one (clear-more (badEntry (s .args .t .now)) (l .i) (l .inv .2) e))
+    let e = sym (c .before .before .before .is-bad .ensures) ∙ c .before .before .if1 .left in (
+      omega arith,
+      rw (add-one, c .see .ensures)
+          (seen-more (s .args .t .now) (l .seen) (l .i) (l .inv .1) (good-low (s .args .t .now) (l .i) e (s .pre .0))),
+      rw add-one
+          (clear-more (badEntry (s .args .t .now)) (l .i) (l .inv .2) e),
+    )
 
 returns-2 : tie.Need-returns-2 Inv-loop μ-loop
 returns-2 c =

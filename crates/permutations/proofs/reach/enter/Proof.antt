@@ -1,6 +1,7 @@
 -- `enter` puts x at the end of the queue and marks it, unless its mark says that it is there (`enter-old`, `enter-new`). Why the queue has
 -- room: its points differ, and with x they are still points below `size` (`enter-room`). Assumes nothing.
 use mathlib.Core.Path.{_≡_, refl, sym, _∙_, ap}
+use Prim.Native.Nat.{_<_}
 use native.Mathlib.Omega.{arith}
 use native.Mathlib.Numerals.{add-one}
 use Rattle.permutations.proofs.Queue.{enter-old, enter-new, enter-room}
@@ -20,49 +21,28 @@ returns c =
 element-write-seen : tie.Need-element-write-seen
 element-write-seen c = search needs
 
+-- x is not in the queue, so there is room for it
+module _ (c : tie.Else1) where
+  abbrev st : tie.Start
+  st = c .before .before
+
+  room : st .args .n < 3066
+  room =
+      let z = st .pre in
+      let below = enter-room (st .args .n) (st .args .size) (st .args .x) (st .args .seen .now) (st .args .queue .now) (z .0) (z .1) (c .if1 .left) in
+      omega (arith, z .0 .most, below)
+
 cast-queue : tie.Need-cast-queue
-cast-queue c =
-    let s = c .before .before in
-    let z = s .pre in
-    let a = enter-room (s .args .n) (s .args .size) (s .args .x) (s .args .seen .now) (s .args .queue .now) (z .0) (z .1) (c .if1 .left) in
-    let b = z .0 .most in
-    let c' = z .0 .queue-long in
-    let d = z .0 .seen-long in
-    let e = z .1 in
-    omega arith
+cast-queue c = omega (arith, room c)
 
 mul-queue : tie.Need-mul-queue
-mul-queue c =
-    let s = c .before .before in
-    let z = s .pre in
-    let a = enter-room (s .args .n) (s .args .size) (s .args .x) (s .args .seen .now) (s .args .queue .now) (z .0) (z .1) (c .if1 .left) in
-    let b = z .0 .most in
-    let c' = z .0 .queue-long in
-    let d = z .0 .seen-long in
-    let e = z .1 in
-    omega arith
+mul-queue c = omega (arith, room c)
 
 element-write-queue : tie.Need-element-write-queue
-element-write-queue c =
-    let s = c .before .before in
-    let z = s .pre in
-    let a = enter-room (s .args .n) (s .args .size) (s .args .x) (s .args .seen .now) (s .args .queue .now) (z .0) (z .1) (c .if1 .left) in
-    let b = z .0 .most in
-    let c' = z .0 .queue-long in
-    let d = z .0 .seen-long in
-    let e = z .1 in
-    omega arith
+element-write-queue c = omega (arith, room c)
 
 add-result : tie.Need-add-result
-add-result c =
-    let s = c .before .before in
-    let z = s .pre in
-    let a = enter-room (s .args .n) (s .args .size) (s .args .x) (s .args .seen .now) (s .args .queue .now) (z .0) (z .1) (c .if1 .left) in
-    let b = z .0 .most in
-    let c' = z .0 .queue-long in
-    let d = z .0 .seen-long in
-    let e = z .1 in
-    omega arith
+add-result c = omega (arith, room c)
 
 returns-2 : tie.Need-returns-2
 returns-2 c =

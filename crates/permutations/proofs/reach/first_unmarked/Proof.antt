@@ -6,7 +6,7 @@ use native.Mathlib.Numerals.{add-one}
 use Prim.Native.Nat.{_+_, _-_, _≤_}
 use Rattle.permutations.proofs.Queue.{unmarked, marked}
 use Rattle.permutations.proofs.Marks.{at-first, past-all}
-use Rattle.symbol.proofs.Count.{Clear, clear-zero, clear-more}
+use Rattle.basics.proofs.Count.{Clear, clear-zero, clear-more}
 use Rattle.permutations.specs.Check.{notReached}
 use lib.ListN.{length}
 use borrow.Author.Needs.{needs}

@@ -9,7 +9,15 @@ use Rattle.permutations.proofs.reach.first_unreached.Statement.{stateme
 use Rattle.permutations.proofs.reach.first_unreached.Tie as tie
 
 list-reached-requires : tie.Need-list-reached-requires
-list-reached-requires c κs = (c .before .before .before .before .pre, record { seen-long = length-replicate {A = ℕ} 3072 0; queue-long = length-replicate {A = ℕ} 3072 0; clear = zero-at 3072 })
+list-reached-requires c κs = (
+  c .before .before .before .before .pre,
+  record {
+    seen-long = length-replicate {A = ℕ} 3072 0;
+    queue-long =
+        length-replicate {A = ℕ} 3072 0;
+    clear = zero-at 3072;
+  },
+)
 
 first-unmarked-requires : tie.Need-first-unmarked-requires
 first-unmarked-requires c κs = search needs

@@ -35,7 +35,8 @@ enter-requires-2 : tie.Need-enter-requires-2
 enter-requires-2 c κs =
     let s = c .before .before .before .before .before .before .before .before .before .before .before in
     let z = s .pre in
-    let xl = visit-low (s .args .n) _ (s .args .i) _ (s .args .seen .now) (s .args .queue .now) (z .1) (z .2) (c .before .before .before .before .before .before .before .index .ensures) in
+    let xl = visit-low (s .args .n) _ (s .args .i) _ (s .args .seen .now) (s .args .queue .now) (z .1) (z .2)
+    (c .before .before .before .before .before .before .before .index .ensures) in
     let bl = entries-low _ (z .0 .R) _ _ (rw (z .0 .even) xl) (c .before .before .before .before .before .image2 .ensures) in
     (c .before .before .enter .ensures .listed, rw (z .0 .even) at bl)
 
@@ -43,8 +44,12 @@ returns : tie.Need-returns
 returns c =
     let s = c .before .before .before .before .before .before .before .before .before .before .before .before in
     let z = s .pre in
-    let xl = visit-low (s .args .n) _ (s .args .i) _ (s .args .seen .now) (s .args .queue .now) (z .1) (z .2) (c .before .before .before .before .before .before .before .before .index .ensures) in
-    visit-both _ _ (s .args .n) _ (s .args .i) _ _ _ _ _ (s .args .seen .now) (s .args .queue .now) _ _ _ _ (z .2) (c .before .before .before .before .before .before .before .before .index .ensures) (c .before .before .before .before .before .before .before .image .ensures) (c .before .before .before .before .before .before .image2 .ensures) (c .before .before .before .enter .ensures) (c .enter2 .ensures)
+    let xl = visit-low (s .args .n) _ (s .args .i) _ (s .args .seen .now) (s .args .queue .now) (z .1) (z .2)
+    (c .before .before .before .before .before .before .before .before .index .ensures) in
+    visit-both _ _ (s .args .n) _ (s .args .i) _ _ _ _ _ (s .args .seen .now) (s .args .queue .now) _ _ _ _ (z .2)
+    (c .before .before .before .before .before .before .before .before .index .ensures)
+    (c .before .before .before .before .before .before .before .image .ensures) (c .before .before .before .before .before .before .image2 .ensures)
+    (c .before .before .before .enter .ensures) (c .enter2 .ensures)
 
 pub visit-spec : {M : Type 1} → statement M
 visit-spec =

@@ -41,8 +41,12 @@ loop-less c = search needs
 
 loop-again : tie.Need-loop-again Inv-loop μ-loop
 loop-again c =
-    let l = c .before in
-    (cleared-more (l .before .args .w .now) (l .loop .w) (l .loop .k) (l .loop .inv .0) (omega arith) (l .before .pre .1), omega arith, simp length-set (l .loop .inv .2))
+    let l = c .before in (
+      cleared-more (l .before .args .w .now) (l .loop .w) (l .loop .k) (l .loop .inv .0) (omega arith) (l .before .pre .1),
+      omega arith,
+      simp length-set
+          (l .loop .inv .2),
+    )
 
 same-length : tie.Need-same-length Inv-loop μ-loop
 same-length c = search needs

@@ -33,8 +33,12 @@ add-link c = search needs
 link-requires : tie.Need-link-requires
 link-requires c κs = let s = c .before .before .before .before .before .before .before .before .before .before .before .before .before in
     let e = c .before .before .before .before .before .scan-vertices .ensures in
-    let f = c .before .before .before .before .before .before .before .before .before .clear-flips .ensures in
-    (omega (arith, s .pre .0 .most), omega (arith, s .pre .0 .most, c .before .top-handle .ensures, handle-low (s .args .v) _ _ (e .cells)), still (e .frame .same ∙ f .frame .same) (s .pre .1))
+    let f = c .before .before .before .before .before .before .before .before .before .clear-flips .ensures in (
+      omega (arith, s .pre .0 .most),
+      omega (arith, s .pre .0 .most, c .before .top-handle .ensures, handle-low (s .args .v) _ _ (e .cells)),
+      still
+          (e .frame .same ∙ f .frame .same) (s .pre .1),
+    )
 
 same-length : tie.Need-same-length
 same-length c = search needs
@@ -43,8 +47,11 @@ returns : tie.Need-returns
 returns c = let s = c .before .before .before .before .before .before .before .before .before .before .before .before .before .before .before .before in
     let ok = s .pre .0 in
     let z = c .before .before .before .before .before .before .before .before .before .before .before .before .before .before .zero-vertex .ensures in
-    cut-left (s .args .t .now) (s .args .v) _ (s .args .w .now) _ _ _ _ _ _ (ok .most) (c .before .before .before .before .before .before .before .before .before .before .before .before .clear-flips .ensures)
-    (c .before .before .before .before .before .before .before .before .scan-vertices .ensures) z (omega (arith, z, zeroth-below (s .args .v) (s .args .t .now) ok)) (c .before .before .before .before .top-handle .ensures) (c .before .before .link .ensures)
+    cut-left (s .args .t .now) (s .args .v) _ (s .args .w .now) _ _ _ _ _ _ (ok .most)
+    (c .before .before .before .before .before .before .before .before .before .before .before .before .clear-flips .ensures)
+    (c .before .before .before .before .before .before .before .before .scan-vertices .ensures) z
+    (omega (arith, z, zeroth-below (s .args .v) (s .args .t .now) ok)) (c .before .before .before .before .top-handle .ensures)
+    (c .before .before .link .ensures)
 
 pub cut-spec : {M : Type 1} → statement M
 cut-spec =

@@ -38,7 +38,15 @@ add-result c = search needs
 
 returns-2 : tie.Need-returns-2
 returns-2 c = let s = c .before .before .before .before .before .before .before in
-    rw (ready-at (s .args .t .now) (s .args .w .now) (s .args .n) (s .args .y) (c .before .before .before .before .before .if1 .left), c .before .before .denominator .ensures .0, c .before .denominator2 .ensures .0, c .denominator3 .ensures .0, c .before .before .before .before .top-vertex .ensures, c .before .before .before .top-vertex2 .ensures)
+    rw (
+      ready-at (s .args .t .now) (s .args .w .now) (s .args .n) (s .args .y)
+          (c .before .before .before .before .before .if1 .left),
+      c .before .before .denominator .ensures .0,
+      c .before .denominator2 .ensures .0,
+      c .denominator3 .ensures .0,
+      c .before .before .before .before .top-vertex .ensures,
+      c .before .before .before .top-vertex2 .ensures,
+    )
 
 pub ready-spec : {M : Type 1} → statement M
 ready-spec =

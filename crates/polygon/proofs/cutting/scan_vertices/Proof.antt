@@ -22,7 +22,8 @@ loop-holds c =
 settle-requires : tie.Need-settle-requires Inv-loop μ-loop
 settle-requires c κs = let l = c .before .before in
     let s = l .before .before in
-    part-room (s .args .t .now) (s .args .v) (s .args .z) (s .args .w .now) (l .loop .w) (l .loop .n) (l .loop .m) (l .loop .under) (l .loop .i) (s .pre .0) (l .loop .inv) (omega arith)
+    part-room (s .args .t .now) (s .args .v) (s .args .z) (s .args .w .now) (l .loop .w) (l .loop .n) (l .loop .m) (l .loop .under) (l .loop .i) (s .pre .0)
+    (l .loop .inv) (omega arith)
 
 noted-requires : tie.Need-noted-requires Inv-loop μ-loop
 noted-requires c κs = let l = c .before .before .before .before .before .before in
@@ -39,7 +40,8 @@ loop-less c = search needs
 loop-again : tie.Need-loop-again Inv-loop μ-loop
 loop-again c = let l = c .before .before .before .before .before .before .before in
     let s = l .before .before in
-    part-more (s .args .t .now) (s .args .v) (s .args .z) (s .args .w .now) (l .loop .w) (l .loop .n) (l .loop .m) (l .loop .under) (l .loop .i) (l .loop .inv) (omega arith) _ _ _ _ (c .before .before .before .before .settle .ensures) (c .noted .ensures)
+    part-more (s .args .t .now) (s .args .v) (s .args .z) (s .args .w .now) (l .loop .w) (l .loop .n) (l .loop .m) (l .loop .under) (l .loop .i) (l .loop .inv)
+    (omega arith) _ _ _ _ (c .before .before .before .before .settle .ensures) (c .noted .ensures)
 
 same-length : tie.Need-same-length Inv-loop μ-loop
 same-length c = search needs
@@ -47,7 +49,8 @@ same-length c = search needs
 returns : tie.Need-returns Inv-loop μ-loop
 returns c = let l = c .before in
     let s = l .before .before in
-    part-all (s .args .t .now) (s .args .v) (s .args .z) (s .args .w .now) (l .loop .w) (l .loop .n) (l .loop .m) (l .loop .under) (l .loop .i) (l .loop .inv) (omega arith)
+    part-all (s .args .t .now) (s .args .v) (s .args .z) (s .args .w .now) (l .loop .w) (l .loop .n) (l .loop .m) (l .loop .under) (l .loop .i) (l .loop .inv)
+    (omega arith)
 
 pub scan-vertices-spec : {M : Type 1} → statement M
 scan-vertices-spec =

@@ -18,7 +18,9 @@ Inv-loop t v w₀ i n0 m0 n₀ m₀ h₀ y w n m h = Mid t v w₀ i n0 m0 w n m 
 abbrev μ-loop : tie.MeasureT-loop
 μ-loop t v w₀ i n0 m0 n₀ m₀ h₀ y w n m h = n
 
-isReady : (c : tie.Then1 Inv-loop μ-loop) → readyOf (c .before .before .before .before .before .args .t .now) (cellsIn (c .before .before .before .loop .w) (c .before .before .before .loop .n)) (c .before .before .before .before .before .args .i + 1) ≡ true
+isReady : (c : tie.Then1 Inv-loop μ-loop)
+    → readyOf (c .before .before .before .before .before .args .t .now) (cellsIn (c .before .before .before .loop .w) (c .before .before .before .loop .n))
+    (c .before .before .before .before .before .args .i + 1) ≡ true
 isReady c = sym (c .before .ready .ensures) ∙ c .if1 .taken
 
 some : (c : tie.Then1 Inv-loop μ-loop) → 1 ≤ c .before .before .before .loop .n
@@ -82,8 +84,12 @@ add-link-2 c = search needs
 link-requires-2 : tie.Need-link-requires-2 Inv-loop μ-loop
 link-requires-2 c κs = let l = c .before .before .before .before .before .before .before .before .before .before in
     let k = some (c .before .before .before .before .before .before .before) in
-    let d = l .loop .inv in
-    (omega (arith, d .count, d .most, d .next), omega (arith, d .low, d .most), still (ap length (c .before .before .before .link .ensures) ∙ length-joined (l .loop .w) _ _) (d .long))
+    let d = l .loop .inv in (
+      omega (arith, d .count, d .most, d .next),
+      omega (arith, d .low, d .most),
+      still
+          (ap length (c .before .before .before .link .ensures) ∙ length-joined (l .loop .w) _ _) (d .long),
+    )
 
 mul-h-2 : tie.Need-mul-h-2 Inv-loop μ-loop
 mul-h-2 c = search needs
@@ -98,8 +104,10 @@ loop-again : tie.Need-loop-again Inv-loop μ-loop
 loop-again c = let i = c .before .before .before .before .before .before .before .before .before .before in
     let l = i .before .before .before in
     let s = l .before .before in
-    mid-turn (s .args .t .now) (s .args .v) (s .args .w .now) (s .args .i) (s .args .n0) (s .args .m0) (s .pre) (l .loop .w) _ _ (l .loop .n) (l .loop .m) (l .loop .h) _ (l .loop .inv) (isReady i)
-    (c .before .before .before .before .before .before .before .before .index .ensures) (c .before .before .before .before .before .before .link .ensures) (c .before .before .link2 .ensures)
+    mid-turn (s .args .t .now) (s .args .v) (s .args .w .now) (s .args .i) (s .args .n0) (s .args .m0) (s .pre) (l .loop .w) _ _ (l .loop .n) (l .loop .m)
+    (l .loop .h) _ (l .loop .inv) (isReady i)
+    (c .before .before .before .before .before .before .before .before .index .ensures) (c .before .before .before .before .before .before .link .ensures)
+    (c .before .before .link2 .ensures)
 
 cast-w : tie.Need-cast-w Inv-loop μ-loop
 cast-w c = search needs
@@ -134,7 +142,8 @@ same-length c = search needs
 returns : tie.Need-returns Inv-loop μ-loop
 returns c = let l = c .before .before .before in
     let s = l .before .before in
-    mid-end (s .args .t .now) (s .args .v) (s .args .w .now) (s .args .i) (s .args .n0) (s .args .m0) (s .pre) (l .loop .w) (l .loop .n) (l .loop .m) (l .loop .h) (l .loop .inv) (sym (c .before .ready .ensures) ∙ c .if1 .left)
+    mid-end (s .args .t .now) (s .args .v) (s .args .w .now) (s .args .i) (s .args .n0) (s .args .m0) (s .pre) (l .loop .w) (l .loop .n) (l .loop .m)
+    (l .loop .h) (l .loop .inv) (sym (c .before .ready .ensures) ∙ c .if1 .left)
 
 pub settle-spec : {M : Type 1} → statement M
 settle-spec =

@@ -7,7 +7,7 @@ use native.Mathlib.Omega.{arith}
 use borrow.Author.Count.{below-more}
 use borrow.Author.Needs.{needs}
 use Rattle.symbol.specs.Check.{isZero}
-use Rattle.symbol.proofs.Count.{first-hit, first-clear}
+use Rattle.basics.proofs.Count.{first-hit, first-clear}
 use Rattle.polygon.proofs.cutting.zero_vertex.Statement.{statement}
 use Rattle.polygon.proofs.cutting.zero_vertex.Tie as tie
 
@@ -26,7 +26,8 @@ is-zero-requires c κs = search needs
 returns : tie.Need-returns Inv-loop μ-loop
 returns c =
     let l = c .before .before .before in
-    sym (first-hit (isZero (l .before .args .t .now)) (l .loop .i) (l .before .args .v) (omega arith) (record { none = l .loop .inv .1 }) (sym (c .before .is-zero .ensures) ∙ c .if1 .taken))
+    sym (first-hit (isZero (l .before .args .t .now)) (l .loop .i) (l .before .args .v) (omega arith) (record { none = l .loop .inv .1 })
+    (sym (c .before .is-zero .ensures) ∙ c .if1 .taken))
 
 add-i : tie.Need-add-i Inv-loop μ-loop
 add-i c = search needs

@@ -38,7 +38,8 @@ returns-2 c =
 returns-3 : tie.Need-returns-3
 returns-3 c = let k = c .before in
     let s = k .before .before .before .before in
-    leads-free (s .args .v) (s .args .t .now) (s .args .w .now) (s .args .i) _ (c .partner-of .result) (s .pre .1) (s .pre .2) (sym (k .before .before .pairing .ensures) ∙ k .enum-told3 .given .1) (c .partner-of .ensures)
+    leads-free (s .args .v) (s .args .t .now) (s .args .w .now) (s .args .i) _ (c .partner-of .result) (s .pre .1) (s .pre .2)
+    (sym (k .before .before .pairing .ensures) ∙ k .enum-told3 .given .1) (c .partner-of .ensures)
 
 returns-4 : tie.Need-returns-4
 returns-4 c =

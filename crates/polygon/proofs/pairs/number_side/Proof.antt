@@ -12,7 +12,8 @@ use Rattle.polygon.proofs.pairs.number_side.Tie as tie
 behind : (c : tie.After-partner-of) → c .partner-of .result < c .before .before .before .before .before .before .args .i
 behind c =
     let s = c .before .before .before .before .before .before in
-    let f = follows (s .args .t .now) (s .args .v) (s .pre .0) (s .args .w .now) (s .args .i) (s .args .n) (s .pre .1) (s .pre .2) (sym (c .before .before .before .is-leading .ensures) ∙ c .before .before .if1 .left) in
+    let f = follows (s .args .t .now) (s .args .v) (s .pre .0) (s .args .w .now) (s .args .i) (s .args .n) (s .pre .1) (s .pre .2)
+    (sym (c .before .before .before .is-leading .ensures) ∙ c .before .before .if1 .left) in
     omega (arith, f .0, f .2, c .partner-of .ensures)
 
 is-leading-requires : tie.Need-is-leading-requires
@@ -46,8 +47,11 @@ same-length : tie.Need-same-length
 same-length c = search needs
 
 returns : tie.Need-returns
-returns c = let s = c .before .before .before .before in
-    (above-set (s .args .w .now) (s .args .w .now) _ _ (above-refl _) (omega arith), numbered-leads (s .args .t .now) (s .args .v) (s .pre .0) (s .args .w .now) (s .args .i) (s .args .n) (s .pre .1) (s .pre .2) (sym (c .before .is-leading .ensures) ∙ c .if1 .taken))
+returns c = let s = c .before .before .before .before in (
+  above-set (s .args .w .now) (s .args .w .now) _ _ (above-refl _) (omega arith),
+  numbered-leads (s .args .t .now) (s .args .v) (s .pre .0) (s .args .w .now)
+      (s .args .i) (s .args .n) (s .pre .1) (s .pre .2) (sym (c .before .is-leading .ensures) ∙ c .if1 .taken),
+)
 
 partner-of-requires : tie.Need-partner-of-requires
 partner-of-requires c κs = search needs
@@ -77,8 +81,12 @@ same-length-2 c = search needs
 
 returns-2 : tie.Need-returns-2
 returns-2 c = let a = c .before in
-    let s = a .before .before .before .before .before .before in
-    (above-set (s .args .w .now) (s .args .w .now) _ _ (above-refl _) (omega arith), numbered-follows (s .args .t .now) (s .args .v) (s .pre .0) (s .args .w .now) (s .args .i) (s .args .n) (s .pre .1) (s .pre .2) (a .partner-of .result) (sym (a .before .before .before .is-leading .ensures) ∙ a .before .before .if1 .left) (a .partner-of .ensures))
+    let s = a .before .before .before .before .before .before in (
+      above-set (s .args .w .now) (s .args .w .now) _ _ (above-refl _) (omega arith),
+      numbered-follows (s .args .t .now) (s .args .v) (s .pre .0)
+          (s .args .w .now) (s .args .i) (s .args .n) (s .pre .1) (s .pre .2) (a .partner-of .result)
+          (sym (a .before .before .before .is-leading .ensures) ∙ a .before .before .if1 .left) (a .partner-of .ensures),
+    )
 
 pub number-side-spec : {M : Type 1} → statement M
 number-side-spec =

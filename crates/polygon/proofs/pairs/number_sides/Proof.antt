@@ -44,8 +44,12 @@ same-length c = search needs
 returns : tie.Need-returns Inv-loop μ-loop
 returns c =
     let l = c .before in
-    let s = l .before .before in
-    (l .loop .inv .0, l .loop .inv .1 .partnered, numbered-all (s .args .t .now) (s .args .v) (s .pre .0) (l .loop .w) (l .loop .i) (l .loop .n) (l .loop .inv .1) (omega arith))
+    let s = l .before .before in (
+      l .loop .inv .0,
+      l .loop .inv .1 .partnered,
+      numbered-all (s .args .t .now) (s .args .v) (s .pre .0) (l .loop .w) (l .loop .i) (l .loop .n)
+          (l .loop .inv .1) (omega arith),
+    )
 
 pub number-sides-spec : {M : Type 1} → statement M
 number-sides-spec =

@@ -38,22 +38,26 @@ enum-told-4 c = search needs
 returns-2 : tie.Need-returns-2
 returns-2 c = let e = c .before .before .before in
     let s = e .before .before in
-    sym (turned-by (s .args .v) (s .args .t .now) Even (sym (e .before .is-zero .ensures) ∙ not-false _ (e .if1 .left)) (sym (c .before .before .pairing .ensures) ∙ c .enum-told .given .1))
+    sym (turned-by (s .args .v) (s .args .t .now) Even (sym (e .before .is-zero .ensures) ∙ not-false _ (e .if1 .left))
+    (sym (c .before .before .pairing .ensures) ∙ c .enum-told .given .1))
 
 returns-3 : tie.Need-returns-3
 returns-3 c = let e = c .before .before .before in
     let s = e .before .before in
-    sym (turned-by (s .args .v) (s .args .t .now) Odd (sym (e .before .is-zero .ensures) ∙ not-false _ (e .if1 .left)) (sym (c .before .before .pairing .ensures) ∙ c .enum-told2 .given .1))
+    sym (turned-by (s .args .v) (s .args .t .now) Odd (sym (e .before .is-zero .ensures) ∙ not-false _ (e .if1 .left))
+    (sym (c .before .before .pairing .ensures) ∙ c .enum-told2 .given .1))
 
 returns-4 : tie.Need-returns-4
 returns-4 c = let e = c .before .before .before in
     let s = e .before .before in
-    sym (turned-by (s .args .v) (s .args .t .now) (Free _) (sym (e .before .is-zero .ensures) ∙ not-false _ (e .if1 .left)) (sym (c .before .before .pairing .ensures) ∙ c .enum-told3 .given .1))
+    sym (turned-by (s .args .v) (s .args .t .now) (Free _) (sym (e .before .is-zero .ensures) ∙ not-false _ (e .if1 .left))
+    (sym (c .before .before .pairing .ensures) ∙ c .enum-told3 .given .1))
 
 returns-5 : tie.Need-returns-5
 returns-5 c = let e = c .before .before .before in
     let s = e .before .before in
-    sym (turned-by (s .args .v) (s .args .t .now) Bad (sym (e .before .is-zero .ensures) ∙ not-false _ (e .if1 .left)) (sym (c .before .before .pairing .ensures) ∙ c .enum-told4 .given .1))
+    sym (turned-by (s .args .v) (s .args .t .now) Bad (sym (e .before .is-zero .ensures) ∙ not-false _ (e .if1 .left))
+    (sym (c .before .before .pairing .ensures) ∙ c .enum-told4 .given .1))
 
 pub is-turned-spec : {M : Type 1} → statement M
 is-turned-spec =

@@ -31,13 +31,15 @@ number-of-requires c κs = let s = c .before .before in
 as-letter-requires : tie.Need-as-letter-requires
 as-letter-requires c κs = let s = c .before .before .before in
     let b = real-in (s .args .v) (s .args .t .now) (s .pre .0 .symbol) (s .args .p) (s .pre .1) in
-    number-read (s .args .t .now) (s .args .v) (s .args .w .now) (s .pre .0) (s .args .p - 3 * (s .args .v - 1)) (c .number-of .result) (omega (arith, c .before .if1 .left)) (c .number-of .ensures) .2
+    number-read (s .args .t .now) (s .args .v) (s .args .w .now) (s .pre .0) (s .args .p - 3 * (s .args .v - 1)) (c .number-of .result)
+    (omega (arith, c .before .if1 .left)) (c .number-of .ensures) .2
 
 returns-2 : tie.Need-returns-2
 returns-2 c = let n = c .before in
     let s = n .before .before .before in
     ap lettersOf (toZ-ofZ {w = w16} {z = c .as-letter .result} (record { sfits = c .as-letter .ok }) ∙ c .as-letter .ensures)
-    ∙ turn-writes (s .args .t .now) (s .args .v) (s .args .w .now) (s .pre .0) (s .args .inverse) (s .args .p) (n .number-of .result) (s .pre .1) (n .before .if1 .left) (n .number-of .ensures)
+    ∙ turn-writes (s .args .t .now) (s .args .v) (s .args .w .now) (s .pre .0) (s .args .inverse) (s .args .p) (n .number-of .result) (s .pre .1)
+    (n .before .if1 .left) (n .number-of .ensures)
 
 pub letter-q-spec : {M : Type 1} → statement M
 letter-q-spec =

@@ -28,7 +28,8 @@ returns-2 : tie.Need-returns-2
 returns-2 c = let s = c .before .before .before .before in
     c .beyond .ensures
     ∙ ap (λ (k : ℕ). getD (s .args .w .now) (FLIP + k) 0) (s .pre .1)
-    ∙ flip-read (s .args .t .now) (s .args .v) (s .args .w .now) (s .pre .0) (underZero (s .args .v) (s .args .t .now)) (under-low (s .args .v) (s .args .t .now) (s .pre .0 .symbol))
+    ∙ flip-read (s .args .t .now) (s .args .v) (s .args .w .now) (s .pre .0) (underZero (s .args .v) (s .args .t .now))
+    (under-low (s .args .v) (s .args .t .now) (s .pre .0 .symbol))
     ∙ sym (start-upright (s .args .v) (s .args .t .now) (sym (c .before .before .is-turned .ensures) ∙ c .before .if1 .left))
 
 pub start-position-spec : {M : Type 1} → statement M

@@ -26,8 +26,14 @@ returns c = let b = c .before in
 
 pairing-requires : tie.Need-pairing-requires
 pairing-requires c κs = let b = c .before in
-    let s = b .before .before in
-    (s .pre .0 .symbol, omega (arith, low (s .args .t .now) (s .args .v) (s .args .w .now) (s .pre .0) (s .args .p) (b .beyond .result) (s .pre .1) (b .beyond .ensures)))
+    let s = b .before .before in (
+      s .pre .0 .symbol,
+      omega (
+        arith,
+        low (s .args .t .now) (s .args .v) (s .args .w .now) (s .pre .0) (s .args .p) (b .beyond .result) (s .pre .1)
+            (b .beyond .ensures),
+      ),
+    )
 
 enum-told : tie.Need-enum-told
 enum-told c = search needs
@@ -40,19 +46,30 @@ enum-told-3 c = search needs
 
 partner-of-requires : tie.Need-partner-of-requires
 partner-of-requires c κs = let b = c .before .before .before .before in
-    let s = b .before .before in
-    (omega (arith, s .pre .0 .symbol .most, low (s .args .t .now) (s .args .v) (s .args .w .now) (s .pre .0) (s .args .p) (b .beyond .result) (s .pre .1) (b .beyond .ensures)), s .pre .0 .long)
+    let s = b .before .before in (
+      omega (
+        arith,
+        s .pre .0 .symbol .most,
+        low (s .args .t .now) (s .args .v) (s .args .w .now) (s .pre .0) (s .args .p) (b .beyond .result) (s .pre .1)
+            (b .beyond .ensures),
+      ),
+      s .pre .0 .long,
+    )
 
 add-beyond : tie.Need-add-beyond
 add-beyond c = let b = c .before .before .before .before .before in
     let s = b .before .before in
-    let k = partner-low (s .args .t .now) (s .args .v) (s .args .w .now) (s .pre .0) (s .args .p) (b .beyond .result) (s .pre .1) (b .beyond .ensures) (c .before .before .before .before .if1 .left) _ (c .partner-of .result) (sym (c .before .before .before .pairing .ensures) ∙ c .before .enum-told3 .given .1) (c .partner-of .ensures) in
+    let k = partner-low (s .args .t .now) (s .args .v) (s .args .w .now) (s .pre .0) (s .args .p) (b .beyond .result) (s .pre .1) (b .beyond .ensures)
+    (c .before .before .before .before .if1 .left) _ (c .partner-of .result)
+    (sym (c .before .before .before .pairing .ensures) ∙ c .before .enum-told3 .given .1) (c .partner-of .ensures) in
     omega (arith, s .pre .0 .symbol .most)
 
 beyond-requires-2 : tie.Need-beyond-requires-2
 beyond-requires-2 c κs = let b = c .before .before .before .before .before in
     let s = b .before .before in
-    let k = partner-low (s .args .t .now) (s .args .v) (s .args .w .now) (s .pre .0) (s .args .p) (b .beyond .result) (s .pre .1) (b .beyond .ensures) (c .before .before .before .before .if1 .left) _ (c .partner-of .result) (sym (c .before .before .before .pairing .ensures) ∙ c .before .enum-told3 .given .1) (c .partner-of .ensures) in
+    let k = partner-low (s .args .t .now) (s .args .v) (s .args .w .now) (s .pre .0) (s .args .p) (b .beyond .result) (s .pre .1) (b .beyond .ensures)
+    (c .before .before .before .before .if1 .left) _ (c .partner-of .result)
+    (sym (c .before .before .before .pairing .ensures) ∙ c .before .enum-told3 .given .1) (c .partner-of .ensures) in
     (omega (arith, s .pre .0 .symbol .most), s .pre .0 .long)
 
 enum-told-4 : tie.Need-enum-told-4
@@ -61,23 +78,28 @@ enum-told-4 c = search needs
 returns-2 : tie.Need-returns-2
 returns-2 c = let b = c .before .before .before .before in
     let s = b .before .before in
-    even-is (s .args .t .now) (s .args .v) (s .args .w .now) (s .pre .0) (s .args .p) (b .beyond .result) (s .pre .1) (b .beyond .ensures) (c .before .before .before .if1 .left) (sym (c .before .before .pairing .ensures) ∙ c .enum-told .given .1)
+    even-is (s .args .t .now) (s .args .v) (s .args .w .now) (s .pre .0) (s .args .p) (b .beyond .result) (s .pre .1) (b .beyond .ensures)
+    (c .before .before .before .if1 .left) (sym (c .before .before .pairing .ensures) ∙ c .enum-told .given .1)
 
 returns-3 : tie.Need-returns-3
 returns-3 c = let b = c .before .before .before .before in
     let s = b .before .before in
-    odd-is (s .args .t .now) (s .args .v) (s .args .w .now) (s .pre .0) (s .args .p) (b .beyond .result) (s .pre .1) (b .beyond .ensures) (c .before .before .before .if1 .left) (sym (c .before .before .pairing .ensures) ∙ c .enum-told2 .given .1)
+    odd-is (s .args .t .now) (s .args .v) (s .args .w .now) (s .pre .0) (s .args .p) (b .beyond .result) (s .pre .1) (b .beyond .ensures)
+    (c .before .before .before .if1 .left) (sym (c .before .before .pairing .ensures) ∙ c .enum-told2 .given .1)
 
 returns-4 : tie.Need-returns-4
 returns-4 c = let d = c .before in
     let b = d .before .before .before .before .before in
     let s = b .before .before in
-    free-is (s .args .t .now) (s .args .v) (s .args .w .now) (s .pre .0) (s .args .p) (b .beyond .result) (s .pre .1) (b .beyond .ensures) (d .before .before .before .before .if1 .left) _ (d .partner-of .result) (c .beyond2 .result) (sym (d .before .before .before .pairing .ensures) ∙ d .before .enum-told3 .given .1) (d .partner-of .ensures) (c .beyond2 .ensures)
+    free-is (s .args .t .now) (s .args .v) (s .args .w .now) (s .pre .0) (s .args .p) (b .beyond .result) (s .pre .1) (b .beyond .ensures)
+    (d .before .before .before .before .if1 .left) _ (d .partner-of .result) (c .beyond2 .result)
+    (sym (d .before .before .before .pairing .ensures) ∙ d .before .enum-told3 .given .1) (d .partner-of .ensures) (c .beyond2 .ensures)
 
 returns-5 : tie.Need-returns-5
 returns-5 c = let b = c .before .before .before .before in
     let s = b .before .before in
-    bad-is (s .args .t .now) (s .args .v) (s .args .w .now) (s .pre .0) (s .args .p) (b .beyond .result) (s .pre .1) (b .beyond .ensures) (c .before .before .before .if1 .left) (sym (c .before .before .pairing .ensures) ∙ c .enum-told4 .given .1)
+    bad-is (s .args .t .now) (s .args .v) (s .args .w .now) (s .pre .0) (s .args .p) (b .beyond .result) (s .pre .1) (b .beyond .ensures)
+    (c .before .before .before .if1 .left) (sym (c .before .before .pairing .ensures) ∙ c .enum-told4 .given .1)
 
 pub step-s-spec : {M : Type 1} → statement M
 step-s-spec =

@@ -15,9 +15,9 @@ use lib.Dec.{ltb, eqb}
 use lib.ListN.{length, getD, length-append, List·getD-append}
 use lib.Seq.{getD-append-add}
 use borrow.Author.Tests.{lt-ltb, le-ltb, eq-eqb, ne-eqb}
-use Rattle.matrix.specs.Euclid.{pick}
-use Rattle.symbol.specs.Count.{first, count, those}
-use Rattle.symbol.proofs.Choice.{pick-true, pick-false, either, clash}
+use Rattle.basics.specs.Choice.{pick}
+use Rattle.basics.specs.Count.{first, count, those}
+use Rattle.basics.proofs.Choice.{pick-true, pick-false, either, clash}
 
 -- no i < n passes
 pub record Clear (test : ℕ → Bool) (n : ℕ) : Type 0 where
@@ -169,14 +169,14 @@ module _ (i : ℕ) (test : ℕ → Bool) where
         count-yes test n b ∙ ap (λ (x : ℕ). x + 1) (sym a ∙ sym (count-no (without i test) n c))
   ]
 
--- where just one passes, it is the first
+-- where exactly one passes, it is the first
 pub only : (test : ℕ → Bool) (n : ℕ) → count test n ≡ 1 → (j : ℕ) → j < n → test j ≡ true → j ≡ first test n
 only test n e j h t =
     let a = count-without j test n h t in
     let c = none-count (without j test) n (omega arith) in
     sym (first-hit test j n h (record { none = λ k l. sym (without-other j test k (λ z. omega arith)) ∙ c .none k (omega arith) }) t)
 
--- where just two pass, each has another, and these are all
+-- where exactly two pass, each has another, and these are all
 pub record Another (test : ℕ → Bool) (n i : ℕ) : Type 0 where
   pub below : first (without i test) n < n
   pub differs : ¬ (first (without i test) n ≡ i)

@@ -1,0 +1,26 @@
+-- What `admit` answers, and what a call that asks it leaves in the work space.
+--
+--   workCheck work          refused with 11 where the work space is too short
+--   admittedOf v t work     the refusals 1 to 7, then the work space
+--   workLeft c w            zeros where the call was admitted, else all as it was
+use mathlib.Core.List.{List}
+use Prim.Native.Nat.{ℕ}
+use lib.Dec.{ltb}
+use lib.IntN.{ℤ}
+use lib.ListN.{length}
+use Rattle.basics.specs.Choice.{pick}
+use Rattle.workspace.specs.Space.{workLength, zeros}
+use Rattle.refusal.specs.Refusal.{tooShort, _orElse_}
+use Rattle.refusal.specs.declared.Checked.{Checked}
+use Rattle.refusal.specs.declared.Checked.the-variants.{Accepted, Refused}
+use Rattle.symbol.specs.Check.{symbolCheck}
+
+abbrev pub workCheck : ℕ → Checked
+workCheck work = pick (ltb work workLength) (Refused (tooShort workLength)) Accepted
+
+abbrev pub admittedOf : ℕ → List ℤ → ℕ → Checked
+admittedOf v t work = symbolCheck v t orElse workCheck work
+
+abbrev pub workLeft : Checked → List ℕ → List ℕ
+workLeft (Refused f) w = w
+workLeft Accepted w = zeros (length w)
