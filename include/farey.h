@@ -51,8 +51,8 @@
 extern "C" {
 #endif
 
-/* Stack that is enough for every call, in bytes, with what it calls in turn. This is measured and not proved, on x86-64: farey_import takes
- * under 10,000 and every other call under 2,000, on the largest inputs, by a thread whose stack was filled beforehand
+/* Stack that is enough for every call, in bytes, with what it calls in turn. This is measured and not proved, on x86-64: the two
+ * imports take under 10,000 and every other call under 2,000, on the largest inputs, by a thread whose stack was filled beforehand
  * (rust/differential/tests/stack.rs, which the gate runs). A call that the dynamic linker has to look up at its first use (memset) may
  * take some thousand more, once. */
 #define FAREY_STACK 16384
@@ -92,6 +92,12 @@ uint64_t farey_tables(size_t v, const int64_t *t, size_t t_len, uint16_t *work, 
  * number of vertices; 3v + 1 numbers are written. */
 uint64_t farey_import(const uint32_t *s, size_t s_len, const uint32_t *r, size_t r_len, uint16_t *work, size_t work_len, int64_t *out,
                       size_t out_len, size_t *place);
+
+/* The same by the wide rule: of the open sides it splits the one that has been open longest, where farey_import splits the leftmost. The symbol is
+ * one of the same group, often another; where the leftmost rule runs down one branch of the Farey tree, its entries are mostly far smaller, so that
+ * 16 is rarer. */
+uint64_t farey_import_wide(const uint32_t *s, size_t s_len, const uint32_t *r, size_t r_len, uint16_t *work, size_t work_len, int64_t *out,
+                           size_t out_len, size_t *place);
 
 /* A word in the generators that takes A to B, up to sign: the product of its letters from left to right, times A, is B or -B. a and b
  * point to four numbers each. Letter j is generator j, -j its inverse. The word stands in out from the place `start` on. A word is

@@ -35,6 +35,8 @@ int main(void)
     say("same without a second table", number, place);
     number = farey_import(NULL, 0, NULL, 0, work, FAREY_WORK, table, 7, &place);
     say("import of nothing", number, place);
+    number = farey_import_wide(NULL, 0, NULL, 0, work, FAREY_WORK, table, 7, &place);
+    say("wide import of nothing", number, place);
 
     /* No work space. */
     number = farey_generators(2, t, 7, NULL, 0, generators, 10, &place);
@@ -47,6 +49,8 @@ int main(void)
     say("tables without work", number, place);
     number = farey_import(s, 3, r, 3, NULL, 0, table, 7, &place);
     say("import without work", number, place);
+    number = farey_import_wide(s, 3, r, 3, NULL, 0, table, 7, &place);
+    say("wide import without work", number, place);
     number = farey_query(2, t, 7, one, one, NULL, 0, NULL, 0, 0, &place);
     say("query without work", number, place);
     number = farey_same(2, t, 7, 2, t, 7, NULL, 0, &place);
@@ -61,6 +65,8 @@ int main(void)
     say("tables without room", number, place);
     number = farey_import(s, 3, r, 3, work, FAREY_WORK, NULL, 0, &place);
     say("import without room", number, place);
+    number = farey_import_wide(s, 3, r, 3, work, FAREY_WORK, NULL, 0, &place);
+    say("wide import without room", number, place);
     number = farey_query(2, t, 7, one, lower, work, FAREY_WORK, NULL, 0, 0, &place);
     say("query without room", number, place);
 

@@ -10,7 +10,7 @@
 #include "farey.h"
 
 static uint16_t work[FAREY_WORK];
-static int64_t table[FAREY_TABLE];
+static int64_t table[FAREY_TABLE], leftmost[FAREY_TABLE];
 static int64_t generators[FAREY_GENERATORS];
 static uint32_t widths[FAREY_COSETS], s[FAREY_COSETS], r[FAREY_COSETS], t[FAREY_COSETS];
 static int16_t word[16];
@@ -56,7 +56,7 @@ int main(void)
     size_t v, length, count, place;
     uint64_t figures[8];
 
-    expect(farey_import(given_s, 7, given_r, 7, work, FAREY_WORK, table, FAREY_TABLE, &v), &v);
+    expect(farey_import_wide(given_s, 7, given_r, 7, work, FAREY_WORK, table, FAREY_TABLE, &v), &v);
     length = 3 * v + 1;
     printf("symbol");
     for (size_t i = 0; i < length; i++)
@@ -90,5 +90,10 @@ int main(void)
     static const int64_t relabelled[10] = {-1, 1, 0, 1, 1, 1, -2, -3, 4, 4};
     expect(farey_same(v, table, length, 3, relabelled, 10, work, FAREY_WORK, &place), &place);
     printf("same %s\n", place == 1 ? "yes" : "no");
+
+    /* The rule that splits the leftmost open side: for a group as small as this one it finds the same symbol. */
+    expect(farey_import(given_s, 7, given_r, 7, work, FAREY_WORK, leftmost, FAREY_TABLE, &count), &count);
+    expect(farey_same(v, table, length, count, leftmost, 3 * count + 1, work, FAREY_WORK, &place), &place);
+    printf("same from the left %s\n", place == 1 ? "yes" : "no");
     return 0;
 }

@@ -15,8 +15,17 @@ fn spaced<T: ToString>(numbers: &[T]) -> String {
     pieces.collect()
 }
 
+fn yes_or_no(yes: bool) -> &'static str {
+    if yes {
+        "yes"
+    } else {
+        "no"
+    }
+}
+
 fn main() -> Result<(), Refusal> {
-    let symbol = Symbol::from_permutations(&[1, 0, 4, 6, 2, 5, 3], &[2, 3, 5, 6, 4, 0, 1])?;
+    let (s, r) = ([1, 0, 4, 6, 2, 5, 3], [2, 3, 5, 6, 4, 0, 1]);
+    let symbol = Symbol::from_permutations_wide(&s, &r)?;
     println!("symbol{}", spaced(symbol.table()));
     println!("index {}", symbol.figures().index);
     println!("widths{}", spaced(&symbol.widths()));
@@ -42,13 +51,13 @@ fn main() -> Result<(), Refusal> {
         }
     }
     let relabelled = Symbol::new(&[(-1, 1), (0, 1), (1, 1)], &[-2, -3, 4, 4])?;
+    println!("same {}", yes_or_no(symbol.is_same(&relabelled)));
+    // The rule that splits the leftmost open side: for a group as small as this
+    // one it finds the same symbol.
+    let leftmost = Symbol::from_permutations(&s, &r)?;
     println!(
-        "same {}",
-        if symbol.is_same(&relabelled) {
-            "yes"
-        } else {
-            "no"
-        }
+        "same from the left {}",
+        yes_or_no(symbol.is_same(&leftmost))
     );
     Ok(())
 }

@@ -29,10 +29,11 @@ use Rattle.coset.specs.Tables.{indexOf}
 use Rattle.coset.specs.declared.Figured.{Figured}
 use Rattle.coset.specs.declared.Figured.the-variants as figured
 use Rattle.coset.specs.Answer.{roomFor, tabledOf, roomOne, widthsOf, widthedOf, figuresOf, figuredBy, figuredOf}
+use Rattle.import_rule.specs.Order.{Order}
 use Rattle.import_rule.specs.Symbol as rule
 use Rattle.import_table.specs.Answer.{grownOf}
 use Rattle.permutations.specs.Check as passport
-use Rattle.permutations.specs.Import.{ruleFor, importOf}
+use Rattle.permutations.specs.Import.{importBy}
 use Rattle.engine.specs.Exported.{filledPlace, samenessPlace}
 
 -- ---- numbers above 0
@@ -108,10 +109,10 @@ module _ (s r : List ℕ) where
   grown-above (rule.made v t) room = above-pick (ltb room (3 * v + 1)) (filled.Refused (tooShort (3 * v + 1))) (filled.Made v) (omega arith) tt
   grown-above (rule.over i) room = omega arith
 
-  pub import-above : (work room : ℕ) → AboveIn (importOf s r work room)
-  import-above work room =
-      above-by 12 15 (passport.pairCheck s r) (byWork work (grownOf (ruleFor s r) room)) (omega arith) pairs-among
-      (above-work work (grownOf (ruleFor s r) room) (grown-above (ruleFor s r) room))
+  pub import-above : (order : Order) (work room : ℕ) → AboveIn (importBy order s r work room)
+  import-above order work room =
+      let g = rule.ruledBy order s r in
+      above-by 12 15 (passport.pairCheck s r) (byWork work (grownOf g room)) (omega arith) pairs-among (above-work work (grownOf g room) (grown-above g room))
 
 -- sameness: a number 0 is yes or no, by the place
 pub zero-same : (v : ℕ) (t : List ℤ) (v' : ℕ) (t' : List ℤ) (work : ℕ) (r : Sameness) → r ≡ samenessOf v t v' t' work → samenessRefusal r .number ≡ 0

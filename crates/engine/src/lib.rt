@@ -167,6 +167,28 @@ pub extern "C" fn farey_import(
     said.number
 }
 
+// The same by the wide rule.
+#[no_mangle]
+pub extern "C" fn farey_import_wide(
+    s: &[u32],
+    r: &[u32],
+    w: &mut [u16],
+    out: &mut [i64],
+    place: &mut usize,
+) -> u64
+    ensures { λ n. ⌜ n ≡ filledRefusal (import.importWideOf (now (s .entry)) (now (r .entry)) (length (now (w .entry))) (length (now (out .entry)))) .number ⌝ }
+    ensures { λ n. ⌜ now (place .exit)
+        ≡ filledPlace (import.importWideOf (now (s .entry)) (now (r .entry)) (length (now (w .entry))) (length (now (out .entry)))) ⌝ }
+    ensures { λ n. ⌜ now (w .exit) ≡ import.importWork (passport.pairCheck (now (s .entry)) (now (r .entry))) (now (w .entry)) ⌝ }
+    ensures { λ n. ⌜ now (out .exit) ≡ import.importTable (import.wideRuleFor (now (s .entry)) (now (r .entry)))
+        (import.importWideOf (now (s .entry)) (now (r .entry)) (length (now (w .entry))) (length (now (out .entry)))) (now (out .entry)) ⌝ }
+    ensures { λ n. ⌜ (n ≡ 0 → import.Symbolised (now (s .entry)) (now (r .entry)) (now (place .exit)) (take (3 * now (place .exit) + 1) (now (out .exit)))) ⌝ }
+{
+    let said = of_filled(permutations::import_wide(s, r, w, out));
+    *place = said.place;
+    said.number
+}
+
 // A word that takes A to B up to sign, in out from the start place on, or 10: there is none.
 #[no_mangle]
 pub extern "C" fn farey_query(

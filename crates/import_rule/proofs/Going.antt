@@ -1,55 +1,75 @@
--- The quick way: from the left, only the first side that is not done with is looked at; a split puts its two parts in its place.
+-- The order `leftmost`, the quick way: from the left, only the first side that is not done with is looked at; a split puts its two parts in its
+-- place.
 --
 --   Going done todo      the sides done are closed, those to do follow them, and growing the start comes to growing all of them
 --
--- In order: the cut of sides that are done and more (`cut-open`, `cut-shut`); the start, a side moved on, a side split, a side that can't
--- be split, the end (`going-start`, `going-move`, `going-split`, `going-over`, `going-end`); how many there are (`going-size`).
+-- In order: what is chosen where the sides done are closed (`leftmost-none`, `leftmost-this`); the start, a side moved on, a side split, a side that
+-- can't be split, the end (`going-start`, `going-move`, `going-split`, `going-over`, `going-end`); how many there are (`going-size`).
 -- Assumes nothing.
 use mathlib.Core.Path.{_≡_, refl, sym, _∙_, ap}
 use mathlib.Core.Logic.{_⊎_, inl, inr}
-use mathlib.Core.Bool.{Bool, true, false}
+use mathlib.Core.Bool.{Bool, true, false, not}
 use mathlib.Core.List.{List, [], _∷_, _++_, append-nil}
-use Prim.Native.Nat.{ℕ, zero, suc, _+_, _*_, _-_, _<_, _≤_}
+use Prim.Native.Nat.{ℕ, suc, _+_, _*_, _-_, _≤_}
 use native.Mathlib.Omega.{arith}
 use lib.ListN.{length}
-use lib.IntN.{pos}
+use borrow.Author.Tests.{le-ltb}
 use Rattle.basics.specs.Choice.{pick}
-use Rattle.basics.proofs.Choice.{pick-true, pick-false}
 use Rattle.import_rule.specs.Side.{mediant, fits}
-use Rattle.import_rule.specs.Inner.Placed.{Placed, pts, Cut, closed, parted, over, next, Grew, finished, refused, goOn, lowerAt, upperAt, isClosed, cutIn, grow}
-use Rattle.import_rule.proofs.Member.{In, in-left, in-right, in-either, in-is}
+use Rattle.import_rule.specs.Order.{Open, openSide, leftmost, firstBy, openFrom, none, this, chosenOf, chosenBy}
+use Rattle.import_rule.specs.Rule.{cameAfter, startCame}
+use Rattle.import_rule.specs.Inner.Placed.{Placed, pts, finished, refused, lowerAt, upperAt, opensAt, grow}
+use Rattle.import_rule.proofs.Member.{In, in-left, in-either, in-is}
 use Rattle.import_rule.proofs.Lead.{Turning}
 use Rattle.import_rule.proofs.Split.{Closed, AllClosed, true-closed, false-closed, in-pts}
-use Rattle.import_rule.proofs.Kept.{Inv, step, stays, triangles}
-use Rattle.import_rule.proofs.Start.{Kept, keep}
+use Rattle.import_rule.proofs.Kept.{Inv, stays}
+use Rattle.import_rule.proofs.Start.{Kept}
+use Rattle.import_rule.proofs.Order.{opened-is}
+use Rattle.import_rule.proofs.Growing.{Growing, growing-start, growing-size, growing-over, growing-split, growing-end}
 
--- ---- the cut
+-- ---- the leftmost open side
+
+-- one that stands before all others is chosen
+stays-first : (u : Open) (l : List Open) → ((v : Open) → In v l → u .place ≤ v .place) → firstBy leftmost u l ≡ u
+stays-first u [] f = refl
+stays-first u (v ∷ l) f =
+    ap (λ (b : Bool). firstBy leftmost (pick b v u) l) (le-ltb (v .place) (u .place) (f v (inl refl))) ∙ stays-first u l (λ w h. f w (inr h))
 
 module _ (σ κ : ℕ → ℕ) (B : List ℕ) where
-  next-pick : (s : Placed) (b : Bool) (l : List Placed) (i : ℕ) → next s (pick b (parted l) (over i)) ≡ pick b (parted (s ∷ l)) (over i)
-  next-pick s true l i = refl
-  next-pick s false l i = refl
+  none-from : (i : ℕ) (came : List ℕ) (l : List Placed) → AllClosed σ κ B l → openFrom i came (opensAt σ κ B l) ≡ []
+  none-from i [] l a = refl
+  none-from i (x ∷ came) [] a = refl
+  none-from i (x ∷ came) (u ∷ l) a =
+      ap (λ (b : Bool). pick (not b) (openSide i x ∷ openFrom (suc i) came (opensAt σ κ B l)) (openFrom (suc i) came (opensAt σ κ B l)))
+      (true-closed σ κ B (u .pt) (a u (inl refl)))
+      ∙ none-from (suc i) came l (λ w h. a w (inr h))
 
-  none-before : (i : ℕ) → i ≡ i + 0
-  none-before i = omega arith
+  pub leftmost-none : (came : List ℕ) (l : List Placed) → AllClosed σ κ B l → chosenBy leftmost came (opensAt σ κ B l) ≡ none
+  leftmost-none came l a = ap (chosenOf leftmost) (none-from 0 came l a)
 
-  one-before : (i k : ℕ) → suc i + k ≡ i + suc k
-  one-before i k = omega arith
+  this-from : (i : ℕ) (came : List ℕ) (done : List Placed) (s : Placed) (todo : List Placed) → length came ≡ length (done ++ (s ∷ todo)) → AllClosed σ κ B done
+      → ¬ (Closed σ κ B (s .pt))
+      → chosenOf leftmost (openFrom i came (opensAt σ κ B (done ++ (s ∷ todo)))) ≡ this (i + length done)
+  this-from i [] [] s todo h a e = absurd (omega arith)
+  this-from i [] (u ∷ done) s todo h a e = absurd (omega arith)
+  this-from i (x ∷ came) [] s todo h a e =
+      ap (λ (b : Bool). chosenOf leftmost (pick (not b) (openSide i x ∷ openFrom (suc i) came (opensAt σ κ B todo))
+      (openFrom (suc i) came (opensAt σ κ B todo)))) (false-closed σ κ B (s .pt) e)
+      ∙ ap (λ (u : Open). this (u .place)) (stays-first (openSide i x) (openFrom (suc i) came (opensAt σ κ B todo)) late)
+      ∙ ap this (let z : i ≡ i + 0 = omega arith in z)
+    where
+      late : (v : Open) → In v (openFrom (suc i) came (opensAt σ κ B todo)) → i ≤ v .place
+      late v k = let z = opened-is (suc i) came (opensAt σ κ B todo) v k .place in omega arith
+  this-from i (x ∷ came) (u ∷ done) s todo h a e =
+      ap (λ (b : Bool). chosenOf leftmost (pick (not b) (openSide i x ∷ openFrom (suc i) came (opensAt σ κ B (done ++ (s ∷ todo))))
+      (openFrom (suc i) came (opensAt σ κ B (done ++ (s ∷ todo)))))) (true-closed σ κ B (u .pt) (a u (inl refl)))
+      ∙ this-from (suc i) came done s todo (omega arith) (λ w k. a w (inr k)) e
+      ∙ ap this (let z : suc i + length done ≡ i + suc (length done) = omega arith in z)
 
-  cut-open : (i : ℕ) (done : List Placed) (s : Placed) (todo : List Placed) → AllClosed σ κ B done → ¬ (Closed σ κ B (s .pt))
-      → cutIn σ κ B i (done ++ (s ∷ todo)) ≡ pick (fits (mediant (s .lo) (s .hi))) (parted (done ++ (lowerAt σ κ s ∷ upperAt σ κ s ∷ todo))) (over (i + length done))
-  cut-open i [] s todo a h =
-      pick-false (isClosed σ κ B (s .pt)) _ _ (false-closed σ κ B (s .pt) h)
-      ∙ ap (λ (j : ℕ). pick (fits (mediant (s .lo) (s .hi))) (parted (lowerAt σ κ s ∷ upperAt σ κ s ∷ todo)) (over j)) (none-before i)
-  cut-open i (u ∷ done) s todo a h =
-      pick-true (isClosed σ κ B (u .pt)) _ _ (true-closed σ κ B (u .pt) (a u (inl refl)))
-      ∙ ap (next u) (cut-open (suc i) done s todo (λ w k. a w (inr k)) h)
-      ∙ next-pick u (fits (mediant (s .lo) (s .hi))) (done ++ (lowerAt σ κ s ∷ upperAt σ κ s ∷ todo)) (suc i + length done)
-      ∙ ap (λ (j : ℕ). pick (fits (mediant (s .lo) (s .hi))) (parted (u ∷ (done ++ (lowerAt σ κ s ∷ upperAt σ κ s ∷ todo)))) (over j)) (one-before i (length done))
-
-  cut-shut : (i : ℕ) (l : List Placed) → AllClosed σ κ B l → cutIn σ κ B i l ≡ closed
-  cut-shut i [] a = refl
-  cut-shut i (u ∷ l) a = pick-true (isClosed σ κ B (u .pt)) _ _ (true-closed σ κ B (u .pt) (a u (inl refl))) ∙ ap (next u) (cut-shut (suc i) l (λ w k. a w (inr k)))
+  pub leftmost-this : (came : List ℕ) (done : List Placed) (s : Placed) (todo : List Placed) → length came ≡ length (done ++ (s ∷ todo)) → AllClosed σ κ B done
+      → ¬ (Closed σ κ B (s .pt))
+      → chosenBy leftmost came (opensAt σ κ B (done ++ (s ∷ todo))) ≡ this (length done)
+  leftmost-this came done s todo h a e = this-from 0 came done s todo h a e ∙ ap this (let z : 0 + length done ≡ length done = omega arith in z)
 
 snoc : (l : List Placed) (s : Placed) (r : List Placed) → (l ++ (s ∷ [])) ++ r ≡ l ++ (s ∷ r)
 snoc [] s r = refl
@@ -57,34 +77,23 @@ snoc (x ∷ l) s r = ap (λ (y : List Placed). x ∷ y) (snoc l s r)
 
 module _ (σ κ : ℕ → ℕ) (n : ℕ) (start : List Placed) where
   pub record Going (done todo : List Placed) : Type 0 where
-    pub tris : List Placed
-    pub inv : Inv σ κ n tris (done ++ todo)
-    pub kept : Kept tris (done ++ todo)
+    pub number : ℕ
+    pub came : List ℕ
+    pub growing : Growing leftmost σ κ n start number came (done ++ todo)
     pub shut : AllClosed σ κ (pts (done ++ todo)) done
-    pub left : ℕ
-    pub count : length tris + left ≡ n + 1
-    pub same : grow σ κ n start ≡ grow σ κ left (done ++ todo)
 
   module _ (T : Turning σ κ n) where
     pub going-start : (tri : Placed) → Inv σ κ n (tri ∷ []) start → Kept (tri ∷ []) start → Going [] start
-    going-start tri inv kept = record { tris = tri ∷ []; inv = inv; kept = kept; shut = λ u h. absurd h; left = n; count = omega arith; same = refl }
+    going-start tri inv kept = record { number = 3; came = startCame; growing = growing-start leftmost σ κ n start T tri inv kept; shut = λ u h. absurd h }
 
     pub going-size : (done todo : List Placed) → Going done todo → 3 * length (done ++ todo) ≤ n + 6
-    going-size done todo g = omega (arith, triangles σ κ n T (g .tris) (g .inv .tops), g .kept .count)
+    going-size done todo g = growing-size leftmost σ κ n start T (g .number) (g .came) (done ++ todo) (g .growing)
 
     pub going-move : (done : List Placed) (s : Placed) (todo : List Placed) → Going done (s ∷ todo) → Closed σ κ (pts (done ++ (s ∷ todo))) (s .pt)
         → Going (done ++ (s ∷ [])) todo
     going-move done s todo g c =
         let e = snoc done s todo in
-        record {
-          tris = g .tris;
-          inv = rw e (g .inv);
-          kept = rw e (g .kept);
-          shut = rw e shut;
-          left = g .left;
-          count = g .count;
-          same = g .same ∙ ap (grow σ κ (g .left)) (sym e);
-        }
+        record { number = g .number; came = g .came; growing = rw e (g .growing); shut = rw e shut }
       where
         shut : AllClosed σ κ (pts (done ++ (s ∷ todo))) (done ++ (s ∷ []))
         shut u h = go (in-either u done (s ∷ []) h)
@@ -94,53 +103,32 @@ module _ (σ κ : ℕ → ℕ) (n : ℕ) (start : List Placed) where
             go (inr (inl q)) = rw q c
             go (inr (inr i)) = absurd i
 
-    from-zero : (k : ℕ) → 0 + k ≡ k
-    from-zero k = omega arith
+    module _ (done : List Placed) (s : Placed) (todo : List Placed) (g : Going done (s ∷ todo)) (h : ¬ (Closed σ κ (pts (done ++ (s ∷ todo))) (s .pt))) where
+      says : chosenBy leftmost (g .came) (opensAt σ κ (pts (done ++ (s ∷ todo))) (done ++ (s ∷ todo))) ≡ this (length done)
+      says = leftmost-this σ κ (pts (done ++ (s ∷ todo))) (g .came) done s todo (g .growing .long) (g .shut) h
 
-    -- one round of growing at an open side
-    round : (done : List Placed) (s : Placed) (todo : List Placed) (g : Going done (s ∷ todo)) → ¬ (Closed σ κ (pts (done ++ (s ∷ todo))) (s .pt))
-        → grow σ κ n start ≡ goOn (grow σ κ (g .left - 1)) (done ++ (s ∷ todo))
-        (pick (fits (mediant (s .lo) (s .hi))) (parted (done ++ (lowerAt σ κ s ∷ upperAt σ κ s ∷ todo))) (over (length done)))
-    round done s todo g h =
-        let some : suc (g .left - 1) ≡ g .left = omega (arith, triangles σ κ n T (g .tris) (g .inv .tops), g .count, T .some) in
-        g .same
-        ∙ ap (λ (f : ℕ). grow σ κ f (done ++ (s ∷ todo))) (sym some)
-        ∙ ap (goOn (grow σ κ (g .left - 1)) (done ++ (s ∷ todo))) (cut-open σ κ (pts (done ++ (s ∷ todo))) 0 done s todo (g .shut) h)
-        ∙ ap (λ (j : ℕ). goOn (grow σ κ (g .left - 1)) (done ++ (s ∷ todo))
-        (pick (fits (mediant (s .lo) (s .hi))) (parted (done ++ (lowerAt σ κ s ∷ upperAt σ κ s ∷ todo))) (over j))) (from-zero (length done))
+      pub going-over : fits (mediant (s .lo) (s .hi)) ≡ false → grow σ κ leftmost n start ≡ refused (length done)
+      going-over f = growing-over leftmost σ κ n start T (g .number) (g .came) done s todo (g .growing) h says f
 
-    pub going-over : (done : List Placed) (s : Placed) (todo : List Placed) → Going done (s ∷ todo) → ¬ (Closed σ κ (pts (done ++ (s ∷ todo))) (s .pt))
-        → fits (mediant (s .lo) (s .hi)) ≡ false → grow σ κ n start ≡ refused (length done)
-    going-over done s todo g h f =
-        round done s todo g h ∙ ap (λ (b : Bool). goOn (grow σ κ (g .left - 1)) (done ++ (s ∷ todo))
-        (pick b (parted (done ++ (lowerAt σ κ s ∷ upperAt σ κ s ∷ todo))) (over (length done)))) f
+      pub going-split : fits (mediant (s .lo) (s .hi)) ≡ true → Going done (lowerAt σ κ s ∷ upperAt σ κ s ∷ todo)
+      going-split f = record {
+        number = suc (suc (g .number));
+        came = cameAfter (g .number) (length done) (g .came);
+        growing = growing-split leftmost σ κ n start T (g .number) (g .came) done s todo (g .growing) h says f;
+        shut = λ u i. still u i (g .shut u i);
+      }
+        where
+          still : (u : Placed) → In u done → Closed σ κ (pts (done ++ (s ∷ todo))) (u .pt)
+              → Closed σ κ (pts (done ++ (lowerAt σ κ s ∷ upperAt σ κ s ∷ todo))) (u .pt)
+          still u i (inl o) = inl o
+          still u i (inr j) =
+              let u-in = in-pts u (done ++ (s ∷ todo)) (in-left u done (s ∷ todo) i) in
+              inr (stays σ κ n T (g .growing .tris) done s todo (g .growing .inv) h (σ (u .pt)) j
+              (λ e. h (inr (in-is _ _ (pts (done ++ (s ∷ todo))) (sym (T .twice (u .pt)) ∙ ap σ e) u-in))))
 
-    pub going-split : (done : List Placed) (s : Placed) (todo : List Placed) → Going done (s ∷ todo) → ¬ (Closed σ κ (pts (done ++ (s ∷ todo))) (s .pt))
-        → fits (mediant (s .lo) (s .hi)) ≡ true → Going done (lowerAt σ κ s ∷ upperAt σ κ s ∷ todo)
-    going-split done s todo g h f = record {
-      tris = s ∷ g .tris;
-      inv = step σ κ n T (g .tris) done s todo (g .inv) h;
-      kept = keep σ κ (g .tris) done s todo (g .inv .dets s (in-right s done (s ∷ todo) (inl refl))) f (g .kept);
-      shut = λ u i. still u i (g .shut u i);
-      left = g .left - 1;
-      count = omega (arith, triangles σ κ n T (g .tris) (g .inv .tops), g .count, T .some);
-      same = round done s todo g h ∙ ap (λ (b : Bool). goOn (grow σ κ (g .left - 1)) (done ++ (s ∷ todo))
-          (pick b (parted (done ++ (lowerAt σ κ s ∷ upperAt σ κ s ∷ todo))) (over (length done)))) f;
-    }
-      where
-        still : (u : Placed) → In u done → Closed σ κ (pts (done ++ (s ∷ todo))) (u .pt) → Closed σ κ (pts (done ++ (lowerAt σ κ s ∷ upperAt σ κ s ∷ todo))) (u .pt)
-        still u i (inl o) = inl o
-        still u i (inr j) =
-            let u-in = in-pts u (done ++ (s ∷ todo)) (in-left u done (s ∷ todo) i) in
-            inr (stays σ κ n T (g .tris) done s todo (g .inv) h (σ (u .pt)) j
-            (λ e. h (inr (in-is _ _ (pts (done ++ (s ∷ todo))) (sym (T .twice (u .pt)) ∙ ap σ e) u-in))))
-
-    pub going-end : (done : List Placed) → Going done [] → grow σ κ n start ≡ finished done
+    pub going-end : (done : List Placed) → Going done [] → grow σ κ leftmost n start ≡ finished done
     going-end done g =
         let e = append-nil done in
         let a : AllClosed σ κ (pts (done ++ [])) (done ++ []) = rw (ap (AllClosed σ κ (pts (done ++ []))) e) (g .shut) in
-        let some : suc (g .left - 1) ≡ g .left = omega (arith, triangles σ κ n T (g .tris) (g .inv .tops), g .count, T .some) in
-        g .same
-        ∙ ap (λ (f : ℕ). grow σ κ f (done ++ [])) (sym some)
-        ∙ ap (goOn (grow σ κ (g .left - 1)) (done ++ [])) (cut-shut σ κ (pts (done ++ [])) 0 (done ++ []) a)
+        growing-end leftmost σ κ n start T (g .number) (g .came) (done ++ []) (g .growing) (leftmost-none σ κ (pts (done ++ [])) (g .came) (done ++ []) a)
         ∙ ap finished e

@@ -5,7 +5,7 @@
 --   Ends P l      the sides l are all closed, Inv holds, and so does whatever else each split keeps
 --
 -- In order: corners, turned and compared (`corner-spin`, `corner-free`, `corner-one`); at most n/3 triangles (`triangles`); a split keeps
--- Inv (`step`); growing ends with all sides closed (`ends`).
+-- Inv (`step`); what growing ends with (`Ends`).
 --
 -- Why: if a side's point is some corner's, then the point beyond it is a side's, so that the side is closed. So an open side's point is no
 -- corner's, nor are the two points turned from it.
@@ -24,12 +24,11 @@ use Rattle.matrix.specs.Words as word
 use Rattle.basics.specs.Choice.{pick}
 use Rattle.matrix.proofs.Matrix.{⊗-assoc, ⊗-idl, ⊗-idr, Q-Q, P-Q, ≈-sym, _∙≈_, ≈-left, ≈-right}
 use Rattle.import_rule.specs.Side.{mediant, fits}
-use Rattle.import_rule.specs.Inner.Placed.{Placed, pts, Cut, closed, parted, over, Grew, finished, refused, goOn, lowerAt, upperAt, cutIn, grow}
+use Rattle.import_rule.specs.Inner.Placed.{Placed, pts, lowerAt, upperAt}
 use Rattle.import_rule.proofs.Member.{In, in-left, in-right, Apart, at-most}
 use Rattle.import_rule.proofs.Lead.{S-twice, Turning, Leads, leads-one, leads-≈, leads-step}
-use Rattle.import_rule.proofs.Split.{framed, Closed, AllClosed, Shut, Broken, outcome, lower-S, upper-S, lower-det, upper-det, in-pts, Pt}
-use Rattle.import_rule.proofs.Split.{pt-of, of-pt, same-side, split-keep, split-from, beside-in, beside-other, Beside, split-apart, Turn, t0}
-use Rattle.import_rule.proofs.Split.{t1, t2, turnM, turnX, Corner, Edge}
+use Rattle.import_rule.proofs.Split.{framed, Closed, AllClosed, lower-S, upper-S, lower-det, upper-det, in-pts, Pt, pt-of, of-pt, same-side}
+use Rattle.import_rule.proofs.Split.{split-keep, split-from, beside-in, beside-other, Beside, split-apart, Turn, t0, t1, t2, turnM, turnX, Corner, Edge}
 
 module _ (σ κ : ℕ → ℕ) (n : ℕ) where
   -- each triangle brings three new points below n
@@ -402,43 +401,10 @@ module _ (σ κ : ℕ → ℕ) (n : ℕ) where
         grown = new-grown;
       }
 
-    -- ---- growing ends with all sides closed, and with whatever else each split keeps
+    -- ---- what growing ends with: all sides closed, and whatever else each split keeps
 
     pub record Ends (P : List Placed → List Placed → Type 0) (l : List Placed) : Type 0 where
       pub tris : List Placed
       pub inv : Inv tris l
       pub all : AllClosed σ κ (pts l) l
       pub kept : P tris l
-
-    module _ (P : List Placed → List Placed → Type 0)
-        (keep : (C before : List Placed) (s : Placed) (after : List Placed) → det (framed s) ≡ pos 1 → fits (mediant (s .lo) (s .hi)) ≡ true
-        → P C (before ++ (s ∷ after)) → P (s ∷ C) (before ++ (lowerAt σ κ s ∷ upperAt σ κ s ∷ after))) where
-      pub ends : (f : ℕ) (C l z : List Placed) → Inv C l → P C l → n < 3 * length C + 3 * f → grow σ κ f l ≡ finished z → Ends P z
-      ends zero C l z inv p h g = let k = triangles C (inv .tops) in absurd (omega arith)
-      ends (suc f) C l z inv p h g = go (outcome σ κ (pts l) 0 l) (λ C l i p k. ends f C l z i p k)
-        where
-          go : Shut σ κ (pts l) 0 l ⊎ Broken σ κ (pts l) 0 l
-              → ((C l : List Placed) → Inv C l → P C l → n < 3 * length C + 3 * f → grow σ κ f l ≡ finished z → Ends P z) → Ends P z
-          go (inl r) ih =
-              let e : finished l ≡ finished z = sym (ap (goOn (grow σ κ f) l) (r .is)) ∙ g in
-              let q : l ≡ z = cc in
-              rw (← q) (record { tris = C; inv = inv; all = r .all; kept = p })
-          go (inr r) ih = by-fit (fits (mediant (r .side .lo) (r .side .hi))) refl
-            where
-              by-fit : (b : Bool) → fits (mediant (r .side .lo) (r .side .hi)) ≡ b → Ends P z
-              by-fit false e =
-                  let q : cutIn σ κ (pts l) 0 l ≡ over (0 + length (r .before)) = r .is
-                  ∙ ap (λ (x : Bool). pick x (parted (r .before ++ (lowerAt σ κ (r .side) ∷ upperAt σ κ (r .side) ∷ r .after)))
-                  (over (0 + length (r .before)))) e in
-                  let y : refused (0 + length (r .before)) ≡ finished z = sym (ap (goOn (grow σ κ f) l) q) ∙ g in
-                  let w : _≡_ {A = ℕ} 0 1 = cc in
-                  absurd (omega arith)
-              by-fit true e =
-                  let q : cutIn σ κ (pts l) 0 l ≡ parted (r .before ++ (lowerAt σ κ (r .side) ∷ upperAt σ κ (r .side) ∷ r .after)) = r .is
-                  ∙ ap (λ (x : Bool). pick x (parted (r .before ++ (lowerAt σ κ (r .side) ∷ upperAt σ κ (r .side) ∷ r .after)))
-                  (over (0 + length (r .before)))) e in
-                  let y : grow σ κ f (r .before ++ (lowerAt σ κ (r .side) ∷ upperAt σ κ (r .side) ∷ r .after)) ≡ finished z = sym (ap (goOn (grow σ κ f) l) q) ∙ g in
-                  let i : Inv C (r .before ++ (r .side ∷ r .after)) = rw (r .was) at inv in
-                  ih (r .side ∷ C) _ (step C (r .before) (r .side) (r .after) i (rw (r .was) at (r .none)))
-                  (keep C (r .before) (r .side) (r .after) (i .dets (r .side) (in-right (r .side) (r .before) (r .side ∷ r .after) (inl refl))) e
-                  (rw (r .was) at p)) (omega arith) y

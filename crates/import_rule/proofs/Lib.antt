@@ -8,8 +8,11 @@ pub mod Table
 pub mod Finished
 pub mod Start
 pub mod Small
+pub mod Order
 pub mod Visit
 pub mod Rounds
 pub mod Theorem
+pub mod Ends
+pub mod Growing
 pub mod Going
 pub mod Images

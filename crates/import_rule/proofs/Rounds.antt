@@ -1,14 +1,14 @@
--- The rule to the letter makes the same sides as growing by points, and marks each as its point says.
+-- The rule to the letter makes the same sides as growing by points under the same order, and marks each as its point says.
 --
 --   mk B s, mks B l     sides with the marks that their points say among sides with the points B
 --   Fit C l rows        the rows are the placed sides l, of which some have the mark that their point says already
 --
--- In order: rows and sides; marks by points; the split of marked rows (`split-shut`, `split-at`); what a round needs (`ready`) and leaves
--- (`visits-mark`); after a split (`fit-step`); the law (`rounds-are`).
+-- In order: rows and sides; marks by points; which marked rows are open (`opens-marked`) and their split (`split-marked`); what a round needs
+-- (`ready`) and leaves (`visits-mark`); after a split (`fit-step`); the law (`rounds-are`).
 -- Assumes nothing.
 use mathlib.Core.Path.{_≡_, refl, sym, _∙_, ap}
 use mathlib.Core.Logic.{_⊎_, inl, inr}
-use mathlib.Core.Bool.{Bool, true, false}
+use mathlib.Core.Bool.{Bool, true, false, not}
 use mathlib.Core.List.{List, [], _∷_, _++_}
 use Prim.Native.Nat.{ℕ, zero, suc, _+_, _*_, _<_, _≤_}
 use native.Mathlib.Omega.{arith}
@@ -20,15 +20,17 @@ use Rattle.matrix.specs.Matrix.{det}
 use Rattle.basics.specs.Choice.{pick}
 use Rattle.basics.proofs.Choice.{pick-true, pick-false, either, clash}
 use Rattle.import_rule.specs.Side.{Interval, intervalFrame, mediant, lower, upper, fits}
-use Rattle.import_rule.specs.Rule.{Mark, unpaired, even, odd, free, Row, row, isOpen, Parted, closed, parted, over, after, Grown, finished}
-use Rattle.import_rule.specs.Rule.{refused, goOn, least, pointOf, visitAll, splitFirst, rounds}
+use Rattle.import_rule.specs.Order.{Order, Chosen, none, this, chosenBy}
+use Rattle.import_rule.specs.Rule.{Mark, unpaired, even, odd, free, Row, row, isOpen, Grown, finished}
+use Rattle.import_rule.specs.Rule.{refused, opens, splitAt, fitsAt, cameAfter, goOn, least, pointOf, visitAll, rounds}
 use Rattle.import_rule.specs.Inner.Placed as model
-use Rattle.import_rule.specs.Inner.Placed.{Placed, bare, pts, Grew, grow, cutIn, lowerAt, upperAt, isClosed, markOf, rowsOf}
+use Rattle.import_rule.specs.Inner.Placed.{Placed, bare, pts, Grew, growBy, opensAt, lowerAt, upperAt, isClosed, markOf, rowsOf}
 use Rattle.import_rule.proofs.Member.{In, in-left, in-right, in-either, Apart, in-is}
 use Rattle.import_rule.proofs.Lead.{Turning, Leads}
-use Rattle.import_rule.proofs.Split.{framed, Closed, AllClosed, closed-true, closed-false, true-closed, false-closed, Shut, Broken, outcome}
-use Rattle.import_rule.proofs.Split.{in-pts, Pt, pt-of, of-pt, split-from, beside-in, Beside, Turn, t0, t1, t2, turnX}
+use Rattle.import_rule.proofs.Split.{framed, Closed, AllClosed, closed-true, closed-false, true-closed, false-closed, in-pts, Pt, pt-of}
+use Rattle.import_rule.proofs.Split.{of-pt, split-from, beside-in, Beside, Turn, t0, t1, t2, turnX}
 use Rattle.import_rule.proofs.Kept.{Inv, step, not-old, moved, stays, corner-pt, corner-free}
+use Rattle.import_rule.proofs.Order.{Rest, Cut, outcome-by, cut-by, came-long}
 use Rattle.import_rule.proofs.Visit.{pt, points, settle, settles, Vacant, Ready, visits-settle}
 
 -- ---- rows and sides
@@ -176,39 +178,29 @@ module _ (σ κ : ℕ → ℕ) where
   open-bare : (B : List ℕ) (u : Placed) → pointOf σ κ (bare u) ≡ u .pt → ¬ (Closed σ κ B (u .pt)) → ¬ (Closed σ κ B (pointOf σ κ (bare u)))
   open-bare B u e h c = h (rw e at c)
 
-  split-marked : (i : ℕ) (r : Row) (rs : List Row) → isOpen (r .mark) ≡ false → splitFirst σ κ i (r ∷ rs) ≡ after r (splitFirst σ κ (suc i) rs)
-  split-marked i r rs e = pick-false (isOpen (r .mark)) _ (after r (splitFirst σ κ (suc i) rs)) e
+  opens-one : (B : List ℕ) (u : Placed) → pointOf σ κ (bare u) ≡ u .pt → isOpen (mk B (bare u) .mark) ≡ not (isClosed σ κ B (u .pt))
+  opens-one B u p = go (isClosed σ κ B (u .pt)) refl
+    where
+      go : (b : Bool) → isClosed σ κ B (u .pt) ≡ b → isOpen (mk B (bare u) .mark) ≡ not b
+      go true e = mk-told B (bare u) (closed-bare B u p (closed-true σ κ B (u .pt) e))
+      go false e = ap (λ (r : Row). isOpen (r .mark)) (mk-open B (bare u) (open-bare B u p (closed-false σ κ B (u .pt) e)))
 
-  split-shut : (B : List ℕ) (i : ℕ) (l : List Placed) → Points l → AllClosed σ κ B l → splitFirst σ κ i (mks B (bares l)) ≡ closed
-  split-shut B i [] p a = refl
-  split-shut B i (u ∷ l) p a =
-      split-marked i (mk B (bare u)) (mks B (bares l)) (mk-told B (bare u) (closed-bare B u (p u (inl refl)) (a u (inl refl))))
-      ∙ ap (after (mk B (bare u))) (split-shut B (suc i) l (λ w h. p w (inr h)) (λ w h. a w (inr h)))
+  opens-marked : (B : List ℕ) (l : List Placed) → Points l → opens (mks B (bares l)) ≡ opensAt σ κ B l
+  opens-marked B [] p = refl
+  opens-marked B (u ∷ l) p = let a = opens-one B u (p u (inl refl)) in let b = opens-marked B l (λ w h. p w (inr h)) in λ i. a i ∷ b i
 
   abbrev pub halves : List ℕ → List Placed → Placed → List Placed → List Row
   halves B before s behind = mks B (bares before) ++ (row (bare (lowerAt σ κ s)) unpaired ∷ row (bare (upperAt σ κ s)) unpaired ∷ mks B (bares behind))
 
-  after-pick : (r : Row) (b : Bool) (l : List Row) (i : ℕ) → after r (pick b (parted l) (over i)) ≡ pick b (parted (r ∷ l)) (over i)
-  after-pick r true l i = refl
-  after-pick r false l i = refl
+  fits-marked : (B : List ℕ) (before : List Placed) (s : Placed) (behind : List Placed)
+      → fitsAt (length before) (mks B (bares (before ++ (s ∷ behind)))) ≡ fits (mediant (s .lo) (s .hi))
+  fits-marked B [] s behind = refl
+  fits-marked B (u ∷ l) s behind = fits-marked B l s behind
 
-  none-before : (i : ℕ) → i ≡ i + 0
-  none-before i = omega arith
-
-  one-before : (i k : ℕ) → suc i + k ≡ i + suc k
-  one-before i k = omega arith
-
-  split-at : (B : List ℕ) (i : ℕ) (before : List Placed) (s : Placed) (behind : List Placed) → Points (before ++ (s ∷ behind)) → AllClosed σ κ B before
-      → ¬ (Closed σ κ B (s .pt))
-      → splitFirst σ κ i (mks B (bares (before ++ (s ∷ behind)))) ≡ pick (fits (mediant (s .lo) (s .hi))) (parted (halves B before s behind)) (over (i + length before))
-  split-at B i [] s behind p a h =
-      ap (λ (r : Row). splitFirst σ κ i (r ∷ mks B (bares behind))) (mk-open B (bare s) (open-bare B s (p s (inl refl)) h))
-      ∙ ap (λ (j : ℕ). pick (fits (mediant (s .lo) (s .hi))) (parted (halves B [] s behind)) (over j)) (none-before i)
-  split-at B i (b ∷ bs) s behind p a h =
-      split-marked i (mk B (bare b)) (mks B (bares (bs ++ (s ∷ behind)))) (mk-told B (bare b) (closed-bare B b (p b (inl refl)) (a b (inl refl))))
-      ∙ ap (after (mk B (bare b))) (split-at B (suc i) bs s behind (λ w k. p w (inr k)) (λ w k. a w (inr k)) h)
-      ∙ after-pick (mk B (bare b)) (fits (mediant (s .lo) (s .hi))) (halves B bs s behind) (suc i + length bs)
-      ∙ ap (λ (j : ℕ). pick (fits (mediant (s .lo) (s .hi))) (parted (halves B (b ∷ bs) s behind)) (over j)) (one-before i (length bs))
+  split-marked : (B : List ℕ) (before : List Placed) (s : Placed) (behind : List Placed)
+      → splitAt (length before) (mks B (bares (before ++ (s ∷ behind)))) ≡ halves B before s behind
+  split-marked B [] s behind = refl
+  split-marked B (u ∷ l) s behind = ap (λ (x : List Row). mk B (bare u) ∷ x) (split-marked B l s behind)
 
   module _ (n : ℕ) (T : Turning σ κ n) where
     abbrev pub Partners : List ℕ → List Row → Type 0
@@ -386,36 +378,57 @@ module _ (σ κ : ℕ → ℕ) where
     ruled (model.finished l) = finished (marked l)
     ruled (model.refused i) = refused i
 
-    pub rounds-are : (f : ℕ) (C l : List Placed) (rs : List Row) → Fit C l rs → rounds σ κ f rs ≡ ruled (grow σ κ f l)
-    rounds-are zero C l rs a = ap finished (visits-mark C l rs a)
-    rounds-are (suc f) C l rs a =
-        ap (λ (x : List Row). goOn (rounds σ κ f) x (splitFirst σ κ 0 x)) (visits-mark C l rs a) ∙ go (outcome σ κ (pts l) 0 l) (λ C l rs a. rounds-are f C l rs a)
-      where
-        go : Shut σ κ (pts l) 0 l ⊎ Broken σ κ (pts l) 0 l → ((C l : List Placed) (rs : List Row) → Fit C l rs → rounds σ κ f rs ≡ ruled (grow σ κ f l))
-            → goOn (rounds σ κ f) (marked l) (splitFirst σ κ 0 (marked l)) ≡ ruled (model.goOn (grow σ κ f) l (cutIn σ κ (pts l) 0 l))
-        go (inl r) ih =
-            ap (goOn (rounds σ κ f) (marked l)) (split-shut (pts l) 0 l (placed-points C l (a .inv)) (r .all))
-            ∙ sym (ap (λ (x : model.Cut). ruled (model.goOn (grow σ κ f) l x)) (r .is))
-        go (inr r) ih =
-            let i : Inv σ κ n C (r .before ++ (r .side ∷ r .after)) = rw (r .was) at (a .inv) in
-            let e : ¬ (Closed σ κ (pts (r .before ++ (r .side ∷ r .after))) (r .side .pt)) = rw (r .was) at (r .none) in
-            let c : AllClosed σ κ (pts (r .before ++ (r .side ∷ r .after))) (r .before) = rw (r .was) at (r .shut) in
-            let q = split-at (pts (r .before ++ (r .side ∷ r .after))) 0 (r .before) (r .side) (r .after) (placed-points C _ i) c e in
-            let p : splitFirst σ κ 0 (marked l) ≡ pick (fits (mediant (r .side .lo) (r .side .hi)))
-            (parted (halves (pts (r .before ++ (r .side ∷ r .after))) (r .before) (r .side) (r .after))) (over (0 + length (r .before))) =
-            ap (λ (x : List Placed). splitFirst σ κ 0 (marked x)) (r .was) ∙ q in
-            ap (goOn (rounds σ κ f) (marked l)) p
-            ∙ by-fit (fits (mediant (r .side .lo) (r .side .hi))) (ih (r .side ∷ C) _ _ (fit-step C (r .before) (r .side) (r .after) i e))
-            ∙ sym (ap (λ (x : model.Cut). ruled (model.goOn (grow σ κ f) l x)) (r .is))
-          where
-            by-fit : (b : Bool) → rounds σ κ f (halves (pts (r .before ++ (r .side ∷ r .after))) (r .before) (r .side) (r .after)) ≡ ruled
-                (grow σ κ f (r .before ++ (lowerAt σ κ (r .side) ∷ upperAt σ κ (r .side) ∷ r .after)))
-                → goOn (rounds σ κ f) (marked l) (pick b (parted (halves (pts (r .before ++ (r .side ∷ r .after))) (r .before) (r .side) (r .after)))
-                (over (0 + length (r .before))))
-                ≡ ruled (model.goOn (grow σ κ f) l (pick b (model.parted (r .before ++ (lowerAt σ κ (r .side) ∷ upperAt σ κ (r .side) ∷ r .after)))
-                (model.over (0 + length (r .before)))))
-            by-fit true e = e
-            by-fit false e = refl
+    module _ (order : Order) where
+      pub rounds-are : (f k : ℕ) (came : List ℕ) (C l : List Placed) (rs : List Row) → length came ≡ length l → Fit C l rs
+          → rounds order σ κ f k came rs ≡ ruled (growBy σ κ order f k came l)
+      rounds-are zero k came C l rs len a = ap finished (visits-mark C l rs a)
+      rounds-are (suc f) k came C l rs len a =
+          ap (λ (x : List Row). goOn (rounds order σ κ f) k came x (chosenBy order came (opens x))) (visits-mark C l rs a)
+          ∙ ap (λ (x : List Bool). goOn (rounds order σ κ f) k came (marked l) (chosenBy order came x)) (opens-marked (pts l) l (placed-points C l (a .inv)))
+          ∙ go (outcome-by order σ κ came l len) (λ k came C l rs h a. rounds-are f k came C l rs h a)
+        where
+          go : Rest order σ κ l (chosenBy order came (opensAt σ κ (pts l) l)) ⊎ Cut order σ κ l (chosenBy order came (opensAt σ κ (pts l) l))
+              → ((k : ℕ) (came : List ℕ) (C l : List Placed) (rs : List Row) → length came ≡ length l → Fit C l rs
+              → rounds order σ κ f k came rs ≡ ruled (growBy σ κ order f k came l))
+              → goOn (rounds order σ κ f) k came (marked l) (chosenBy order came (opensAt σ κ (pts l) l))
+              ≡ ruled (model.goOn σ κ (growBy σ κ order f) k came l (chosenBy order came (opensAt σ κ (pts l) l)))
+          go (inl r) ih =
+              ap (goOn (rounds order σ κ f) k came (marked l)) (r .is)
+              ∙ sym (ap (λ (x : Chosen). ruled (model.goOn σ κ (growBy σ κ order f) k came l x)) (r .is))
+          go (inr r) ih =
+              ap (goOn (rounds order σ κ f) k came (marked l)) (r .is)
+              ∙ ap (λ (x : List Placed). goOn (rounds order σ κ f) k came (marked x) (this (length (r .before)))) (r .was)
+              ∙ rows
+              ∙ by-fit (fits (mediant (r .side .lo) (r .side .hi)))
+              (ih (suc (suc k)) (cameAfter k (length (r .before)) came) (r .side ∷ C) new _
+              (came-long k came (r .before) (r .side) (lowerAt σ κ (r .side)) (upperAt σ κ (r .side)) (r .after) (len ∙ ap length (r .was)))
+              (fit-step C (r .before) (r .side) (r .after) (rw (r .was) at (a .inv)) (r .none)))
+              ∙ sym (ap (ruled) (ap (model.goOn σ κ (growBy σ κ order f) k came l) (r .is)
+              ∙ ap (λ (x : List Placed). model.goOn σ κ (growBy σ κ order f) k came x (this (length (r .before)))) (r .was)
+              ∙ cut-by order σ κ f k came (r .before) (r .side) (r .after)))
+            where
+              new : List Placed
+              new = r .before ++ (lowerAt σ κ (r .side) ∷ upperAt σ κ (r .side) ∷ r .after)
+
+              rows : goOn (rounds order σ κ f) k came (marked (r .before ++ (r .side ∷ r .after))) (this (length (r .before)))
+                  ≡ pick (fits (mediant (r .side .lo) (r .side .hi)))
+                  (rounds order σ κ f (suc (suc k)) (cameAfter k (length (r .before)) came)
+                  (halves (pts (r .before ++ (r .side ∷ r .after))) (r .before) (r .side) (r .after))) (refused (length (r .before)))
+              rows =
+                  let p = fits-marked (pts (r .before ++ (r .side ∷ r .after))) (r .before) (r .side) (r .after) in
+                  let q = split-marked (pts (r .before ++ (r .side ∷ r .after))) (r .before) (r .side) (r .after) in
+                  λ i. pick (p i) (rounds order σ κ f (suc (suc k)) (cameAfter k (length (r .before)) came) (q i)) (refused (length (r .before)))
+
+              by-fit : (b : Bool) → rounds order σ κ f (suc (suc k)) (cameAfter k (length (r .before)) came)
+                  (halves (pts (r .before ++ (r .side ∷ r .after))) (r .before) (r .side) (r .after))
+                  ≡ ruled (growBy σ κ order f (suc (suc k)) (cameAfter k (length (r .before)) came)
+                  (r .before ++ (lowerAt σ κ (r .side) ∷ upperAt σ κ (r .side) ∷ r .after)))
+                  → pick b (rounds order σ κ f (suc (suc k)) (cameAfter k (length (r .before)) came)
+                  (halves (pts (r .before ++ (r .side ∷ r .after))) (r .before) (r .side) (r .after))) (refused (length (r .before)))
+                  ≡ ruled (pick b (growBy σ κ order f (suc (suc k)) (cameAfter k (length (r .before)) came)
+                  (r .before ++ (lowerAt σ κ (r .side) ∷ upperAt σ κ (r .side) ∷ r .after))) (model.refused (length (r .before))))
+              by-fit true e = e
+              by-fit false e = refl
 
     pub fit-start : (C l : List Placed) → Inv σ κ n C l → Fit C l (opened l)
     fit-start C l inv = record {

@@ -2,11 +2,11 @@
 --
 --   framed u            the frame of a placed side
 --   Closed B m          what `isClosed` tests
---   outcome B i l       what a cut does: nothing is open (`Shut`), or the leftmost open side stands between others (`Broken`)
+--   AllClosed B l       all sides of l are closed
 --   Corner C m x        one of the three corners beyond a side that was split: its frame m, up to sign, and its point x
 --   Edge l m x          a side of that frame and point
 --
--- In order: the test; the outcome; the frames of the two parts; the sides about the split one (`split-keep`, `split-from`, `split-apart`);
+-- In order: the test; the frames of the two parts; the sides about the split one (`split-keep`, `split-from`, `split-apart`);
 -- corners.
 -- Assumes nothing.
 use mathlib.Core.Path.{_≡_, refl, sym, _∙_, ap}
@@ -25,7 +25,7 @@ use Rattle.basics.specs.Choice.{pick}
 use Rattle.matrix.proofs.Ring.{Exp, con, var, _⊕_, _⊙_, ⊖_, val, ring, MExp, lit, const, _⊛_, ∼_, valM, ringM, detᵉ, det-val}
 use Rattle.numbering.specs.Find.{find, isIn}
 use Rattle.import_rule.specs.Side.{Vertex, Interval, interval, intervalFrame, mediant, fits}
-use Rattle.import_rule.specs.Inner.Placed.{Placed, bare, pts, Cut, closed, parted, over, next, lowerAt, upperAt, isClosed, cutIn}
+use Rattle.import_rule.specs.Inner.Placed.{Placed, bare, pts, lowerAt, upperAt, isClosed}
 use Rattle.import_rule.proofs.Member.{In, in-left, in-right, in-either, Apart, in-is}
 
 abbrev pub framed : Placed → Mat
@@ -89,72 +89,9 @@ module _ (σ κ : ℕ → ℕ) (B : List ℕ) (m : ℕ) where
       go true e = absurd (n (closed-true e))
       go false e = refl
 
--- ---- what a cut does
-
 module _ (σ κ : ℕ → ℕ) where
   abbrev pub AllClosed : List ℕ → List Placed → Type 0
   AllClosed B l = (u : Placed) → In u l → Closed σ κ B (u .pt)
-
-  pub record Shut (B : List ℕ) (i : ℕ) (l : List Placed) : Type 0 where
-    pub is : cutIn σ κ B i l ≡ closed
-    pub all : AllClosed B l
-
-  pub record Broken (B : List ℕ) (i : ℕ) (l : List Placed) : Type 0 where
-    pub before : List Placed
-    pub side : Placed
-    pub after : List Placed
-    pub was : l ≡ before ++ (side ∷ after)
-    pub none : ¬ (Closed σ κ B (side .pt))
-    pub shut : AllClosed B before
-    pub is : cutIn σ κ B i l ≡ pick (fits (mediant (side .lo) (side .hi))) (parted (before ++ (lowerAt σ κ side ∷ upperAt σ κ side ∷ after))) (over (i + length before))
-
-  all-more : (B : List ℕ) (s : Placed) (l : List Placed) → Closed σ κ B (s .pt) → AllClosed B l → AllClosed B (s ∷ l)
-  all-more B s l c a u (inl e) = rw e c
-  all-more B s l c a u (inr h) = a u h
-
-  next-pick : (s : Placed) (b : Bool) (l : List Placed) (i : ℕ) → next s (pick b (parted l) (over i)) ≡ pick b (parted (s ∷ l)) (over i)
-  next-pick s true l i = refl
-  next-pick s false l i = refl
-
-  zeroth : (i : ℕ) → i ≡ i + 0
-  zeroth i = omega arith
-
-  later : (i k : ℕ) → suc i + k ≡ i + suc k
-  later i k = omega arith
-
-  pub outcome : (B : List ℕ) (i : ℕ) (l : List Placed) → Shut B i l ⊎ Broken B i l
-  outcome B i [] = inl (record { is = refl; all = λ u h. absurd h })
-  outcome B i (s ∷ l) = go (isClosed σ κ B (s .pt)) refl (outcome B (suc i) l)
-    where
-      by-test : (b : Bool) → isClosed σ κ B (s .pt) ≡ b
-          → cutIn σ κ B i (s ∷ l) ≡ pick b (next s (cutIn σ κ B (suc i) l))
-          (pick (fits (mediant (s .lo) (s .hi))) (parted (lowerAt σ κ s ∷ upperAt σ κ s ∷ l)) (over i))
-      by-test b e = ap (λ (z : Bool). pick z (next s (cutIn σ κ B (suc i) l))
-          (pick (fits (mediant (s .lo) (s .hi))) (parted (lowerAt σ κ s ∷ upperAt σ κ s ∷ l)) (over i))) e
-
-      go : (b : Bool) → isClosed σ κ B (s .pt) ≡ b → Shut B (suc i) l ⊎ Broken B (suc i) l → Shut B i (s ∷ l) ⊎ Broken B i (s ∷ l)
-      go false e r = inr (record {
-        before = [];
-        side = s;
-        after = l;
-        was = refl;
-        none = closed-false σ κ B (s .pt) e;
-        shut = λ u h. absurd h;
-        is = by-test false e ∙ ap (λ (j : ℕ). pick (fits (mediant (s .lo) (s .hi))) (parted (lowerAt σ κ s ∷ upperAt σ κ s ∷ l)) (over j)) (zeroth i);
-      })
-      go true e (inl r) = inl (record { is = by-test true e ∙ ap (next s) (r .is); all = all-more B s l (closed-true σ κ B (s .pt) e) (r .all) })
-      go true e (inr r) = inr (record {
-        before = s ∷ r .before;
-        side = r .side;
-        after = r .after;
-        was = ap (λ (x : List Placed). s ∷ x) (r .was);
-        none = r .none;
-        shut = all-more B s (r .before) (closed-true σ κ B (s .pt) e) (r .shut);
-        is = by-test true e ∙ ap (next s) (r .is)
-            ∙ next-pick s (fits (mediant (r .side .lo) (r .side .hi))) (r .before ++ (lowerAt σ κ (r .side) ∷ upperAt σ κ (r .side) ∷ r .after))
-            (suc i + length (r .before)) ∙ ap (λ (j : ℕ). pick (fits (mediant (r .side .lo) (r .side .hi)))
-            (parted (s ∷ (r .before ++ (lowerAt σ κ (r .side) ∷ upperAt σ κ (r .side) ∷ r .after)))) (over j)) (later i (length (r .before)));
-      })
 
 -- ---- the frames of the two parts
 

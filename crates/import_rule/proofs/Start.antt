@@ -5,8 +5,7 @@
 --   start1, start2    0/1, 1/1, where the side from 0/1 to 1/0 was split; -1/1, 0/1, where the side from -1/0 to 0/1 was split
 --   Start s o l       l are the two parts of s and the side o beyond it
 --
--- In order: a split keeps the shape (`keep`); a start has what every split keeps (`begin`); both starts (`inv-1`, `inv-2`) and what growing
--- from them ends with (`ends-1`, `ends-2`).
+-- In order: a split keeps the shape (`keep`); a start has what every split keeps (`begin`); both starts (`inv-1`, `inv-2`).
 -- Assumes nothing.
 use mathlib.Core.Path.{_≡_, refl, sym, _∙_, ap}
 use mathlib.Core.Logic.{_⊎_, inl, inr}
@@ -25,12 +24,12 @@ use Rattle.matrix.proofs.Ring.{con, var, ring, lit, detᵉ}
 use Rattle.matrix.proofs.Matrix.{⊗-idl, det-𝟙, det-letter, S-S, ≈-sym, _∙≈_, ≈-right}
 use Rattle.basics.proofs.Choice.{and-left, and-right}
 use Rattle.import_rule.specs.Side.{Vertex, vertex, minusInfinity, infinity, mediant, limit, fits}
-use Rattle.import_rule.specs.Inner.Placed.{Placed, pts, finished, lowerAt, upperAt, grow}
+use Rattle.import_rule.specs.Inner.Placed.{Placed, pts, lowerAt, upperAt}
 use Rattle.import_rule.proofs.Member.{In, in-right, Apart}
 use Rattle.import_rule.proofs.Lead.{S-twice, Turning, Leads, leads-≈, leads-𝟙, leads-step}
 use Rattle.import_rule.proofs.Split.{framed, lower-S, upper-S, lower-det, upper-det, Pt, of-pt, split-from, beside-in, Beside, Turn, t0, t1}
 use Rattle.import_rule.proofs.Split.{t2, turnM, turnX, Corner, Edge}
-use Rattle.import_rule.proofs.Kept.{Inv, turn-one, Ends, ends}
+use Rattle.import_rule.proofs.Kept.{Inv, turn-one}
 use Rattle.import_rule.proofs.Table.{Chained, inner}
 use Rattle.import_rule.proofs.Finished.{Shape}
 
@@ -331,15 +330,9 @@ module _ (σ κ : ℕ → ℕ) (n : ℕ) (T : Turning σ κ n) where
       small u (inr (inr (inl e))) = rw e (lit≤ tt, lit≤ tt)
       small u (inr (inr (inr e))) = absurd e
 
-  -- what growing ends with, from either start
+  -- what every split keeps, at either start
   pub inv-1 : ¬ (κ 0 ≡ 0) → Inv σ κ n (right0 0 ∷ []) (start1 σ κ)
   inv-1 h = begin σ κ n T _ _ _ (start-1 h)
 
   pub inv-2 : κ 0 ≡ 0 → ¬ (κ (σ 0) ≡ σ 0) → Inv σ κ n (left0 (σ 0) ∷ []) (start2 σ κ)
   inv-2 o h = begin σ κ n T _ _ _ (start-2 o h)
-
-  pub ends-1 : ¬ (κ 0 ≡ 0) → (z : List Placed) → grow σ κ n (start1 σ κ) ≡ finished z → Ends σ κ n T Kept z
-  ends-1 h z g = ends σ κ n T Kept (keep σ κ) n (right0 0 ∷ []) (start1 σ κ) z (inv-1 h) kept-1 (omega arith) g
-
-  pub ends-2 : κ 0 ≡ 0 → ¬ (κ (σ 0) ≡ σ 0) → (z : List Placed) → grow σ κ n (start2 σ κ) ≡ finished z → Ends σ κ n T Kept z
-  ends-2 o h z g = ends σ κ n T Kept (keep σ κ) n (left0 (σ 0) ∷ []) (start2 σ κ) z (inv-2 o h) kept-2 (omega arith) g

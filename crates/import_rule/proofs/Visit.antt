@@ -29,7 +29,7 @@ use Rattle.symbol.specs.Table.{carried}
 use Rattle.import_rule.specs.Fixed.{fixes}
 use Rattle.import_rule.specs.Side.{Interval, intervalFrame}
 use Rattle.import_rule.specs.Rule.{Mark, unpaired, even, odd, free, Row, row, isOpen, Sought, nobody, found, behind, Visited, visited, least}
-use Rattle.import_rule.specs.Rule.{pointOf, isEven, isOdd, mates, label, seek, visitBy, visit, visitTo, visitAll}
+use Rattle.import_rule.specs.Rule.{pointOf, evenSide, oddSide, mates, label, seek, visitBy, visitSide, visitTo, visitAll}
 use Rattle.import_rule.specs.Inner.Placed.{isClosed, markOf}
 use Rattle.import_rule.proofs.Member.{In, in-right, Apart, in-is}
 use Rattle.import_rule.proofs.Lead.{Turning, Leads, leads-one, leads-≈, leads-step, leads-back, leads-fix}
@@ -91,16 +91,16 @@ module _ (σ κ : ℕ → ℕ) (n : ℕ) (T : Turning σ κ n) where
   meet-no : (m l : Mat) (x y : ℕ) → Leads σ κ m x → Leads σ κ l y → fixes σ κ (m ⊗ adj l) ≡ false → ¬ (x ≡ y)
   meet-no m l x y p q e z = eqb-false (at σ κ 0 (m ⊗ adj l)) 0 e (leads-back σ κ n T p (record { unit = q .unit; is = q .is ∙ sym z }) .is)
 
-  pub even-yes : (s : Interval) → det (intervalFrame s) ≡ pos 1 → isEven σ κ s ≡ true → σ (point s) ≡ point s
+  pub even-yes : (s : Interval) → det (intervalFrame s) ≡ pos 1 → evenSide σ κ s ≡ true → σ (point s) ≡ point s
   even-yes s d e = meet-yes (intervalFrame s ⊗ matS) (intervalFrame s) _ _ (leads-step σ κ n T word.S (of-frame s d)) (of-frame s d) e
 
-  pub even-no : (s : Interval) → det (intervalFrame s) ≡ pos 1 → isEven σ κ s ≡ false → ¬ (σ (point s) ≡ point s)
+  pub even-no : (s : Interval) → det (intervalFrame s) ≡ pos 1 → evenSide σ κ s ≡ false → ¬ (σ (point s) ≡ point s)
   even-no s d e = meet-no (intervalFrame s ⊗ matS) (intervalFrame s) _ _ (leads-step σ κ n T word.S (of-frame s d)) (of-frame s d) e
 
-  pub odd-yes : (s : Interval) → det (intervalFrame s) ≡ pos 1 → isOdd σ κ s ≡ true → κ (point s) ≡ point s
+  pub odd-yes : (s : Interval) → det (intervalFrame s) ≡ pos 1 → oddSide σ κ s ≡ true → κ (point s) ≡ point s
   odd-yes s d e = meet-yes (intervalFrame s ⊗ matQ) (intervalFrame s) _ _ (leads-step σ κ n T word.Q (of-frame s d)) (of-frame s d) e
 
-  pub odd-no : (s : Interval) → det (intervalFrame s) ≡ pos 1 → isOdd σ κ s ≡ false → ¬ (κ (point s) ≡ point s)
+  pub odd-no : (s : Interval) → det (intervalFrame s) ≡ pos 1 → oddSide σ κ s ≡ false → ¬ (κ (point s) ≡ point s)
   odd-no s d e = meet-no (intervalFrame s ⊗ matQ) (intervalFrame s) _ _ (leads-step σ κ n T word.Q (of-frame s d)) (of-frame s d) e
 
   pub mates-yes : (s q : Interval) → det (intervalFrame s) ≡ pos 1 → det (intervalFrame q) ≡ pos 1 → mates σ κ s q ≡ true → σ (point q) ≡ point s
@@ -371,7 +371,7 @@ module _ (σ κ : ℕ → ℕ) (n : ℕ) (T : Turning σ κ n) where
           cons m (ap (visitTo σ κ f) (s .is) ∙ ih _ ready (omega arith) ∙ settles-same B r (s .hit) (s .before) (s .after) x a' (s .by) (s .vacant) (s .pairs)
           ∙ ap (settles σ κ B) (sym (s .was)))
 
-      by-odd : isOpen (r .mark) ≡ true → ¬ (σ (pt σ κ r) ≡ pt σ κ r) → (b : Bool) → isOdd σ κ (r .side) ≡ b
+      by-odd : isOpen (r .mark) ≡ true → ¬ (σ (pt σ κ r) ≡ pt σ κ r) → (b : Bool) → oddSide σ κ (r .side) ≡ b
           → ((l : List Row) → Ready B l → length l ≤ f → visitTo σ κ f l ≡ settles σ κ B l)
           → goOn f (pick b (visited (row (r .side) odd) rs) (visitBy σ κ (seek σ κ (r .side) rs) r rs)) ≡ settle σ κ B r ∷ settles σ κ B rs
       by-odd e ne true t ih =
@@ -380,19 +380,19 @@ module _ (σ κ : ℕ → ℕ) (n : ℕ) (T : Turning σ κ n) where
           (ih rs (drop-first B r rs a (λ q i b p w. a .odds r (inl refl) o (in-is _ _ B (sym (T .twice (pt σ κ q)) ∙ ap σ p) (a .within q (inr i))))) (omega arith))
       by-odd e ne false t ih = by-seek e ne (odd-no (r .side) d t) ih (seek σ κ (r .side) rs) (sought (r .side) rs d (λ q i. a .dets q (inr i)))
 
-      by-even : isOpen (r .mark) ≡ true → (b : Bool) → isEven σ κ (r .side) ≡ b
+      by-even : isOpen (r .mark) ≡ true → (b : Bool) → evenSide σ κ (r .side) ≡ b
           → ((l : List Row) → Ready B l → length l ≤ f → visitTo σ κ f l ≡ settles σ κ B l)
           → goOn f (pick b (visited (row (r .side) even) rs)
-          (pick (isOdd σ κ (r .side)) (visited (row (r .side) odd) rs) (visitBy σ κ (seek σ κ (r .side) rs) r rs))) ≡ settle σ κ B r ∷ settles σ κ B rs
+          (pick (oddSide σ κ (r .side)) (visited (row (r .side) odd) rs) (visitBy σ κ (seek σ κ (r .side) rs) r rs))) ≡ settle σ κ B r ∷ settles σ κ B rs
       by-even e true t ih =
           let z = even-yes (r .side) d t in
           cons (sym (settle-shut B r e (inr (rw z (a .within r (inl refl)))) ∙ ap (row (r .side)) (mark-even σ κ (pt σ κ r) z)))
           (ih rs (drop-first B r rs a (λ q i b p w. a .apart .0 (in-is _ _ (points σ κ rs) (sym (T .twice (pt σ κ q)) ∙ ap σ p ∙ z) (in-points σ κ q rs i))))
           (omega arith))
-      by-even e false t ih = by-odd e (even-no (r .side) d t) (isOdd σ κ (r .side)) refl ih
+      by-even e false t ih = by-odd e (even-no (r .side) d t) (oddSide σ κ (r .side)) refl ih
 
       by-mark : (b : Bool) → isOpen (r .mark) ≡ b → ((l : List Row) → Ready B l → length l ≤ f → visitTo σ κ f l ≡ settles σ κ B l)
-          → goOn f (visit σ κ r rs) ≡ settle σ κ B r ∷ settles σ κ B rs
-      by-mark true e ih = ap (goOn f) (pick-true (isOpen (r .mark)) _ (visited r rs) e) ∙ by-even e (isEven σ κ (r .side)) refl ih
+          → goOn f (visitSide σ κ r rs) ≡ settle σ κ B r ∷ settles σ κ B rs
+      by-mark true e ih = ap (goOn f) (pick-true (isOpen (r .mark)) _ (visited r rs) e) ∙ by-even e (evenSide σ κ (r .side)) refl ih
       by-mark false e ih = ap (goOn f) (pick-false (isOpen (r .mark)) _ (visited r rs) e)
           ∙ cons (sym (settle-marked B r e)) (ih rs (drop-first B r rs a (λ q i b p w. clash w e)) (omega arith))

@@ -6,7 +6,8 @@
 --   verticesOf rows      the entries of the vertices: the right ends of all sides but the last
 --   symbolTable rows     the symbol's table, vertex entries before pairings
 --   Ruled                what the rule gives: v and the table, or refusal 16 with its side
---   ruleOf σ κ n         THE RULE, whole, for n points
+--   ruleBy order σ κ n   THE RULE UNDER AN ORDER, whole, for n points
+--   ruledBy order s r    what the rule gives for the tables s and r of S and R
 use mathlib.Core.Bool.{Bool, _&&_}
 use mathlib.Core.List.{List, [], _∷_, _++_}
 use Prim.Native.Nat.{ℕ, suc, _-_}
@@ -17,9 +18,10 @@ use Rattle.basics.specs.Choice.{pick}
 use Rattle.symbol.specs.Table.{carried}
 use Rattle.numbering.specs.Find.{find}
 use Rattle.numbering.specs.Order.{add}
-use Rattle.import_rule.specs.Fixed.{fixes}
+use Rattle.import_rule.specs.Fixed.{image, byQ, fixes}
 use Rattle.import_rule.specs.Side.{Interval}
-use Rattle.import_rule.specs.Rule.{Mark, unpaired, even, odd, free, Row, Grown, finished, refused, rounds, startRows}
+use Rattle.import_rule.specs.Order.{Order}
+use Rattle.import_rule.specs.Rule.{Mark, unpaired, even, odd, free, Row, Grown, finished, refused, rounds, startRows, startCame}
 
 abbrev pub noted : List ℕ → Mark → List ℕ
 noted l unpaired = l
@@ -65,8 +67,11 @@ symbolFrom (refused i) = over i
 abbrev pub oneVertex : ℤ → ℤ → Ruled
 oneVertex x y = made 1 (pos 0 ∷ pos 1 ∷ x ∷ y ∷ [])
 
-abbrev pub ruleOf : (σ κ : ℕ → ℕ) → ℕ → Ruled
-ruleOf σ κ n =
+abbrev pub ruleBy : Order → (σ κ : ℕ → ℕ) → ℕ → Ruled
+ruleBy order σ κ n =
     pick (fixes σ κ matS && fixes σ κ matT) (oneVertex (negsuc 1) (negsuc 2))
     (pick (fixes σ κ matQ && fixes σ κ (carried matS matQ matS)) (oneVertex (negsuc 2) (negsuc 2))
-    (symbolFrom (rounds σ κ n (startRows σ κ))))
+    (symbolFrom (rounds order σ κ n 3 startCame (startRows σ κ))))
+
+abbrev pub ruledBy : Order → (s r : List ℕ) → Ruled
+ruledBy order s r = ruleBy order (image s) (byQ (image s) (image r)) (length s)

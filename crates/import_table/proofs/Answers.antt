@@ -1,7 +1,8 @@
 -- What the answers of the calls come to.
 --
--- In order: the walk may begin in a cleared space (`ground`); the answers for a large group (`large-over`, `large-short`, `large-made`); the
--- cases of the rule (`rule-first`, `rule-second`, `rule-large`); the four numbers of a small symbol (`four-stores`, `small-made`).
+-- In order: the walk may begin in a cleared space (`ground`), by the order that is told (`by-wide`, `by-rule`); the answers for a large group
+-- (`large-over`, `large-short`, `large-made`); the cases of the rule (`rule-first`, `rule-second`, `rule-large`); the four numbers of a small
+-- symbol (`four-stores`, `small-made`).
 -- Assumes nothing.
 use mathlib.Core.Path.{_≡_, refl, sym, _∙_, ap}
 use mathlib.Core.Bool.{Bool, true, false, _&&_}
@@ -20,17 +21,17 @@ use Rattle.workspace.specs.Space.{zeros}
 use Rattle.workspace.proofs.Zeros.{length-zeros, getD-zeros}
 use Rattle.basics.proofs.Choice.{pick-true, pick-false, clash}
 use Rattle.import_rule.specs.Fixed.{image, byQ, Pair}
-use Rattle.import_rule.specs.Symbol.{Ruled, made, over, oneVertex, symbolTable, ruleOf}
-use Rattle.import_rule.specs.Inner.Placed.{Grew, finished, refused, grow, rowsOf, startPlaced, symbolBy, quickOf}
-use Rattle.import_walk.specs.Inner.Work.{Ground, Whole, WalkLeaves, halted, whole, doneIn}
-use Rattle.import_table.specs.Inner.Writing.{written}
-use Rattle.import_table.specs.Answer.{grownOf, ruledTable, ruledLeft}
+use Rattle.import_rule.specs.Order.{Order, leftmost, longestOpen}
+use Rattle.import_rule.specs.Symbol.{Ruled, made, over, oneVertex, symbolTable, ruleBy}
+use Rattle.import_rule.specs.Inner.Placed.{Grew, finished, refused, rowsOf, symbolBy, quickBy}
+use Rattle.import_walk.specs.Inner.Work.{Large, Ground, grownBy, Whole, WalkLeaves, halted, whole, doneIn}
+use Rattle.import_table.specs.Inner.Writing.{tableWritten, largeBy}
+use Rattle.import_table.specs.Answer.{orderBy, grownOf, ruledTable, ruledLeft}
 use Rattle.import_rule.proofs.Lead.{Turning, turning}
 use Rattle.import_rule.proofs.Theorem.{rule-is}
 use Rattle.import_walk.proofs.Walking.{length-done}
 
-pub ground : (s r w w' : List ℕ) → Pair s r → 32768 ≤ length w → w' ≡ zeros (length w)
-    → (eqb (byQ (image s) (image r) 0) 0 && eqb (byQ (image s) (image r) (image s 0)) (image s 0)) ≡ false → Ground s r w'
+pub ground : (s r w w' : List ℕ) → Pair s r → 32768 ≤ length w → w' ≡ zeros (length w) → Large s r → Ground s r w'
 ground s r w w' p h e l = record {
   pair = p;
   long = rw (e, length-zeros (length w)) h;
@@ -39,7 +40,14 @@ ground s r w w' p h e l = record {
   large = l;
 }
 
-module _ (s r : List ℕ) where
+-- a walk by the order that is told
+pub by-wide : (wide : Bool) (s r w : List ℕ) (stop : Bool) (d : ℕ) → wide ≡ true → WalkLeaves longestOpen s r w stop d → WalkLeaves (orderBy wide) s r w stop d
+by-wide wide s r w stop d e h = rw e h
+
+pub by-rule : (wide : Bool) (s r w : List ℕ) (stop : Bool) (d : ℕ) → wide ≡ false → WalkLeaves leftmost s r w stop d → WalkLeaves (orderBy wide) s r w stop d
+by-rule wide s r w stop d e h = rw e h
+
+module _ (order : Order) (s r : List ℕ) where
   abbrev σ : ℕ → ℕ
   σ = image s
 
@@ -47,21 +55,21 @@ module _ (s r : List ℕ) where
   κ = byQ (image s) (image r)
 
   abbrev large : Ruled
-  large = symbolBy σ κ (grow σ κ (length s) (startPlaced σ κ))
+  large = largeBy order s r
 
-  pub whole-of : (w : List ℕ) (stop : Bool) (d : ℕ) → WalkLeaves s r w stop d → stop ≡ false → Whole s r w d
+  pub whole-of : (w : List ℕ) (stop : Bool) (d : ℕ) → WalkLeaves order s r w stop d → stop ≡ false → Whole order s r w d
   whole-of w stop d (halted e g) f = clash e f
   whole-of w stop d (whole e g) f = g
 
-  pub large-over : (w : List ℕ) (stop : Bool) (d : ℕ) (o : List ℤ) → WalkLeaves s r w stop d → stop ≡ true
+  pub large-over : (w : List ℕ) (stop : Bool) (d : ℕ) (o : List ℤ) → WalkLeaves order s r w stop d → stop ≡ true
       → (Refused (entryTooLarge d) ≡ grownOf large (length o)) × (o ≡ ruledLeft large (Refused (entryTooLarge d)) o)
   large-over w stop d o (halted e g) f = (sym (ap (λ (x : Grew). grownOf (symbolBy σ κ x) (length o)) g), refl)
   large-over w stop d o (whole e g) f = clash f e
 
-  made-is : (w : List ℕ) (d : ℕ) → Whole s r w d → large ≡ made (d - 1) (symbolTable (rowsOf σ κ (doneIn w d)))
+  made-is : (w : List ℕ) (d : ℕ) → Whole order s r w d → large ≡ made (d - 1) (symbolTable (rowsOf σ κ (doneIn w d)))
   made-is w d g = ap (symbolBy σ κ) (g .is) ∙ ap (λ (k : ℕ). made (k - 1) (symbolTable (rowsOf σ κ (doneIn w d)))) (length-done w d)
 
-  pub large-short : (w : List ℕ) (d : ℕ) (o : List ℤ) → Whole s r w d → length o < 3 * (d - 1) + 1
+  pub large-short : (w : List ℕ) (d : ℕ) (o : List ℤ) → Whole order s r w d → length o < 3 * (d - 1) + 1
       → (Refused (tooShort (3 * (d - 1) + 1)) ≡ grownOf large (length o)) × (o ≡ ruledLeft large (Refused (tooShort (3 * (d - 1) + 1))) o)
   large-short w d o g h = (
     sym (ap (λ (x : Ruled). grownOf x (length o)) (made-is w d g)
@@ -69,7 +77,7 @@ module _ (s r : List ℕ) where
     refl,
   )
 
-  pub large-made : (w : List ℕ) (d : ℕ) (o y : List ℤ) → Whole s r w d → 3 * (d - 1) + 1 ≤ length o → y ≡ written σ κ w d o
+  pub large-made : (w : List ℕ) (d : ℕ) (o y : List ℤ) → Whole order s r w d → 3 * (d - 1) + 1 ≤ length o → y ≡ tableWritten σ κ w d o
       → (Made (d - 1) ≡ grownOf large (length o)) × (y ≡ ruledLeft large (Made (d - 1)) o)
   large-made w d o y g h e = (
     sym (ap (λ (x : Ruled). grownOf x (length o)) (made-is w d g) ∙ pick-false (ltb (length o) (3 * (d - 1) + 1)) _ _ (le-ltb (length o) (3 * (d - 1) + 1) h)),
@@ -79,16 +87,16 @@ module _ (s r : List ℕ) where
   -- ---- the cases of the rule
 
   module _ (p : Pair s r) where
-    by-points : ruleOf σ κ (length s) ≡ quickOf σ κ (length s)
-    by-points = rule-is σ κ (length s) (turning (image s) (image r) (length s) (p .permuting))
+    by-points : ruleBy order σ κ (length s) ≡ quickBy σ κ order (length s)
+    by-points = rule-is σ κ (length s) (turning (image s) (image r) (length s) (p .permuting)) order
 
-    pub rule-first : κ 0 ≡ 0 → (o : ℕ) → o ≡ σ 0 → o ≡ 0 → ruleOf σ κ (length s) ≡ oneVertex (negsuc 1) (negsuc 2)
+    pub rule-first : κ 0 ≡ 0 → (o : ℕ) → o ≡ σ 0 → o ≡ 0 → ruleBy order σ κ (length s) ≡ oneVertex (negsuc 1) (negsuc 2)
     rule-first q o e z = by-points ∙ pick-true (eqb (σ 0) 0 && eqb (κ 0) 0) _ _ (ap (λ (b : Bool). b && eqb (κ 0) 0) (eq-eqb (σ 0) 0 (sym e ∙ z)) ∙ eq-eqb (κ 0) 0 q)
 
     not-first : ¬ (σ 0 ≡ 0) → (eqb (σ 0) 0 && eqb (κ 0) 0) ≡ false
     not-first n = ap (λ (b : Bool). b && eqb (κ 0) 0) (ne-eqb (σ 0) 0 n)
 
-    pub rule-second : κ 0 ≡ 0 → (o x : ℕ) → o ≡ σ 0 → (o ≡ 0 → ⊥) → x ≡ κ o → x ≡ o → ruleOf σ κ (length s) ≡ oneVertex (negsuc 2) (negsuc 2)
+    pub rule-second : κ 0 ≡ 0 → (o x : ℕ) → o ≡ σ 0 → (o ≡ 0 → ⊥) → x ≡ κ o → x ≡ o → ruleBy order σ κ (length s) ≡ oneVertex (negsuc 2) (negsuc 2)
     rule-second q o x e n f g =
         by-points ∙ pick-false (eqb (σ 0) 0 && eqb (κ 0) 0) _ _ (not-first (λ z. n (e ∙ z)))
         ∙ pick-true (eqb (κ 0) 0 && eqb (κ (σ 0)) (σ 0)) _ _
@@ -105,7 +113,7 @@ module _ (s r : List ℕ) where
     pub moved-by-Q : (q : ℕ) → q ≡ κ 0 → (q ≡ 0 → ⊥) → (eqb (κ 0) 0 && eqb (κ (σ 0)) (σ 0)) ≡ false
     moved-by-Q q e n = ap (λ (b : Bool). b && eqb (κ (σ 0)) (σ 0)) (ne-eqb (κ 0) 0 (λ z. n (e ∙ z)))
 
-    pub rule-large : (eqb (κ 0) 0 && eqb (κ (σ 0)) (σ 0)) ≡ false → (eqb (σ 0) 0 && eqb (κ 0) 0) ≡ false → ruleOf σ κ (length s) ≡ large
+    pub rule-large : (eqb (κ 0) 0 && eqb (κ (σ 0)) (σ 0)) ≡ false → (eqb (σ 0) 0 && eqb (κ 0) 0) ≡ false → ruleBy order σ κ (length s) ≡ large
     rule-large b a = by-points ∙ pick-false (eqb (σ 0) 0 && eqb (κ 0) 0) _ _ a ∙ pick-false (eqb (κ 0) 0 && eqb (κ (σ 0)) (σ 0)) _ _ b
 
     pub first-no : (o : ℕ) → o ≡ σ 0 → (o ≡ 0 → ⊥) → (eqb (σ 0) 0 && eqb (κ 0) 0) ≡ false

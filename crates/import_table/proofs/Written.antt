@@ -30,8 +30,8 @@ use Rattle.import_rule.specs.Fixed.{image, byQ}
 use Rattle.import_rule.specs.Rule.{Mark, unpaired, even, odd, free, Row, least}
 use Rattle.import_rule.specs.Symbol.{noted, labelsFrom, labelsOf, entry, rowEntries, verticesOf, symbolTable}
 use Rattle.import_rule.specs.Inner.Placed.{Placed, placedSide, markOf, rowOf, rowsOf}
-use Rattle.import_walk.specs.Inner.Work.{LABEL, DONE, TODO, cellPlace, twoCells, endAt, pointAt, lastIn, doneIn, Whole}
-use Rattle.import_table.specs.Inner.Writing.{verticesTo, Paired, is-even, is-odd, is-new, is-old, pairingsIn, paired, written, SideToWrite}
+use Rattle.import_walk.specs.Inner.Work.{LABEL, DONE, TODO, cellPlace, twoCells, endAt, pointAt, lastIn, doneIn, Done}
+use Rattle.import_table.specs.Inner.Writing.{verticesTo, Paired, is-even, is-odd, is-new, is-old, pairingsIn, paired, tableWritten, SideToWrite}
 use Rattle.import_rule.proofs.Member.{In}
 use Rattle.import_walk.proofs.Decode.{abs-diff}
 use Rattle.import_rule.proofs.Table.{length-rows, length-entries, labels-in, labels-few, mark-even, mark-odd, mark-free}
@@ -368,7 +368,7 @@ module _ (σ κ : ℕ → ℕ) where
       (ap verticesOf (sym (rows-snoc σ κ (doneIn w i) u)) ∙ vertices-are w i)
 
   pub table-written : (w : List ℕ) (o x y : List ℤ) (d : ℕ) → 1 ≤ d → 3 * (d - 1) + 1 ≤ length o → x ≡ verticesTo w (d - 1) ++ drop (2 * (d - 1)) o
-      → y ≡ paired σ κ w d x → y ≡ written σ κ w d o
+      → y ≡ paired σ κ w d x → y ≡ tableWritten σ κ w d o
   table-written w o x y d some room ex ey =
       let v = d - 1 in
       let vs = verticesTo w (d - 1) in
@@ -386,7 +386,7 @@ module _ (σ κ : ℕ → ℕ) where
 
 -- ---- for the sides that the walk leaves
 
-module _ (s r w₀ : List ℕ) (o : List ℤ) (d : ℕ) (whole : Whole s r w₀ d) (room : 3 * (d - 1) + 1 ≤ length o) where
+module _ (s r w₀ : List ℕ) (o : List ℤ) (d : ℕ) (whole : Done s r w₀ d) (room : 3 * (d - 1) + 1 ≤ length o) where
   abbrev σ : ℕ → ℕ
   σ = image s
 

@@ -13,8 +13,8 @@ ghost use lib.ListN.{length, getD, set, drop};
 ghost use lib.IntN.{pos, negsuc, _-ℤ_};
 ghost use Rattle.import_rule.specs.Fixed.{image, byQ};
 ghost use Rattle.import_rule.specs.Rule.{least};
-ghost use Rattle.import_walk.specs.Inner.Work.{LABEL, DONE, Whole, cellPlace, endAt, pointAt};
-ghost use Rattle.import_table.specs.Inner.Writing.{verticesTo, Paired, paired, written, SideToWrite};
+ghost use Rattle.import_walk.specs.Inner.Work.{LABEL, DONE, Done, cellPlace, endAt, pointAt};
+ghost use Rattle.import_table.specs.Inner.Writing.{verticesTo, Paired, paired, tableWritten, SideToWrite};
 
 // Puts x at j.
 fn put(out: &mut [i64], j: usize, x: i64)
@@ -135,7 +135,7 @@ fn write_pairing(
 
 // Writes the pairings of the d sides done behind the vertices.
 fn write_pairings(s: &[u32], r: &[u32], w: &mut [u16], d: usize, out: &mut [i64])
-    requires { ⌜ Whole (now s) (now r) (now w) d × (3 * (d - 1) + 1 ≤ length (now out)) ⌝ }
+    requires { ⌜ Done (now s) (now r) (now w) d × (3 * (d - 1) + 1 ≤ length (now out)) ⌝ }
     ensures { λ _. ⌜ now (out .exit) ≡ paired (image (now (s .entry))) (byQ (image (now (s .entry))) (image (now (r .entry)))) (now (w .entry)) d (now (out .entry)) ⌝ }
 {
     let v = d - 1;
@@ -149,8 +149,8 @@ fn write_pairings(s: &[u32], r: &[u32], w: &mut [u16], d: usize, out: &mut [i64]
 
 // Writes the symbol's table.
 pub(crate) fn write_table(s: &[u32], r: &[u32], w: &mut [u16], d: usize, out: &mut [i64])
-    requires { ⌜ Whole (now s) (now r) (now w) d × (3 * (d - 1) + 1 ≤ length (now out)) ⌝ }
-    ensures { λ _. ⌜ now (out .exit) ≡ written (image (now (s .entry))) (byQ (image (now (s .entry))) (image (now (r .entry)))) (now (w .entry)) d (now (out .entry)) ⌝ }
+    requires { ⌜ Done (now s) (now r) (now w) d × (3 * (d - 1) + 1 ≤ length (now out)) ⌝ }
+    ensures { λ _. ⌜ now (out .exit) ≡ tableWritten (image (now (s .entry))) (byQ (image (now (s .entry))) (image (now (r .entry)))) (now (w .entry)) d (now (out .entry)) ⌝ }
 {
     write_vertices(w, d - 1, out);
     write_pairings(s, r, w, d, out);

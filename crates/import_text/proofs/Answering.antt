@@ -1,6 +1,6 @@
 -- Laws of what is answered and left.
 --     front-is                          what stands at the front of the result space is the symbol's table
---     made-is, lines-are                the answer of `import` in the program's spaces, and its lines
+--     made-is, lines-are                the answer of the import in the program's spaces, and its lines
 --     few-numbers, enough-numbers       what the numbers of a text ask for
 --     asked-by, numbers-by              what a text asks for by the answer of `read_input`, and what is then left of the numbers
 --     handed-numbers                    the numbers handed on, where they stand
@@ -28,9 +28,11 @@ use Rattle.text.specs.declared.Reading.the-variants.{Numbers}
 use Rattle.text_line.specs.Line.{Puts}
 use Rattle.import_table.specs.Answer.{ruledTable}
 use Rattle.permutations.specs.Check.{pairCheck}
-use Rattle.permutations.specs.Import.{importOf, ruleFor, importTable, importWork}
+use Rattle.import_rule.specs.Order.{Order}
+use Rattle.import_rule.specs.Symbol.{ruledBy}
+use Rattle.permutations.specs.Import.{importBy, importTable, importWork}
 use Rattle.import_text.specs.Answer.{pointsFrom, Request, tables, refused, tablesIn, importFormat, requestBy, requestOf, madeOf, linesBy}
-use Rattle.import_text.specs.Answer.{importLines, linesFor, importedOf}
+use Rattle.import_text.specs.Answer.{importLines, linesFor, importedBy}
 use Rattle.import_text.specs.Spaces.{filled, numbersLeft, leftOfS, leftOfR, leftOfWork, leftOfTable, ImportLeaves}
 
 pub front-is : (k : ℕ) (t out out' : List ℤ) → out' ≡ t ++ drop k out → length out' ≡ length out → k ≤ length out → take k out' ≡ t
@@ -38,13 +40,13 @@ front-is k t out out' e l h =
     let n : length t + length (drop k out) ≡ length out = sym (length-append t (drop k out)) ∙ ap length (sym e) ∙ l in
     ap (take k) e ∙ take-at t (drop k out) k (omega (arith, n, length-drop k out))
 
-module _ (s r : List ℕ) (a : Filled) (work room : ℕ) (h : work ≡ workLength) (k : room ≡ 3070) (e : a ≡ importOf s r work room) where
-  pub made-is : a ≡ madeOf s r
-  made-is = e ∙ ap (λ (n : ℕ). importOf s r n room) h ∙ ap (importOf s r workLength) k
+module _ (order : Order) (s r : List ℕ) (a : Filled) (work room : ℕ) (h : work ≡ workLength) (k : room ≡ 3070) (e : a ≡ importBy order s r work room) where
+  pub made-is : a ≡ madeOf order s r
+  made-is = e ∙ ap (λ (n : ℕ). importBy order s r n room) h ∙ ap (importBy order s r workLength) k
 
-  pub lines-are : linesBy a (ruledTable (ruleFor s r)) ≡ importLines s r
+  pub lines-are : linesBy a (ruledTable (ruledBy order s r)) ≡ importLines order s r
   unfolding importLines
-  lines-are = ap (λ (x : Filled). linesBy x (ruledTable (ruleFor s r))) made-is
+  lines-are = ap (λ (x : Filled). linesBy x (ruledTable (ruledBy order s r))) made-is
 
 pub few-numbers : (ns : List ℤ) → length ns < 3 → refused pointCount ≡ tablesIn ns
 unfolding tablesIn
@@ -65,9 +67,9 @@ module _ (longer : Bool) (text : List ℕ) where
     unfolding numbersLeft
     numbers-by ns = ap (λ (x : Reading). leftBy x (numbers (pieces text)) ns) e
 
-  pub lines-as : {a : Request} → a ≡ requestOf longer text → linesFor a ≡ importedOf longer text
-  unfolding importedOf
-  lines-as e = ap linesFor e
+  pub lines-as : (order : Order) {a : Request} → a ≡ requestOf longer text → linesFor order a ≡ importedBy order longer text
+  unfolding importedBy
+  lines-as order e = ap (linesFor order) e
 
 pub handed-numbers : (k : ℕ) (ns out : List ℤ) → k ≤ length ns → take k (leftBy (Numbers k) ns out) ≡ take k ns
 unfolding leftBy
@@ -75,18 +77,21 @@ handed-numbers k ns out h = take-at (take k ns) (drop k out) k (length-take-le k
 
 -- ---- the other slices
 
-pub untouched : (f : Refusal) (s r w : List ℕ) (t : List ℤ) → ImportLeaves (refused f) s r w t s r w t
-untouched f s r w t = record { for-S = refl; for-R = refl; work = refl; result = refl }
+pub untouched : (order : Order) (f : Refusal) (s r w : List ℕ) (t : List ℤ) → ImportLeaves order (refused f) s r w t s r w t
+untouched order f s r w t = record { for-S = refl; for-R = refl; work = refl; result = refl }
 
-pub leaves-as : {a b : Request} {s r w s' r' w' : List ℕ} {t t' : List ℤ} → a ≡ b → ImportLeaves a s r w t s' r' w' t' → ImportLeaves b s r w t s' r' w' t'
-leaves-as {a} {b} {s} {r} {w} {s'} {r'} {w'} {t} {t'} e l = rw (← e) l
+pub leaves-as : {order : Order} {a b : Request} {s r w s' r' w' : List ℕ} {t t' : List ℤ} → a ≡ b → ImportLeaves order a s r w t s' r' w' t'
+    → ImportLeaves order b s r w t s' r' w' t'
+leaves-as {order} {a} {b} {s} {r} {w} {s'} {r'} {w'} {t} {t'} e l = rw (← e) l
 
 -- the code asks for tables S and R that are those of the numbers
-pub leaves : (S R S' R' s r w s' r' w' : List ℕ) (t t' : List ℤ) → S ≡ S' → R ≡ R' → s' ≡ filled S' s → r' ≡ filled R' r → w' ≡ importWork (pairCheck S R) w
-    → t' ≡ importTable (ruleFor S R) (madeOf S R) t → ImportLeaves (tables S' R') s r w t s' r' w' t'
-leaves S R S' R' s r w s' r' w' t t' e f p q u v = record {
+pub leaves : (order : Order) (S R S' R' s r w s' r' w' : List ℕ) (t t' : List ℤ) → S ≡ S' → R ≡ R' → s' ≡ filled S' s → r' ≡ filled R' r
+    → w' ≡ importWork (pairCheck S R) w
+    → t' ≡ importTable (ruledBy order S R) (madeOf order S R) t → ImportLeaves order (tables S' R') s r w t s' r' w' t'
+leaves order S R S' R' s r w s' r' w' t t' e f p q u v = record {
   for-S = p;
   for-R = q;
   work = u ∙ ap (λ (x : List ℕ). importWork (pairCheck x R) w) e ∙ ap (λ (x : List ℕ). importWork (pairCheck S' x) w) f;
-  result = v ∙ ap (λ (x : List ℕ). importTable (ruleFor x R) (madeOf x R) t) e ∙ ap (λ (x : List ℕ). importTable (ruleFor S' x) (madeOf S' x) t) f;
+  result = v ∙ ap (λ (x : List ℕ). importTable (ruledBy order x R) (madeOf order x R) t) e
+      ∙ ap (λ (x : List ℕ). importTable (ruledBy order S' x) (madeOf order S' x) t) f;
 }

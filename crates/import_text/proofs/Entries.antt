@@ -18,21 +18,21 @@ use lib.Seq.{take-suc, drop-cons, set-append-seam, take-at, length-take-le}
 use lib.Signed.{ltZ, nonNeg}
 use borrow.Author.Tests.{ltb-true, ltb-false, lt-ltb, le-ltb}
 use Rattle.text.proofs.Clash.{clash}
-use Rattle.import_text.specs.Answer.{pointOf, pointsFrom}
+use Rattle.import_text.specs.Answer.{tablePoint, pointsFrom}
 use Rattle.import_text.specs.Spaces.{filled}
 
-pub negative-point : (x : ℤ) → ltZ x (pos 0) ≡ true → 4294967295 ≡ pointOf x
-unfolding pointOf
+pub negative-point : (x : ℤ) → ltZ x (pos 0) ≡ true → 4294967295 ≡ tablePoint x
+unfolding tablePoint
 negative-point (pos n) h = absurd (omega (arith, ltb-true n 0 h))
 negative-point (negsuc n) h = refl
 
-pub small-point : (x : ℤ) → ltZ x (pos 0) ≡ false → ltZ x (pos 4294967295) ≡ true → natAbs x ≡ pointOf x
-unfolding pointOf
+pub small-point : (x : ℤ) → ltZ x (pos 0) ≡ false → ltZ x (pos 4294967295) ≡ true → natAbs x ≡ tablePoint x
+unfolding tablePoint
 small-point (pos n) h k = rw (k) refl
 small-point (negsuc n) h k = let e : true ≡ false = h in clash cc
 
-pub large-point : (x : ℤ) → ltZ x (pos 0) ≡ false → ltZ x (pos 4294967295) ≡ false → 4294967295 ≡ pointOf x
-unfolding pointOf
+pub large-point : (x : ℤ) → ltZ x (pos 0) ≡ false → ltZ x (pos 4294967295) ≡ false → 4294967295 ≡ tablePoint x
+unfolding tablePoint
 large-point (pos n) h k = rw (k) refl
 large-point (negsuc n) h k = refl
 
@@ -44,9 +44,9 @@ pub small-fits : (x : ℤ) → ltZ x (pos 0) ≡ false → ltZ x (pos 4294967295
 small-fits (pos n) h k = omega (arith, ltb-true n 4294967295 k)
 small-fits (negsuc n) h k = let e : true ≡ false = h in clash cc
 
-map-last : (zs : List ℤ) (z : ℤ) → map pointOf (zs ++ (z ∷ [])) ≡ map pointOf zs ++ (pointOf z ∷ [])
+map-last : (zs : List ℤ) (z : ℤ) → map tablePoint (zs ++ (z ∷ [])) ≡ map tablePoint zs ++ (tablePoint z ∷ [])
 map-last [] z = refl
-map-last (y ∷ zs) z = ap (λ (l : List ℕ). pointOf y ∷ l) (map-last zs z)
+map-last (y ∷ zs) z = ap (λ (l : List ℕ). tablePoint y ∷ l) (map-last zs z)
 
 -- one entry more behind a table at the front
 filled-more : (t : List ℕ) (x : ℕ) (out : List ℕ) → length t < length out → set (filled t out) (length t) x ≡ filled (t ++ (x ∷ [])) out
@@ -62,30 +62,30 @@ pub filled-none : (out : List ℕ) → out ≡ filled [] out
 unfolding filled
 filled-none out = refl
 
-points-length : (ns : List ℤ) (i : ℕ) → i ≤ length ns → length (map pointOf (take i ns)) ≡ i
-points-length ns i h = length-map (take i ns) pointOf ∙ length-take-le i ns h
+points-length : (ns : List ℤ) (i : ℕ) → i ≤ length ns → length (map tablePoint (take i ns)) ≡ i
+points-length ns i h = length-map (take i ns) tablePoint ∙ length-take-le i ns h
 
-pub points-more : (ns : List ℤ) (out out' : List ℕ) (i : ℕ) → i < length ns → i < length out → out' ≡ filled (map pointOf (take i ns)) out
-    → set out' i (pointOf (getD ns i (pos 0))) ≡ filled (map pointOf (take (i + 1) ns)) out
+pub points-more : (ns : List ℤ) (out out' : List ℕ) (i : ℕ) → i < length ns → i < length out → out' ≡ filled (map tablePoint (take i ns)) out
+    → set out' i (tablePoint (getD ns i (pos 0))) ≡ filled (map tablePoint (take (i + 1) ns)) out
 points-more ns out out' i h k e =
     let z = getD ns i (pos 0) in
     let l = points-length ns i (omega arith) in
-    ap (λ (o : List ℕ). set o i (pointOf z)) e
-    ∙ ap (λ (j : ℕ). set (filled (map pointOf (take i ns)) out) j (pointOf z)) (sym l)
-    ∙ filled-more (map pointOf (take i ns)) (pointOf z) out (omega (arith, l))
-    ∙ ap (λ (t : List ℕ). filled t out) (sym (map-last (take i ns) z) ∙ ap (map pointOf) (sym (take-suc ns i (pos 0) h))
-    ∙ ap (λ (j : ℕ). map pointOf (take j ns)) (sym (add-one i)))
+    ap (λ (o : List ℕ). set o i (tablePoint z)) e
+    ∙ ap (λ (j : ℕ). set (filled (map tablePoint (take i ns)) out) j (tablePoint z)) (sym l)
+    ∙ filled-more (map tablePoint (take i ns)) (tablePoint z) out (omega (arith, l))
+    ∙ ap (λ (t : List ℕ). filled t out) (sym (map-last (take i ns) z) ∙ ap (map tablePoint) (sym (take-suc ns i (pos 0) h))
+    ∙ ap (λ (j : ℕ). map tablePoint (take j ns)) (sym (add-one i)))
 
 -- a part of the numbers, as the code takes it, and a table that is filled from it
 pub part-length : (from k n : ℕ) (ns : List ℤ) → k ≡ n → from + n ≤ length ns → length (take k (drop from ns)) ≡ n
 part-length from k n ns e h = ap (λ (j : ℕ). length (take j (drop from ns))) e ∙ length-take-le n (drop from ns) (omega (arith, length-drop from ns))
 
 table-length : (from n : ℕ) (ns : List ℤ) → from + n ≤ length ns → length (pointsFrom from n ns) ≡ n
-table-length from n ns h = length-map (take n (drop from ns)) pointOf ∙ part-length from n n ns refl h
+table-length from n ns h = length-map (take n (drop from ns)) tablePoint ∙ part-length from n n ns refl h
 
-pub part-filled : (from k n : ℕ) (ns : List ℤ) (out out' : List ℕ) → k ≡ n → out' ≡ filled (map pointOf (take k (drop from ns))) out
+pub part-filled : (from k n : ℕ) (ns : List ℤ) (out out' : List ℕ) → k ≡ n → out' ≡ filled (map tablePoint (take k (drop from ns))) out
     → out' ≡ filled (pointsFrom from n ns) out
-part-filled from k n ns out out' e f = f ∙ ap (λ (j : ℕ). filled (map pointOf (take j (drop from ns))) out) e
+part-filled from k n ns out out' e f = f ∙ ap (λ (j : ℕ). filled (map tablePoint (take j (drop from ns))) out) e
 
 pub filled-take : (from n : ℕ) (ns : List ℤ) (out out' : List ℕ) → out' ≡ filled (pointsFrom from n ns) out → from + n ≤ length ns → take n out' ≡ pointsFrom from n ns
 unfolding filled

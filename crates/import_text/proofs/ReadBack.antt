@@ -30,9 +30,10 @@ use Rattle.text_line.proofs.Spacing.{decimal-most}
 use Rattle.symbol.specs.Table.{numer, denom, pairingEntry}
 use Rattle.symbol.specs.Symbol.{FreeLabel, IsSymbol}
 use Rattle.import_table.specs.Answer.{ruledTable}
-use Rattle.permutations.specs.Import.{importOf, ruleFor}
+use Rattle.import_rule.specs.Order.{Order}
+use Rattle.import_rule.specs.Symbol.{ruledBy}
 use Rattle.permutations.proofs.Means.{made-means}
-use Rattle.import_text.specs.Answer.{numberLine, symbolLines, Request, tables, requestOf, madeOf, linesBy, importLines, linesFor, importedOf}
+use Rattle.import_text.specs.Answer.{numberLine, symbolLines, Request, tables, requestOf, madeOf, linesBy, importLines, linesFor}
 use Rattle.import_text.specs.ReadBack.{ReadBack, LinesReadBack, SymbolReadBack, Printed, PrintMeans}
 
 -- ---- what the lines say
@@ -167,11 +168,12 @@ symbol-read-back v t s =
     let h = entry-size v t s in
     lines-read-back v t (s .some) (s .most) (s .long) (λ i l. small-inside (nth t i) (h i l)) (lines-short v t (s .most) (s .long) h)
 
--- ---- what `import` prints
+-- ---- what the import prints
 
-pub print-means : (a : Request) (bytes : List ℕ) → bytes ≡ linesFor a → PrintMeans a bytes
+pub print-means : (order : Order) (a : Request) (bytes : List ℕ) → bytes ≡ linesFor order a → PrintMeans order a bytes
 unfolding importLines
-print-means a bytes e s r v f m =
-    let g = made-means s r workLength 3070 v m in
-    let b : bytes ≡ symbolLines v (ruledTable (ruleFor s r)) = e ∙ ap linesFor f ∙ ap (λ (x : Filled). linesBy x (ruledTable (ruleFor s r))) m in
-    record { symbol = g; read-back = rw b (symbol-read-back v (ruledTable (ruleFor s r)) (g .precisely .symbol)) }
+print-means order a bytes e s r v f m =
+    let g = made-means order s r workLength 3070 v m in
+    let t = ruledTable (ruledBy order s r) in
+    let b : bytes ≡ symbolLines v t = e ∙ ap (linesFor order) f ∙ ap (λ (x : Filled). linesBy x t) m in
+    record { symbol = g; read-back = rw b (symbol-read-back v t (g .precisely .symbol)) }

@@ -1,12 +1,12 @@
--- WHAT `import` PRINTS IS READ AS THE SYMBOL THAT IT MADE.
+-- WHAT THE IMPORT PRINTS IS READ AS THE SYMBOL THAT IT MADE.
 --
 --   ReadBack v t bytes     read by the rule of 19 in the form of a symbol's text (`symbolFormat`, which the listing program reads), `bytes` is no
 --                          refusal: it is short enough, its numbers are v and then the table t, and all of them are handed on to any space that
 --                          has room for them
 --   LinesReadBack          the lines of v and t are, where v is in range, the numbers fit 64 signed bits and the lines are short enough
 --   SymbolReadBack         the lines of a symbol always are
---   Printed s r v bytes    for the tables s and r a symbol of v vertices is made, as `import` promises, and `bytes` is read back as it
---   PrintMeans a bytes     that holds of `bytes` wherever what is asked makes a symbol
+--   Printed order s r v bytes    for the tables s and r a symbol of v vertices is made, as `import` promises, and `bytes` is read back as it
+--   PrintMeans order a bytes     that holds of `bytes` wherever what is asked makes a symbol
 --
 -- proofs/ReadBack.antt proves the two laws, `lines-read-back` and `symbol-read-back`; `answer` promises the last of the bytes that it writes.
 use mathlib.Core.Path.{_≡_}
@@ -23,7 +23,9 @@ use Rattle.text.specs.declared.Reading.the-variants as reading
 use Rattle.text_line.specs.Line.{natural}
 use Rattle.symbol.specs.Symbol.{IsSymbol}
 use Rattle.import_table.specs.Answer.{ruledTable}
-use Rattle.permutations.specs.Import.{ruleFor, Symbolised}
+use Rattle.import_rule.specs.Order.{Order}
+use Rattle.import_rule.specs.Symbol.{ruledBy}
+use Rattle.permutations.specs.Import.{Symbolised}
 use Rattle.import_text.specs.Answer.{Request, tables, symbolLines, madeOf}
 
 pub record ReadBack (v : ℕ) (t : List ℤ) (bytes : List ℕ) : Type 0 where
@@ -38,9 +40,9 @@ LinesReadBack = (v : ℕ) (t : List ℤ) → 1 ≤ v → v ≤ 1023 → length t
 abbrev pub SymbolReadBack : Type 0
 SymbolReadBack = (v : ℕ) (t : List ℤ) → IsSymbol v t → ReadBack v t (symbolLines v t)
 
-pub record Printed (s r : List ℕ) (v : ℕ) (bytes : List ℕ) : Type 0 where
-  pub symbol : Symbolised s r v (ruledTable (ruleFor s r))
-  pub read-back : ReadBack v (ruledTable (ruleFor s r)) bytes
+pub record Printed (order : Order) (s r : List ℕ) (v : ℕ) (bytes : List ℕ) : Type 0 where
+  pub symbol : Symbolised s r v (ruledTable (ruledBy order s r))
+  pub read-back : ReadBack v (ruledTable (ruledBy order s r)) bytes
 
-abbrev pub PrintMeans : Request → (bytes : List ℕ) → Type 0
-PrintMeans a bytes = (s r : List ℕ) (v : ℕ) → a ≡ tables s r → madeOf s r ≡ filled.Made v → Printed s r v bytes
+abbrev pub PrintMeans : Order → Request → (bytes : List ℕ) → Type 0
+PrintMeans order a bytes = (s r : List ℕ) (v : ℕ) → a ≡ tables s r → madeOf order s r ≡ filled.Made v → Printed order s r v bytes

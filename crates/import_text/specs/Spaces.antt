@@ -5,8 +5,8 @@
 --   filled t out               the table t at the front of what stood there
 --   numbersLeft ..             what is left where the numbers of the text are put: those handed on at its front, or all as it was
 --   leftOfS, leftOfR           what is left where the tables of S and R are put: the tables that the text asks for at the front
---   leftOfWork, leftOfTable    what `import` leaves in the work space and in the result space
---   ImportLeaves a ..          all of this, for what is asked: s to table before, s' to table' after
+--   leftOfWork, leftOfTable    what the import leaves in the work space and in the result space
+--   ImportLeaves order a ..          all of this, for what is asked: s to table before, s' to table' after
 use mathlib.Core.Bool.{Bool}
 use mathlib.Core.List.{List, _++_}
 use Prim.Native.Nat.{ℕ, _≤_}
@@ -17,7 +17,9 @@ use Rattle.workspace.specs.Space.{workLength}
 use Rattle.text.specs.Piece.{pieces, numbers}
 use Rattle.text.specs.Reading.{inputOf, leftBy}
 use Rattle.permutations.specs.Check.{pairCheck}
-use Rattle.permutations.specs.Import.{ruleFor, importTable, importWork}
+use Rattle.import_rule.specs.Order.{Order}
+use Rattle.import_rule.specs.Symbol.{ruledBy}
+use Rattle.permutations.specs.Import.{importTable, importWork}
 use Rattle.import_text.specs.Answer.{Request, tables, refused, importFormat, madeOf}
 
 pub record ImportSpaces (s r w : List ℕ) (table : List ℤ) (out : List ℕ) : Type 0 where
@@ -45,12 +47,12 @@ abbrev pub leftOfWork : Request → List ℕ → List ℕ
 leftOfWork (tables s r) w = importWork (pairCheck s r) w
 leftOfWork (refused f) w = w
 
-abbrev pub leftOfTable : Request → List ℤ → List ℤ
-leftOfTable (tables s r) t = importTable (ruleFor s r) (madeOf s r) t
-leftOfTable (refused f) t = t
+abbrev pub leftOfTable : Order → Request → List ℤ → List ℤ
+leftOfTable order (tables s r) t = importTable (ruledBy order s r) (madeOf order s r) t
+leftOfTable order (refused f) t = t
 
-pub record ImportLeaves (a : Request) (s r w : List ℕ) (table : List ℤ) (s' r' w' : List ℕ) (table' : List ℤ) : Type 0 where
+pub record ImportLeaves (order : Order) (a : Request) (s r w : List ℕ) (table : List ℤ) (s' r' w' : List ℕ) (table' : List ℤ) : Type 0 where
   pub for-S : s' ≡ leftOfS a s
   pub for-R : r' ≡ leftOfR a r
   pub work : w' ≡ leftOfWork a w
-  pub result : table' ≡ leftOfTable a table
+  pub result : table' ≡ leftOfTable order a table

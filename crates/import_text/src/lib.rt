@@ -1,5 +1,6 @@
-// What the program `import` writes for a text: all of it, byte for byte, as specs/Answer.antt says.
-use permutations::import;
+// What the programs `import` and `import_wide` write for a text: all of it, byte for byte, as specs/Answer.antt says. The one follows the rule, the
+// other the wide rule (`wide`).
+use permutations::import_by;
 use refusal::Filled;
 use refusal::POINT_COUNT;
 use refusal::Refusal;
@@ -16,8 +17,11 @@ ghost use Prim.Native.Nat.{_+_, _*_, _≤_};
 ghost use lib.ListN.{length, take};
 ghost use Rattle.text_line.specs.Line.{natural, Puts};
 ghost use Rattle.permutations.specs.Check.{pairCheck};
-ghost use Rattle.permutations.specs.Import.{ruleFor, importTable, importWork};
-ghost use Rattle.import_text.specs.Answer.{numberLine, symbolLines, pointOf, tablesIn, requestOf, madeOf, importLines, linesFor, importedOf};
+ghost use Rattle.import_rule.specs.Order.{leftmost, longestOpen};
+ghost use Rattle.import_rule.specs.Symbol.{ruledBy};
+ghost use Rattle.import_table.specs.Answer.{orderBy};
+ghost use Rattle.permutations.specs.Import.{importTable, importWork};
+ghost use Rattle.import_text.specs.Answer.{numberLine, symbolLines, tablePoint, tablesIn, requestOf, madeOf, importLines, linesFor, importedBy};
 ghost use Rattle.import_text.specs.Spaces.{ImportSpaces, filled, numbersLeft, ImportLeaves};
 ghost use Rattle.import_text.specs.ReadBack.{PrintMeans};
 
@@ -56,7 +60,7 @@ fn symbol_lines(v: usize, table: &[i64], out: &mut [u8]) -> usize
 
 // A number of the text as an entry of a table.
 fn point_of(x: i64) -> u32
-    ensures { λ r. ⌜ r ≡ pointOf x ⌝ }
+    ensures { λ r. ⌜ r ≡ tablePoint x ⌝ }
 {
     if x < 0 {
         return 4294967295;
@@ -70,7 +74,7 @@ fn point_of(x: i64) -> u32
 // The numbers as the entries of a table, from its front.
 fn fill_points(numbers: &[i64], out: &mut [u32])
     requires { ⌜ length (now numbers) ≤ length (now out) ⌝ }
-    ensures { λ _. ⌜ now (out .exit) ≡ filled (map pointOf (now (numbers .entry))) (now (out .entry)) ⌝ }
+    ensures { λ _. ⌜ now (out .exit) ≡ filled (map tablePoint (now (numbers .entry))) (now (out .entry)) ⌝ }
 {
     let mut i = 0;
     while i < numbers.len() {
@@ -80,13 +84,20 @@ fn fill_points(numbers: &[i64], out: &mut [u32])
 }
 
 // The lines for two tables.
-fn import_lines(s: &[u32], r: &[u32], w: &mut [u16], table: &mut [i64], out: &mut [u8]) -> usize
+fn import_lines(
+    s: &[u32],
+    r: &[u32],
+    wide: bool,
+    w: &mut [u16],
+    table: &mut [i64],
+    out: &mut [u8],
+) -> usize
     requires { ⌜ (length (now w) ≡ 32768) × (length (now table) ≡ 3070) × (65536 ≤ length (now out)) ⌝ }
-    ensures { λ e. ⌜ Puts (importLines (now (s .entry)) (now (r .entry))) 0 e (now (out .entry)) (now (out .exit)) ⌝ }
+    ensures { λ e. ⌜ Puts (importLines (orderBy wide) (now (s .entry)) (now (r .entry))) 0 e (now (out .entry)) (now (out .exit)) ⌝ }
     ensures { λ _. ⌜ now (w .exit) ≡ importWork (pairCheck (now (s .entry)) (now (r .entry))) (now (w .entry)) ⌝ }
-    ensures { λ _. ⌜ now (table .exit) ≡ importTable (ruleFor (now (s .entry)) (now (r .entry))) (madeOf (now (s .entry)) (now (r .entry))) (now (table .entry)) ⌝ }
+    ensures { λ _. ⌜ now (table .exit) ≡ importTable (ruledBy (orderBy wide) (now (s .entry)) (now (r .entry))) (madeOf (orderBy wide) (now (s .entry)) (now (r .entry))) (now (table .entry)) ⌝ }
 {
-    let made = import(s, r, w, table);
+    let made = import_by(s, r, w, table, wide);
     match made {
         Filled::Made(v) => {
             let end = 3 * v + 1;
@@ -99,6 +110,7 @@ fn import_lines(s: &[u32], r: &[u32], w: &mut [u16], table: &mut [i64], out: &mu
 // The lines for the numbers of a text: the index, and then the entries of S and of R.
 fn import_numbers(
     numbers: &[i64],
+    wide: bool,
     s: &mut [u32],
     r: &mut [u32],
     w: &mut [u16],
@@ -106,8 +118,8 @@ fn import_numbers(
     out: &mut [u8],
 ) -> usize
     requires { ⌜ (1 ≤ length (now numbers)) × (length (now numbers) ≤ 6133) × ImportSpaces (now s) (now r) (now w) (now table) (now out) ⌝ }
-    ensures { λ e. ⌜ Puts (linesFor (tablesIn (now (numbers .entry)))) 0 e (now (out .entry)) (now (out .exit)) ⌝ }
-    ensures { λ _. ⌜ ImportLeaves (tablesIn (now (numbers .entry))) (now (s .entry)) (now (r .entry)) (now (w .entry)) (now (table .entry)) (now (s .exit)) (now (r .exit)) (now (w .exit)) (now (table .exit)) ⌝ }
+    ensures { λ e. ⌜ Puts (linesFor (orderBy wide) (tablesIn (now (numbers .entry)))) 0 e (now (out .entry)) (now (out .exit)) ⌝ }
+    ensures { λ _. ⌜ ImportLeaves (orderBy wide) (tablesIn (now (numbers .entry))) (now (s .entry)) (now (r .entry)) (now (w .entry)) (now (table .entry)) (now (s .exit)) (now (r .exit)) (now (w .exit)) (now (table .exit)) ⌝ }
 {
     let k = numbers.len();
     if k < 3 {
@@ -124,13 +136,14 @@ fn import_numbers(
     let end = middle + n;
     fill_points(&numbers[1..middle], s);
     fill_points(&numbers[middle..end], r);
-    import_lines(&s[..n], &r[..n], w, table, out)
+    import_lines(&s[..n], &r[..n], wide, w, table, out)
 }
 
 // The same for a text, or for one that is longer than the buffer.
 fn import_text(
     text: &[u8],
     longer: bool,
+    wide: bool,
     numbers: &mut [i64],
     s: &mut [u32],
     r: &mut [u32],
@@ -139,9 +152,9 @@ fn import_text(
     out: &mut [u8],
 ) -> usize
     requires { ⌜ (length (now numbers) ≡ 6133) × ImportSpaces (now s) (now r) (now w) (now table) (now out) ⌝ }
-    ensures { λ e. ⌜ Puts (importedOf longer (now (text .entry))) 0 e (now (out .entry)) (now (out .exit)) ⌝ }
+    ensures { λ e. ⌜ Puts (importedBy (orderBy wide) longer (now (text .entry))) 0 e (now (out .entry)) (now (out .exit)) ⌝ }
     ensures { λ _. ⌜ now (numbers .exit) ≡ numbersLeft longer (now (text .entry)) (now (numbers .entry)) ⌝ }
-    ensures { λ _. ⌜ ImportLeaves (requestOf longer (now (text .entry))) (now (s .entry)) (now (r .entry)) (now (w .entry)) (now (table .entry)) (now (s .exit)) (now (r .exit)) (now (w .exit)) (now (table .exit)) ⌝ }
+    ensures { λ _. ⌜ ImportLeaves (orderBy wide) (requestOf longer (now (text .entry))) (now (s .entry)) (now (r .entry)) (now (w .entry)) (now (table .entry)) (now (s .exit)) (now (r .exit)) (now (w .exit)) (now (table .exit)) ⌝ }
 {
     let read = read_input(
         text,
@@ -155,12 +168,32 @@ fn import_text(
     );
     match read {
         Reading::Refused(refusal) => refusal_line(refusal, out),
-        Reading::Numbers(k) => import_numbers(&numbers[..k], s, r, w, table, out),
+        Reading::Numbers(k) => import_numbers(&numbers[..k], wide, s, r, w, table, out),
     }
 }
 
-// What the program writes for the text, or for one that is longer than its buffer, from the front of `out`; where it ends. A symbol that was
+// What a program writes for the text, or for one that is longer than its buffer, from the front of `out`; where it ends. A symbol that was
 // made is read back from these bytes.
+fn answer_by(
+    text: &[u8],
+    longer: bool,
+    wide: bool,
+    numbers: &mut [i64; 6133],
+    s: &mut [u32; 3066],
+    r: &mut [u32; 3066],
+    w: &mut [u16; 32768],
+    table: &mut [i64; 3070],
+    out: &mut [u8; 65536],
+) -> usize
+    ensures { λ e. ⌜ Puts (importedBy (orderBy wide) longer (now (text .entry))) 0 e (now (out .entry)) (now (out .exit)) × (e ≤ length (now (out .exit))) ⌝ }
+    ensures { λ _. ⌜ now (numbers .exit) ≡ numbersLeft longer (now (text .entry)) (now (numbers .entry)) ⌝ }
+    ensures { λ _. ⌜ ImportLeaves (orderBy wide) (requestOf longer (now (text .entry))) (now (s .entry)) (now (r .entry)) (now (w .entry)) (now (table .entry)) (now (s .exit)) (now (r .exit)) (now (w .exit)) (now (table .exit)) ⌝ }
+    ensures { λ e. ⌜ PrintMeans (orderBy wide) (requestOf longer (now (text .entry))) (take e (now (out .exit))) ⌝ }
+{
+    import_text(text, longer, wide, numbers, s, r, w, table, out)
+}
+
+// What the program `import` writes.
 pub fn answer(
     text: &[u8],
     longer: bool,
@@ -171,10 +204,29 @@ pub fn answer(
     table: &mut [i64; 3070],
     out: &mut [u8; 65536],
 ) -> usize
-    ensures { λ e. ⌜ Puts (importedOf longer (now (text .entry))) 0 e (now (out .entry)) (now (out .exit)) × (e ≤ length (now (out .exit))) ⌝ }
+    ensures { λ e. ⌜ Puts (importedBy leftmost longer (now (text .entry))) 0 e (now (out .entry)) (now (out .exit)) × (e ≤ length (now (out .exit))) ⌝ }
     ensures { λ _. ⌜ now (numbers .exit) ≡ numbersLeft longer (now (text .entry)) (now (numbers .entry)) ⌝ }
-    ensures { λ _. ⌜ ImportLeaves (requestOf longer (now (text .entry))) (now (s .entry)) (now (r .entry)) (now (w .entry)) (now (table .entry)) (now (s .exit)) (now (r .exit)) (now (w .exit)) (now (table .exit)) ⌝ }
-    ensures { λ e. ⌜ PrintMeans (requestOf longer (now (text .entry))) (take e (now (out .exit))) ⌝ }
+    ensures { λ _. ⌜ ImportLeaves leftmost (requestOf longer (now (text .entry))) (now (s .entry)) (now (r .entry)) (now (w .entry)) (now (table .entry)) (now (s .exit)) (now (r .exit)) (now (w .exit)) (now (table .exit)) ⌝ }
+    ensures { λ e. ⌜ PrintMeans leftmost (requestOf longer (now (text .entry))) (take e (now (out .exit))) ⌝ }
 {
-    import_text(text, longer, numbers, s, r, w, table, out)
+    answer_by(text, longer, false, numbers, s, r, w, table, out)
+}
+
+// What the program `import_wide` writes.
+pub fn answer_wide(
+    text: &[u8],
+    longer: bool,
+    numbers: &mut [i64; 6133],
+    s: &mut [u32; 3066],
+    r: &mut [u32; 3066],
+    w: &mut [u16; 32768],
+    table: &mut [i64; 3070],
+    out: &mut [u8; 65536],
+) -> usize
+    ensures { λ e. ⌜ Puts (importedBy longestOpen longer (now (text .entry))) 0 e (now (out .entry)) (now (out .exit)) × (e ≤ length (now (out .exit))) ⌝ }
+    ensures { λ _. ⌜ now (numbers .exit) ≡ numbersLeft longer (now (text .entry)) (now (numbers .entry)) ⌝ }
+    ensures { λ _. ⌜ ImportLeaves longestOpen (requestOf longer (now (text .entry))) (now (s .entry)) (now (r .entry)) (now (w .entry)) (now (table .entry)) (now (s .exit)) (now (r .exit)) (now (w .exit)) (now (table .exit)) ⌝ }
+    ensures { λ e. ⌜ PrintMeans longestOpen (requestOf longer (now (text .entry))) (take e (now (out .exit))) ⌝ }
+{
+    answer_by(text, longer, true, numbers, s, r, w, table, out)
 }

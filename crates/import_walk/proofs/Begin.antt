@@ -16,6 +16,7 @@ use Rattle.basics.specs.Choice.{pick}
 use Rattle.basics.proofs.Choice.{pick-true, pick-false}
 use Rattle.import_rule.specs.Fixed.{image, byQ, Pair}
 use Rattle.import_rule.specs.Side.{Vertex, vertex, minusInfinity, infinity, limit}
+use Rattle.import_rule.specs.Order.{leftmost}
 use Rattle.import_rule.specs.Inner.Placed.{Placed, placedSide, pts, startPlaced}
 use Rattle.import_walk.specs.Inner.Work.{LABEL, HELD, DONE, TODO, cellPlace, endAt, pointAt, lastIn, doneIn, todoIn, cellSet, heldSet, startBy}
 use Rattle.import_walk.specs.Inner.Work.{startIn, Ground, Whole}
@@ -233,9 +234,39 @@ module _ (s r w : List ℕ) (g : Ground s r w) where
           (walking-by 1000000000 1000000001 (σ 0) (σ (κ 0)) (σ (κ (κ 0))) (vertex (pos 0) 1) (vertex (pos 1) 1) (sl _ z) (sl _ (kl _ z)) (sl _ (kl _ (kl _ z)))
           (vertex-eq (diff-above 1000000000 limit (lit≤ tt)) refl) (vertex-eq (diff-above 1000000001 limit (lit≤ tt)) refl) (pick-false (eqb (κ 0) 0) _ _ e))
 
+  -- the sides to do at the start are those of the rule
+  pub start-sides : (w' : List ℕ) → w' ≡ startIn σ κ w → todoIn minusInfinity w' 3 ≡ start
+  start-sides w' is = rw is (go (eqb (κ 0) 0) refl)
+    where
+      z : 0 < n
+      z = turn-of s r start (g .pair) .some
+
+      sl : (x : ℕ) → x < n → σ x < n
+      sl = turn-of s r start (g .pair) .σ-low
+
+      kl : (x : ℕ) → x < n → κ x < n
+      kl = turn-of s r start (g .pair) .κ-low
+
+      by : (e2 e1 p2 p1 p0 : ℕ) (x2 x1 : Vertex) → p2 < n → p1 < n → p0 < n → vertex (pos e2 -ℤ pos limit) 1 ≡ x2 → vertex (pos e1 -ℤ pos limit) 1 ≡ x1
+          → start ≡ placedSide minusInfinity x2 p2 ∷ placedSide x2 x1 p1 ∷ placedSide x1 infinity p0 ∷ [] → todoIn minusInfinity (startBy w e2 e1 p2 p1 p0) 3 ≡ start
+      by e2 e1 p2 p1 p0 x2 x1 a b c p q e = three-sides w (g .long) (g .clear) e2 e1 p2 p1 p0 (low p2 a) (low p1 b) (low p0 c) x2 x1 p q ∙ sym e
+
+      go : (b : Bool) → eqb (κ 0) 0 ≡ b → todoIn minusInfinity (startIn σ κ w) 3 ≡ start
+      go true e =
+          rw (pick-true (eqb (κ 0) 0) (startBy w 999999999 1000000000 (σ (κ (σ 0))) (σ (κ (κ (σ 0)))) 0)
+          (startBy w 1000000000 1000000001 (σ 0) (σ (κ 0)) (σ (κ (κ 0)))) e)
+          (by 999999999 1000000000 (σ (κ (σ 0))) (σ (κ (κ (σ 0)))) 0 (vertex (negsuc 0) 1) (vertex (pos 0) 1) (sl _ (kl _ (sl _ z)))
+          (sl _ (kl _ (kl _ (sl _ z)))) z
+          (vertex-eq (diff-below 999999999 limit (lit≤ tt)) refl) (vertex-eq (diff-above 1000000000 limit (lit≤ tt)) refl) (pick-true (eqb (κ 0) 0) _ _ e))
+      go false e =
+          rw (pick-false (eqb (κ 0) 0) (startBy w 999999999 1000000000 (σ (κ (σ 0))) (σ (κ (κ (σ 0)))) 0)
+          (startBy w 1000000000 1000000001 (σ 0) (σ (κ 0)) (σ (κ (κ 0)))) e)
+          (by 1000000000 1000000001 (σ 0) (σ (κ 0)) (σ (κ (κ 0))) (vertex (pos 0) 1) (vertex (pos 1) 1) (sl _ z) (sl _ (kl _ z)) (sl _ (kl _ (kl _ z)))
+          (vertex-eq (diff-above 1000000000 limit (lit≤ tt)) refl) (vertex-eq (diff-above 1000000001 limit (lit≤ tt)) refl) (pick-false (eqb (κ 0) 0) _ _ e))
+
 -- ---- the end
 
-done-in : (w : List ℕ) (d i : ℕ) → i < d → In (placedSide (lastIn w i) (endAt w (cellPlace DONE i)) (pointAt w (cellPlace DONE i))) (doneIn w d)
+pub done-in : (w : List ℕ) (d i : ℕ) → i < d → In (placedSide (lastIn w i) (endAt w (cellPlace DONE i)) (pointAt w (cellPlace DONE i))) (doneIn w d)
 done-in w zero i h = absurd (omega arith)
 done-in w (suc d) i h = elim (decLt i d) [
   | yes k ↦ in-left _ (doneIn w d) _ (done-in w d i k)
@@ -243,16 +274,18 @@ done-in w (suc d) i h = elim (decLt i d) [
       rw e (in-right _ (doneIn w d) (placedSide (lastIn w d) (endAt w (cellPlace DONE d)) (pointAt w (cellPlace DONE d)) ∷ []) (inl refl)))
 ]
 
-pub walk-whole : (s r w : List ℕ) (d k : ℕ) → Walking s r (startPlaced (image s) (byQ (image s) (image r))) w d k → k ≡ 0 → Whole s r w d
+pub walk-whole : (s r w : List ℕ) (d k : ℕ) → Walking s r (startPlaced (image s) (byQ (image s) (image r))) w d k → k ≡ 0 → Whole leftmost s r w d
 walk-whole s r w d k g e =
     let st = startPlaced (image s) (byQ (image s) (image r)) in
     let g' : Walking s r st w d 0 = rw e at g in
     record {
-      pair = g .pair;
-      long = g .long;
       is = walk-end s r st w d k g e;
-      some = let m = g' .going .kept .shape .many in omega (arith, ap length (append-nil (doneIn w d)), length-done w d);
-      most = let z = walk-size s r st w d k g in omega arith;
-      points = λ i h. g' .going .inv .low _ (in-left _ (doneIn w d) [] (done-in w d i h));
-      labels = g .labels;
+      done = record {
+        pair = g .pair;
+        long = g .long;
+        some = let m = g' .going .growing .kept .shape .many in omega (arith, ap length (append-nil (doneIn w d)), length-done w d);
+        most = let z = walk-size s r st w d k g in omega arith;
+        points = λ i h. g' .going .growing .inv .low _ (in-left _ (doneIn w d) [] (done-in w d i h));
+        labels = g .labels;
+      };
     }

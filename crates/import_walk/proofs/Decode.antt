@@ -13,7 +13,7 @@ use Rattle.matrix.proofs.Integer.{abs-neg}
 use Rattle.matrix.proofs.Ring.{Exp, con, var, _⊕_, _⊙_, ⊖_, ring}
 use Rattle.basics.proofs.Choice.{and-left, and-right}
 use Rattle.import_rule.specs.Side.{Vertex, vertex, mediant, fits, limit, minusInfinity}
-use Rattle.import_walk.specs.Inner.Work.{twoCells, endAt, lastIn, leftEndNum, leftEndDen, sumNum, sumDen, fitsIn, cellPlace, DONE, TODO}
+use Rattle.import_walk.specs.Inner.Work.{twoCells, endAt, lastIn, leftEndNum, leftEndDen, sumNum, sumDen, topFits, cellPlace, DONE, TODO}
 use Rattle.import_walk.proofs.Cells.{left-none, left-some}
 use Rattle.import_rule.proofs.Theorem.{same-test}
 
@@ -81,7 +81,7 @@ last-code w (suc d) =
     vertex-eq (ap (λ (x : ℕ). pos (twoCells w (cellPlace DONE x)) -ℤ pos limit) (sym e) ∙ ap (λ (x : ℕ). pos x -ℤ pos limit) (k .0))
     (ap (λ (x : ℕ). twoCells w (cellPlace DONE x + 2)) (sym e) ∙ k .1)
 
-pub fits-in : (w : List ℕ) (d k : ℕ) → fitsIn w d k ≡ fits (mediant (lastIn w d) (endAt w (cellPlace TODO (k - 1))))
+pub fits-in : (w : List ℕ) (d k : ℕ) → topFits w d k ≡ fits (mediant (lastIn w d) (endAt w (cellPlace TODO (k - 1))))
 fits-in w d k =
     fits-code limit (leftEndNum w d) (twoCells w (cellPlace TODO (k - 1))) (sumDen w d k)
     ∙ ap (λ (x : Vertex). fits (mediant x (endAt w (cellPlace TODO (k - 1))))) (sym (last-code w d))

@@ -22,9 +22,10 @@ use Rattle.basics.specs.Choice.{pick}
 use Rattle.basics.proofs.Choice.{either, clash, and-left, and-right}
 use Rattle.import_rule.specs.Fixed.{image, byQ, Pair}
 use Rattle.import_rule.specs.Side.{Vertex, vertex, minusInfinity, mediant, fits, limit}
+use Rattle.import_rule.specs.Order.{leftmost}
 use Rattle.import_rule.specs.Inner.Placed.{Placed, placedSide, pts, finished, refused, lowerAt, upperAt, grow}
 use Rattle.import_walk.specs.Inner.Work.{LABEL, HELD, DONE, TODO, cellPlace, twoCells, endAt, pointAt, lastIn, doneIn, todoIn, cellSet}
-use Rattle.import_walk.specs.Inner.Work.{leftEndNum, leftEndDen, sumNum, sumDen, fitsIn, topPoint, movedIn, heldSet, closedIn, splitBy, splitIn}
+use Rattle.import_walk.specs.Inner.Work.{leftEndNum, leftEndDen, sumNum, sumDen, topFits, topPoint, movedIn, heldSet, closedIn, splitBy, splitIn}
 use Rattle.import_walk.specs.Inner.Work.{SideTaken, moved, over, parted, Top}
 use Rattle.import_rule.proofs.Member.{In, in-left, in-right, in-is}
 use Rattle.import_rule.proofs.Lead.{Turning, turning}
@@ -91,18 +92,18 @@ pub record HeldIn (n : ℕ) (w : List ℕ) (l : List Placed) : Type 0 where
   pub yes : (x : ℕ) → In x (pts l) → ¬ (getD w (HELD + x) 0 ≡ 0)
   pub no : (x : ℕ) → x < n → ¬ (getD w (HELD + x) 0 ≡ 0) → In x (pts l)
 
-or-true : (a b : Bool) → (a || b) ≡ true → (a ≡ true) ⊎ (b ≡ true)
+pub or-true : (a b : Bool) → (a || b) ≡ true → (a ≡ true) ⊎ (b ≡ true)
 or-true true b e = inl refl
 or-true false b e = inr e
 
 -- what the code asks is what the definition asks
-held-closed : (σ κ : ℕ → ℕ) (n : ℕ) (w : List ℕ) (l : List Placed) (m : ℕ) → HeldIn n w l → σ m < n → closedIn σ κ w m ≡ true → Closed σ κ (pts l) m
+pub held-closed : (σ κ : ℕ → ℕ) (n : ℕ) (w : List ℕ) (l : List Placed) (m : ℕ) → HeldIn n w l → σ m < n → closedIn σ κ w m ≡ true → Closed σ κ (pts l) m
 held-closed σ κ n w l m h low e = elim (or-true (eqb (κ m) m) (not (eqb (getD w (HELD + σ m) 0) 0)) e) [
   | inl a ↦ inl (eqb-true (κ m) m a)
   | inr a ↦ inr (h .no (σ m) low (λ z. clash a (ap not (eq-eqb (getD w (HELD + σ m) 0) 0 z))))
 ]
 
-held-open : (σ κ : ℕ → ℕ) (n : ℕ) (w : List ℕ) (l : List Placed) (m : ℕ) → HeldIn n w l → closedIn σ κ w m ≡ false → ¬ (Closed σ κ (pts l) m)
+pub held-open : (σ κ : ℕ → ℕ) (n : ℕ) (w : List ℕ) (l : List Placed) (m : ℕ) → HeldIn n w l → closedIn σ κ w m ≡ false → ¬ (Closed σ κ (pts l) m)
 held-open σ κ n w l m h e (inl o) = clash (ap (λ (b : Bool). b || not (eqb (getD w (HELD + σ m) 0) 0)) (eq-eqb (κ m) m o)) e
 held-open σ κ n w l m h e (inr i) = clash (or-right (eqb (κ m) m) (not (eqb (getD w (HELD + σ m) 0) 0)) (ap not (ne-eqb (getD w (HELD + σ m) 0) 0 (h .yes (σ m) i)))) e
   where
@@ -237,7 +238,7 @@ pred k = omega arith
 more : (k : ℕ) → k + 1 ≡ suc k
 more k = omega arith
 
-snoc : (l : List Placed) (s : Placed) (r : List Placed) → (l ++ (s ∷ [])) ++ r ≡ l ++ (s ∷ r)
+pub snoc : (l : List Placed) (s : Placed) (r : List Placed) → (l ++ (s ∷ [])) ++ r ≡ l ++ (s ∷ r)
 snoc [] s r = refl
 snoc (x ∷ l) s r = ap (λ (y : List Placed). x ∷ y) (snoc l s r)
 
@@ -260,7 +261,7 @@ module _ (s r : List ℕ) (start : List Placed) where
       omega (arith, length-append (doneIn w d) (todoIn (lastIn w d) w k), length-done w d, length-todo (lastIn w d) w k, g .pair .most)
 
   points-low : (w : List ℕ) (d k : ℕ) → Walking s r start w d k → (x : ℕ) → In x (pts (doneIn w d ++ todoIn (lastIn w d) w k)) → x < n
-  points-low w d k g x i = let j = pt-of x (doneIn w d ++ todoIn (lastIn w d) w k) i in rw (j .pt) (g .going .inv .low (j .side) (j .among))
+  points-low w d k g x i = let j = pt-of x (doneIn w d ++ todoIn (lastIn w d) w k) i in rw (j .pt) (g .going .growing .inv .low (j .side) (j .among))
 
   -- the first side to do
   abbrev first : List ℕ → (d k : ℕ) → Placed
@@ -270,7 +271,7 @@ module _ (s r : List ℕ) (start : List Placed) where
   rest w k = todoIn (endAt w (cellPlace TODO k)) w k
 
   first-low : (w : List ℕ) (d k : ℕ) → Walking s r start w d (suc k) → pointAt w (cellPlace TODO k) < n
-  first-low w d k g = g .going .inv .low (first w d k) (in-right (first w d k) (doneIn w d) (first w d k ∷ rest w k) (inl refl))
+  first-low w d k g = g .going .growing .inv .low (first w d k) (in-right (first w d k) (doneIn w d) (first w d k ∷ rest w k) (inl refl))
 
   pub walk-top : (w : List ℕ) (d k : ℕ) → Walking s r start w d k → 1 ≤ k → Top s r w d k
   walk-top w d zero g h = absurd (omega arith)
@@ -369,7 +370,7 @@ module _ (s r : List ℕ) (start : List Placed) where
     none : ¬ (Closed σ κ (pts (doneIn w d ++ (first w d k ∷ rest w k))) pm)
     none = held-open σ κ n w (doneIn w d ++ (first w d k ∷ rest w k)) pm (g .held) e
 
-    pub walk-over : fits (mediant (lastIn w d) (endAt w (cellPlace TODO k))) ≡ false → grow σ κ n start ≡ refused d
+    pub walk-over : fits (mediant (lastIn w d) (endAt w (cellPlace TODO k))) ≡ false → grow σ κ leftmost n start ≡ refused d
     walk-over f = going-over σ κ n start (turn-of (g .pair)) (doneIn w d) (first w d k) (rest w k) (g .going) none f ∙ ap refused (length-done w d)
 
     lows : (pm < 4096) × (pa < 4096) × (pb < 4096)
@@ -449,13 +450,14 @@ module _ (s r : List ℕ) (start : List Placed) where
     done-parted : doneIn w3 d ≡ doneIn w d
     done-parted = done-same w w3 d d (omega arith) done-kept
 
-    pub walk-split : fitsIn w d (suc k) ≡ true → fits (mediant (lastIn w d) (endAt w (cellPlace TODO k))) ≡ true → Walking s r start w3 d (suc (suc k))
+    pub walk-split : topFits w d (suc k) ≡ true → fits (mediant (lastIn w d) (endAt w (cellPlace TODO k))) ≡ true → Walking s r start w3 d (suc (suc k))
     walk-split t f =
         let T = turn-of (g .pair) in
         let wide = within-tells num den (rw (pred k) at t) .0 in
         let long3 = cell-length w2 (cellPlace TODO (suc k)) (num - 1000000000) den pa ∙ long2 in
-        let i = g .going .inv in
-        let hs = held-split σ κ n T (omega (arith, g .pair .most)) (g .going .tris) (doneIn w d) (first w d k) (rest w k) i none w w3 (omega (arith, g .long)) (g .held)
+        let i = g .going .growing .inv in
+        let hs = held-split σ κ n T (omega (arith, g .pair .most)) (g .going .growing .tris) (doneIn w d) (first w d k) (rest w k) i none w w3
+        (omega (arith, g .long)) (g .held)
         (λ x h. let z = g .pair .most in read3 (HELD + x) (λ q. omega arith) (omega arith)) in
         record {
           pair = g .pair;
@@ -486,7 +488,7 @@ module _ (s r : List ℕ) (start : List Placed) where
       rw (dd, kk, ww) (walk-split w d k g c' f f')
 
   pub walk-stop : (w w' : List ℕ) (d k d' k' : ℕ) (stop : Bool) → Walking s r start w d k → 1 ≤ k → SideTaken σ κ w d k w' stop d' k' → stop ≡ true
-      → grow σ κ n start ≡ refused d'
+      → grow σ κ leftmost n start ≡ refused d'
   walk-stop w w' d zero d' k' stop g h t e = absurd (omega arith)
   walk-stop w w' d (suc k) d' k' stop g h (moved c p q u v) e = clash e q
   walk-stop w w' d (suc k) d' k' stop g h (over c f p q u) e =
@@ -510,7 +512,7 @@ module _ (s r : List ℕ) (start : List Placed) where
       ap length p ∙ cell-length (set (heldSet w 0 t (σ (κ t)) (σ (κ (κ t)))) (cellPlace TODO (k - 1) + 4) (σ (κ (κ t)))) (cellPlace TODO k) _ _ _
       ∙ length-set (heldSet w 0 t (σ (κ t)) (σ (κ (κ t)))) (cellPlace TODO (k - 1) + 4) (σ (κ (κ t))) ∙ held-length w 0 t (σ (κ t)) (σ (κ (κ t)))
 
-  pub walk-end : (w : List ℕ) (d k : ℕ) → Walking s r start w d k → k ≡ 0 → grow σ κ n start ≡ finished (doneIn w d)
+  pub walk-end : (w : List ℕ) (d k : ℕ) → Walking s r start w d k → k ≡ 0 → grow σ κ leftmost n start ≡ finished (doneIn w d)
   walk-end w d k g e =
       let g' : Walking s r start w d 0 = rw e at g in
       going-end σ κ n start (turn-of (g .pair)) (doneIn w d) (g' .going)

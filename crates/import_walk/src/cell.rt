@@ -12,7 +12,7 @@ pub fn long(x: u16) -> u64
 }
 
 // A 16-bit number as a point.
-fn short(x: u16) -> usize
+pub fn short(x: u16) -> usize
     ensures { λ r. ⌜ (r ≡ x) × (r < 65536) ⌝ }
 {
     x as usize
@@ -46,7 +46,7 @@ fn put_number(w: &mut [u16], at: usize, x: u64)
 }
 
 // Puts the five numbers of a side.
-pub(crate) fn put_cell(w: &mut [u16], at: usize, e: u64, d: u64, m: usize)
+pub fn put_cell(w: &mut [u16], at: usize, e: u64, d: u64, m: usize)
     requires { ⌜ (at + 5 ≤ length (now w)) × (at < 32763) × (e < 4294967296) × (d < 4294967296) × (m < 65536) ⌝ }
     ensures { λ _. ⌜ now (w .exit) ≡ cellSet (now (w .entry)) at e d m ⌝ }
 {

@@ -13,7 +13,8 @@ ghost use mathlib.Core.Bool.{_&&_};
 ghost use lib.Dec.{leb};
 ghost use lib.ListN.{length};
 ghost use Rattle.import_rule.specs.Fixed.{image, byQ, Pair};
-ghost use Rattle.import_walk.specs.Inner.Work.{Top, leftEndNum, leftEndDen, closedIn, fitsIn, sumNum, sumDen, topPoint, movedIn, splitBy, heldSet, SideTaken, startBy, startIn, Ground, WalkLeaves};
+ghost use Rattle.import_rule.specs.Order.{leftmost};
+ghost use Rattle.import_walk.specs.Inner.Work.{Top, leftEndNum, leftEndDen, closedIn, topFits, sumNum, sumDen, topPoint, movedIn, splitBy, heldSet, SideTaken, startBy, startIn, Ground, WalkLeaves};
 
 // How one turn of the walk ends: whether it stops, and how many sides are done and to do.
 pub struct Progress {
@@ -29,7 +30,7 @@ pub struct Outcome {
 }
 
 // Whether a side with the point m is closed.
-fn is_closed(s: &[u32], r: &[u32], w: &[u16], m: usize) -> bool
+pub fn is_closed(s: &[u32], r: &[u32], w: &[u16], m: usize) -> bool
     requires { ⌜ Pair (now s) (now r) × (m < length (now s)) × (32768 ≤ length (now w)) ⌝ }
     ensures { λ b. ⌜ b ≡ closedIn (image (now (s .entry))) (byQ (image (now (s .entry))) (image (now (r .entry)))) (now (w .entry)) m ⌝ }
 {
@@ -64,7 +65,7 @@ fn left_den(w: &[u16], d: usize) -> u64
 }
 
 // Whether the sums for a mediant keep to the limit: e is its numerator plus 2 * 10^9, and c its denominator.
-fn within(e: u64, c: u64) -> bool
+pub fn within(e: u64, c: u64) -> bool
     ensures { λ b. ⌜ b ≡ (leb 1000000000 e && leb e 3000000000 && leb c 1000000000) ⌝ }
 {
     if e < 1000000000 {
@@ -77,7 +78,7 @@ fn within(e: u64, c: u64) -> bool
 }
 
 // The first side to do moves to those done.
-fn move_top(w: &mut [u16], d: usize, k: usize)
+pub fn move_top(w: &mut [u16], d: usize, k: usize)
     requires { ⌜ (d ≤ 1024) × (1 ≤ k) × (k ≤ 1024) × (32768 ≤ length (now w)) ⌝ }
     ensures { λ _. ⌜ now (w .exit) ≡ movedIn (now (w .entry)) d k ⌝ }
 {
@@ -154,7 +155,7 @@ fn start_by(w: &mut [u16], e2: u64, e1: u64, p2: usize, p1: usize, p0: usize)
 }
 
 // The start: 0/1, 1/1 if Q doesn't fix 0, else -1/1, 0/1.
-fn start(s: &[u32], r: &[u32], w: &mut [u16])
+pub fn start(s: &[u32], r: &[u32], w: &mut [u16])
     requires { ⌜ Pair (now s) (now r) × (32768 ≤ length (now w)) ⌝ }
     ensures { λ _. ⌜ now (w .exit) ≡ startIn (image (now (s .entry))) (byQ (image (now (s .entry))) (image (now (r .entry)))) (now (w .entry)) ⌝ }
 {
@@ -177,7 +178,7 @@ fn start(s: &[u32], r: &[u32], w: &mut [u16])
 // The walk, from a clear work space: whether it stops at a side that can't be split, and how many sides are done.
 pub fn walk(s: &[u32], r: &[u32], w: &mut [u16]) -> Outcome
     requires { ⌜ Ground (now s) (now r) (now w) ⌝ }
-    ensures { λ o. ⌜ WalkLeaves (now (s .entry)) (now (r .entry)) (now (w .exit)) (o .stop) (o .d) ⌝ }
+    ensures { λ o. ⌜ WalkLeaves leftmost (now (s .entry)) (now (r .entry)) (now (w .exit)) (o .stop) (o .d) ⌝ }
 {
     start(s, r, w);
     let mut d: usize = 0;

@@ -11,7 +11,8 @@
 --   word l                 no refusal, and the word l, which fills the lent space
 --   answerTo q             THE ANSWER TO q, by those definitions alone
 --   Instance, q answers a  what is asked, and what docs/CONVENTIONS.md says
---   instances              THE TABLE, in the order of docs/CONVENTIONS.md; instanceAt i is the one at the place i
+--   instances              THE TABLE, in the order of docs/CONVENTIONS.md, and behind it two that tell the rules of import apart; instanceAt i is
+--                          the one at the place i
 --   sameAnswer a b         whether the two are the same, number by number
 --   holds x, allHold l     whether the answer is what docs/CONVENTIONS.md says, at x, and at all of l: tests that compute
 --   Holds x                that it is
@@ -42,7 +43,7 @@ use Rattle.word.specs.Answer.{queryOf, queryRefusal, foundWord, wordLeft, partO
 use Rattle.word.specs.declared.Queried.{Queried}
 use Rattle.word.specs.declared.Queried.the-variants as queried
 use Rattle.permutations.specs.Import as passport
-use Rattle.permutations.specs.Import.{importOf, ruleFor}
+use Rattle.permutations.specs.Import.{importOf, importWideOf, ruleFor, wideRuleFor}
 
 -- ---- what is asked
 
@@ -57,8 +58,8 @@ pub data Question : Type 0 where
   tables : (v : ℕ) (t : List ℤ) (work : ℕ) (s r u : List ℕ) → Question
   -- word's `query`, and `word_part` of what it answers
   query : (v : ℕ) (t a b : List ℤ) (work : ℕ) (out : List ℤ) (start : ℕ) → Question
-  -- permutations' `import`
-  import : (s r : List ℕ) (work : ℕ) (out : List ℤ) → Question
+  -- permutations' `import`, and `import_wide`
+  import importWide : (s r : List ℕ) (work : ℕ) (out : List ℤ) → Question
 
 -- ---- what is answered
 
@@ -113,6 +114,9 @@ answerTo (query v t a b work out start) =
 answerTo (import s r work out) =
     let a = importOf s r work (length out) in
     says (filledRefusal a) (verticesIn a ∷ passport.importTable (ruleFor s r) a out ∷ [])
+answerTo (importWide s r work out) =
+    let a = importWideOf s r work (length out) in
+    says (filledRefusal a) (verticesIn a ∷ passport.importTable (wideRuleFor s r) a out ∷ [])
 
 -- ---- the symbols and matrices of the table
 
@@ -151,6 +155,13 @@ S = pos 0 ∷ negsuc 0 ∷ pos 1 ∷ pos 0 ∷ []
 
 abbrev pub T : List ℤ
 T = pos 1 ∷ pos 1 ∷ pos 0 ∷ pos 1 ∷ []
+
+-- S and R of twelve points
+abbrev pub twelveS : List ℕ
+twelveS = 7 ∷ 5 ∷ 4 ∷ 8 ∷ 2 ∷ 1 ∷ 9 ∷ 0 ∷ 3 ∷ 6 ∷ 11 ∷ 10 ∷ []
+
+abbrev pub twelveR : List ℕ
+twelveR = 2 ∷ 8 ∷ 10 ∷ 5 ∷ 6 ∷ 7 ∷ 11 ∷ 3 ∷ 9 ∷ 1 ∷ 0 ∷ 4 ∷ []
 
 -- a space of n numbers, all 0
 abbrev pub lent : ℕ → List ℤ
@@ -199,6 +210,12 @@ instances =
     ∷ (query 2 Γ0-2 I -I workLength (lent 0) 0 answers word [])
     -- S 1 0 2, R 2 0 1 gives back the symbol above
     ∷ (import (1 ∷ 0 ∷ 2 ∷ []) (2 ∷ 0 ∷ 1 ∷ []) workLength (lent 7) answers gives ((pos 2 ∷ []) ∷ Γ0-2 ∷ []))
+    -- behind those of docs/CONVENTIONS.md: twelve points for which the two rules of import give two symbols, each of five vertices:
+    -- -3, -2, -1, 0, 1 with 1 2 3 3 2 1, and -2, -1, 0, 1/2, 1 with 1 2 2 1 3 3
+    ∷ (import twelveS twelveR workLength (lent 16) answers gives ((pos 5 ∷ []) ∷
+    (negsuc 2 ∷ pos 1 ∷ negsuc 1 ∷ pos 1 ∷ negsuc 0 ∷ pos 1 ∷ pos 0 ∷ pos 1 ∷ pos 1 ∷ pos 1 ∷ pos 1 ∷ pos 2 ∷ pos 3 ∷ pos 3 ∷ pos 2 ∷ pos 1 ∷ []) ∷ []))
+    ∷ (importWide twelveS twelveR workLength (lent 16) answers gives ((pos 5 ∷ []) ∷
+    (negsuc 1 ∷ pos 1 ∷ negsuc 0 ∷ pos 1 ∷ pos 0 ∷ pos 1 ∷ pos 1 ∷ pos 2 ∷ pos 1 ∷ pos 1 ∷ pos 1 ∷ pos 2 ∷ pos 2 ∷ pos 1 ∷ pos 3 ∷ pos 3 ∷ []) ∷ []))
     ∷ []
 
 -- the instance at the place i of the table, counted from 0; past its end, a symbol without vertices: refusal 1

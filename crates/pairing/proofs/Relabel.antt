@@ -25,7 +25,7 @@ use Rattle.symbol.specs.Check.{eqZ}
 use Rattle.symbol.specs.Symbol.{FreeLabel, IsSymbol}
 use Rattle.pairing.specs.Generator.{partner, pairingAt}
 use Rattle.pairing.specs.Inner.Alike.{alikeBy}
-use Rattle.pairing.specs.Same.{firstBy, firstOfLabel, labelNumber, relabelledBy, relabelled, agreeBelow}
+use Rattle.pairing.specs.Same.{firstSideBy, firstOfLabel, labelNumber, relabelledBy, relabelled, agreeBelow}
 use Rattle.symbol.specs.declared.Pairing.{Pairing}
 use Rattle.symbol.specs.declared.Pairing.the-variants.{Even, Odd, Free, Bad}
 use Rattle.symbol.proofs.Choice.{eqZ-true, eq-eqZ, eqZ-refl}
@@ -117,7 +117,7 @@ module _ (v : ℕ) (t : List ℤ) (i : ℕ) where
   leftmost-there h = pick-false (ltb i (partner v t i)) i (partner v t i) (le-ltb i (partner v t i) h)
 
   first-free : (l : ℕ) → pairingAt v t i ≡ Free l → firstOfLabel v t i ≡ ltb i (partner v t i)
-  first-free l e = ap (λ (p : Pairing). firstBy p i (partner v t i)) e
+  first-free l e = ap (λ (p : Pairing). firstSideBy p i (partner v t i)) e
 
   relabelled-number : (l : ℕ) → pairingAt v t i ≡ Free l → relabelled v t i ≡ pos (labelNumber v t (leftmost v t i))
   relabelled-number l e = ap (λ (p : Pairing). relabelledBy p (pairingEntry v t i) (labelNumber v t (leftmost v t i))) e
@@ -197,9 +197,9 @@ module _ (v : ℕ) (t t' : List ℤ) where
 
   both-first : (i : ℕ) → Both i → firstOfLabel v t i ≡ firstOfLabel v t' i
   both-first i (evens a b) =
-      ap (λ (x : ℤ). firstBy (pairingOf v x) i (partner v t i)) a ∙ sym (ap (λ (x : ℤ). firstBy (pairingOf v x) i (partner v t' i)) b)
+      ap (λ (x : ℤ). firstSideBy (pairingOf v x) i (partner v t i)) a ∙ sym (ap (λ (x : ℤ). firstSideBy (pairingOf v x) i (partner v t' i)) b)
   both-first i (odds a b) =
-      ap (λ (x : ℤ). firstBy (pairingOf v x) i (partner v t i)) a ∙ sym (ap (λ (x : ℤ). firstBy (pairingOf v x) i (partner v t' i)) b)
+      ap (λ (x : ℤ). firstSideBy (pairingOf v x) i (partner v t i)) a ∙ sym (ap (λ (x : ℤ). firstSideBy (pairingOf v x) i (partner v t' i)) b)
   both-first i (frees f g e) = first-free v t i (f .label) (f .is) ∙ ap (ltb i) e ∙ sym (first-free v t' i (g .label) (g .is))
 
 module _ (v : ℕ) (t t' : List ℤ) (s : IsSymbol v t) (s' : IsSymbol v t') where

@@ -21,8 +21,7 @@ use Rattle.symbol.specs.Table.{pairingEntries, pairingEntry, pairingOf, sideAt}
 use Rattle.symbol.specs.Check.{unpairedIn, unpairedBy, sidesIn, symbolCheck}
 use Rattle.symbol.specs.Inner.Ready.{SmallSide}
 use Rattle.symbol.specs.Symbol.{IsSymbol, FreeLabel}
-use Rattle.pairing.specs.Generator.{partner, pairingAt, isLeaderIn, kindOf, isLeader, leaders, frameAt, generatorBy, generator, generatorRow}
-use Rattle.pairing.specs.Generator.{generatorRows, generatorTable}
+use Rattle.pairing.specs.Generator.{partner, pairingAt, isLeaderIn, kindOf, isLeader, leaders, frameAt, generatorBy, generator, generatorRow, generatorRows, generatorTable}
 use Rattle.pairing.specs.Inner.Work.{AllPaired, Partnered, PartnersReady, putRow, RowsTo}
 use Rattle.symbol.specs.declared.Pairing.{Pairing}
 use Rattle.refusal.specs.Refusal.{badPairing}

@@ -34,14 +34,14 @@ use Rattle.symbol.specs.declared.Pairing.{Pairing}
 use Rattle.symbol.specs.declared.Pairing.the-variants.{Even, Odd, Free, Bad}
 
 -- whether side i is the leftmost side of a free label
-abbrev pub firstBy : Pairing → ℕ → ℕ → Bool
-firstBy Even i k = false
-firstBy Odd i k = false
-firstBy (Free l) i k = ltb i k
-firstBy Bad i k = false
+abbrev pub firstSideBy : Pairing → ℕ → ℕ → Bool
+firstSideBy Even i k = false
+firstSideBy Odd i k = false
+firstSideBy (Free l) i k = ltb i k
+firstSideBy Bad i k = false
 
 abbrev pub firstOfLabel : ℕ → List ℤ → ℕ → Bool
-firstOfLabel v t i = firstBy (pairingAt v t i) i (partner v t i)
+firstOfLabel v t i = firstSideBy (pairingAt v t i) i (partner v t i)
 
 -- the number of the label whose leftmost side is i
 abbrev pub labelNumber : ℕ → List ℤ → ℕ → ℕ

@@ -20,9 +20,11 @@ use Rattle.basics.specs.Choice.{pick}
 use Rattle.workspace.specs.Space.{workLength, zeros}
 use Rattle.basics.proofs.Choice.{pick-true, pick-false}
 use Rattle.import_rule.specs.Fixed.{Pair}
+use Rattle.import_rule.specs.Order.{Order}
+use Rattle.import_rule.specs.Symbol.{ruledBy}
 use Rattle.import_table.specs.Answer.{grownOf}
 use Rattle.permutations.specs.Check.{check12, check13, check14, check15, twiceMoved, thriceMoved, pairCheck}
-use Rattle.permutations.specs.Import.{ruleFor, importOf, importTable, importWork, ImportMeans}
+use Rattle.permutations.specs.Import.{importBy, importTable, importWork, ImportMeans}
 use Rattle.permutations.proofs.Accepted.{accepted, permuting-of}
 use Rattle.permutations.proofs.Means.{import-means}
 
@@ -58,27 +60,27 @@ module _ (s r : List ℕ) where
 
 -- ---- import
 
-module _ (s r w : List ℕ) (o : List ℤ) where
+module _ (order : Order) (s r w : List ℕ) (o : List ℤ) where
   -- the answer a, the work space w' and the result space o' are those of the definitions
   pub record Answered (a : Filled) (w' : List ℕ) (o' : List ℤ) : Type 0 where
-    pub returned : a ≡ importOf s r (length w) (length o)
+    pub returned : a ≡ importBy order s r (length w) (length o)
     pub work : w' ≡ importWork (pairCheck s r) w
-    pub result : o' ≡ importTable (ruleFor s r) a o
+    pub result : o' ≡ importTable (ruledBy order s r) a o
     pub means : ImportMeans s r a o'
 
-  answer : (a : Filled) (w' : List ℕ) (o' : List ℤ) → a ≡ importOf s r (length w) (length o) → w' ≡ importWork (pairCheck s r) w
-      → o' ≡ importTable (ruleFor s r) a o → Answered a w' o'
-  answer a w' o' p q t = record { returned = p; work = q; result = t; means = rw t (import-means s r (length w) (length o) a o p) }
+  answer : (a : Filled) (w' : List ℕ) (o' : List ℤ) → a ≡ importBy order s r (length w) (length o) → w' ≡ importWork (pairCheck s r) w
+      → o' ≡ importTable (ruledBy order s r) a o → Answered a w' o'
+  answer a w' o' p q t = record { returned = p; work = q; result = t; means = rw t (import-means order s r (length w) (length o) a o p) }
 
   -- what follows the checks
   abbrev after : Filled
-  after = pick (ltb (length w) workLength) (Refused (tooShort workLength)) (grownOf (ruleFor s r) (length o))
+  after = pick (ltb (length w) workLength) (Refused (tooShort workLength)) (grownOf (ruledBy order s r) (length o))
 
   pub refused : (f : Refusal) → pairCheck s r ≡ checked.Refused f → Answered (Refused f) w o
   refused f e = answer (Refused f) w o (sym (ap (λ (x : Checked). filledBy x after) e)) (sym (ap (λ (x : Checked). importWork x w) e)) refl
 
   module _ (e : pairCheck s r ≡ checked.Accepted) where
-    by-room : after ≡ importOf s r (length w) (length o)
+    by-room : after ≡ importBy order s r (length w) (length o)
     by-room = sym (ap (λ (x : Checked). filledBy x after) e)
 
     by-work : pick (ltb (length w) workLength) w (zeros (length w)) ≡ importWork (pairCheck s r) w
@@ -88,15 +90,15 @@ module _ (s r w : List ℕ) (o : List ℤ) where
     short h =
         let t = lt-ltb (length w) workLength h in
         answer (Refused (tooShort workLength)) w o
-        (sym (pick-true (ltb (length w) workLength) (Refused (tooShort workLength)) (grownOf (ruleFor s r) (length o)) t) ∙ by-room)
+        (sym (pick-true (ltb (length w) workLength) (Refused (tooShort workLength)) (grownOf (ruledBy order s r) (length o)) t) ∙ by-room)
         (sym (pick-true (ltb (length w) workLength) w (zeros (length w)) t) ∙ by-work) refl
 
-    pub long : workLength ≤ length w → (a : Filled) (w' : List ℕ) (o' : List ℤ) → a ≡ grownOf (ruleFor s r) (length o) → w' ≡ zeros (length w)
-        → o' ≡ importTable (ruleFor s r) a o → Answered a w' o'
+    pub long : workLength ≤ length w → (a : Filled) (w' : List ℕ) (o' : List ℤ) → a ≡ grownOf (ruledBy order s r) (length o) → w' ≡ zeros (length w)
+        → o' ≡ importTable (ruledBy order s r) a o → Answered a w' o'
     long h a w' o' p q t =
         let f = le-ltb (length w) workLength h in
         answer a w' o'
-        (p ∙ sym (pick-false (ltb (length w) workLength) (Refused (tooShort workLength)) (grownOf (ruleFor s r) (length o)) f) ∙ by-room)
+        (p ∙ sym (pick-false (ltb (length w) workLength) (Refused (tooShort workLength)) (grownOf (ruledBy order s r) (length o)) f) ∙ by-room)
         (q ∙ sym (pick-false (ltb (length w) workLength) w (zeros (length w)) f) ∙ by-work) t
 
 pub pair-of : (s r : List ℕ) → pairCheck s r ≡ checked.Accepted → Pair s r

@@ -1,7 +1,9 @@
--- The answer of `import`, and what the call leaves.
+-- The answers of `import` and `import_wide`, and what the calls leave.
 --
---   importOf s r work room            the refusals 12 to 15, then the work space, then 16, then the result space, or the number of vertices
---   ruleFor s r          what the rule gives for the tables of S and R
+--   importBy order s r work room    by the rule under an order: the refusals 12 to 15, then the work space, then 16, then the result space, or the
+--                        number of vertices
+--   ruleFor, wideRuleFor s r        what the rule and the wide rule give for the tables of S and R
+--   importOf, importWideOf          the answer of `import`, by the rule, and that of `import_wide`, by the wide rule
 --   importTable g a out  what the call leaves in the result space: the symbol's table at its front, or all as it was
 --   importWork c w       what it leaves in the work space: zeros where it got past the length check, else all as it was
 --   ImportMeans s r a t  an answer that is no refusal means this: the pair is a passport, and the 3v + 1 numbers at the front of the result
@@ -21,16 +23,26 @@ use Rattle.numbering.specs.Order.{orderOf}
 use Rattle.numbering.specs.Table.{renamed}
 use Rattle.coset.specs.Tables.{indexOf, tableS, tableR}
 use Rattle.import_rule.specs.Fixed.{image, byQ}
-use Rattle.import_rule.specs.Symbol.{Ruled, ruleOf}
+use Rattle.import_rule.specs.Order.{Order, leftmost, longestOpen}
+use Rattle.import_rule.specs.Symbol.{Ruled, ruledBy}
 use Rattle.import_rule.specs.Theorem.{Precisely}
 use Rattle.import_table.specs.Answer.{grownOf, ruledLeft}
 use Rattle.permutations.specs.Check.{pairCheck, Passport}
 
+abbrev pub importBy : Order → (s r : List ℕ) (work room : ℕ) → Filled
+importBy order s r work room = filledBy (pairCheck s r) (byWork work (grownOf (ruledBy order s r) room))
+
 abbrev pub ruleFor : (s r : List ℕ) → Ruled
-ruleFor s r = ruleOf (image s) (byQ (image s) (image r)) (length s)
+ruleFor = ruledBy leftmost
+
+abbrev pub wideRuleFor : (s r : List ℕ) → Ruled
+wideRuleFor = ruledBy longestOpen
 
 abbrev pub importOf : (s r : List ℕ) (work room : ℕ) → Filled
-importOf s r work room = filledBy (pairCheck s r) (byWork work (grownOf (ruleFor s r) room))
+importOf = importBy leftmost
+
+abbrev pub importWideOf : (s r : List ℕ) (work room : ℕ) → Filled
+importWideOf = importBy longestOpen
 
 abbrev pub importTable : Ruled → Filled → List ℤ → List ℤ
 importTable g a out = ruledLeft g a out

@@ -17,10 +17,11 @@ ghost use lib.ListN.{length};
 ghost use Rattle.workspace.specs.Space.{zeros};
 ghost use Rattle.refusal.specs.Refusal.{_orElse_};
 ghost use Rattle.import_rule.specs.Fixed.{Pair};
-ghost use Rattle.import_table.specs.Answer.{grownOf};
+ghost use Rattle.import_rule.specs.Symbol.{ruledBy};
+ghost use Rattle.import_table.specs.Answer.{orderBy, grownOf};
 ghost use Rattle.permutations.specs.Check.{check13, check14, check15, twiceMoved, thriceMoved, pairCheck, PairVerdict};
 ghost use Rattle.permutations.specs.Inner.Reach.{Two};
-ghost use Rattle.permutations.specs.Import.{ruleFor, importOf, importTable, importWork, ImportMeans};
+ghost use Rattle.permutations.specs.Import.{importBy, ruleFor, wideRuleFor, importOf, importWideOf, importTable, importWork, ImportMeans};
 
 mod entries;
 mod reach;
@@ -102,24 +103,23 @@ pub fn check(s: &[u32], r: &[u32]) -> Checked
     check_entries(s, r)
 }
 
-// The symbol of an accepted pair; the work space is cleared after.
-fn import_accepted(s: &[u32], r: &[u32], w: &mut [u16], out: &mut [i64]) -> Filled
+// The symbol of an accepted pair, by the wide rule or by the rule; the work space is cleared after.
+fn import_accepted(s: &[u32], r: &[u32], w: &mut [u16], out: &mut [i64], wide: bool) -> Filled
     requires { ⌜ Pair (now s) (now r) × (32768 ≤ length (now w)) ⌝ }
-    ensures { λ a. ⌜ a ≡ grownOf (ruleFor (now (s .entry)) (now (r .entry))) (length (now (out .entry))) ⌝ }
+    ensures { λ a. ⌜ a ≡ grownOf (ruledBy (orderBy wide) (now (s .entry)) (now (r .entry))) (length (now (out .entry))) ⌝ }
     ensures { λ a. ⌜ now (w .exit) ≡ zeros (length (now (w .entry))) ⌝ }
-    ensures { λ a. ⌜ now (out .exit) ≡ importTable (ruleFor (now (s .entry)) (now (r .entry))) a (now (out .entry)) ⌝ }
+    ensures { λ a. ⌜ now (out .exit) ≡ importTable (ruledBy (orderBy wide) (now (s .entry)) (now (r .entry))) a (now (out .entry)) ⌝ }
 {
-    let grown = import_table::grow(s, r, w, out);
+    let grown = import_table::grow(s, r, w, out, wide);
     workspace::clear(w);
     grown
 }
 
-// The symbol of the matrices that fix point 0, from the tables of S and R: the number of its vertices, its table at the front of the result
-// space; or 12 to 15, then the work space, then 16, then the result space.
-pub fn import(s: &[u32], r: &[u32], w: &mut [u16], out: &mut [i64]) -> Filled
-    ensures { λ a. ⌜ a ≡ importOf (now (s .entry)) (now (r .entry)) (length (now (w .entry))) (length (now (out .entry))) ⌝ }
+// The import by the wide rule, or by the rule.
+pub fn import_by(s: &[u32], r: &[u32], w: &mut [u16], out: &mut [i64], wide: bool) -> Filled
+    ensures { λ a. ⌜ a ≡ importBy (orderBy wide) (now (s .entry)) (now (r .entry)) (length (now (w .entry))) (length (now (out .entry))) ⌝ }
     ensures { λ a. ⌜ now (w .exit) ≡ importWork (pairCheck (now (s .entry)) (now (r .entry))) (now (w .entry)) ⌝ }
-    ensures { λ a. ⌜ now (out .exit) ≡ importTable (ruleFor (now (s .entry)) (now (r .entry))) a (now (out .entry)) ⌝ }
+    ensures { λ a. ⌜ now (out .exit) ≡ importTable (ruledBy (orderBy wide) (now (s .entry)) (now (r .entry))) a (now (out .entry)) ⌝ }
     ensures { λ a. ⌜ ImportMeans (now (s .entry)) (now (r .entry)) a (now (out .exit)) ⌝ }
 {
     let checked = check(s, r);
@@ -132,7 +132,28 @@ pub fn import(s: &[u32], r: &[u32], w: &mut [u16], out: &mut [i64]) -> Filled
                     place: workspace::WORK,
                 });
             }
-            import_accepted(s, r, w, out)
+            import_accepted(s, r, w, out, wide)
         }
     }
+}
+
+// The symbol of the matrices that fix point 0, from the tables of S and R: the number of its vertices, its table at the front of the result
+// space; or 12 to 15, then the work space, then 16, then the result space.
+pub fn import(s: &[u32], r: &[u32], w: &mut [u16], out: &mut [i64]) -> Filled
+    ensures { λ a. ⌜ a ≡ importOf (now (s .entry)) (now (r .entry)) (length (now (w .entry))) (length (now (out .entry))) ⌝ }
+    ensures { λ a. ⌜ now (w .exit) ≡ importWork (pairCheck (now (s .entry)) (now (r .entry))) (now (w .entry)) ⌝ }
+    ensures { λ a. ⌜ now (out .exit) ≡ importTable (ruleFor (now (s .entry)) (now (r .entry))) a (now (out .entry)) ⌝ }
+    ensures { λ a. ⌜ ImportMeans (now (s .entry)) (now (r .entry)) a (now (out .exit)) ⌝ }
+{
+    import_by(s, r, w, out, false)
+}
+
+// The same by the wide rule: it splits the side that has been open longest.
+pub fn import_wide(s: &[u32], r: &[u32], w: &mut [u16], out: &mut [i64]) -> Filled
+    ensures { λ a. ⌜ a ≡ importWideOf (now (s .entry)) (now (r .entry)) (length (now (w .entry))) (length (now (out .entry))) ⌝ }
+    ensures { λ a. ⌜ now (w .exit) ≡ importWork (pairCheck (now (s .entry)) (now (r .entry))) (now (w .entry)) ⌝ }
+    ensures { λ a. ⌜ now (out .exit) ≡ importTable (wideRuleFor (now (s .entry)) (now (r .entry))) a (now (out .entry)) ⌝ }
+    ensures { λ a. ⌜ ImportMeans (now (s .entry)) (now (r .entry)) a (now (out .exit)) ⌝ }
+{
+    import_by(s, r, w, out, true)
 }

@@ -1,6 +1,8 @@
 //! Texts to measure with, the same ones every time.
 
+use reference::congruence::gamma0;
 use reference::random::drafts::{pairings, polygon, Draft, Growth, Style, Zero};
+use reference::random::pairs::{dice_pair, Pair};
 use reference::random::Rng;
 
 use crate::import::plain_import;
@@ -59,6 +61,20 @@ fn largest_import() -> String {
         .expect("one of these symbols has an import")
 }
 
+fn pair_text(pair: &Pair) -> String {
+    format!("{}\n{}\n{}\n", pair.points(), line(&pair.s), line(&pair.r))
+}
+
+/// The first pair from dice of 3,066 points of which neither S nor R fixes one:
+/// a symbol of 1,023 vertices, with free sides alone.
+fn largest_pair() -> Pair {
+    let moves_all = |table: &[i64]| (0..).zip(table).all(|(point, &image)| point != image);
+    (0..)
+        .map(|seed| dice_pair(&mut Rng::new(seed), 3_066))
+        .find(|pair| moves_all(&pair.s) && moves_all(&pair.r))
+        .expect("there is such a pair")
+}
+
 /// The largest symbol with integers for vertices and its outer sides paired with
 /// each other by a power of T: a letter only every 1,022 steps of T.
 fn wide_symbol() -> Draft {
@@ -102,5 +118,8 @@ pub fn inputs() -> Vec<Input> {
         ),
         input("import-short.txt", "3\n1 0 2\n2 0 1\n".to_string()),
         input("import-3066.txt", largest_import()),
+        input("import_wide-short.txt", "3\n1 0 2\n2 0 1\n".to_string()),
+        input("import_wide-2592.txt", pair_text(&gamma0(990))),
+        input("import_wide-3066.txt", pair_text(&largest_pair())),
     ]
 }

@@ -1,4 +1,4 @@
-//! A yardstick: the engine's three programs once more, in plain Rust, written
+//! A yardstick: the engine's four programs once more, in plain Rust, written
 //! for speed and without any proof. Whoever wants to know what the engine's
 //! proofs cost in time compares its programs with these.
 //!
@@ -9,7 +9,7 @@
 //! | `polygon` | the polygon cut into triangles, and one step of S, Q or Q^-1     |
 //! | `listing` | a symbol's text in, its listing out                              |
 //! | `query`   | a symbol and two matrices in, a word out, letter by letter       |
-//! | `import`  | two permutations in, a symbol out                                |
+//! | `import`  | two permutations in, a symbol out, by either rule                |
 //! | `inputs`  | texts to measure with                                            |
 //! | `timing`  | wall times of two programs, run by turns                         |
 //!
@@ -29,7 +29,7 @@ pub mod timing;
 
 use std::io::{self, Read, Write};
 
-pub use import::plain_import;
+pub use import::{plain_import, plain_import_wide};
 pub use listing::plain_listing;
 pub use query::plain_query;
 

@@ -2,9 +2,10 @@
 //! other answers would be no measure.
 
 use bench::inputs::inputs;
-use bench::{plain_import, plain_listing, plain_query};
-use reference::random::{import_case, listing_case, query_case};
-use reference::{import, listing, query};
+use bench::{plain_import, plain_import_wide, plain_listing, plain_query};
+use reference::random::pairs::rows_pair;
+use reference::random::{import_case, listing_case, query_case, Rng};
+use reference::{import, import_wide, listing, query};
 
 fn same(text: &[u8], plain: &[u8], reference: &str) {
     let start = &text[..text.len().min(500)];
@@ -37,7 +38,25 @@ fn imports() {
     for case in 0..3_000 {
         let text = import_case(63, case);
         same(&text, &plain_import(&text), &import(&text));
+        same(&text, &plain_import_wide(&text), &import_wide(&text));
     }
+}
+
+/// Rows of triangles, where the place of refusal 16 depends on the rule.
+#[test]
+fn deep_imports() {
+    let mut rng = Rng::new(64);
+    let mut refused = 0;
+    for _ in 0..300 {
+        let numbers = rows_pair(&mut rng).numbers();
+        let pieces: Vec<String> = numbers.iter().map(i64::to_string).collect();
+        let text = pieces.join(" ").into_bytes();
+        same(&text, &plain_import(&text), &import(&text));
+        let expected = import_wide(&text);
+        same(&text, &plain_import_wide(&text), &expected);
+        refused += usize::from(expected.starts_with("refused 16 "));
+    }
+    assert!(refused >= 100, "only {refused}");
 }
 
 /// The texts to measure with are what their names say.
@@ -48,6 +67,7 @@ fn measured_texts() {
         let (plain, reference) = match input.name.split('-').next() {
             Some("listing") => (plain_listing(text), listing(text)),
             Some("query") => (plain_query(text), query(text)),
+            Some("import_wide") => (plain_import_wide(text), import_wide(text)),
             _ => (plain_import(text), import(text)),
         };
         same(text, &plain, &reference);
@@ -61,6 +81,9 @@ fn measured_texts() {
             "query-1023-none.txt" => "refused 10 0\n",
             "import-short.txt" => "2\n0 1 1 1\n1 -2 1\n",
             "import-3066.txt" => "876\n",
+            "import_wide-short.txt" => "2\n0 1 1 1\n1 -2 1\n",
+            "import_wide-2592.txt" => "865\n",
+            "import_wide-3066.txt" => "1023\n",
             name => panic!("{name} isn't known here"),
         };
         assert!(

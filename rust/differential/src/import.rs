@@ -1,9 +1,9 @@
-//! `import`: from permutations S and R to a symbol; refusals 12 to 15, 11 for
-//! the work space, 16, 11 for the result space.
+//! `import` and `import_wide`: from permutations S and R to a symbol; refusals
+//! 12 to 15, 11 for the work space, 16, 11 for the result space.
 
 use farey::calls;
-use reference::permutations::Action;
-use reference::random::pairs::{pair, put_pair_fault, shallow_pair, PAIR_FAULTS};
+use reference::permutations::{Action, Rule};
+use reference::random::pairs::{pair, put_pair_fault, rows_pair, shallow_pair, PAIR_FAULTS};
 use reference::random::Rng;
 use reference::symbol::MAX_VERTICES;
 use reference::text::MAX_POINTS;
@@ -12,9 +12,17 @@ use crate::outcome::{Expected, Outcome};
 use crate::spaces::{work, Space};
 
 pub fn case(rng: &mut Rng) -> Outcome {
+    by(Rule::Leftmost, rng)
+}
+
+pub fn wide_case(rng: &mut Rng) -> Outcome {
+    by(Rule::Wide, rng)
+}
+
+fn by(rule: Rule, rng: &mut Rng) -> Outcome {
     let [s, r] = tables(rng);
-    let action = Action::new(&wide(&s), &wide(&r));
-    let made = action.as_ref().map(Action::by_points);
+    let action = Action::new(&signed(&s), &signed(&r));
+    let made = action.as_ref().map(|action| action.by_points(rule));
     let needed = match &made {
         Ok(Ok(imported)) => 3 * imported.v() + 1,
         _ => 20,
@@ -27,7 +35,11 @@ pub fn case(rng: &mut Rng) -> Outcome {
         out.enough(table.len())?;
         Ok(table)
     });
-    let came = calls::import(s.read(), r.read(), work.write(), out.write());
+    let call = match rule {
+        Rule::Leftmost => calls::import,
+        Rule::Wide => calls::import_wide,
+    };
+    let came = call(s.read(), r.read(), work.write(), out.write());
     let vertices = |table: &Vec<i64>| (table.len() - 1) / 3;
     let mut outcome = Outcome::with_work(&expected, vertices, came, &work);
     outcome.unchanged("s", &s);
@@ -39,16 +51,16 @@ pub fn case(rng: &mut Rng) -> Outcome {
     })
 }
 
-fn wide(table: &[u32]) -> Vec<i64> {
+fn signed(table: &[u32]) -> Vec<i64> {
     table.iter().map(|&point| point.into()).collect()
 }
 
 /// The tables of S and R, sound in three of four cases or so.
 fn tables(rng: &mut Rng) -> [Vec<u32>; 2] {
-    let sound = if rng.chance(2) {
-        shallow_pair(rng, MAX_VERTICES)
-    } else {
-        pair(rng)
+    let sound = match rng.below(100) {
+        0..=1 => shallow_pair(rng, MAX_VERTICES),
+        2..=4 => rows_pair(rng),
+        _ => pair(rng),
     };
     if rng.chance(30) {
         damaged(rng, sound.numbers())

@@ -40,13 +40,14 @@ use reference::random::Rng;
 pub type Call = (&'static str, fn(&mut Rng) -> Outcome);
 
 /// All calls.
-pub const CALLS: [Call; 8] = [
+pub const CALLS: [Call; 9] = [
     ("check", check::case),
     ("generators", generators::case),
     ("figures", figures::case),
     ("widths", widths::case),
     ("tables", tables::case),
     ("import", import::case),
+    ("import_wide", import::wide_case),
     ("query", query::case),
     ("same", same::case),
 ];

@@ -34,7 +34,7 @@ fn reachable(call: &str) -> BTreeSet<Reason> {
             let spaces = vec![(11, "work"), (11, "s"), (11, "r"), (11, "u")];
             [vec![(0, "")], symbol, spaces].concat()
         }
-        "import" => [vec![(0, "")], plain(12..=16), spaces].concat(),
+        "import" | "import_wide" => [vec![(0, "")], plain(12..=16), spaces].concat(),
         "query" => {
             let places = ["at 0", "inside", "at the end", "past the end"];
             let answers = places[..3].iter().map(|&place| (0, place)).collect();
@@ -76,6 +76,7 @@ fn every_call_is_as_the_reference_has_it() {
     assert_eq!(calls["generators"].largest, 1_024);
     assert_eq!(calls["tables"].largest, 4_090);
     assert_eq!(calls["import"].largest, 1_023);
+    assert_eq!(calls["import_wide"].largest, 1_023);
     assert!(calls["widths"].largest >= 500);
     assert!(calls["query"].largest >= 30_000);
     // Over all calls each number from 1 to 16; 17 is met by a figure alone.

@@ -170,8 +170,11 @@ fn calls_stay_within_the_stack_that_the_header_names() {
         measure("farey_import", &mut || {
             let _ = black_box(calls::import(&s, &r, &mut work, &mut table));
         });
+        measure("farey_import_wide", &mut || {
+            let _ = black_box(calls::import_wide(&s, &r, &mut work, &mut table));
+        });
     }
-    assert_eq!(most.0.len(), 8);
+    assert_eq!(most.0.len(), 9);
     let promised = promised();
     println!("a thread by itself: {nothing}; FAREY_STACK: {promised}");
     for (call, bytes) in most.0 {

@@ -80,6 +80,17 @@ mod engine {
             out_len: usize,
             place: *mut usize,
         ) -> u64;
+        pub fn farey_import_wide(
+            s: *const u32,
+            s_len: usize,
+            r: *const u32,
+            r_len: usize,
+            work: *mut u16,
+            work_len: usize,
+            out: *mut i64,
+            out_len: usize,
+            place: *mut usize,
+        ) -> u64;
         pub fn farey_query(
             v: usize,
             t: *const i64,
@@ -209,11 +220,37 @@ pub fn tables(
     answer(number, place)
 }
 
-/// The table of a symbol for S and R to the front of out: its vertices.
+/// The table of a symbol for S and R to the front of out: its vertices. The
+/// leftmost open side is split.
 pub fn import(s: &[u32], r: &[u32], work: &mut [u16], out: &mut [i64]) -> Result<usize, Refusal> {
     let mut place = UNWRITTEN;
     let number = unsafe {
         engine::farey_import(
+            s.as_ptr(),
+            s.len(),
+            r.as_ptr(),
+            r.len(),
+            work.as_mut_ptr(),
+            work.len(),
+            out.as_mut_ptr(),
+            out.len(),
+            &mut place,
+        )
+    };
+    answer(number, place)
+}
+
+/// The same by the wide rule: the side that has been open longest is split, so
+/// that entries stay small.
+pub fn import_wide(
+    s: &[u32],
+    r: &[u32],
+    work: &mut [u16],
+    out: &mut [i64],
+) -> Result<usize, Refusal> {
+    let mut place = UNWRITTEN;
+    let number = unsafe {
+        engine::farey_import_wide(
             s.as_ptr(),
             s.len(),
             r.as_ptr(),

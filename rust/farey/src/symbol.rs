@@ -45,6 +45,9 @@ pub struct Tables {
     pub t: Vec<u32>,
 }
 
+/// Either import of `calls`: S, R, work space and result space lent.
+type Import = fn(&[u32], &[u32], &mut [u16], &mut [i64]) -> Result<usize, Refusal>;
+
 /// A fresh work space.
 fn work() -> Vec<u16> {
     vec![0; WORK]
@@ -80,10 +83,32 @@ impl Symbol {
     }
 
     /// The symbol of the matrices that fix point 0, from the images of the
-    /// points under S and R; refusals 12 to 16.
+    /// points under S and R; refusals 12 to 16. The leftmost open side is split,
+    /// so that entries grow, and most groups of an index over a few hundred are
+    /// refused with 16; `from_permutations_wide` answers these.
     pub fn from_permutations(s: &[u32], r: &[u32]) -> Result<Symbol, Refusal> {
+        Symbol::imported(calls::import, s, r)
+    }
+
+    /// Another symbol of the same group, by the wide rule: the side that has
+    /// been open longest is split, so that entries stay small, and 16 is for
+    /// groups that are deep in whatever order. Refusals 12 to 16.
+    ///
+    /// ```
+    /// use farey::Symbol;
+    ///
+    /// let gamma0_2 = Symbol::from_permutations_wide(&[1, 0, 2], &[2, 0, 1])?;
+    /// assert_eq!(gamma0_2.table(), [0, 1, 1, 1, 1, -2, 1]);
+    /// assert_eq!(gamma0_2.tables().s, [1, 0, 2]);
+    /// # Ok::<(), farey::Refusal>(())
+    /// ```
+    pub fn from_permutations_wide(s: &[u32], r: &[u32]) -> Result<Symbol, Refusal> {
+        Symbol::imported(calls::import_wide, s, r)
+    }
+
+    fn imported(import: Import, s: &[u32], r: &[u32]) -> Result<Symbol, Refusal> {
         let mut table = vec![0; TABLE];
-        let v = calls::import(s, r, &mut work(), &mut table)?;
+        let v = import(s, r, &mut work(), &mut table)?;
         table.truncate(3 * v + 1);
         Ok(Symbol { v, table })
     }

@@ -130,6 +130,34 @@ fn permutations_and_back() {
     );
 }
 
+/// The same by the wide rule, and a group for which the two rules differ: the
+/// symbols have other vertices, and the same tables.
+#[test]
+fn permutations_and_back_by_the_wide_rule() {
+    let group = Symbol::from_permutations_wide(&[1, 0, 2], &[2, 0, 1]).expect("a transitive pair");
+    assert_eq!(group, gamma0_2());
+    let split =
+        Symbol::from_permutations_wide(&[1, 0, 2], &[0, 1, 2]).expect_err("2 isn't reached");
+    assert_eq!(
+        split,
+        Refusal {
+            number: 15,
+            place: 2
+        }
+    );
+    let gamma0_11 = Symbol::new(
+        &[(0, 1), (1, 3), (1, 2), (2, 3), (1, 1)],
+        &[1, 2, 3, 2, 3, 1],
+    )
+    .expect("a symbol");
+    let tables = gamma0_11.tables();
+    let leftmost = Symbol::from_permutations(&tables.s, &tables.r).expect("small entries");
+    let wide = Symbol::from_permutations_wide(&tables.s, &tables.r).expect("small entries");
+    assert!(!wide.is_same(&leftmost));
+    assert_eq!(wide.tables(), tables);
+    assert_eq!(leftmost.tables(), tables);
+}
+
 /// The vertices 0, 1, 2, .. and all sides even.
 fn integers(v: i64) -> Result<Symbol, Refusal> {
     let vertices: Vec<(i64, i64)> = (0..v).map(|k| (k, 1)).collect();

@@ -17,12 +17,14 @@
 //! | `polygon`      | carrying an edge back into the polygon, with the letters used   |
 //! | `coset`        | tables of S, R, T and the figures drawn from them               |
 //! | `word`         | pair queries: membership, the walk, multiplying a word out      |
-//! | `permutations` | checks 12 to 16, from two permutations to a symbol              |
-//! | `report`       | the whole output of the three programs                          |
+//! | `permutations` | checks 12 to 16, from two permutations to a symbol, two rules   |
+//! | `congruence`   | the permutations of Γ0(N), Γ1(N) and Γ(N)                       |
+//! | `report`       | the whole output of the four programs                           |
 //! | `random`       | test symbols, pairs, matrices and texts, sound and damaged      |
 
 #![forbid(unsafe_code)]
 
+pub mod congruence;
 pub mod coset;
 pub mod matrix;
 pub mod permutations;
@@ -35,4 +37,4 @@ pub mod text;
 pub mod word;
 
 pub use refusal::Refusal;
-pub use report::{import, listing, query};
+pub use report::{import, import_wide, listing, query};

@@ -1,14 +1,16 @@
 //! From two permutations to a symbol of the group that fixes point 0.
 //!
 //! A matrix moves a point along its alternating word: S by the one table, Q as
-//! S R^-1 S. The rule that finds the symbol is here twice:
+//! S R^-1 S. The two rules that find a symbol differ in which open side they
+//! split, which is what `Rule` says. Each is here twice:
 //!
 //! - `by_rule` takes it at its word: it forms the matrix of every pairing that
 //!   it tries, asks whether that matrix fixes point 0, and begins again after
 //!   each split;
 //! - `by_points` keeps for each side the point that its frame takes 0 to, which
-//!   decides every pairing without a matrix, and after a split looks at the two
-//!   new sides only. It is quick enough for 3,066 points.
+//!   decides every pairing without a matrix, and after a split visits only the
+//!   open sides that one of the two new ones can have changed. It is quick
+//!   enough for 3,066 points.
 
 use crate::matrix::{Matrix, Q, S, T};
 use crate::refusal::Refusal;
@@ -21,6 +23,27 @@ use crate::word::{alternating_word, Turn};
 pub struct Action {
     s: Vec<usize>,
     r: Vec<usize>,
+}
+
+/// Which of the open sides is split.
+#[derive(Clone, Copy, Debug, PartialEq, Eq)]
+pub enum Rule {
+    /// The leftmost one: `import`.
+    Leftmost,
+    /// The one that has been open longest: `import_wide`.
+    Wide,
+}
+
+impl Rule {
+    /// The side to split, if one is open. `since` says of each side when it
+    /// came to be, and is read for open sides alone.
+    fn choice(self, marks: &[Mark], since: &[usize]) -> Option<usize> {
+        let mut open = (0..marks.len()).filter(|&i| marks[i] == Mark::Open);
+        match self {
+            Rule::Leftmost => open.next(),
+            Rule::Wide => open.min_by_key(|&i| since[i]),
+        }
+    }
 }
 
 /// A symbol as numbers.
@@ -149,12 +172,14 @@ impl Action {
     }
 
     /// The symbol by the rule to the letter, or refusal 16.
-    pub fn by_rule(&self) -> Result<Imported, Refusal> {
+    pub fn by_rule(&self, rule: Rule) -> Result<Imported, Refusal> {
         let mut vertices = match self.beginning() {
             Ok(imported) => return Ok(imported),
             Err(vertices) => vertices,
         };
         let mut marks = vec![Mark::Open; vertices.len() + 1];
+        let mut came = marks.len();
+        let mut since: Vec<usize> = (0..came).collect();
         let mut pairs = 0;
         loop {
             // Visit the open sides from the left.
@@ -178,13 +203,17 @@ impl Action {
                     }
                 }
             }
-            // Split the leftmost one that stays open.
-            let Some(side) = marks.iter().position(|&mark| mark == Mark::Open) else {
+            // Split one that stays open.
+            let Some(side) = rule.choice(&marks, &since) else {
                 break;
             };
             let (left, right) = ends(&vertices, side);
             vertices.insert(side, mediant(left, right, side)?);
             marks.insert(side, Mark::Open);
+            // The left part came before the right one.
+            since[side] = came + 1;
+            since.insert(side, came);
+            came += 2;
         }
         Ok(Imported {
             vertices,
@@ -193,74 +222,62 @@ impl Action {
     }
 
     /// The symbol by the points of the sides, or refusal 16.
-    pub fn by_points(&self) -> Result<Imported, Refusal> {
-        let vertices = match self.beginning() {
+    pub fn by_points(&self, rule: Rule) -> Result<Imported, Refusal> {
+        let mut vertices = match self.beginning() {
             Ok(imported) => return Ok(imported),
             Err(vertices) => vertices,
         };
-        let mut sides: Vec<Open> = (0..=vertices.len())
-            .map(|i| {
-                let (left, right) = ends(&vertices, i);
-                Open {
-                    left,
-                    right,
-                    point: self.moved(0, frame(&vertices, i)),
-                    mark: Mark::Open,
-                }
-            })
+        let mut points: Vec<usize> = (0..=vertices.len())
+            .map(|i| self.moved(0, frame(&vertices, i)))
             .collect();
+        let mut marks = vec![Mark::Open; points.len()];
+        let mut came = marks.len();
+        let mut since: Vec<usize> = (0..came).collect();
         let mut pairs = 0;
-        for i in 0..sides.len() {
-            self.settle(&mut sides, i, &mut pairs);
+        for i in 0..marks.len() {
+            self.visit(&points, &mut marks, i, &mut pairs);
         }
-        // Left of here nothing is open.
-        let mut at = 0;
-        while at < sides.len() {
-            if sides[at].mark != Mark::Open {
-                at += 1;
-                continue;
-            }
-            let Open {
-                left, right, point, ..
-            } = sides[at];
-            let middle = mediant(left, right, at)?;
+        while let Some(side) = rule.choice(&marks, &since) {
+            let (left, right) = ends(&vertices, side);
+            vertices.insert(side, mediant(left, right, side)?);
             // The left part has the frame M Q S, the right part M Q^-1 S.
-            let part = |left, right, turn| Open {
-                left,
-                right,
-                point: self.turned(self.turned(point, turn), Turn::S),
-                mark: Mark::Open,
-            };
-            sides[at] = part(middle, right, Turn::QInverse);
-            sides.insert(at, part(left, middle, Turn::Q));
-            self.settle(&mut sides, at, &mut pairs);
-            self.settle(&mut sides, at + 1, &mut pairs);
+            let [one, other] = [Turn::Q, Turn::QInverse]
+                .map(|turn| self.turned(self.turned(points[side], turn), Turn::S));
+            points[side] = other;
+            points.insert(side, one);
+            since[side] = came + 1;
+            since.insert(side, came);
+            came += 2;
+            marks.insert(side, Mark::Open);
+            for i in 0..marks.len() {
+                let across = self.turned(points[i], Turn::S);
+                if i == side || i == side + 1 || across == one || across == other {
+                    self.visit(&points, &mut marks, i, &mut pairs);
+                }
+            }
         }
-        let inner = sides.len() - 1;
-        let marks: Vec<Mark> = sides.iter().map(|side| side.mark).collect();
         Ok(Imported {
-            vertices: sides[..inner].iter().map(|side| side.right).collect(),
+            vertices,
             pairings: labelled(&marks),
         })
     }
 
-    /// Pairs an open side by its point, if that can be done now.
-    fn settle(&self, sides: &mut [Open], i: usize, pairs: &mut usize) {
-        if sides[i].mark != Mark::Open {
+    /// Pairs a side by its point, if it is open and that can be done now.
+    fn visit(&self, points: &[usize], marks: &mut [Mark], i: usize, pairs: &mut usize) {
+        if marks[i] != Mark::Open {
             return;
         }
-        let point = sides[i].point;
-        let across = self.turned(point, Turn::S);
-        if across == point {
-            sides[i].mark = Mark::Even;
-        } else if self.turned(point, Turn::Q) == point {
-            sides[i].mark = Mark::Odd;
+        let across = self.turned(points[i], Turn::S);
+        if across == points[i] {
+            marks[i] = Mark::Even;
+        } else if self.turned(points[i], Turn::Q) == points[i] {
+            marks[i] = Mark::Odd;
         } else if let Some(k) =
-            (i + 1..sides.len()).find(|&k| sides[k].mark == Mark::Open && sides[k].point == across)
+            (i + 1..marks.len()).find(|&k| marks[k] == Mark::Open && points[k] == across)
         {
             *pairs += 1;
-            sides[i].mark = Mark::Free(*pairs);
-            sides[k].mark = Mark::Free(*pairs);
+            marks[i] = Mark::Free(*pairs);
+            marks[k] = Mark::Free(*pairs);
         }
     }
 }
@@ -273,15 +290,6 @@ enum Mark {
     Odd,
     /// Free, with the number of its pair in the order of pairing.
     Free(usize),
-}
-
-/// A side under way: its ends, the image of point 0 under its frame, its mark.
-#[derive(Clone, Copy, Debug)]
-struct Open {
-    left: (i64, i64),
-    right: (i64, i64),
-    point: usize,
-    mark: Mark,
 }
 
 fn ends(vertices: &[(i64, i64)], side: usize) -> ((i64, i64), (i64, i64)) {
@@ -345,8 +353,8 @@ impl Imported {
 
 /// A whole import with `space` numbers lent for the table of the symbol:
 /// refusals 12 to 15, 16, 11.
-pub fn import_pair(s: &[i64], r: &[i64], space: usize) -> Result<Imported, Refusal> {
-    let imported = Action::new(s, r)?.by_points()?;
+pub fn import_pair(rule: Rule, s: &[i64], r: &[i64], space: usize) -> Result<Imported, Refusal> {
+    let imported = Action::new(s, r)?.by_points(rule)?;
     let needed = 3 * imported.v() + 1;
     if space < needed {
         return Err(Refusal::new(11, needed));
@@ -394,23 +402,41 @@ mod tests {
         assert_eq!(refusal(&[1, 0, 3, 2], &[0, 1, 2, 3]), (15, 2));
     }
 
+    const RULES: [Rule; 2] = [Rule::Leftmost, Rule::Wide];
+
     #[test]
     fn the_named_instance() {
-        let imported = gamma0_2().by_rule().unwrap();
-        assert_eq!(imported.numbers(), [2, 0, 1, 1, 1, 1, -2, 1]);
-        assert_eq!(gamma0_2().by_points(), Ok(imported));
-        let short = import_pair(&[1, 0, 2], &[2, 0, 1], 6);
-        assert_eq!(short, Err(Refusal::new(11, 7)));
-        assert!(import_pair(&[1, 0, 2], &[2, 0, 1], 7).is_ok());
+        for rule in RULES {
+            let imported = gamma0_2().by_rule(rule).unwrap();
+            assert_eq!(imported.numbers(), [2, 0, 1, 1, 1, 1, -2, 1]);
+            assert_eq!(gamma0_2().by_points(rule), Ok(imported));
+            let short = import_pair(rule, &[1, 0, 2], &[2, 0, 1], 6);
+            assert_eq!(short, Err(Refusal::new(11, 7)));
+            assert!(import_pair(rule, &[1, 0, 2], &[2, 0, 1], 7).is_ok());
+        }
     }
 
     #[test]
     fn groups_without_a_triangle() {
-        let one = Action::new(&[0], &[0]).unwrap();
-        assert_eq!(one.by_rule().unwrap().numbers(), [1, 0, 1, -2, -3]);
-        assert_eq!(one.by_points(), one.by_rule());
-        let two = Action::new(&[1, 0], &[0, 1]).unwrap();
-        assert_eq!(two.by_rule().unwrap().numbers(), [1, 0, 1, -3, -3]);
-        assert_eq!(two.by_points(), two.by_rule());
+        for rule in RULES {
+            let one = Action::new(&[0], &[0]).unwrap();
+            assert_eq!(one.by_rule(rule).unwrap().numbers(), [1, 0, 1, -2, -3]);
+            assert_eq!(one.by_points(rule), one.by_rule(rule));
+            let two = Action::new(&[1, 0], &[0, 1]).unwrap();
+            assert_eq!(two.by_rule(rule).unwrap().numbers(), [1, 0, 1, -3, -3]);
+            assert_eq!(two.by_points(rule), two.by_rule(rule));
+        }
+    }
+
+    /// The side that each rule takes.
+    #[test]
+    fn the_choice_of_a_side() {
+        let (open, done) = (Mark::Open, Mark::Even);
+        let chosen = |marks: &[Mark], since: &[usize]| RULES.map(|rule| rule.choice(marks, since));
+        let since = [5, 3, 4, 0, 2];
+        assert_eq!(chosen(&[open; 5], &since), [Some(0), Some(3)]);
+        let marks = [done, open, open, done, open];
+        assert_eq!(chosen(&marks, &since), [Some(1), Some(4)]);
+        assert_eq!(chosen(&[done; 5], &since), [None, None]);
     }
 }

@@ -1,9 +1,9 @@
-//! The whole output of the three programs, from the bytes of standard input.
+//! The whole output of the four programs, from the bytes of standard input.
 
 use std::fmt::{Display, Write};
 
 use crate::coset::Cosets;
-use crate::permutations::{import_pair, Imported};
+use crate::permutations::{import_pair, Imported, Rule};
 use crate::refusal::Refusal;
 use crate::symbol::{Symbol, MAX_VERTICES};
 use crate::text::{numbers, Format, MAX_POINTS};
@@ -89,7 +89,16 @@ fn try_query(text: &[u8]) -> Result<Vec<i16>, Refusal> {
 /// What the import program prints: v, the vertices and the pairings, a line
 /// each.
 pub fn import(text: &[u8]) -> String {
-    match try_import(text) {
+    symbol_text(try_import(Rule::Leftmost, text))
+}
+
+/// What the program `import_wide` prints: the same by the wide rule.
+pub fn import_wide(text: &[u8]) -> String {
+    symbol_text(try_import(Rule::Wide, text))
+}
+
+fn symbol_text(answer: Result<Imported, Refusal>) -> String {
+    match answer {
         Ok(imported) => {
             let join = |numbers: Vec<i64>| {
                 let pieces: Vec<String> = numbers.iter().map(i64::to_string).collect();
@@ -107,7 +116,7 @@ pub fn import(text: &[u8]) -> String {
     }
 }
 
-fn try_import(text: &[u8]) -> Result<Imported, Refusal> {
+fn try_import(rule: Rule, text: &[u8]) -> Result<Imported, Refusal> {
     let numbers = numbers(text, Format::Import)?;
     let n = numbers[0];
     if !(1..=MAX_POINTS).contains(&n) {
@@ -115,5 +124,5 @@ fn try_import(text: &[u8]) -> Result<Imported, Refusal> {
     }
     let (s, r) = numbers[1..].split_at(n as usize);
     // The program lends space for the largest symbol.
-    import_pair(s, r, 3 * MAX_VERTICES + 1)
+    import_pair(rule, s, r, 3 * MAX_VERTICES + 1)
 }

@@ -8,7 +8,8 @@ use std::fs;
 use std::path::PathBuf;
 
 use child::{repository, Program};
-use reference::{import, listing, query};
+use reference::congruence::gamma0;
+use reference::{import, import_wide, listing, query};
 
 /// One program's examples.
 struct Kind {
@@ -39,7 +40,14 @@ const IMPORTS: Kind = Kind {
     input: "pair",
     output: "symbol",
     reference: import,
-    least: 1,
+    least: 7,
+};
+
+/// The same inputs by the wide rule.
+const WIDE_IMPORTS: Kind = Kind {
+    output: "wide",
+    reference: import_wide,
+    ..IMPORTS
 };
 
 struct Example {
@@ -113,7 +121,7 @@ impl Kind {
 
 #[test]
 fn by_the_reference() {
-    for kind in [LISTINGS, QUERIES, IMPORTS] {
+    for kind in [LISTINGS, QUERIES, IMPORTS, WIDE_IMPORTS] {
         kind.by_the_reference();
     }
 }
@@ -131,6 +139,32 @@ fn queries_by_the_program() {
 #[test]
 fn imports_by_the_program() {
     IMPORTS.by_the_program("IMPORT_PROGRAM");
+}
+
+#[test]
+fn wide_imports_by_the_program() {
+    WIDE_IMPORTS.by_the_program("IMPORT_WIDE_PROGRAM");
+}
+
+/// Γ0(120), from the projective line over Z/120 alone: refused by the one rule,
+/// and by the other a symbol whose cosets are permuted as those of the group.
+#[test]
+fn gamma0_120() {
+    let pair = gamma0(120);
+    let line = |table: &[i64]| {
+        let pieces: Vec<String> = table.iter().map(i64::to_string).collect();
+        pieces.join(" ")
+    };
+    let (s, r) = (line(&pair.s), line(&pair.r));
+    let examples = IMPORTS.examples();
+    let example = examples.iter().find(|one| one.name == "gamma0-120");
+    let example = example.expect("the pair is among the examples");
+    let text = format!("288\n{s}\n{r}\n");
+    assert_eq!(String::from_utf8_lossy(&example.text), text);
+    assert!(example.expected.starts_with("refused 16 "));
+    // The pair has the numbers of the listing already.
+    let listed = listing(WIDE_IMPORTS.expected("gamma0-120").as_bytes());
+    assert!(listed.contains(&format!("\nS {s}\nR {r}\nT ")), "{listed}");
 }
 
 /// The lines that the engine's paper on conventions states.
@@ -178,7 +212,9 @@ fn stated_outputs() {
     ] {
         assert_eq!(QUERIES.expected(name), answer, "{name}");
     }
-    assert_eq!(IMPORTS.expected("gamma0-2"), "2\n0 1 1 1\n1 -2 1\n");
+    for kind in [IMPORTS, WIDE_IMPORTS] {
+        assert_eq!(kind.expected("gamma0-2"), "2\n0 1 1 1\n1 -2 1\n");
+    }
 }
 
 /// The group called so contains no whole congruence group of its level: its

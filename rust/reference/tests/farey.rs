@@ -98,7 +98,10 @@ impl Folder {
         for file in ["farey", SENTENCES, "examples/gamma0-2.txt"] {
             fs::copy(repository().join(file), folder.at(file)).expect("it can be copied");
         }
-        folder.put("crates.txt", "low:\nlisting: low io\nquery: low\n");
+        folder.put(
+            "crates.txt",
+            "low:\nlisting: low io\nquery: low\nimport_wide: low\n",
+        );
         folder.put("crates/low/src/lib.rt", "first");
         folder.put("crates/listing/src/main.rt", "");
         folder.put("bin/rt", RT);
@@ -395,18 +398,20 @@ fn refusals_are_explained() {
     for entry in fs::read_dir(folder).expect("there are examples") {
         let path = entry.expect("it can be listed").path();
         let kind = path.extension().and_then(|kind| kind.to_str());
-        let name = match kind {
-            Some("txt") => "listing",
-            Some("query") => "query",
-            Some("pair") => "import",
+        let names: &[&str] = match kind {
+            Some("txt") => &["listing"],
+            Some("query") => &["query"],
+            Some("pair") => &["import", "import-wide"],
             _ => panic!("{}: no program reads this", path.display()),
         };
-        let came = run_on(&farey, name, &fs::read(&path).expect("it can be read"));
-        let stdout = text(&came.stdout);
-        let line = stdout.lines().find(|line| line.contains("refused "));
-        let line = line.unwrap_or_else(|| panic!("{}: {stdout}", path.display()));
-        assert_eq!(text(&came.stderr), explained(line), "{}", path.display());
-        assert!(came.status.success(), "{}", path.display());
+        for name in names {
+            let came = run_on(&farey, name, &fs::read(&path).expect("it can be read"));
+            let stdout = text(&came.stdout);
+            let line = stdout.lines().find(|line| line.contains("refused "));
+            let line = line.unwrap_or_else(|| panic!("{}: {stdout}", path.display()));
+            assert_eq!(text(&came.stderr), explained(line), "{}", path.display());
+            assert!(came.status.success(), "{}", path.display());
+        }
         seen += 1;
     }
     assert!(seen >= 17, "only {seen} examples");
@@ -428,7 +433,7 @@ fn a_refusal_is_passed_on() {
     let Some(farey) = farey() else {
         return;
     };
-    for name in ["listing", "query", "import"] {
+    for name in ["listing", "query", "import", "import-wide"] {
         for line in ["refused 15 2\n", "refused 19 65536\n"] {
             let came = run_on(&farey, name, line.as_bytes());
             assert_eq!(text(&came.stdout), line);
@@ -504,13 +509,33 @@ fn the_repository_is_that_of_the_run() {
 #[test]
 fn wrong_words_are_refused() {
     let farey = repository().join("farey");
-    for words in [&["list"][..], &["listing", "query"], &["-h"]] {
+    for words in [
+        &["list"][..],
+        &["listing", "query"],
+        &["-h"],
+        &["import_wide"],
+        &["import wide"],
+    ] {
         let came = Command::new(&farey).args(words).output();
         let came = came.expect("./farey starts");
         assert_eq!(came.status.code(), Some(2));
         assert_eq!(text(&came.stdout), "");
         assert!(text(&came.stderr).starts_with("usage: ./farey"));
     }
+}
+
+/// The crate of `import-wide` has a name without a dash.
+#[test]
+fn a_dash_in_a_name() {
+    let folder = Folder::new("dash");
+    let came = folder.run(&["import-wide"]);
+    assert_eq!(text(&came.stdout), "first\n");
+    let asked = fs::read_to_string(folder.at("asked")).expect("rt was asked");
+    assert!(
+        asked.lines().all(|line| line == "check import_wide"),
+        "{asked}"
+    );
+    assert!(folder.at("target/farey/import_wide").is_file());
 }
 
 /// Texts are kept for a moment in files that are gone afterwards.

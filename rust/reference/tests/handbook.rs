@@ -16,7 +16,7 @@ use std::fs;
 use std::process::Command;
 
 use child::{farey, repository, Program};
-use reference::{import, listing, query};
+use reference::{import, import_wide, listing, query};
 
 /// A block between two fences: what stands behind the first one, and the lines.
 struct Block {
@@ -90,6 +90,7 @@ fn answers(program: &str, text: &[u8]) -> [String; 2] {
         "listing" => ("LISTING_PROGRAM", listing),
         "query" => ("QUERY_PROGRAM", query),
         "import" => ("IMPORT_PROGRAM", import),
+        "import-wide" => ("IMPORT_WIDE_PROGRAM", import_wide),
         _ => panic!("there is no program {program}"),
     };
     let expected = reference(text);
@@ -168,7 +169,7 @@ fn commands_print_what_is_shown() {
         }
         programs.extend(command.split(' ').nth(1).map(str::to_string));
     }
-    for program in ["listing", "query", "import"] {
+    for program in ["listing", "query", "import", "import-wide"] {
         assert!(
             programs.iter().any(|name| name == program),
             "no example of {program}"

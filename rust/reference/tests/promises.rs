@@ -1,9 +1,10 @@
 //! docs/PROMISES.md names files of definitions, files of proofs and wrong
-//! programs: each of them is there, and each wrong program is named.
+//! programs: each of them is there, and each wrong program is named. The names
+//! of definitions mean one thing in all crates.
 
 mod child;
 
-use std::collections::BTreeSet;
+use std::collections::{BTreeMap, BTreeSet};
 use std::ffi::OsStr;
 use std::fs;
 use std::path::{Path, PathBuf};
@@ -87,4 +88,122 @@ fn wrong_programs_are_there_and_named() {
     assert!(further.len() > 40, "only {} further edits", further.len());
     assert_eq!(named(1), tried);
     assert_eq!(named(2), further);
+}
+
+/// The files of definitions, of all crates.
+fn definition_files() -> Vec<PathBuf> {
+    fn below(folder: &Path, files: &mut Vec<PathBuf>) {
+        for entry in fs::read_dir(folder).unwrap_or_else(|e| panic!("{}: {e}", folder.display())) {
+            let path = entry.expect("the folder can be read").path();
+            if path.is_dir() {
+                below(&path, files);
+            } else if path.extension().is_some_and(|end| end == "antt") {
+                files.push(path);
+            }
+        }
+    }
+    let mut files = Vec::new();
+    for entry in fs::read_dir(repository().join("crates")).expect("the crates") {
+        let specs = entry.expect("the folder can be read").path().join("specs");
+        if specs.is_dir() {
+            below(&specs, &mut files);
+        }
+    }
+    files
+}
+
+/// The name that a line of definitions gives to something, as in
+/// `abbrev pub pick : ..` or `pub record Claim (..`.
+fn defined(line: &str) -> Option<&str> {
+    let forms = ["abbrev pub ", "unfoldable pub ", "pub record ", "pub data "];
+    let rest = forms
+        .iter()
+        .find_map(|form| line.trim_start().strip_prefix(form))?;
+    rest.split([' ', ':']).next()
+}
+
+/// A name is defined in one crate, and so means one thing. The mediant of two
+/// fractions is one thing whether denominators are integers or naturals.
+#[test]
+fn names_mean_one_thing() {
+    let crates = repository().join("crates");
+    let mut homes: BTreeMap<String, BTreeSet<String>> = BTreeMap::new();
+    for path in definition_files() {
+        let inside = path.strip_prefix(&crates).expect("a file of a crate");
+        let home = inside
+            .iter()
+            .next()
+            .and_then(OsStr::to_str)
+            .expect("a name");
+        let text = fs::read_to_string(&path).expect("the file can be read");
+        for name in text.lines().filter_map(defined) {
+            homes
+                .entry(name.to_string())
+                .or_default()
+                .insert(home.to_string());
+        }
+    }
+    assert!(homes.len() > 400, "only {} names are defined", homes.len());
+    let twice: Vec<_> = homes.iter().filter(|(_, homes)| homes.len() > 1).collect();
+    let names: Vec<_> = twice.iter().map(|(name, _)| name.as_str()).collect();
+    assert_eq!(names, ["mediant"], "{twice:?}");
+}
+
+/// Where the page names a file of definitions and then, behind a comma, names,
+/// the file has them.
+#[test]
+fn named_definitions_are_in_their_files() {
+    let page = promises();
+    let crates = repository().join("crates");
+    let parts: Vec<&str> = page.split('`').collect();
+    let mut file: Option<String> = None;
+    let mut found = 0;
+    for k in (1..parts.len()).step_by(2) {
+        let (before, name) = (parts[k - 1], parts[k]);
+        if name.contains("/specs/") && name.ends_with(".antt") {
+            file = fs::read_to_string(crates.join(name)).ok();
+        } else if before != ", " || name.contains(['/', '.', ' ']) {
+            file = None;
+        } else if let Some(text) = &file {
+            let word = |c: char| c.is_alphanumeric() || c == '-' || c == '\'';
+            let there = text.split(|c| !word(c)).any(|part| part == name);
+            assert!(there, "`{name}` isn't in the file named before it");
+            found += 1;
+        }
+    }
+    assert!(found > 30, "only {found} names behind files");
+}
+
+/// The counts of lines in the list of what a referee reads: without blank lines
+/// and imports.
+#[test]
+fn lines_to_read_are_counted() {
+    let page = promises();
+    let crates = repository().join("crates");
+    let count = |name: &str| {
+        let text = fs::read_to_string(crates.join(name)).expect("the file can be read");
+        let lines = text.lines().map(str::trim);
+        lines
+            .filter(|line| !line.is_empty() && !line.starts_with("use "))
+            .count()
+    };
+    let mut counts = Vec::new();
+    for line in page.lines() {
+        let cells: Vec<&str> = line.trim_matches('|').split(" | ").map(str::trim).collect();
+        let [number, _, files, lines] = cells[..] else {
+            continue;
+        };
+        let Ok(number) = number.parse::<usize>() else {
+            continue;
+        };
+        counts.push(quoted(files).map(count).sum::<usize>());
+        assert_eq!(counts.len(), number);
+        assert_eq!(lines, counts[number - 1].to_string(), "row {number}");
+    }
+    assert_eq!(counts.len(), 8);
+    let calls: usize = counts[..6].iter().sum();
+    let all: usize = counts.iter().sum();
+    assert!(page.contains(&format!(
+        "imports; {calls} for the calls of the library,\nrows 1 to 6, and {all} in all"
+    )));
 }

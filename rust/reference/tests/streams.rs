@@ -9,10 +9,10 @@
 //! | a reader that is gone  | the system's signal ends it, unless it is ignored: then as a write    |
 //! | nothing, but a pause   | the answer to the whole text                                          |
 //!
-//! Each test is made of each of the three programs (`LISTING_PROGRAM`,
-//! `QUERY_PROGRAM`, `IMPORT_PROGRAM`) and of `./farey` with each of their names
-//! (`FAREY_PROGRAM`), whose exit status isn't 0 then. A program of the engine
-//! has no exit status of its own to give.
+//! Each test is made of each of the four programs (`LISTING_PROGRAM`,
+//! `QUERY_PROGRAM`, `IMPORT_PROGRAM`, `IMPORT_WIDE_PROGRAM`) and of `./farey`
+//! with each of their names (`FAREY_PROGRAM`), whose exit status isn't 0 then. A
+//! program of the engine has no exit status of its own to give.
 
 mod child;
 
@@ -29,7 +29,7 @@ use child::{farey, repository, shown, Program};
 use reference::random::pairs::shallow_pair;
 use reference::random::Rng;
 use reference::text::MAX_TEXT;
-use reference::{import, listing, query};
+use reference::{import, import_wide, listing, query};
 
 /// How long a program may take before it counts as hanging.
 const TIME_LIMIT: Duration = Duration::from_secs(120);
@@ -72,7 +72,7 @@ impl Subject {
             fn(&[u8]) -> String,
             &'static str,
         );
-        let rows: [Row; 3] = [
+        let rows: [Row; 4] = [
             (
                 "LISTING_PROGRAM",
                 "listing",
@@ -86,6 +86,12 @@ impl Subject {
                 "2 0 1 1 1 1 -2 1 0 -1 1 0 0 -1 1 20",
             ),
             ("IMPORT_PROGRAM", "import", import, "3\n1 0 2\n2 0 1\n"),
+            (
+                "IMPORT_WIDE_PROGRAM",
+                "import-wide",
+                import_wide,
+                "3\n1 0 2\n2 0 1\n",
+            ),
         ];
         let mut all = Vec::new();
         for by_script in [false, true] {
@@ -138,7 +144,7 @@ impl Subject {
                 let pieces: Vec<String> = pair.iter().map(i64::to_string).collect();
                 let pair = pieces.join(" ");
                 match self.name {
-                    "import" => pair,
+                    "import" | "import-wide" => pair,
                     _ => import(pair.as_bytes()),
                 }
             }

@@ -6,14 +6,16 @@
 --   lowerAt, upperAt     the two parts of a side: 0·M Q S and 0·M Q⁻¹ S are their points
 --   isClosed B m         whether a side with the point m is paired where the sides have the points B: it is odd, or the point beyond it
 --                        is a side's, its own where it is even, else its partner's
---   Cut                  no side is open; or the leftmost open one was split; or it can't be, and this is its number
---   cutIn B i l          the leftmost open side of l is split, B being the points of all sides and i the number of the first
---   grow n l             n splits at the most
+--   opensAt B l          which sides of l are open, B being the points of all sides
+--   partsAt i l          side i is split
+--   fitsIn i l           whether the vertex at which side i is split keeps to the limit
+--   growBy order n k came l    n splits at the most, of the sides that the order chooses; k sides came so far, those of l as the numbers came
+--   grow order n l       the same from a start l of three sides
 --   markOf m             what a closed side with the point m is paired as
 --   rowsOf l             the sides of l with these marks
 --   startPlaced          the start of the rule
---   quickOf n            THE RULE BY POINTS: for every pair of permutations it is `ruleOf` (proofs/Theorem.antt, `rule-is`)
-use mathlib.Core.Bool.{Bool, true, false, _||_, _&&_}
+--   quickBy order n      THE RULE BY POINTS: for every pair of permutations it is `ruleBy order` (proofs/Theorem.antt, `rule-is`)
+use mathlib.Core.Bool.{Bool, true, false, not, _||_, _&&_}
 use mathlib.Core.List.{List, [], _∷_}
 use Prim.Native.Nat.{ℕ, zero, suc, _-_}
 use lib.Dec.{eqb}
@@ -22,7 +24,8 @@ use lib.IntN.{ℤ, pos, negsuc}
 use Rattle.basics.specs.Choice.{pick}
 use Rattle.numbering.specs.Find.{isIn}
 use Rattle.import_rule.specs.Side.{Vertex, vertex, minusInfinity, infinity, Interval, interval, mediant, fits}
-use Rattle.import_rule.specs.Rule.{Mark, even, odd, free, Row, row, least}
+use Rattle.import_rule.specs.Order.{Order, Chosen, none, this, chosenBy}
+use Rattle.import_rule.specs.Rule.{Mark, even, odd, free, Row, row, least, cameAfter, startCame}
 use Rattle.import_rule.specs.Symbol as symbol
 use Rattle.import_rule.specs.Symbol.{symbolTable, Ruled, made, oneVertex}
 
@@ -41,24 +44,14 @@ abbrev pub pts : List Placed → List ℕ
 pts [] = []
 pts (u ∷ l) = u .pt ∷ pts l
 
-pub data Cut : Type 0 where
-  closed : Cut
-  parted : List Placed → Cut
-  over : ℕ → Cut
-
-abbrev pub next : Placed → Cut → Cut
-next u closed = closed
-next u (parted l) = parted (u ∷ l)
-next u (over i) = over i
-
 pub data Grew : Type 0 where
   finished : List Placed → Grew
   refused : ℕ → Grew
 
-abbrev pub goOn : (List Placed → Grew) → List Placed → Cut → Grew
-goOn again l closed = finished l
-goOn again l (parted l') = again l'
-goOn again l (over i) = refused i
+abbrev pub fitsIn : ℕ → List Placed → Bool
+fitsIn i [] = true
+fitsIn zero (u ∷ l) = fits (mediant (u .lo) (u .hi))
+fitsIn (suc i) (u ∷ l) = fitsIn i l
 
 module _ (σ κ : ℕ → ℕ) where
   abbrev pub lowerAt : Placed → Placed
@@ -70,13 +63,25 @@ module _ (σ κ : ℕ → ℕ) where
   abbrev pub isClosed : List ℕ → ℕ → Bool
   isClosed B m = eqb (κ m) m || isIn B (σ m)
 
-  abbrev pub cutIn : List ℕ → ℕ → List Placed → Cut
-  cutIn B i [] = closed
-  cutIn B i (u ∷ l) = pick (isClosed B (u .pt)) (next u (cutIn B (suc i) l)) (pick (fits (mediant (u .lo) (u .hi))) (parted (lowerAt u ∷ upperAt u ∷ l)) (over i))
+  abbrev pub opensAt : List ℕ → List Placed → List Bool
+  opensAt B [] = []
+  opensAt B (u ∷ l) = not (isClosed B (u .pt)) ∷ opensAt B l
 
-  abbrev pub grow : ℕ → List Placed → Grew
-  grow zero l = finished l
-  grow (suc n) l = goOn (grow n) l (cutIn (pts l) 0 l)
+  abbrev pub partsAt : ℕ → List Placed → List Placed
+  partsAt i [] = []
+  partsAt zero (u ∷ l) = lowerAt u ∷ upperAt u ∷ l
+  partsAt (suc i) (u ∷ l) = u ∷ partsAt i l
+
+  abbrev pub goOn : (ℕ → List ℕ → List Placed → Grew) → ℕ → List ℕ → List Placed → Chosen → Grew
+  goOn again k came l none = finished l
+  goOn again k came l (this i) = pick (fitsIn i l) (again (suc (suc k)) (cameAfter k i came) (partsAt i l)) (refused i)
+
+  abbrev pub growBy : Order → ℕ → ℕ → List ℕ → List Placed → Grew
+  growBy order zero k came l = finished l
+  growBy order (suc n) k came l = goOn (growBy order n) k came l (chosenBy order came (opensAt (pts l) l))
+
+  abbrev pub grow : Order → ℕ → List Placed → Grew
+  grow order n l = growBy order n 3 startCame l
 
   abbrev pub markOf : ℕ → Mark
   markOf m = pick (eqb (σ m) m) even (pick (eqb (κ m) m) odd (free (least m (σ m))))
@@ -101,8 +106,8 @@ module _ (σ κ : ℕ → ℕ) where
   symbolBy (finished l) = made (length l - 1) (symbolTable (rowsOf l))
   symbolBy (refused i) = symbol.over i
 
-  abbrev pub quickOf : ℕ → Ruled
-  quickOf n =
+  abbrev pub quickBy : Order → ℕ → Ruled
+  quickBy order n =
       pick (eqb (σ 0) 0 && eqb (κ 0) 0) (oneVertex (negsuc 1) (negsuc 2))
       (pick (eqb (κ 0) 0 && eqb (κ (σ 0)) (σ 0)) (oneVertex (negsuc 2) (negsuc 2))
-      (symbolBy (grow n startPlaced)))
+      (symbolBy (grow order n startPlaced)))

@@ -1,8 +1,7 @@
 -- `grow` looks where Q leads from point 0: if Q moves it, the group is neither of the small ones (`moved-by-Q`, `first-moved`) and its
 -- symbol is grown; if Q fixes it, `grow_fixed` looks further. Assumes nothing.
-use mathlib.Core.Path.{_≡_, refl, sym, _∙_, ap}
-use native.Mathlib.Omega.{arith}
 use Rattle.import_table.proofs.Answers.{answers, rule-large, moved-by-Q, first-moved}
+use Rattle.import_table.specs.Answer.{orderBy}
 use borrow.Author.Needs.{needs}
 use Rattle.import_table.proofs.grow.Statement.{statement}
 use Rattle.import_table.proofs.grow.Tie as tie
@@ -29,7 +28,7 @@ grow-large-requires c κs =
     let R = s .args .r .now in
     let O = s .args .out .now in
     let z = s .pre in
-    (z .0, z .1, moved-by-Q S R (z .0) _ (c .before .before .before .turned .ensures) (c .before .before .if1 .left))
+    (z .0, z .1, moved-by-Q (orderBy (s .args .wide)) S R (z .0) _ (c .before .before .before .turned .ensures) (c .before .before .if1 .left))
 
 same-length-3 : tie.Need-same-length-3
 same-length-3 c = search needs
@@ -39,17 +38,16 @@ same-length-4 c = search needs
 
 returns-2 : tie.Need-returns-2
 returns-2 c =
-    let s = c .before .before .before .before .before .before .before .before .before .before .before in
+    let g = c .before .before .before in
+    let i = g .before .before .before in
+    let t = i .before in
+    let s = t .before .before .before .before in
     let S = s .args .s .now in
     let R = s .args .r .now in
     let O = s .args .out .now in
     let z = s .pre in
-    answers _ _ _ O _ (rule-large S R (z .0)
-    (moved-by-Q S R (z .0) _ (c .before .before .before .before .before .before .before .turned .ensures)
-    (c .before .before .before .before .before .before .if1 .left))
-    (first-moved S R (z .0) _ (c .before .before .before .before .before .before .before .turned .ensures)
-    (c .before .before .before .before .before .before .if1 .left))) (c .before .before .before .grow-large .ensures .0)
-    (c .before .before .before .grow-large .ensures .1)
+    answers _ _ _ O _ (rule-large (orderBy (s .args .wide)) S R (z .0) (moved-by-Q (orderBy (s .args .wide)) S R (z .0) _ (t .turned .ensures) (i .if1 .left))
+    (first-moved (orderBy (s .args .wide)) S R (z .0) _ (t .turned .ensures) (i .if1 .left))) (g .grow-large .ensures .0) (g .grow-large .ensures .1)
 
 pub grow-spec : {M : Type 1} → statement M
 grow-spec =

@@ -1,8 +1,7 @@
 -- `grow_fixed`, where Q fixes point 0, has three cases: S fixes it too, pairings -2 -3 (`rule-first`); Q also fixes its S image, pairings
 -- -3 -3 (`rule-second`); any other group is grown (`rule-large`). Assumes nothing.
-use mathlib.Core.Path.{_≡_, refl, sym, _∙_, ap}
-use native.Mathlib.Omega.{arith}
 use Rattle.import_table.proofs.Answers.{answers, rule-first, rule-second, rule-large, neither, first-no}
+use Rattle.import_table.specs.Answer.{orderBy}
 use borrow.Author.Needs.{needs}
 use Rattle.import_table.proofs.grow_fixed.Statement.{statement}
 use Rattle.import_table.proofs.grow_fixed.Tie as tie
@@ -18,13 +17,16 @@ same-length c = search needs
 
 returns : tie.Need-returns
 returns c =
-    let s = c .before .before .before .before .before .before .before .before in
+    let g = c .before in
+    let i = g .before .before in
+    let a = i .before in
+    let s = a .before .before .before .before in
     let S = s .args .s .now in
     let R = s .args .r .now in
     let O = s .args .out .now in
     let z = s .pre in
-    answers _ _ _ O _ (rule-first S R (z .0) (z .2) _ (c .before .before .before .before .image .ensures) (c .before .before .before .if1 .taken))
-    (c .before .grow-small .ensures .0) (c .before .grow-small .ensures .1)
+    answers _ _ _ O _ (rule-first (orderBy (s .args .wide)) S R (z .0) (z .2) _ (a .image .ensures) (i .if1 .taken)) (g .grow-small .ensures .0)
+    (g .grow-small .ensures .1)
 
 turned-requires : tie.Need-turned-requires
 turned-requires c κs = search needs
@@ -37,27 +39,30 @@ same-length-2 c = search needs
 
 returns-2 : tie.Need-returns-2
 returns-2 c =
-    let s = c .before .before .before .before .before .before .before .before .before .before in
+    let g = c .before in
+    let i = g .before .before in
+    let t = i .before in
+    let a = t .before in
+    let b = a .before in
+    let s = b .before .before .before .before in
     let S = s .args .s .now in
     let R = s .args .r .now in
     let O = s .args .out .now in
     let z = s .pre in
-    answers _ _ _ O _ (rule-second S R (z .0) (z .2) _ _ (c .before .before .before .before .before .before .image .ensures)
-    (c .before .before .before .before .before .if1 .left) (c .before .before .before .before .turned .ensures) (c .before .before .before .if2 .taken))
-    (c .before .grow-small2 .ensures .0) (c .before .grow-small2 .ensures .1)
+    answers _ _ _ O _ (rule-second (orderBy (s .args .wide)) S R (z .0) (z .2) _ _ (b .image .ensures) (a .if1 .left) (t .turned .ensures) (i .if2 .taken))
+    (g .grow-small2 .ensures .0) (g .grow-small2 .ensures .1)
 
 grow-large-requires : tie.Need-grow-large-requires
 grow-large-requires c κs =
-    let s = c .before .before .before .before .before .before .before .before .before in
+    let i = c .before .before in
+    let t = i .before in
+    let a = t .before .before in
+    let s = a .before .before .before .before in
     let S = s .args .s .now in
     let R = s .args .r .now in
     let O = s .args .out .now in
-    let z = s .pre in (
-      z .0,
-      z .1,
-      neither S R (z .0) _ _ (c .before .before .before .before .before .image .ensures) (c .before .before .before .turned .ensures)
-          (c .before .before .if2 .left),
-    )
+    let z = s .pre in
+    (z .0, z .1, neither (orderBy (s .args .wide)) S R (z .0) _ _ (a .image .ensures) (t .turned .ensures) (i .if2 .left))
 
 same-length-3 : tie.Need-same-length-3
 same-length-3 c = search needs
@@ -67,17 +72,19 @@ same-length-4 c = search needs
 
 returns-3 : tie.Need-returns-3
 returns-3 c =
-    let s = c .before .before .before .before .before .before .before .before .before .before .before .before .before in
+    let g = c .before .before .before in
+    let i = g .before .before .before in
+    let t = i .before in
+    let a = t .before in
+    let b = a .before in
+    let s = b .before .before .before .before in
     let S = s .args .s .now in
     let R = s .args .r .now in
     let O = s .args .out .now in
     let z = s .pre in
-    answers _ _ _ O _ (rule-large S R (z .0)
-    (neither S R (z .0) _ _ (c .before .before .before .before .before .before .before .before .before .image .ensures)
-    (c .before .before .before .before .before .before .before .turned .ensures) (c .before .before .before .before .before .before .if2 .left))
-    (first-no S R (z .0) _ (c .before .before .before .before .before .before .before .before .before .image .ensures)
-    (c .before .before .before .before .before .before .before .before .if1 .left))) (c .before .before .before .grow-large .ensures .0)
-    (c .before .before .before .grow-large .ensures .1)
+    answers _ _ _ O _ (rule-large (orderBy (s .args .wide)) S R (z .0)
+    (neither (orderBy (s .args .wide)) S R (z .0) _ _ (b .image .ensures) (t .turned .ensures) (i .if2 .left))
+    (first-no (orderBy (s .args .wide)) S R (z .0) _ (b .image .ensures) (a .if1 .left))) (g .grow-large .ensures .0) (g .grow-large .ensures .1)
 
 pub grow-fixed-spec : {M : Type 1} → statement M
 grow-fixed-spec =

@@ -4,8 +4,9 @@
 --   Paired               what writing one pairing does: -2, -3, the label's number, or the next free number where it has none
 --   pairingsIn w d       the pairings of the d sides done
 --   paired w d out       out with these pairings behind the vertex entries
---   written w d out      out with the symbol's table at its front
+--   tableWritten w d out  out with the symbol's table at its front
 --   SideToWrite          what writing one pairing asks for
+--   largeBy order s r    what the rule gives for a group that is none of the small ones
 use mathlib.Core.Path.{_≡_}
 use mathlib.Core.Bool.{Bool}
 use mathlib.Core.List.{List, [], _∷_, _++_}
@@ -14,9 +15,10 @@ use lib.ListN.{length, getD, set, take, drop}
 use lib.IntN.{ℤ, pos, negsuc}
 use Rattle.import_rule.specs.Fixed.{image, byQ, Pair}
 use Rattle.import_rule.specs.Rule.{Mark, even, odd, free, least}
-use Rattle.import_rule.specs.Symbol.{labelsOf, rowEntries, symbolTable}
-use Rattle.import_rule.specs.Inner.Placed.{rowsOf, markOf}
-use Rattle.import_walk.specs.Inner.Work.{LABEL, DONE, Whole, cellPlace, endAt, pointAt, doneIn}
+use Rattle.import_rule.specs.Order.{Order}
+use Rattle.import_rule.specs.Symbol.{labelsOf, rowEntries, symbolTable, Ruled}
+use Rattle.import_rule.specs.Inner.Placed.{rowsOf, markOf, symbolBy}
+use Rattle.import_walk.specs.Inner.Work.{LABEL, DONE, cellPlace, endAt, pointAt, doneIn, grownBy}
 
 abbrev pub verticesTo : List ℕ → ℕ → List ℤ
 verticesTo w zero = []
@@ -37,8 +39,8 @@ module _ (σ κ : ℕ → ℕ) where
   abbrev pub paired : List ℕ → ℕ → List ℤ → List ℤ
   paired w d out = take (2 * (d - 1)) out ++ pairingsIn w d ++ drop (3 * (d - 1) + 1) out
 
-  abbrev pub written : List ℕ → ℕ → List ℤ → List ℤ
-  written w d out = symbolTable (rowsOf σ κ (doneIn w d)) ++ drop (3 * (d - 1) + 1) out
+  abbrev pub tableWritten : List ℕ → ℕ → List ℤ → List ℤ
+  tableWritten w d out = symbolTable (rowsOf σ κ (doneIn w d)) ++ drop (3 * (d - 1) + 1) out
 
 -- what writing one pairing asks for
 pub record SideToWrite (s r w : List ℕ) (out : List ℤ) (i j c : ℕ) : Type 0 where
@@ -48,3 +50,6 @@ pub record SideToWrite (s r w : List ℕ) (out : List ℤ) (i j c : ℕ) : Type 
   pub low : pointAt w (cellPlace DONE i) < length s
   pub few : c ≤ 1024
   pub room : j < length out
+
+abbrev pub largeBy : Order → (s r : List ℕ) → Ruled
+largeBy order s r = symbolBy (image s) (byQ (image s) (image r)) (grownBy order s r)

@@ -8,7 +8,7 @@ use lib.ListN.{length, getD, take, length-set}
 use lib.Seq.{take-all}
 use mir.Syntax.{w64}
 use mir.Facts.{toZ-ofZ}
-use Rattle.import_text.specs.Answer.{pointOf}
+use Rattle.import_text.specs.Answer.{tablePoint}
 use Rattle.import_text.specs.Spaces.{filled}
 use Rattle.import_text.proofs.Entries.{points-more, filled-none}
 use borrow.Author.Needs.{needs}
@@ -16,7 +16,7 @@ use Rattle.import_text.proofs.fill_points.Statement.{statement}
 use Rattle.import_text.proofs.fill_points.Tie as tie
 
 abbrev Inv-loop : tie.InvT-loop
-Inv-loop numbers out₀ i₀ out i = (out ≡ filled (map pointOf (take i numbers)) out₀) × (i ≤ length numbers) × (length out ≡ length out₀)
+Inv-loop numbers out₀ i₀ out i = (out ≡ filled (map tablePoint (take i numbers)) out₀) × (i ≤ length numbers) × (length out ≡ length out₀)
 
 abbrev μ-loop : tie.MeasureT-loop
 μ-loop numbers out₀ i₀ out i = length numbers - i
@@ -66,7 +66,7 @@ returns c =
     let s = c .before .before .before in
     let ns = s .args .numbers .now in
     let all : q .i ≡ length ns = omega (arith, q .inv .1, c .loop-test .left) in
-    q .inv .0 ∙ ap (λ (l : List ℤ). filled (map pointOf l) (s .args .out .now)) (take-all (q .i) ns (omega (arith, all)))
+    q .inv .0 ∙ ap (λ (l : List ℤ). filled (map tablePoint l) (s .args .out .now)) (take-all (q .i) ns (omega (arith, all)))
 
 pub fill-points-spec : {M : Type 1} → statement M
 fill-points-spec =

@@ -7,6 +7,7 @@ use lib.ListN.{length, take}
 use lib.Seq.{length-take-le}
 use Rattle.text_line.proofs.Placing.{puts-as}
 use Rattle.refusal.specs.Refusal.{pointCount}
+use Rattle.import_table.specs.Answer.{orderBy}
 use Rattle.import_text.specs.Answer.{pointsFrom, importLines, linesFor}
 use Rattle.import_text.proofs.Answering.{few-numbers, enough-numbers, untouched, leaves-as, leaves}
 use Rattle.import_text.proofs.Entries.{part-length, part-filled, filled-take}
@@ -24,9 +25,9 @@ returns : tie.Need-returns
 returns c =
     let s = c .before .before .before .before .before .before .before .before .before in
     let e = few-numbers (s .args .numbers .now) ((c .before .before .before .before) .if1 .taken) in (
-      puts-as (ap linesFor e) ((c .before .before) .refusal-line .ensures),
+      puts-as (ap (linesFor (orderBy (s .args .wide))) e) ((c .before .before) .refusal-line .ensures),
       leaves-as e
-          (untouched pointCount (s .args .s .now) (s .args .r .now) (s .args .w .now) (s .args .table .now)),
+          (untouched (orderBy (s .args .wide)) pointCount (s .args .s .now) (s .args .r .now) (s .args .w .now) (s .args .table .now)),
     )
 
 sub-n : tie.Need-sub-n
@@ -133,10 +134,11 @@ returns-2 c =
     let second = part-filled (n + 1) (n + 1 + n - (n + 1)) n ns (s .args .r .now) (b .fill-points2 .last .1 .0) (omega arith) (b .fill-points2 .ensures) in
     let S = filled-take 1 n ns (s .args .s .now) (a .fill-points .last .1 .0) first (omega (arith, d .if1 .left)) in
     let R = filled-take (n + 1) n ns (s .args .r .now) (b .fill-points2 .last .1 .0) second (omega (arith, d .if1 .left)) in
+    let order = orderBy (s .args .wide) in
     let e = enough-numbers ns (d .if1 .left) in (
-      puts-as (ap (λ (x : List ℕ). importLines x (take n (b .fill-points2 .last .1 .0))) S ∙ ap (importLines (pointsFrom 1 n ns)) R ∙ ap linesFor e)
+      puts-as (ap (λ (x : List ℕ). importLines order x (take n (b .fill-points2 .last .1 .0))) S ∙ ap (importLines order (pointsFrom 1 n ns)) R ∙ ap (linesFor order) e)
           (l .import-lines .ensures .0),
-      leaves-as e (leaves _ _ _ _ (s .args .s .now) (s .args .r .now) (s .args .w .now) _ _ _ (s .args .table .now) _ S R first second
+      leaves-as e (leaves order _ _ _ _ (s .args .s .now) (s .args .r .now) (s .args .w .now) _ _ _ (s .args .table .now) _ S R first second
           (l .import-lines .ensures .1 .0) (l .import-lines .ensures .1 .1)),
     )
 

@@ -15,6 +15,8 @@ use Rattle.text.specs.declared.Reading.the-variants.{Numbers}
 use Rattle.text.proofs.Handed.{Handed, input-on}
 use Rattle.text_line.proofs.Placing.{puts-as}
 use Rattle.import_text.specs.Answer.{tablesIn, importFormat, requestBy, requestOf}
+use Rattle.import_rule.specs.Order.{Order}
+use Rattle.import_table.specs.Answer.{orderBy}
 use Rattle.import_text.specs.Spaces.{numbersLeft}
 use Rattle.import_text.proofs.Answering.{asked-by, numbers-by, lines-as, handed-numbers, untouched, leaves-as}
 use borrow.Author.Needs.{needs}
@@ -31,6 +33,9 @@ module _ (d : tie.After-read-input) where
 
   abbrev longer : Bool
   longer = start .args .longer
+
+  abbrev order : Order
+  order = orderBy (start .args .wide)
 
   told : d .read-input .result ≡ inputOf longer importFormat text 6133
   told = d .read-input .ensures .0 ∙ ap (inputOf longer importFormat text) (start .pre .0)
@@ -99,12 +104,12 @@ returns c =
     let d = k .before .before .before in
     let s = start d in
     let e = asks d _ (k .read .given .1) in (
-      puts-as (lines-as (longer d) (text d) e)
+      puts-as (lines-as (longer d) (text d) (order d) e)
           ((c .before .before) .refusal-line .ensures),
       (
         numbers-are d,
         leaves-as e
-            (untouched _ (s .args .s .now) (s .args .r .now) (s .args .w .now) (s .args .table .now)),
+            (untouched (order d) _ (s .args .s .now) (s .args .r .now) (s .args .w .now) (s .args .table .now)),
       ),
     )
 
@@ -132,7 +137,7 @@ returns-2 c =
     let k = n .before .before .before .before .before .before .before .before in
     let d = called k in
     let e = ap tablesIn (handed k) ∙ asks d (Numbers (count k)) (k .read2 .given .1) in
-    (puts-as (lines-as (longer d) (text d) e) (n .import-numbers .ensures .0), (numbers-are d, leaves-as e (n .import-numbers .ensures .1)))
+    (puts-as (lines-as (longer d) (text d) (order d) e) (n .import-numbers .ensures .0), (numbers-are d, leaves-as e (n .import-numbers .ensures .1)))
 
 pub import-text-spec : {M : Type 1} → statement M
 import-text-spec =

@@ -14,11 +14,14 @@
 --   todoIn x w k         the k sides to do, x being the left end of the first
 --   cellSet w at e d m   w with the five numbers of a side there
 --   closedIn w m         whether a side with the point m is closed, by the table HELD
---   fitsIn w d k         whether the first side to do can be split within the limit
+--   topFits w d k        whether the first side to do can be split within the limit
 --   splitBy w k e c      w with the first side to do split at the vertex whose numbers are e and c; splitIn w d k: at its mediant
 --   SideTaken            what one turn of the walk does: a closed side moves on, an open one is split, or can't be
 --   startIn w            w with the sides of the start to do
---   Ground s r w         what the walk asks for; Walked s r w stop d: what it leaves, with Whole where the rule ends with d sides
+--   Large s r            the group is none of the small ones; Ground s r w: what the walk asks for
+--   Done s r w d         d sides are done: what the writing of the table asks for
+--   grownBy order s r    what the rule by points comes to under an order
+--   WalkLeaves order s r w stop d  what a walk leaves: the side d that can't be split, or, with Whole, the d sides that the rule ends with
 use mathlib.Core.Path.{_≡_}
 use mathlib.Core.Bool.{Bool, true, false, not, _&&_, _||_}
 use mathlib.Core.List.{List, [], _∷_, _++_}
@@ -28,8 +31,9 @@ use lib.ListN.{length, getD, set}
 use lib.IntN.{ℤ, pos, _-ℤ_}
 use Rattle.basics.specs.Choice.{pick}
 use Rattle.import_rule.specs.Fixed.{image, byQ, Permuting, Pair}
+use Rattle.import_rule.specs.Order.{Order}
 use Rattle.import_rule.specs.Side.{Vertex, vertex, minusInfinity, limit}
-use Rattle.import_rule.specs.Inner.Placed.{Placed, placedSide, finished, refused, grow, startPlaced}
+use Rattle.import_rule.specs.Inner.Placed.{Placed, placedSide, Grew, finished, refused, grow, startPlaced}
 
 abbrev pub LABEL : ℕ
 LABEL = 4096
@@ -88,8 +92,8 @@ sumNum w d k = leftEndNum w d + twoCells w (cellPlace TODO (k - 1))
 abbrev pub sumDen : List ℕ → (d k : ℕ) → ℕ
 sumDen w d k = leftEndDen w d + twoCells w (cellPlace TODO (k - 1) + 2)
 
-abbrev pub fitsIn : List ℕ → (d k : ℕ) → Bool
-fitsIn w d k = leb 1000000000 (sumNum w d k) && leb (sumNum w d k) 3000000000 && leb (sumDen w d k) 1000000000
+abbrev pub topFits : List ℕ → (d k : ℕ) → Bool
+topFits w d k = leb 1000000000 (sumNum w d k) && leb (sumNum w d k) 3000000000 && leb (sumDen w d k) 1000000000
 
 abbrev pub topPoint : List ℕ → ℕ → ℕ
 topPoint w k = pointAt w (cellPlace TODO (k - 1))
@@ -117,8 +121,8 @@ module _ (σ κ : ℕ → ℕ) where
 
   pub data SideTaken (w : List ℕ) (d k : ℕ) (w' : List ℕ) (stop : Bool) (d' k' : ℕ) : Type 0 where
     moved : closedIn w (topPoint w k) ≡ true → w' ≡ movedIn w d k → stop ≡ false → d' ≡ d + 1 → k' ≡ k - 1 → SideTaken w d k w' stop d' k'
-    over : closedIn w (topPoint w k) ≡ false → fitsIn w d k ≡ false → w' ≡ w → stop ≡ true → d' ≡ d → SideTaken w d k w' stop d' k'
-    parted : closedIn w (topPoint w k) ≡ false → fitsIn w d k ≡ true → w' ≡ splitIn w d k → stop ≡ false → d' ≡ d → k' ≡ k + 1 → SideTaken w d k w' stop d' k'
+    over : closedIn w (topPoint w k) ≡ false → topFits w d k ≡ false → w' ≡ w → stop ≡ true → d' ≡ d → SideTaken w d k w' stop d' k'
+    parted : closedIn w (topPoint w k) ≡ false → topFits w d k ≡ true → w' ≡ splitIn w d k → stop ≡ false → d' ≡ d → k' ≡ k + 1 → SideTaken w d k w' stop d' k'
 
 -- what a turn asks for
 pub record Top (s r w : List ℕ) (d k : ℕ) : Type 0 where
@@ -141,23 +145,35 @@ startIn σ κ w =
     (startBy w 999999999 1000000000 (σ (κ (σ 0))) (σ (κ (κ (σ 0)))) 0)
     (startBy w 1000000000 1000000001 (σ 0) (σ (κ 0)) (σ (κ (κ 0))))
 
+-- the group is none of the small ones: Q doesn't fix both point 0 and its S image
+abbrev pub Large : (s r : List ℕ) → Type 0
+Large s r = (eqb (byQ (image s) (image r) 0) 0 && eqb (byQ (image s) (image r) (image s 0)) (image s 0)) ≡ false
+
 -- the walk may begin: the work space is clear, and the group is none of the small ones
 pub record Ground (s r w : List ℕ) : Type 0 where
   pub pair : Pair s r
   pub long : 32768 ≤ length w
   pub clear : (j : ℕ) → getD w j 0 ≡ 0
-  pub large : (eqb (byQ (image s) (image r) 0) 0 && eqb (byQ (image s) (image r) (image s 0)) (image s 0)) ≡ false
+  pub large : Large s r
 
--- the sides done are what the rule ends with
-pub record Whole (s r w : List ℕ) (d : ℕ) : Type 0 where
+-- d sides are done, whatever order they were split in
+pub record Done (s r w : List ℕ) (d : ℕ) : Type 0 where
   pub pair : Pair s r
   pub long : 32768 ≤ length w
-  pub is : grow (image s) (byQ (image s) (image r)) (length s) (startPlaced (image s) (byQ (image s) (image r))) ≡ finished (doneIn w d)
   pub some : 3 ≤ d
   pub most : d ≤ 1024
   pub points : (i : ℕ) → i < d → pointAt w (cellPlace DONE i) < length s
   pub labels : (x : ℕ) → x < 4096 → getD w (LABEL + x) 0 ≡ 0
 
-pub data WalkLeaves (s r w : List ℕ) (stop : Bool) (d : ℕ) : Type 0 where
-  halted : stop ≡ true → grow (image s) (byQ (image s) (image r)) (length s) (startPlaced (image s) (byQ (image s) (image r))) ≡ refused d → WalkLeaves s r w stop d
-  whole : stop ≡ false → Whole s r w d → WalkLeaves s r w stop d
+-- what the rule by points comes to, from its start
+abbrev pub grownBy : Order → (s r : List ℕ) → Grew
+grownBy order s r = grow (image s) (byQ (image s) (image r)) order (length s) (startPlaced (image s) (byQ (image s) (image r)))
+
+-- the sides done are what the rule ends with
+pub record Whole (order : Order) (s r w : List ℕ) (d : ℕ) : Type 0 where
+  pub is : grownBy order s r ≡ finished (doneIn w d)
+  pub done : Done s r w d
+
+pub data WalkLeaves (order : Order) (s r w : List ℕ) (stop : Bool) (d : ℕ) : Type 0 where
+  halted : stop ≡ true → grownBy order s r ≡ refused d → WalkLeaves order s r w stop d
+  whole : stop ≡ false → Whole order s r w d → WalkLeaves order s r w stop d

@@ -2,9 +2,9 @@
 //!
 //!     benchmarks FOLDER [RUNS]
 //!
-//! FOLDER has the engine's programs `listing`, `query` and `import`. Each job is
-//! run RUNS times (200 unless given) by the engine and by the plain program, by
-//! turns.
+//! FOLDER has the engine's programs `listing`, `query`, `import` and
+//! `import_wide`. Each job is run RUNS times (200 unless given) by the engine and
+//! by the plain program, by turns.
 
 use std::path::Path;
 use std::{env, fs, io, process};
@@ -30,7 +30,7 @@ fn main() -> io::Result<()> {
         let job = input.name.split('-').next().unwrap_or_default();
         let all = Comparison::of(
             &Path::new(programs).join(job),
-            &here.with_file_name(format!("plain-{job}")),
+            &here.with_file_name(format!("plain-{}", job.replace('_', "-"))),
             &here.with_file_name("plain-nothing"),
             &text,
             runs,

@@ -1,4 +1,4 @@
-//! Whole texts for the three programs, by seed and case number. The first cases
+//! Whole texts for the programs, by seed and case number. The first cases
 //! of each run are fixed; they hold the smallest and the largest symbols.
 
 use super::drafts::{draft, draft_of_size, many_cusps, size, Draft};
@@ -182,7 +182,7 @@ const SMALL_PAIRS: [&str; 8] = [
     "",
 ];
 
-/// The text of one case for the import program.
+/// The text of one case for either import program.
 pub fn import_case(seed: u64, case: u64) -> Vec<u8> {
     if let Some(text) = SMALL_PAIRS.get(case as usize) {
         return text.as_bytes().to_vec();

@@ -8,7 +8,7 @@
 //! | `faults`   | symbols with faults 1 and 3 to 7, texts with fault 19      |
 //! | `matrices` | matrices of determinant 1, pairs with and without a word   |
 //! | `pairs`    | permutation pairs, with faults 12 to 15                    |
-//! | `cases`    | whole texts for the three programs                         |
+//! | `cases`    | whole texts for the programs                               |
 
 pub mod cases;
 pub mod drafts;

@@ -1,7 +1,8 @@
-//! Permutation pairs: transitive ones from dice or from symbols, and damaged
-//! ones.
+//! Permutation pairs: transitive ones from dice, from symbols or from trees, and
+//! damaged ones.
 
 use std::cmp::Ordering;
+use std::collections::HashMap;
 
 use super::drafts::{draft_of_size, pairings, polygon, size, Growth, Style, Zero};
 use super::rng::Rng;
@@ -55,6 +56,37 @@ impl Pair {
             r: table(&self.r),
         }
     }
+}
+
+/// All pairs of n points that pass the checks, under every numbering.
+pub fn all_pairs(n: usize) -> Vec<Pair> {
+    let mut permutations = vec![vec![]];
+    for _ in 0..n {
+        permutations = permutations
+            .into_iter()
+            .flat_map(|start: Vec<i64>| {
+                let free = (0..n as i64).filter(|image| !start.contains(image));
+                let next = |image| [start.clone(), vec![image]].concat();
+                free.map(next).collect::<Vec<_>>()
+            })
+            .collect();
+    }
+    let of_order = |k: usize| {
+        let back =
+            |p: &&Vec<i64>| (0..n).all(|start| (0..k).fold(start, |at, _| p[at] as usize) == start);
+        permutations.iter().filter(back).collect::<Vec<_>>()
+    };
+    let (twos, threes) = (of_order(2), of_order(3));
+    let pairs = twos
+        .iter()
+        .flat_map(|&s| threes.iter().map(move |&r| (s, r)));
+    pairs
+        .filter(|(s, r)| Action::new(s, r).is_ok())
+        .map(|(s, r)| Pair {
+            s: s.clone(),
+            r: r.clone(),
+        })
+        .collect()
 }
 
 /// A random permutation with cycles of one length and this many fixed points.
@@ -161,9 +193,7 @@ pub fn shallow_pair(rng: &mut Rng, v: usize) -> Pair {
             room -= 1;
         }
     }
-    let pair = Pair::of_symbol(&sound(&vertices, &pairings));
-    let names = names(rng, pair.points(), false);
-    pair.renamed(&names)
+    renamed(rng, &Pair::of_symbol(&sound(&vertices, &pairings)))
 }
 
 fn sound(vertices: &[(i64, i64)], pairings: &[i64]) -> Symbol {
@@ -285,6 +315,153 @@ pub fn pair_towards(rng: &mut Rng, num: i64, den: i64) -> (Pair, usize) {
     let symbol = sound(&seen, &pairings);
     let base = Cosets::new(&symbol).number(&symbol, away) as usize;
     (based(rng, &Pair::of_symbol(&symbol), base), place)
+}
+
+/// What lies across an edge, seen from the edge: a side of the polygon, or a
+/// triangle with its two further edges, left and right.
+#[derive(Clone, Debug)]
+pub enum Tree {
+    Even,
+    Odd,
+    /// Paired with the other side of this number.
+    Free(usize),
+    Triangle(Box<Tree>, Box<Tree>),
+}
+
+impl Tree {
+    /// Triangles in a row: each lies across the left or the right edge of the
+    /// one before, as `turns` says (true for left), and `side` makes what lies
+    /// across the other one, and at the end.
+    pub fn row(
+        turns: impl DoubleEndedIterator<Item = bool>,
+        mut side: impl FnMut() -> Tree,
+    ) -> Tree {
+        turns.rev().fold(side(), |inner, left| {
+            let other = Box::new(side());
+            match left {
+                true => Tree::Triangle(Box::new(inner), other),
+                false => Tree::Triangle(other, Box::new(inner)),
+            }
+        })
+    }
+}
+
+/// The tables of S and of Q while a tree is followed. S of a point is the point
+/// itself until something is hung across its edge.
+#[derive(Default)]
+struct Edges {
+    s: Vec<usize>,
+    q: Vec<usize>,
+    /// The edges that wait for the other side of their number.
+    waiting: HashMap<usize, usize>,
+}
+
+impl Edges {
+    /// A new triangle's edges, in the order of Q.
+    fn triangle(&mut self) -> [usize; 3] {
+        let first = self.s.len();
+        let edges = [first, first + 1, first + 2];
+        self.s.extend(edges);
+        self.q.extend([first + 1, first + 2, first]);
+        edges
+    }
+
+    fn join(&mut self, one: usize, other: usize) {
+        self.s[one] = other;
+        self.s[other] = one;
+    }
+
+    /// A triangle across the edge has its left edge by Q, its right one by Q^-1.
+    fn hang(&mut self, edge: usize, tree: &Tree) {
+        match tree {
+            Tree::Even => {}
+            Tree::Odd => {
+                let outer = self.s.len();
+                self.s.push(outer);
+                self.q.push(outer);
+                self.join(edge, outer);
+            }
+            Tree::Free(number) => match self.waiting.remove(number) {
+                Some(other) => self.join(edge, other),
+                None => {
+                    self.waiting.insert(*number, edge);
+                }
+            },
+            Tree::Triangle(left, right) => {
+                let [across, by_q, by_q_inverse] = self.triangle();
+                self.join(edge, across);
+                self.hang(by_q, left);
+                self.hang(by_q_inverse, right);
+            }
+        }
+    }
+}
+
+/// The pair of a triangle with these trees across its edges, from the left: seen
+/// from point 0 it has the vertices 0, 1 and infinity. Entries have no limit
+/// here, since no symbol is made.
+pub fn tree_pair(rng: &mut Rng, trees: [Tree; 3]) -> Pair {
+    let mut edges = Edges::default();
+    for (edge, tree) in edges.triangle().into_iter().zip(&trees) {
+        edges.hang(edge, tree);
+    }
+    let Edges { s, q, .. } = edges;
+    // R is S Q^-1 S, and Q^-1 is Q twice.
+    let r = |point: usize| s[q[q[s[point]]]];
+    let pair = Pair {
+        s: s.iter().map(|&image| image as i64).collect(),
+        r: (0..s.len()).map(|point| r(point) as i64).collect(),
+    };
+    renamed(rng, &pair)
+}
+
+/// Rows of triangles across the three edges of one, and across edges of these,
+/// that turn by turns or by dice; the sides are even, odd and free. Long rows
+/// that turn by turns need entries over 10^9 by either rule, each at a place of
+/// its own.
+pub fn rows_pair(rng: &mut Rng) -> Pair {
+    let share = rng.pick(&[0, 0, 10, 50]);
+    let mut frees = 0;
+    let mut side = |rng: &mut Rng| {
+        if rng.chance(share) {
+            frees += 1;
+            // Two sides of one number are near each other.
+            Tree::Free((frees - 1) / 2)
+        } else if rng.chance(50) {
+            Tree::Even
+        } else {
+            Tree::Odd
+        }
+    };
+    let mut branches = rng.below(5);
+    let trees = [(); 3].map(|()| {
+        Tree::row(row_turns(rng).into_iter(), || {
+            if branches > 0 && rng.chance(10) {
+                branches -= 1;
+                Tree::row(row_turns(rng).into_iter(), || side(rng))
+            } else {
+                side(rng)
+            }
+        })
+    });
+    tree_pair(rng, trees)
+}
+
+/// By turns, or by dice.
+fn row_turns(rng: &mut Rng) -> Vec<bool> {
+    let length = rng.below(70);
+    let first = rng.chance(50);
+    let by_dice = rng.chance(30);
+    let turn = |step: usize| (step % 2 == 0) == first;
+    (0..length)
+        .map(|step| if by_dice { rng.chance(50) } else { turn(step) })
+        .collect()
+}
+
+/// The pair with new names, 0 for the same point.
+pub fn renamed(rng: &mut Rng, pair: &Pair) -> Pair {
+    let names = names(rng, pair.points(), false);
+    pair.renamed(&names)
 }
 
 /// The pair with new names, 0 for the point `base`.

@@ -43,7 +43,7 @@ pub fn farey() -> Option<Program> {
     static PROVED: OnceLock<()> = OnceLock::new();
     let script = Program::named_by("FAREY_PROGRAM")?;
     PROVED.get_or_init(|| {
-        for name in ["listing", "query", "import"] {
+        for name in ["listing", "query", "import", "import-wide"] {
             let came = script.command().arg(name).stdin(Stdio::null()).output();
             let came = came.expect("./farey starts");
             let said = String::from_utf8_lossy(&came.stderr);

@@ -1,10 +1,11 @@
--- `import` meets its contract: 12 to 15 leave both spaces as they were (`refused`), and so does a short work space (`short`); an accepted
+-- `import_by` meets its contract: 12 to 15 leave both spaces as they were (`refused`), and so does a short work space (`short`); an accepted
 -- pair is what the rule asks for (`pair-of`), and `import_accepted` has its answer with what that means (`long`). Assumes nothing.
 use mathlib.Core.Path.{_≡_, sym, _∙_}
 use Rattle.permutations.proofs.Answering.{refused, short, long, pair-of}
+use Rattle.import_table.specs.Answer.{orderBy}
 use borrow.Author.Needs.{needs}
-use Rattle.permutations.proofs.import.Statement.{statement}
-use Rattle.permutations.proofs.import.Tie as tie
+use Rattle.permutations.proofs.import_by.Statement.{statement}
+use Rattle.permutations.proofs.import_by.Tie as tie
 
 check-requires : tie.Need-check-requires
 check-requires c κs = search needs
@@ -20,8 +21,8 @@ returns c =
     let k = c .before in
     let d = k .before .before in
     let s = d .before .before .before .before in
-    let b = short (s .args .s .now) (s .args .r .now) (s .args .w .now) (s .args .out .now) (sym (d .check .ensures .returned) ∙ k .enum-told .given .1)
-    (c .if1 .taken) in
+    let b = short (orderBy (s .args .wide)) (s .args .s .now) (s .args .r .now) (s .args .w .now) (s .args .out .now)
+    (sym (d .check .ensures .returned) ∙ k .enum-told .given .1) (c .if1 .taken) in
     (b .returned, (b .work, (b .result, b .means)))
 
 import-accepted-requires : tie.Need-import-accepted-requires
@@ -37,7 +38,8 @@ returns-2 c =
     let k = c .before in
     let d = k .before .before in
     let s = d .before .before .before .before in
-    let b = refused (s .args .s .now) (s .args .r .now) (s .args .w .now) (s .args .out .now) _ (sym (d .check .ensures .returned) ∙ k .checked .given .1) in
+    let b = refused (orderBy (s .args .wide)) (s .args .s .now) (s .args .r .now) (s .args .w .now) (s .args .out .now) _
+    (sym (d .check .ensures .returned) ∙ k .checked .given .1) in
     (b .returned, (b .work, (b .result, b .means)))
 
 same-length : tie.Need-same-length
@@ -54,12 +56,12 @@ returns-3 c =
     let d = k .before .before in
     let s = d .before .before .before .before in
     let a = g .import-accepted .ensures in
-    let b = long (s .args .s .now) (s .args .r .now) (s .args .w .now) (s .args .out .now) (sym (d .check .ensures .returned) ∙ k .enum-told .given .1)
-    (f .if1 .left) _ _ _ (a .0) (a .1 .0) (a .1 .1) in
+    let b = long (orderBy (s .args .wide)) (s .args .s .now) (s .args .r .now) (s .args .w .now) (s .args .out .now)
+    (sym (d .check .ensures .returned) ∙ k .enum-told .given .1) (f .if1 .left) _ _ _ (a .0) (a .1 .0) (a .1 .1) in
     (b .returned, (b .work, (b .result, b .means)))
 
-pub import-spec : {M : Type 1} → statement M
-import-spec =
+pub import-by-spec : {M : Type 1} → statement M
+import-by-spec =
     tie.close
     (tie.spec
     check-requires

@@ -1,0 +1,5 @@
+//! The program `import_wide` in plain Rust.
+
+fn main() -> std::io::Result<()> {
+    bench::run(bench::plain_import_wide)
+}
