@@ -1,7 +1,8 @@
 /* The Farey symbol engine: finite index subgroups of PSL2(Z) from C.
  *
- * Link with libengine.a, on x86-64 Linux. The code of every function below is proved to do what its comment says, and is then compiled
- * (docs/HANDBOOK.md says what is assumed there), for every input that keeps these rules of C's side, which nothing can check:
+ * Link with libengine.a, or with libfarey.so (./farey library), on x86-64 Linux. The code of every function below is proved to do what
+ * its comment says, and is then compiled (docs/HANDBOOK.md says what is assumed there), for every input that keeps these rules of C's
+ * side, which nothing can check:
  *   - a pointer with a length points to that many numbers of its type, aligned; where the length is 0 it may be anything, NULL too;
  *     the other pointers point to what their comment says, and none of them is NULL;
  *   - no two spaces that are lent for writing overlap, and none overlaps what is lent for reading;

@@ -1,6 +1,7 @@
 //! The pages of docs/HANDBOOK.md: what they show of files and of the programs'
 //! answers is so, by the reference, by the programs and by `./farey`. Its Rust
-//! blocks are tests of the crate `farey`. And the commands of README.md.
+//! blocks are tests of the crate `farey`, and its Python and Sage blocks are run
+//! by `python/tests/test_pages.py`. And the commands of README.md.
 //!
 //! | block                     | what is checked                                       |
 //! |---------------------------|-------------------------------------------------------|
@@ -178,7 +179,8 @@ fn commands_print_what_is_shown() {
 }
 
 /// The lines of README.md that begin with `./farey`; what they do stands behind
-/// some of them.
+/// some of them. `./farey library` answers nothing: the gate runs it, and the
+/// Python tests run what follows it on the page.
 #[test]
 fn commands_of_the_first_page() {
     let readme = page("README.md");
@@ -186,6 +188,7 @@ fn commands_of_the_first_page() {
     let commands: Vec<&str> = lines
         .filter(|line| line.starts_with("./farey"))
         .map(|line| line.split("  ").next().expect("there is a command"))
+        .filter(|command| *command != "./farey library")
         .collect();
     for command in &commands {
         let [reference, by_programs, by_script] = run(command);

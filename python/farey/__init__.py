@@ -1,0 +1,32 @@
+"""Finite index subgroups of PSL2(Z) by their Farey symbols.
+
+The answers are those of the proved engine; this package lends it its spaces
+and gives the results names. The package itself is tested and not proved.
+
+| module     | what it holds                                                   |
+|------------|-----------------------------------------------------------------|
+| `symbol`   | `Symbol`: a symbol and all that can be asked of it              |
+| `refusal`  | `Refusal`: the exception, with number, place and sentence       |
+| `evidence` | a check, without the engine, of the statement that no word is   |
+| `cycles`   | permutations as Sage, GAP and Magma write them, points from 1   |
+| `systems`  | from PARI's polygons, to Magma                                  |
+
+`./farey library` in the root of the repository makes the shared library that
+is called, `target/libfarey.so`; `FAREY_LIBRARY` names another file. It is
+looked for at the first call, so `farey.evidence` and `farey.cycles` work
+without it.
+
+>>> from farey import Symbol
+>>> gamma0_11 = Symbol([0, (1, 3), (1, 2), (2, 3), 1], [1, 2, 3, 2, 3, 1])
+>>> gamma0_11.index, gamma0_11.genus
+(12, 1)
+>>> gamma0_11.word((1, 0, 0, 1), (1, 0, 11, 1))
+[-2, 3, 2, -3, 1]
+"""
+
+from . import cycles, evidence
+from .refusal import Refusal
+from .symbol import Evidence, Generator, Symbol
+from . import systems  # stands on Symbol
+
+__all__ = ["Evidence", "Generator", "Refusal", "Symbol", "cycles", "evidence", "systems"]

@@ -1,0 +1,131 @@
+"""The shared library: where it is, its functions, and a work space a thread.
+
+What the header asks of C's side (`include/farey.h`) is kept here and in
+`symbol`: every space is a ctypes array of the right type that lives during the
+call, its length is passed from the array itself, and no two of them overlap.
+Result spaces belong to one call. Only the work space is used again: what stands
+in it at a call is free, and each thread has its own, since ctypes lets other
+threads run during a call.
+"""
+
+from __future__ import annotations
+
+import ctypes
+import os
+import threading
+from ctypes import POINTER, c_int16, c_int64, c_size_t, c_uint16, c_uint32, c_uint64
+from pathlib import Path
+from typing import Any, List, Optional, Tuple
+
+from .refusal import Refusal
+
+#: The environment variable that names another file.
+VARIABLE = "FAREY_LIBRARY"
+#: The repository that this package lies in.
+REPOSITORY = Path(__file__).resolve().parents[2]
+
+#: Lengths that are enough for every symbol, as the header has them.
+WORK = 32768
+TABLE = 3070
+GENERATORS = 5120
+COSETS = 4090
+
+_SYMBOL = [c_size_t, POINTER(c_int64), c_size_t]
+_WORK = [POINTER(c_uint16), c_size_t]
+_PLACE = [POINTER(c_size_t)]
+
+
+def _space(kind: Any) -> List[Any]:
+    return [POINTER(kind), c_size_t]
+
+
+#: The parameters of each function, as the header declares them.
+_PARAMETERS = {
+    "farey_check": _SYMBOL + _PLACE,
+    "farey_generators": _SYMBOL + _WORK + _space(c_int64) + _PLACE,
+    "farey_figures": _SYMBOL + _WORK + [POINTER(c_uint64)] + _PLACE,
+    "farey_widths": _SYMBOL + _WORK + _space(c_uint32) + _PLACE,
+    "farey_tables": _SYMBOL + _WORK + 3 * _space(c_uint32) + _PLACE,
+    "farey_import": 2 * _space(c_uint32) + _WORK + _space(c_int64) + _PLACE,
+    "farey_import_wide": 2 * _space(c_uint32) + _WORK + _space(c_int64) + _PLACE,
+    "farey_query": _SYMBOL + 2 * [POINTER(c_int64)] + _WORK + _space(c_int16) + [c_size_t] + _PLACE,
+    "farey_same": 2 * _SYMBOL + _WORK + _PLACE,
+}
+
+_lock = threading.Lock()
+_loaded: Optional[ctypes.CDLL] = None
+_threads = threading.local()
+
+
+def path() -> Path:
+    """The file of the library: what `FAREY_LIBRARY` names, or the repository's own."""
+    named = os.environ.get(VARIABLE)
+    return Path(named) if named else REPOSITORY / "target" / "libfarey.so"
+
+
+def load() -> ctypes.CDLL:
+    """The library with all its functions, or an OSError that says what to do."""
+    global _loaded
+    with _lock:
+        if _loaded is None:
+            _loaded = _open(path())
+        return _loaded
+
+
+def _open(file: Path) -> ctypes.CDLL:
+    if not file.is_file():
+        raise FileNotFoundError(
+            f"there is no {file}: run ./farey library in {REPOSITORY}, or set {VARIABLE} to the path of libfarey.so"
+        )
+    opened = ctypes.CDLL(str(file.resolve()))
+    for name, parameters in _PARAMETERS.items():
+        try:
+            function = getattr(opened, name)
+        except AttributeError:
+            raise OSError(f"{file} has no function {name}: run ./farey library once more") from None
+        function.argtypes = parameters
+        function.restype = c_uint64
+    return opened
+
+
+def work() -> Any:
+    """This thread's work space, the same at every call."""
+    space = getattr(_threads, "work", None)
+    if space is None:
+        space = _threads.work = (c_uint16 * WORK)()
+    return space
+
+
+def call(name: str, *arguments: Any) -> int:
+    """The count that a call answers with. A refusal is raised."""
+    number, place = answer(name, *arguments)
+    if number != 0:
+        raise Refusal(number, place)
+    return place
+
+
+def answer(name: str, *arguments: Any) -> Tuple[int, int]:
+    """The number that a call returns, and the place or the count that it writes.
+
+    An array stands for itself and its length, but for the four entries of a
+    matrix and the eight figures, whose lengths are fixed: these are `Fixed`.
+    """
+    place = c_size_t(0)
+    passed: List[Any] = []
+    for argument in arguments:
+        if isinstance(argument, Fixed):
+            passed.append(argument.array)
+        elif isinstance(argument, int):
+            passed.append(argument)
+        else:
+            passed += [argument, len(argument)]
+    return getattr(load(), name)(*passed, ctypes.byref(place)), place.value
+
+
+class Fixed:
+    """An array that is passed without its length."""
+
+    __slots__ = ("array",)
+
+    def __init__(self, array: Any) -> None:
+        self.array = array

@@ -1,0 +1,59 @@
+"""The refusals of the engine, as an exception."""
+
+from __future__ import annotations
+
+from typing import Dict
+
+#: The sentence of each refusal, with `{place}` for its place. The table is that
+#: of `rust/farey/refusals.txt`, and a test compares the two.
+SENTENCES: Dict[int, str] = {
+    1: "the number of vertices isn't from 1 to 1,023",
+    2: "the table has {place} numbers, which isn't 3v + 1",
+    3: "vertex entry {place} is out of range: a numerator over 10^9 in size, or a denominator that isn't from 1 to 10^9",
+    4: "side {place} has ends a/b and a'/b' without a'b - ab' = 1",
+    5: "no vertex is 0/1",
+    6: "the pairing of side {place} isn't allowed, or its label isn't on exactly two sides",
+    7: "there is one vertex and no odd side",
+    8: "matrix entry {place} is over 1,000,000 in size; 0 to 3 are those of A, 4 to 7 those of B",
+    9: "the determinant of matrix {place} isn't 1; 0 is A, 1 is B",
+    10: "there is no word: no product of generators and inverses takes A to B",
+    11: "a space is too short: it needs {place}",
+    12: "the index isn't from 1 to 3,066, or the tables differ in length",
+    13: "entry {place} is no point or is equal to an earlier one; it is one of S, or of R if S has no such fault",
+    14: "S twice or R three times moves point {place}",
+    15: "point {place} isn't reached from point 0",
+    16: "side {place} can't be split: a vertex entry would be over 10^9 in size",
+    17: "the level is 2^64 or more",
+    18: "the genus formula gives no whole number from 0",
+    19: "at byte {place} the text gets too long, has a piece that is no number of 64 signed bits, has a number too many or ends too early",
+}
+
+
+class Refusal(Exception):
+    """A refusal: its number, its place, and what is wrong in words.
+
+    >>> refusal = Refusal(15, 2)
+    >>> refusal.number, refusal.place, refusal.sentence
+    (15, 2, "point 2 isn't reached from point 0")
+    >>> print(refusal)
+    refused 15 2: point 2 isn't reached from point 0
+    """
+
+    number: int
+    place: int
+
+    def __init__(self, number: int, place: int) -> None:
+        super().__init__(number, place)
+        self.number = number
+        self.place = place
+
+    @property
+    def sentence(self) -> str:
+        """What is wrong, with the place put in."""
+        sentence = SENTENCES.get(self.number)
+        if sentence is None:
+            return f"refusal {self.number}, place {self.place}"
+        return sentence.replace("{place}", str(self.place))
+
+    def __str__(self) -> str:
+        return f"refused {self.number} {self.place}: {self.sentence}"

@@ -1,0 +1,349 @@
+"""Farey symbols, and what can be asked of them."""
+
+from __future__ import annotations
+
+import re
+from ctypes import c_int16, c_int64, c_uint32, c_uint64
+from typing import Any, Dict, List, NamedTuple, Optional, Sequence, Tuple
+
+from . import arguments, library
+from .arguments import Matrix, Vertex, clamped, integers, matrix, shown
+from .library import Fixed
+from .refusal import Refusal
+
+_KINDS = {1: "free", 2: "even", 3: "odd"}
+_LOW, _HIGH = -(2**63), 2**63 - 1
+_NO_POINT = 2**32 - 1
+#: How many letters a query is lent at first; a longer word is asked for again.
+_LETTERS = 1024
+_IDENTITY = (1, 0, 0, 1)
+
+
+class Generator(NamedTuple):
+    """A generator: its kind, 'free', 'even' or 'odd', and its matrix (a, b, c, d)."""
+
+    kind: str
+    matrix: Tuple[int, int, int, int]
+
+
+class Evidence(NamedTuple):
+    """What `farey.evidence.check` takes, in its order: `check(*evidence)`."""
+
+    generators: Tuple[Tuple[int, int, int, int], ...]
+    S: Tuple[int, ...]
+    R: Tuple[int, ...]
+    A: Tuple[int, int, int, int]
+    B: Tuple[int, int, int, int]
+
+
+class Symbol:
+    """An accepted Farey symbol, and the subgroup H that its generators generate.
+
+    `vertices` are the finite ones from left to right: pairs (numerator,
+    denominator), Fractions or integers. `pairings` has one number more, for the
+    sides from left to right: -2 (even), -3 (odd), or a label that stands on
+    exactly two sides. What isn't a symbol raises a `Refusal`, 1 to 7.
+
+    A matrix (a b; c d) is passed as a, b, c, d or as two rows, and counts up to
+    sign. A symbol never changes.
+
+    >>> gamma0_2 = Symbol([0, 1], [1, -2, 1])
+    >>> gamma0_2.index, gamma0_2.e2, gamma0_2.e3, gamma0_2.cusps, gamma0_2.genus
+    (3, 1, 0, 2, 0)
+    >>> Symbol([0], [-2, -2])
+    Traceback (most recent call last):
+    farey.refusal.Refusal: refused 7 0: there is one vertex and no odd side
+    """
+
+    __slots__ = ("_v", "_numbers", "_space", "_found")
+
+    _v: int
+    _numbers: Tuple[int, ...]
+    _space: Any
+    _found: Dict[str, Any]
+
+    def __init__(self, vertices: Sequence[Vertex], pairings: Sequence[int]) -> None:
+        pairs = arguments.vertices(vertices, "vertices")
+        numbers = [entry for pair in pairs for entry in pair] + integers(pairings, "pairings")
+        self._accept(len(pairs), clamped(numbers, _LOW, _HIGH, _HIGH))
+
+    def _accept(self, v: int, numbers: Sequence[int]) -> None:
+        space = (c_int64 * len(numbers))(*numbers)
+        library.call("farey_check", v, space)
+        self._v = v
+        self._numbers = tuple(numbers)
+        self._space = space
+        self._found = {}
+
+    @classmethod
+    def from_permutations(cls, S: Sequence[int], R: Sequence[int], wide: bool = True) -> Symbol:
+        """The symbol of the matrices that fix point 0, from the images of the
+        points 0, 1, 2, .. under S = (0 -1; 1 0) and R = (0 -1; 1 1).
+
+        By the wide rule the entries of the vertices stay small; with
+        `wide=False` the side that is split is the leftmost one. Both are symbols
+        of one group. Refusals 12 to 16.
+
+        >>> Symbol.from_permutations([1, 0, 2], [2, 0, 1])
+        Symbol([(0, 1), (1, 1)], [1, -2, 1])
+        """
+        if not isinstance(wide, bool):
+            raise TypeError(f"wide is {shown(wide)}, and True or False is wanted")
+        s = clamped(integers(S, "S"), 0, _NO_POINT, _NO_POINT)
+        r = clamped(integers(R, "R"), 0, _NO_POINT, _NO_POINT)
+        out = (c_int64 * library.TABLE)()
+        name = "farey_import_wide" if wide else "farey_import"
+        v = library.call(name, (c_uint32 * len(s))(*s), (c_uint32 * len(r))(*r), library.work(), out)
+        made = cls.__new__(cls)
+        made._accept(v, out[: 3 * v + 1])
+        return made
+
+    @classmethod
+    def parse(cls, text: str) -> Symbol:
+        """The symbol in a text as `./farey listing` reads it: v, then the vertices
+        as numerator and denominator, then the pairings. Refusals 19, then 1 to 7.
+
+        >>> Symbol.parse("2  0 1 1 1  1 -2 1").widths
+        (1, 2)
+        >>> Symbol.parse("2  0 1 1 1  1 -2")
+        Traceback (most recent call last):
+        farey.refusal.Refusal: refused 19 16: at byte 16 the text gets too long, has a piece that is no number of 64 signed bits, has a number too many or ends too early
+        """
+        if not isinstance(text, str):
+            raise TypeError(f"text is {shown(text)}, and a string is wanted")
+        numbers = _numbers_of(text.encode("utf-8", "surrogatepass"))
+        made = cls.__new__(cls)
+        made._accept(numbers[0], numbers[1:])
+        return made
+
+    @property
+    def vertices(self) -> Tuple[Tuple[int, int], ...]:
+        """The finite vertices from left to right, as numerator and denominator."""
+        entries = self._numbers[: 2 * self._v]
+        return tuple(zip(entries[::2], entries[1::2]))
+
+    @property
+    def pairings(self) -> Tuple[int, ...]:
+        """The pairings of the sides from left to right."""
+        return self._numbers[2 * self._v :]
+
+    @property
+    def index(self) -> int:
+        """The index of H in PSL2(Z)."""
+        return self._figures()[0]
+
+    @property
+    def e2(self) -> int:
+        """The number of classes of elliptic points of order 2: the cosets that S fixes."""
+        return self._figures()[1]
+
+    @property
+    def e3(self) -> int:
+        """The number of classes of elliptic points of order 3: the cosets that R fixes."""
+        return self._figures()[2]
+
+    @property
+    def cusps(self) -> int:
+        """The number of cusps."""
+        return self._figures()[3]
+
+    @property
+    def genus(self) -> int:
+        """The genus; refusal 18 where the formula gives none."""
+        return self._figure(4)
+
+    @property
+    def level(self) -> int:
+        """The least common multiple of the widths; refusal 17 where it is 2^64 or more."""
+        return self._figure(6)
+
+    @property
+    def widths(self) -> Tuple[int, ...]:
+        """The widths of the cusps, by the smallest coset of each."""
+
+        def ask() -> Tuple[int, ...]:
+            out = (c_uint32 * library.COSETS)()
+            count = library.call("farey_widths", self._v, self._space, library.work(), out)
+            return tuple(out[:count])
+
+        return self._once("widths", ask)
+
+    @property
+    def generators(self) -> Tuple[Generator, ...]:
+        """The generators of H, by their leftmost side. Letter j of a word stands
+        for the j-th, counted from 1.
+
+        >>> for generator in Symbol([0, 1], [1, -2, 1]).generators:
+        ...     print(generator.kind, generator.matrix)
+        free (1, 1, 0, 1)
+        even (1, -1, 2, -1)
+        """
+
+        def ask() -> Tuple[Generator, ...]:
+            out = (c_int64 * library.GENERATORS)()
+            count = library.call("farey_generators", self._v, self._space, library.work(), out)
+            rows = [out[5 * i : 5 * i + 5] for i in range(count)]
+            return tuple(Generator(_KINDS[kind], (a, b, c, d)) for kind, a, b, c, d in rows)
+
+        return self._once("generators", ask)
+
+    @property
+    def S(self) -> Tuple[int, ...]:
+        """For each right coset of H, its image under S = (0 -1; 1 0). H itself is 0."""
+        return self._tables()[0]
+
+    @property
+    def R(self) -> Tuple[int, ...]:
+        """For each right coset of H, its image under R = (0 -1; 1 1), which isn't Sage's R."""
+        return self._tables()[1]
+
+    @property
+    def T(self) -> Tuple[int, ...]:
+        """For each right coset of H, its image under T = (1 1; 0 1): S and then R."""
+        return self._tables()[2]
+
+    def word(self, A: Matrix, B: Matrix) -> Optional[List[int]]:
+        """A word in the generators that takes A to B: the product of its letters
+        from left to right, times A, is B or -B. Letter j is generator j, -j its
+        inverse, and the empty word is the identity.
+
+        None means that there is no such word: no product of generators and
+        inverses, of any length, takes A to B up to sign. That the engine
+        answers so only then is proved; `why_none` gives evidence that can be
+        checked without it. Refusals 8 (an entry over 1,000,000 in size) and 9
+        (a determinant that isn't 1).
+
+        >>> gamma0_2 = Symbol([0, 1], [1, -2, 1])
+        >>> gamma0_2.word((1, 0, 0, 1), (1, 0, 2, 1))
+        [2, 1]
+        >>> gamma0_2.word((1, 0, 0, 1), (-1, 0, 0, -1))
+        []
+        >>> print(gamma0_2.word((1, 0, 0, 1), (0, -1, 1, 0)))
+        None
+        """
+        a, b = matrix(A, "A"), matrix(B, "B")
+        out = (c_int16 * _LETTERS)()
+        number, place = self._query(a, b, out)
+        if number == 11:
+            out = (c_int16 * place)()
+            number, place = self._query(a, b, out)
+        if number == 10:
+            return None
+        if number != 0:
+            raise Refusal(number, place)
+        return out[:place]
+
+    def why_none(self, A: Matrix, B: Matrix) -> Evidence:
+        """Evidence that no word takes A to B, for `farey.evidence.check`: the
+        generators, the tables of S and R, A and B. A ValueError where there is a word.
+
+        >>> from farey import evidence
+        >>> why = Symbol([0, 1], [1, -2, 1]).why_none((1, 0, 0, 1), (0, -1, 1, 0))
+        >>> why.S, why.R
+        ((1, 0, 2), (2, 0, 1))
+        >>> evidence.check(*why)
+        True
+        """
+        a, b = matrix(A, "A"), matrix(B, "B")
+        word = self.word(a, b)
+        if word is not None:
+            raise ValueError(f"there is a word of {len(word)} letters that takes A to B; word(A, B) gives it")
+        return Evidence(tuple(generator.matrix for generator in self.generators), self.S, self.R, a, b)
+
+    def __contains__(self, M: Matrix) -> bool:
+        """Whether the matrix, up to sign, is in H. Refusals 8 and 9, as of B in `word`.
+
+        >>> (1, 0, 2, 1) in Symbol([0, 1], [1, -2, 1])
+        True
+        """
+        # 11 is the answer of a word that is found and longer than no space at all
+        number, place = self._query(_IDENTITY, matrix(M, "M"), (c_int16 * 0)())
+        if number not in (0, 10, 11):
+            raise Refusal(number, place)
+        return number != 10
+
+    def __eq__(self, other: object) -> bool:
+        """Whether the two are the same symbol: equal vertices, and equal pairings
+        once labels are renumbered by their leftmost side.
+
+        This is sameness of symbols. Two different symbols of one group compare
+        unequal; whether two groups are equal is for a later release.
+
+        >>> Symbol([0, 1], [1, -2, 1]) == Symbol([0, 1], [3, -2, 3])
+        True
+        """
+        if not isinstance(other, Symbol):
+            return NotImplemented
+        return library.call("farey_same", self._v, self._space, other._v, other._space, library.work()) == 1
+
+    def __hash__(self) -> int:
+        labels: Dict[int, int] = {}
+        renumbered = (p if p < 0 else labels.setdefault(p, len(labels) + 1) for p in self.pairings)
+        return hash((self._numbers[: 2 * self._v], tuple(renumbered)))
+
+    def __str__(self) -> str:
+        """The symbol in three lines, which `parse` and `./farey listing` read."""
+        vertices, pairings = self._numbers[: 2 * self._v], self.pairings
+        return "\n".join(" ".join(map(str, line)) for line in ([self._v], vertices, pairings))
+
+    def __repr__(self) -> str:
+        return f"Symbol({list(self.vertices)}, {list(self.pairings)})"
+
+    def __reduce__(self) -> Tuple[Any, ...]:
+        return Symbol, (self.vertices, self.pairings)
+
+    def _once(self, name: str, ask: Any) -> Any:
+        """What was answered before, or is asked for now. Two threads may both ask
+        and get the same."""
+        if name not in self._found:
+            self._found[name] = ask()
+        return self._found[name]
+
+    def _query(self, a: Tuple[int, ...], b: Tuple[int, ...], out: Any) -> Tuple[int, int]:
+        spaces = [Fixed((c_int64 * 4)(*clamped(entries, _LOW, _HIGH, _HIGH))) for entries in (a, b)]
+        return library.answer("farey_query", self._v, self._space, *spaces, library.work(), out, 0)
+
+    def _figures(self) -> Tuple[int, ...]:
+        def ask() -> Tuple[int, ...]:
+            out = (c_uint64 * 8)()
+            library.call("farey_figures", self._v, self._space, library.work(), Fixed(out))
+            return tuple(out)
+
+        return self._once("figures", ask)
+
+    def _figure(self, place: int) -> int:
+        """Genus or level: its own refusal, or its value."""
+        number, value = self._figures()[place : place + 2]
+        if number != 0:
+            raise Refusal(number, 0)
+        return value
+
+    def _tables(self) -> Tuple[Tuple[int, ...], ...]:
+        def ask() -> Tuple[Tuple[int, ...], ...]:
+            spaces = [(c_uint32 * library.COSETS)() for _ in range(3)]
+            index = library.call("farey_tables", self._v, self._space, library.work(), *spaces)
+            return tuple(tuple(space[:index]) for space in spaces)
+
+        return self._once("tables", ask)
+
+
+def _numbers_of(text: bytes) -> List[int]:
+    """The numbers of a symbol's text, v first, by docs/CONVENTIONS.md, 10.1 to 10.3."""
+    if len(text) > 65536:
+        raise Refusal(19, 65536)
+    pieces = list(re.finditer(rb"[^ \n\r]+", text))
+    numbers = []
+    for piece in pieces:
+        number = re.fullmatch(rb"(-?)0*([0-9]{1,19})", piece[0])
+        value = int(number[1] + number[2]) if number else _HIGH + 1
+        if not _LOW <= value <= _HIGH:
+            raise Refusal(19, piece.start())
+        numbers.append(value)
+    if numbers and not 1 <= numbers[0] <= 1023:
+        raise Refusal(1, 0)
+    wanted = 3 * numbers[0] + 2 if numbers else 1
+    if len(numbers) < wanted:
+        raise Refusal(19, len(text))
+    if len(numbers) > wanted:
+        raise Refusal(19, pieces[wanted].start())
+    return numbers

@@ -1,0 +1,1 @@
+"""The tests of `farey`. From the folder python: `python3 -m unittest`."""

@@ -1,0 +1,102 @@
+"""The exception, its sentences, and the example of each refusal."""
+
+import pickle
+import unittest
+
+from farey import Refusal, Symbol
+from farey.refusal import SENTENCES
+
+from . import reckoning as by_hand
+
+
+class Sentences(unittest.TestCase):
+    def test_one_table(self):
+        """The sentences are those of rust/farey/refusals.txt."""
+        lines = (by_hand.REPOSITORY / "rust/farey/refusals.txt").read_text("utf-8").splitlines()
+        listed = {int(number): sentence for number, sentence in (line.split(" ", 1) for line in lines)}
+        self.assertEqual(SENTENCES, listed)
+        self.assertGreaterEqual(len(listed), 19)
+
+    def test_place_is_put_in(self):
+        for number, sentence in SENTENCES.items():
+            refusal = Refusal(number, 47)
+            self.assertEqual(refusal.sentence, sentence.replace("{place}", "47"))
+            self.assertEqual(str(refusal), f"refused {number} 47: {refusal.sentence}")
+            self.assertNotIn("{", refusal.sentence)
+
+    def test_another_number(self):
+        self.assertEqual(str(Refusal(1000, 3)), "refused 1000 3: refusal 1000, place 3")
+
+    def test_pickled(self):
+        again = pickle.loads(pickle.dumps(Refusal(4, 2)))
+        self.assertEqual((again.number, again.place, type(again)), (4, 2, Refusal))
+
+    def test_is_an_exception(self):
+        self.assertTrue(issubclass(Refusal, Exception))
+        self.assertEqual(Refusal(4, 2).args, (4, 2))
+
+
+class Examples(unittest.TestCase):
+    """The example of each row of the handbook's table gets the answer that is shown there."""
+
+    def answers(self):
+        page = (by_hand.REPOSITORY / "docs/HANDBOOK.md").read_text("utf-8")
+        for line in page.splitlines():
+            cells = [cell.strip().strip("`") for cell in line.split("|")]
+            if len(cells) == 7 and cells[4].startswith("examples/"):
+                yield int(cells[1]), by_hand.REPOSITORY / cells[4], cells[5]
+
+    def said(self, file):
+        text = file.read_text("utf-8")
+        try:
+            if file.suffix == ".txt":
+                H = Symbol.parse(text)
+                return [H.genus, H.level]
+            given = by_hand.numbers(text)
+            if file.suffix == ".pair":
+                n = given[0]
+                return Symbol.from_permutations(given[1 : n + 1], given[n + 1 :], wide=False)
+            H = Symbol.parse(" ".join(map(str, given[:-8])))
+            word = H.word(given[-8:-4], given[-4:])
+            return "refused 10 0" if word is None else f"refused 11 {len(word)}"
+        except Refusal as refusal:
+            return f"refused {refusal.number} {refusal.place}"
+
+    def test_all(self):
+        met = []
+        for number, file, answer in self.answers():
+            with self.subTest(file.name):
+                # 17 is the level's own. 11 is the program's: a word over 16,384 letters, which Python gives
+                self.assertEqual(self.said(file), answer.replace("level ", ""))
+                met.append(number)
+        self.assertEqual(sorted(met), [1, 3, 4, 5, 6, 7, 8, 9, 10, 11, 12, 13, 14, 15, 16, 17, 19])
+
+    def test_only_the_level_is_refused(self):
+        H = Symbol.parse((by_hand.REPOSITORY / "examples/refusals/17.txt").read_text("utf-8"))
+        with self.assertRaises(Refusal) as caught:
+            H.level
+        self.assertEqual((caught.exception.number, caught.exception.place), (17, 0))
+        self.assertEqual((H.index, H.genus), (sum(H.widths), by_hand.figures_of(H.S, H.R)[2]))
+
+    def test_the_wide_rule_passes_16(self):
+        """Pairs of 600 points without fixed ones: the rule of the leftmost side is
+        refused most of them, the wide rule none."""
+        rng = by_hand.seeded("wide")
+        refused = 0
+        for _ in range(10):
+            s, r = list(range(600)), list(range(600))
+            while len(by_hand.numbered(s, r)) != 600:
+                points = rng.sample(range(600), 600)
+                for x, y in zip(points[::2], points[1::2]):
+                    s[x], s[y] = y, x
+                points = rng.sample(range(600), 600)
+                for x, y, z in zip(points[::3], points[1::3], points[2::3]):
+                    r[x], r[y], r[z] = y, z, x
+            H = Symbol.from_permutations(s, r)
+            self.assertEqual((H.S, H.R), by_hand.renumbered(s, r))
+            try:
+                Symbol.from_permutations(s, r, wide=False)
+            except Refusal as refusal:
+                self.assertEqual(refusal.number, 16)
+                refused += 1
+        self.assertGreater(refused, 4)
