@@ -9,12 +9,12 @@ engine's own refusals to speak of.
 from __future__ import annotations
 
 import operator
-from fractions import Fraction
 from itertools import islice
+from numbers import Rational
 from typing import Any, Iterable, List, Sequence, Tuple, Union
 
-#: A vertex: a pair (numerator, denominator), a Fraction, or an integer.
-Vertex = Union[int, Fraction, Tuple[int, int], Sequence[int]]
+#: A vertex: a pair (numerator, denominator), a Fraction or another rational number, or an integer.
+Vertex = Union[int, Rational, Tuple[int, int], Sequence[int]]
 #: A matrix (a b; c d): its four entries row by row, or its two rows.
 Matrix = Union[Sequence[int], Sequence[Sequence[int]]]
 
@@ -32,9 +32,9 @@ def shown(thing: Any) -> str:
 
 
 def integer(thing: Any, what: str) -> int:
-    """An integer: an int, or what counts as one (Sage's, NumPy's), and no bool."""
-    if isinstance(thing, bool):
-        raise TypeError(f"{what} is {thing}, a bool, and an integer is wanted")
+    """An integer: an int, or what has `__index__` (Sage's, NumPy's), and no bool, NumPy's neither."""
+    if type(thing).__name__ in ("bool", "bool_"):
+        raise TypeError(f"{what} is {shown(thing)}, and an integer is wanted")
     try:
         return int(operator.index(thing))
     except TypeError:
@@ -81,13 +81,17 @@ def vertices(thing: Any, what: str) -> List[Tuple[int, int]]:
 
 
 def vertex(thing: Any, what: str) -> Tuple[int, int]:
-    """Numerator and denominator of a vertex."""
-    if isinstance(thing, Fraction):
-        return thing.numerator, thing.denominator
+    """Numerator and denominator of a vertex. Sage's rationals have them as methods."""
     if counts(thing):
         return integer(thing, what), 1
+    if isinstance(thing, Rational):
+        top, bottom = thing.numerator, thing.denominator
+        return (
+            integer(top() if callable(top) else top, f"the numerator of {what}"),
+            integer(bottom() if callable(bottom) else bottom, f"the denominator of {what}"),
+        )
     if isinstance(thing, (float, complex)) or not isinstance(thing, Iterable):
-        raise TypeError(f"{what} is {shown(thing)}, and a pair (numerator, denominator), a Fraction or an integer is wanted")
+        raise TypeError(f"{what} is {shown(thing)}, and a pair (numerator, denominator), a rational number or an integer is wanted")
     pair = integers(thing, what)
     if len(pair) != 2:
         raise ValueError(f"{what} has {len(pair)} numbers, and a vertex has two: numerator and denominator")

@@ -17,14 +17,17 @@ where they come from: any tables that pass the check prove the statement.
 """
 
 from operator import index
-from typing import Iterable, List
+from typing import Iterable, List, Sequence
 
 
-def check(generators: Iterable[Iterable[int]], S: Iterable[int], R: Iterable[int], A: Iterable[int], B: Iterable[int]) -> bool:
+def check(generators: Iterable[Sequence[int]], S: Sequence[int], R: Sequence[int], A: Sequence[int], B: Sequence[int]) -> bool:
     """True where the evidence proves that no product of the matrices in
     `generators` and their inverses, times A, is B up to sign; otherwise a
     ValueError that says what fails, or a TypeError for what is no integer. That
     these matrices generate your group is yours to see.
+
+    A matrix is its four entries a, b, c, d in one row; two rows aren't taken.
+    `generators`, as all else, is read once, and copied before anything is asked.
 
     >>> check([(1, 1, 0, 1), (1, -1, 2, -1)], [1, 0, 2], [2, 0, 1], (1, 0, 0, 1), (0, -1, 1, 0))
     True
@@ -32,15 +35,20 @@ def check(generators: Iterable[Iterable[int]], S: Iterable[int], R: Iterable[int
     Traceback (most recent call last):
     ValueError: B A^-1 fixes point 0, so this is no evidence
     """
-    S, R, A, B = whole(S), whole(R), whole(A), whole(B)
-    matrices = [whole(generator) for generator in generators]
+    S, R, A, B = whole("S", S), whole("R", R), whole("A", A), whole("B", B)
+    if not isinstance(generators, Iterable):
+        raise TypeError("generators is no list of matrices")
+    matrices = [whole(f"generator {j}", M) for j, M in enumerate(generators, 1)]
     points = range(len(S))
     if len(S) == 0 or len(R) != len(S):
         raise ValueError("S and R aren't tables of one length from 1 on")
-    if any(S[x] not in points or R[x] not in points for x in points):
-        raise ValueError("an entry of S or R is no point")
-    if any(S[S[x]] != x or R[R[R[x]]] != x for x in points):
-        raise ValueError("S S or R R R moves a point")
+    for name, table in [("S", S), ("R", R)]:
+        if any(x not in points for x in table):
+            raise ValueError(f"an entry of {name} is no point")
+    if any(S[S[x]] != x for x in points):
+        raise ValueError("S followed twice moves a point")
+    if any(R[R[R[x]]] != x for x in points):
+        raise ValueError("R followed three times moves a point")
     for name, M in [("A", A), ("B", B)] + [(f"generator {j}", M) for j, M in enumerate(matrices, 1)]:
         if len(M) != 4 or M[0] * M[3] - M[1] * M[2] != 1:
             raise ValueError(f"{name} is no matrix of determinant 1")
@@ -53,12 +61,16 @@ def check(generators: Iterable[Iterable[int]], S: Iterable[int], R: Iterable[int
     return True
 
 
-def whole(row: Iterable[int]) -> List[int]:
-    """The row, each number as a plain int: Sage's integers too, no bool, no float."""
-    numbers = list(row)
-    if any(isinstance(number, bool) for number in numbers):
-        raise TypeError("a table or a matrix has something that is no integer")
-    return [int(index(number)) for number in numbers]
+def whole(name: str, row: Sequence[int]) -> List[int]:
+    """The row, each number as a plain int: what has `__index__`, as Sage's integers
+    have, and no float and no bool, NumPy's neither."""
+    try:
+        numbers = list(row)
+        if any(type(number).__name__ in ("bool", "bool_") for number in numbers):
+            raise TypeError
+        return [int(index(number)) for number in numbers]
+    except TypeError:
+        raise TypeError(f"{name} is no row of integers") from None
 
 
 def image(S: List[int], R: List[int], x: int, M: List[int]) -> int:

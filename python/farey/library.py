@@ -21,8 +21,8 @@ from .refusal import Refusal
 
 #: The environment variable that names another file.
 VARIABLE = "FAREY_LIBRARY"
-#: The repository that this package lies in.
-REPOSITORY = Path(__file__).resolve().parents[2]
+#: The repository that this package lies in, where it isn't a copy.
+REPOSITORY = Path(__file__).resolve().parent.parent.parent
 
 #: Lengths that are enough for every symbol, as the header has them.
 WORK = 32768
@@ -52,7 +52,6 @@ _PARAMETERS = {
     "farey_same": 2 * _SYMBOL + _WORK + _PLACE,
 }
 
-_lock = threading.Lock()
 _loaded: Optional[ctypes.CDLL] = None
 _threads = threading.local()
 
@@ -64,19 +63,23 @@ def path() -> Path:
 
 
 def load() -> ctypes.CDLL:
-    """The library with all its functions, or an OSError that says what to do."""
+    """The library with all its functions, or an OSError that says what to do.
+
+    There is no lock here that a fork or a signal handler could find taken: two
+    threads may both open the file, and get the same functions.
+    """
     global _loaded
-    with _lock:
-        if _loaded is None:
-            _loaded = _open(path())
-        return _loaded
+    loaded = _loaded
+    if loaded is None:
+        loaded = _loaded = _open(path())
+    return loaded
 
 
 def _open(file: Path) -> ctypes.CDLL:
     if not file.is_file():
-        raise FileNotFoundError(
-            f"there is no {file}: run ./farey library in {REPOSITORY}, or set {VARIABLE} to the path of libfarey.so"
-        )
+        raise FileNotFoundError(f"there is no {file}: {_advice()}")
+    if _is_cut_off(file):
+        raise OSError(f"{file} is cut off, it has fewer bytes than its header says: run ./farey library once more, or copy it again")
     opened = ctypes.CDLL(str(file.resolve()))
     for name, parameters in _PARAMETERS.items():
         try:
@@ -86,6 +89,28 @@ def _open(file: Path) -> ctypes.CDLL:
         function.argtypes = parameters
         function.restype = c_uint64
     return opened
+
+
+def _is_cut_off(file: Path) -> bool:
+    """Whether the table of sections, which is last in an ELF file of 64 bits, ends
+    behind the file's end. Python itself would be killed when such a file is opened."""
+    with file.open("rb") as opened:
+        head = opened.read(64)
+        size = os.fstat(opened.fileno()).st_size
+    if head[:6] != b"\x7fELF\x02\x01":
+        return False
+    start, entry, count = (int.from_bytes(head[place:end], "little") for place, end in ((40, 48), (58, 60), (60, 62)))
+    return len(head) < 64 or start + entry * count > size
+
+
+def _advice() -> str:
+    """How the library is made and found, from the repository and from a copy of the package."""
+    if (REPOSITORY / "farey").is_file():
+        return f"run ./farey library in {REPOSITORY}, or set {VARIABLE} to the path of libfarey.so"
+    return (
+        f"this is a copy of the package in {Path(__file__).resolve().parent}; run ./farey library in the engine's"
+        f" repository, which makes target/libfarey.so there, and set {VARIABLE} to that file's path"
+    )
 
 
 def work() -> Any:

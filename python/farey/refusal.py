@@ -2,7 +2,7 @@
 
 from __future__ import annotations
 
-from typing import Dict
+from typing import Dict, Optional
 
 #: The sentence of each refusal, with `{place}` for its place. The table is that
 #: of `rust/farey/refusals.txt`, and a test compares the two.
@@ -30,7 +30,8 @@ SENTENCES: Dict[int, str] = {
 
 
 class Refusal(Exception):
-    """A refusal: its number, its place, and what is wrong in words.
+    """A refusal: its number, its place, and what is wrong in words. A call whose
+    arguments have other names than the table's sentence gives a sentence of its own.
 
     >>> refusal = Refusal(15, 2)
     >>> refusal.number, refusal.place, refusal.sentence
@@ -42,18 +43,18 @@ class Refusal(Exception):
     number: int
     place: int
 
-    def __init__(self, number: int, place: int) -> None:
+    def __init__(self, number: int, place: int, sentence: Optional[str] = None) -> None:
         super().__init__(number, place)
         self.number = number
         self.place = place
+        self._sentence = SENTENCES.get(number) if sentence is None else sentence
 
     @property
     def sentence(self) -> str:
         """What is wrong, with the place put in."""
-        sentence = SENTENCES.get(self.number)
-        if sentence is None:
+        if self._sentence is None:
             return f"refusal {self.number}, place {self.place}"
-        return sentence.replace("{place}", str(self.place))
+        return self._sentence.replace("{place}", str(self.place))
 
     def __str__(self) -> str:
         return f"refused {self.number} {self.place}: {self.sentence}"

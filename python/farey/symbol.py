@@ -36,6 +36,16 @@ class Evidence(NamedTuple):
     B: Tuple[int, int, int, int]
 
 
+class _Made(NamedTuple):
+    """What a symbol is made of: v, its numbers, the same as the engine takes them,
+    and what was answered so far."""
+
+    v: int
+    numbers: Tuple[int, ...]
+    space: Any
+    found: Dict[str, Any]
+
+
 class Symbol:
     """An accepted Farey symbol, and the subgroup H that its generators generate.
 
@@ -55,12 +65,15 @@ class Symbol:
     farey.refusal.Refusal: refused 7 0: there is one vertex and no odd side
     """
 
-    __slots__ = ("_v", "_numbers", "_space", "_found")
+    __slots__ = ("_kept",)
 
-    _v: int
-    _numbers: Tuple[int, ...]
-    _space: Any
-    _found: Dict[str, Any]
+    #: Empty until the symbol is made, and then for ever what it is made of.
+    _kept: Dict[str, _Made]
+
+    def __new__(cls, *arguments: Any, **named: Any) -> Symbol:
+        made = super().__new__(cls)
+        made._kept = {}
+        return made
 
     def __init__(self, vertices: Sequence[Vertex], pairings: Sequence[int]) -> None:
         pairs = arguments.vertices(vertices, "vertices")
@@ -70,10 +83,29 @@ class Symbol:
     def _accept(self, v: int, numbers: Sequence[int]) -> None:
         space = (c_int64 * len(numbers))(*numbers)
         library.call("farey_check", v, space)
-        self._v = v
-        self._numbers = tuple(numbers)
-        self._space = space
-        self._found = {}
+        made = _Made(v, tuple(numbers), space, {})
+        # one step: of two threads, or a signal handler and what it interrupts, one makes the symbol
+        if self._kept.setdefault("made", made) is not made:
+            raise TypeError("this symbol is made already, and a symbol never changes")
+
+    @property
+    def _made(self) -> _Made:
+        try:
+            return self._kept["made"]
+        except (AttributeError, KeyError):
+            raise TypeError("this Symbol was never made: Symbol(vertices, pairings) or one of its class methods makes one") from None
+
+    @property
+    def _v(self) -> int:
+        return self._made.v
+
+    @property
+    def _numbers(self) -> Tuple[int, ...]:
+        return self._made.numbers
+
+    @property
+    def _space(self) -> Any:
+        return self._made.space
 
     @classmethod
     def from_permutations(cls, S: Sequence[int], R: Sequence[int], wide: bool = True) -> Symbol:
@@ -251,13 +283,21 @@ class Symbol:
         return Evidence(tuple(generator.matrix for generator in self.generators), self.S, self.R, a, b)
 
     def __contains__(self, M: Matrix) -> bool:
-        """Whether the matrix, up to sign, is in H. Refusals 8 and 9, as of B in `word`.
+        """Whether the matrix, up to sign, is in H. Refusals 8 and 9, with the place in M:
+        its entry, 0 to 3, and 0.
 
         >>> (1, 0, 2, 1) in Symbol([0, 1], [1, -2, 1])
         True
+        >>> (1, 0, 2, 5) in Symbol([0, 1], [1, -2, 1])
+        Traceback (most recent call last):
+        farey.refusal.Refusal: refused 9 0: the determinant of M isn't 1
         """
         # 11 is the answer of a word that is found and longer than no space at all
         number, place = self._query(_IDENTITY, matrix(M, "M"), (c_int16 * 0)())
+        if number == 8:
+            raise Refusal(8, place - 4, "entry {place} of M is over 1,000,000 in size")
+        if number == 9:
+            raise Refusal(9, place - 1, "the determinant of M isn't 1")
         if number not in (0, 10, 11):
             raise Refusal(number, place)
         return number != 10
@@ -290,14 +330,15 @@ class Symbol:
         return f"Symbol({list(self.vertices)}, {list(self.pairings)})"
 
     def __reduce__(self) -> Tuple[Any, ...]:
-        return Symbol, (self.vertices, self.pairings)
+        return type(self), (self.vertices, self.pairings), getattr(self, "__dict__", None)
 
     def _once(self, name: str, ask: Any) -> Any:
         """What was answered before, or is asked for now. Two threads may both ask
         and get the same."""
-        if name not in self._found:
-            self._found[name] = ask()
-        return self._found[name]
+        found = self._made.found
+        if name not in found:
+            found[name] = ask()
+        return found[name]
 
     def _query(self, a: Tuple[int, ...], b: Tuple[int, ...], out: Any) -> Tuple[int, int]:
         spaces = [Fixed((c_int64 * 4)(*clamped(entries, _LOW, _HIGH, _HIGH))) for entries in (a, b)]

@@ -16,9 +16,10 @@ def from_mspolygon(edges: Sequence[Matrix], partners: Sequence[int], pairings: S
     edge that is its own partner is even or odd as its pairing matrix has the
     order 2 or 3.
 
-    A ValueError where the edges are no closed path through infinity, or where a
-    pairing matrix isn't, up to sign, the symbol's generator for that edge or its
-    inverse; a `Refusal` where what they make is no symbol.
+    A ValueError where a matrix hasn't the determinant 1, where the edges are no
+    closed path that is once at infinity, or where a pairing matrix isn't, up to
+    sign, the symbol's generator for that edge or its inverse; a `Refusal` where
+    what they make is no symbol.
 
     >>> edges = [(-1, 1, -1, 0), (1, 0, 0, 1), (0, 1, -1, 1)]
     >>> from_mspolygon(edges, [2, 1, 3], [(-1, -1, 0, -1), (1, -1, 0, 1), (1, -1, 3, -2)])
@@ -32,6 +33,10 @@ def from_mspolygon(edges: Sequence[Matrix], partners: Sequence[int], pairings: S
         raise ValueError(f"there are {count} edges, {len(numbers)} partners and {len(glued)} pairings, and not as many of each")
     if sorted(numbers) != list(range(1, count + 1)) or any(numbers[j - 1] != i for i, j in enumerate(numbers, 1)):
         raise ValueError("partners is no involution of 1, 2, 3, ..")
+    for what, matrices in (("edges", paths), ("pairings", glued)):
+        for i, (a, b, c, d) in enumerate(matrices):
+            if a * d - b * c != 1:
+                raise ValueError(f"the determinant of {what}[{i}] isn't 1")
     starts = [i for i, (a, b, c, d) in enumerate(paths) if c == 0]
     if len(starts) != 1:
         raise ValueError(f"{len(starts)} edges begin at infinity, and one is wanted")

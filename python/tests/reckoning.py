@@ -40,6 +40,12 @@ def alike(left, right):
     return tuple(left) in (tuple(right), negative(right))
 
 
+def small_matrices(most):
+    """Every matrix of determinant 1 whose entries are at most that in size."""
+    span = range(-most, most + 1)
+    return [(a, b, c, d) for a in span for b in span for c in span for d in span if a * d - b * c == 1]
+
+
 def value(word, generators):
     """The product of a word's letters, the first on the left."""
     return product(*(generators[j - 1] if j > 0 else inverse(generators[-j - 1]) for j in word))

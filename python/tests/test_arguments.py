@@ -22,6 +22,16 @@ class Spiteful:
         raise TypeError("no")
 
 
+class NumpysBool:
+    """As NumPy's, which has `__index__` in some releases; its type is called `bool_` or `bool`."""
+
+    def __index__(self):
+        return 1
+
+
+NUMPYS = [type(name, (NumpysBool,), {})() for name in ("bool_", "bool")]
+
+
 class Wrong(unittest.TestCase):
     def refused(self, number, place, call, *arguments, **named):
         with self.assertRaises(Refusal) as caught:
@@ -36,11 +46,25 @@ class Wrong(unittest.TestCase):
 
 class Vertices(Wrong):
     def test_no_integers(self):
-        for wrong in (0.0, 1.5, float("nan"), float("inf"), True, None, "0", b"0", 1j, Decimal(0), object(), Spiteful()):
+        for wrong in (0.0, 1.5, float("nan"), float("inf"), True, *NUMPYS, None, "0", b"0", 1j, Decimal(0), object(), Spiteful()):
             self.told(TypeError, "vertices[0]", Symbol, [wrong, 1], [1, -2, 1])
             self.told(TypeError, "vertices[1]", Symbol, [0, (wrong, 1)], [1, -2, 1])
             self.told(TypeError, "vertices[1]", Symbol, [0, (1, wrong)], [1, -2, 1])
             self.told(TypeError, "pairings[2]", Symbol, [0, 1], [1, -2, wrong])
+
+    def test_what_is_long_is_cut(self):
+        for wrong in ("x" * 10_000, [[1] * 10_000], b"y" * 10_000):
+            with self.assertRaises(TypeError) as caught:
+                Symbol([0, 1], [1, -2, wrong])
+            self.assertIn("...", str(caught.exception))
+            self.assertLess(len(str(caught.exception)), 120)
+
+    def test_rational_numbers(self):
+        """Numerator and denominator are integers, whatever a class says of itself."""
+        for wrong in (None, True, 1.0, "1", NUMPYS[0], lambda: None, lambda: True):
+            for name in ("numerator", "denominator"):
+                other = type("Odd", (Fraction,), {name: wrong if not callable(wrong) else staticmethod(wrong)})
+                self.told(TypeError, f"the {name} of vertices[1] is", Symbol, [0, other(1, 2), 1], [1, -2, -2, 1])
 
     def test_wrong_nesting(self):
         for wrong in ((), (1,), (1, 1, 1)):
@@ -51,7 +75,7 @@ class Vertices(Wrong):
         self.told(TypeError, "pairings[0]", Symbol, [0, 1], [(1,), -2, 1])
 
     def test_no_lists(self):
-        for wrong in (None, 5, 0.5, "01", b"01", {0: 1}, {0, 1}, frozenset([0]), memoryview(b"01"), object(), Spiteful()):
+        for wrong in (None, 5, 0.5, "01", b"01", bytearray(b"01"), {0: 1}, {0, 1}, frozenset([0]), memoryview(b"01"), object(), Spiteful()):
             self.told(TypeError, "vertices", Symbol, wrong, [1, -2, 1])
             self.told(TypeError, "pairings", Symbol, [0, 1], wrong)
 
@@ -108,7 +132,7 @@ class Matrices(Wrong):
         self.H = Symbol([0, 1], [1, -2, 1])
 
     def test_no_integers(self):
-        for wrong in (1.0, float("nan"), True, None, "1", Fraction(1), Decimal(1), 1j, object()):
+        for wrong in (1.0, float("nan"), True, *NUMPYS, None, "1", Fraction(1), Decimal(1), 1j, object()):
             self.told(TypeError, "A[3]", self.H.word, (1, 0, 0, wrong), by_hand.I)
             self.told(TypeError, "B[0]", self.H.word, by_hand.I, (wrong, 0, 0, 1))
             self.told(TypeError, "B[1][1]", self.H.word, by_hand.I, ((1, 0), (0, wrong)))
@@ -148,7 +172,7 @@ class Matrices(Wrong):
                 self.refused(8, 1, self.H.word, (1, number, 0, 1), by_hand.I)
                 self.refused(8, 6, self.H.word, by_hand.I, (1, 0, number, 1))
                 self.refused(8, 6, self.H.why_none, by_hand.I, (1, 0, number, 1))
-                self.refused(8, 5, self.H.__contains__, (1, number, 0, 1))
+                self.refused(8, 1, self.H.__contains__, (1, number, 0, 1))
         # 2^64 + 1 isn't taken for 1
         self.refused(8, 0, self.H.word, (2**64 + 1, 0, 0, 1), by_hand.I)
 
@@ -156,13 +180,26 @@ class Matrices(Wrong):
         self.refused(9, 0, self.H.word, (2, 0, 0, 1), (2, 0, 0, 1))
         self.refused(9, 1, self.H.word, by_hand.I, (0, 1, 1, 0))
         self.refused(9, 1, self.H.why_none, by_hand.I, (0, 0, 0, 0))
-        self.refused(9, 1, self.H.__contains__, (1, 0, 0, -1))
+        self.refused(9, 0, self.H.__contains__, (1, 0, 0, -1))
         self.refused(8, 4, self.H.word, (2, 0, 0, 1), (10**6 + 1, 0, 0, 1))
+
+    def test_one_matrix_is_told_by_its_name(self):
+        """`M in H` has no A and no B, and says nothing of them."""
+        for place in range(4):
+            M = [1, 0, 0, 1]
+            M[place] = 10**6 + 1
+            self.told(Refusal, f"refused 8 {place}: entry {place} of M is over 1,000,000 in size", self.H.__contains__, M)
+        self.told(Refusal, "refused 9 0: the determinant of M isn't 1", self.H.__contains__, ((2, 0), (0, 1)))
+        for wrong in ((10**6 + 1, 0, 0, 1), (2, 0, 0, 1), (1, 0, 0, 0.5), (1, 0, 0), None):
+            with self.assertRaises((Refusal, TypeError, ValueError)) as caught:
+                wrong in self.H
+            self.assertNotRegex(str(caught.exception), r"\b[AB]\b")
+            self.assertRegex(str(caught.exception), r"\bM\b")
 
 
 class Tables(Wrong):
     def test_no_integers(self):
-        for wrong in (0.0, True, None, "0", Fraction(0), (0,), [0], object()):
+        for wrong in (0.0, True, *NUMPYS, None, "0", Fraction(0), (0,), [0], object()):
             self.told(TypeError, "S[1]", Symbol.from_permutations, [1, wrong, 2], [2, 0, 1])
             self.told(TypeError, "R[0]", Symbol.from_permutations, [1, 0, 2], [wrong, 0, 1])
 

@@ -217,6 +217,46 @@ class False_evidence(unittest.TestCase):
                 with self.assertRaises(TypeError):
                     evidence.check(*given)
 
+    def test_bools(self):
+        """Python's and NumPy's, which has `__index__` in some releases."""
+        for wrong in (True, NUMPYS(1), type("bool", (Whole,), {})(1)):
+            with self.assertRaises(TypeError) as caught:
+                evidence.check(GENERATORS_OF_2, [wrong, 0, 2], R_OF_2, by_hand.I, by_hand.S)
+            self.assertEqual(str(caught.exception), "S is no row of integers")
+
+    def test_the_argument_is_named(self):
+        fine = dict(generators=GENERATORS_OF_2, S=S_OF_2, R=R_OF_2, A=by_hand.I, B=by_hand.S)
+        rows = [[1, 0], [0, 1]]
+        for name, wrong, kind, sentence in (
+            ("generators", 5, TypeError, "generators is no list of matrices"),
+            ("generators", [by_hand.I, (1, 0, 0, 1.0)], TypeError, "generator 2 is no row of integers"),
+            ("generators", [by_hand.I, 7], TypeError, "generator 2 is no row of integers"),
+            ("generators", [by_hand.I, (1, 0, 0, 2)], ValueError, "generator 2 is no matrix of determinant 1"),
+            ("generators", [by_hand.I, by_hand.S], ValueError, "generator 2 moves point 0, so this is no evidence"),
+            ("S", None, TypeError, "S is no row of integers"),
+            ("R", "201", TypeError, "R is no row of integers"),
+            ("S", [1, 0, 3], ValueError, "an entry of S is no point"),
+            ("R", [2, 0, -1], ValueError, "an entry of R is no point"),
+            ("S", [1, 2, 0], ValueError, "S followed twice moves a point"),
+            ("R", [1, 0, 2], ValueError, "R followed three times moves a point"),
+            ("A", 5, TypeError, "A is no row of integers"),
+            ("A", rows, TypeError, "A is no row of integers"),
+            ("B", rows, TypeError, "B is no row of integers"),
+            ("generators", [rows], TypeError, "generator 1 is no row of integers"),
+            ("A", (2, 0, 0, 1), ValueError, "A is no matrix of determinant 1"),
+            ("B", (1, 0), ValueError, "B is no matrix of determinant 1"),
+        ):
+            with self.assertRaises(kind) as caught:
+                evidence.check(**{**fine, name: wrong})
+            self.assertEqual(str(caught.exception), sentence)
+
+    def test_many_generators(self):
+        """The last of them is looked at, however many there are."""
+        for count in (1, 30, 60, 500, 5000):
+            many = (GENERATORS_OF_2 * count)[:count]
+            self.assertIsNone(why_not(many, S_OF_2, R_OF_2, by_hand.I, by_hand.S))
+            self.assertIn(f"generator {count + 1} moves point 0", why_not(many + [by_hand.S], S_OF_2, R_OF_2, by_hand.I, by_hand.S))
+
 
 class Whole:
     """An integer of another system, as Sage's: it has `__index__`."""
@@ -226,6 +266,10 @@ class Whole:
 
     def __index__(self):
         return self.number
+
+
+#: A stand-in for NumPy's bool: the name of its type is all that tells it.
+NUMPYS = type("bool_", (Whole,), {})
 
 
 class Integers_of_other_systems(unittest.TestCase):
@@ -250,7 +294,7 @@ class For_a_sceptic(unittest.TestCase):
         source = (by_hand.REPOSITORY / "python/farey/evidence.py").read_text("utf-8")
         tree = ast.parse(source)
         imports = [node for node in ast.walk(tree) if isinstance(node, (ast.Import, ast.ImportFrom))]
-        self.assertEqual([ast.unparse(node) for node in imports], ["from operator import index", "from typing import Iterable, List"])
+        self.assertEqual([ast.unparse(node) for node in imports], ["from operator import index", "from typing import Iterable, List, Sequence"])
         functions = [node for node in tree.body if isinstance(node, ast.FunctionDef)]
         self.assertEqual([function.name for function in functions], ["check", "whole", "image", "power"])
         code = 0

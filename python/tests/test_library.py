@@ -3,6 +3,7 @@
 import ast
 import os
 import re
+import shutil
 import subprocess
 import sys
 import tempfile
@@ -21,7 +22,7 @@ ASK = "from farey import Symbol; print(Symbol([0, 1], [1, -2, 1]).index)"
 def run(line, **environment):
     """What another Python says: exit status, standard output, last line of standard error."""
     settings = {name: value for name, value in os.environ.items() if name != library.VARIABLE}
-    settings.update(PYTHONPATH=str(PYTHON), PYTHONDONTWRITEBYTECODE="1", **environment)
+    settings.update({"PYTHONPATH": str(PYTHON), "PYTHONDONTWRITEBYTECODE": "1", **environment})
     with tempfile.TemporaryDirectory() as elsewhere:
         came = subprocess.run([sys.executable, "-c", line], env=settings, cwd=elsewhere, capture_output=True, text=True, timeout=60)
     return came.returncode, came.stdout, (came.stderr.splitlines() or [""])[-1]
@@ -44,6 +45,23 @@ class Found(unittest.TestCase):
         self.assertEqual((status, said), (1, ""))
         self.assertIn("there is no /nowhere/libfarey.so: run ./farey library", error)
 
+    def test_a_copy_of_the_package(self):
+        """It says that it is a copy, where the library is made, and how to name it; and named so, it is found."""
+        with tempfile.TemporaryDirectory() as folder:
+            copy = Path(folder).resolve() / "site/farey"
+            shutil.copytree(PYTHON / "farey", copy)
+            status, said, error = run(ASK, PYTHONPATH=str(copy.parent))
+            self.assertEqual((status, said), (1, ""))
+            self.assertTrue(error.startswith("FileNotFoundError: there is no "), error)
+            self.assertIn(f"this is a copy of the package in {copy}; run ./farey library in the engine's repository", error)
+            self.assertIn("and set FAREY_LIBRARY to that file's path", error)
+            self.assertNotIn(f"run ./farey library in {folder}", error)
+            status, said, error = run(ASK, PYTHONPATH=str(copy.parent), FAREY_LIBRARY="/nowhere/libfarey.so")
+            self.assertEqual((status, said), (1, ""))
+            self.assertIn("there is no /nowhere/libfarey.so: this is a copy of the package", error)
+            found = run(ASK, PYTHONPATH=str(copy.parent), FAREY_LIBRARY=str(library.path().resolve()))
+            self.assertEqual(found, (0, "3\n", ""))
+
     def test_a_folder(self):
         status, said, error = run(ASK, FAREY_LIBRARY="/")
         self.assertEqual((status, said), (1, ""))
@@ -62,6 +80,24 @@ class Found(unittest.TestCase):
             status, said, error = run(ASK, FAREY_LIBRARY=str(other))
         self.assertEqual((status, said), (1, ""))
         self.assertIn("has no function farey_", error)
+
+    def test_a_file_that_is_cut_off(self):
+        """A part of the library is told as that: opened, it would end Python itself by a signal."""
+        whole = library.path().read_bytes()
+        with tempfile.TemporaryDirectory() as folder:
+            part = Path(folder) / "libfarey.so"
+            for length in (16, 40, 63, 64, 4096, 8000, len(whole) // 2, len(whole) - 1000, len(whole) - 1):
+                part.write_bytes(whole[:length])
+                status, said, error = run(ASK, FAREY_LIBRARY=str(part))
+                self.assertEqual((status, said), (1, ""), length)
+                self.assertIn(f"OSError: {part} is cut off, it has fewer bytes than its header says: run ./farey library once more", error)
+            for length in (0, 3):
+                part.write_bytes(whole[:length])
+                status, said, error = run(ASK, FAREY_LIBRARY=str(part))
+                self.assertEqual((status, said), (1, ""), length)
+                self.assertIn("OSError", error)
+            part.write_bytes(whole)
+            self.assertEqual(run(ASK, FAREY_LIBRARY=str(part)), (0, "3\n", ""))
 
     def test_evidence_needs_no_library(self):
         line = "from farey import cycles, evidence; print(evidence.check([], [1, 0], [0, 1], (1, 0, 0, 1), (0, -1, 1, 0)), cycles.text([1, 0]))"
@@ -91,6 +127,14 @@ class Header(unittest.TestCase):
         self.assertEqual(library._PARAMETERS, declared)
         self.assertGreaterEqual(len(declared), 9)
 
+    def test_as_they_are_called(self):
+        """What is loaded takes these parameters and gives 64 bits, as each line of the header begins."""
+        loaded = library.load()
+        for name, parameters in library._PARAMETERS.items():
+            function = getattr(loaded, name)
+            self.assertEqual(list(function.argtypes), parameters, name)
+            self.assertIs(function.restype, library.c_uint64, name)
+
     def test_lengths(self):
         header = (by_hand.REPOSITORY / "include/farey.h").read_text("utf-8")
         lengths = {name: int(number) for name, number in re.findall(r"^#define FAREY_(\w+) (\d+)$", header, re.M)}
@@ -116,7 +160,7 @@ class Form(unittest.TestCase):
                     self.assertTrue(hinted, f"{file.name}: {function.name} has no type hints")
 
     def test_standard_library_only(self):
-        standard = {"__future__", "ctypes", "fractions", "itertools", "operator", "os", "pathlib", "re", "threading", "typing"}
+        standard = {"__future__", "ctypes", "itertools", "numbers", "operator", "os", "pathlib", "re", "threading", "typing"}
         for file in self.files():
             for node in ast.walk(ast.parse(file.read_text("utf-8"))):
                 if isinstance(node, ast.Import):

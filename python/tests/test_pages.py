@@ -6,7 +6,7 @@ docstrings of the module.
 | `python`              | a session: each line prints what is shown; all blocks in order |
 | `sage python`         | run as Python                                                  |
 | `sage recipe`         | run as Python with stand-ins that give SageMath's answers      |
-| `sage`, `gap`, `gp`   | nothing: there is no system to run them with                   |
+| all but `python`      | what the systems said to them: `test_systems`                  |
 """
 
 import contextlib
@@ -93,6 +93,95 @@ class First_page(unittest.TestCase):
         (stored,) = (each for each in by_hand.stored_symbols() if each[0] == "Gamma0(11)")
         matrices = [matrix for _, matrix in by_hand.generators_of(stored[1], stored[2])]
         self.assertTrue(by_hand.alike(by_hand.value(word, matrices), (1, 0, 11, 1)))
+
+
+    def test_how_the_tests_are_run(self):
+        """The line for the Python tests is the gate's, but for what it says of each test and for compiled files."""
+        (line,) = re.findall(r"`cd python && (python3 .*?)`", page("README.md"))
+        self.assertIn(f"(cd python && {line.replace('python3', 'python3 -B').replace('discover', 'discover -v')})", page("test"))
+
+
+class Prose(unittest.TestCase):
+    """Sentences of the handbook that say a matrix, a product or a way through the tables are worked out from their own words."""
+
+    MATRIX = r"\((-?\d+ -?\d+; -?\d+ -?\d+)\)"
+
+    def found(self, pattern):
+        """The groups of a pattern that is in the handbook exactly once. A space in it may be the end of a line."""
+        matches = re.findall(pattern.replace(" ", r"\s+"), page("docs/HANDBOOK.md"))
+        self.assertEqual(len(matches), 1, pattern)
+        return matches[0]
+
+    def matrix(self, text):
+        return tuple(map(int, text.replace(";", " ").split()))
+
+    def factors(self, text, names):
+        """Matrices with their powers, as in `S T⁻² S`."""
+        made = []
+        for factor in text.split():
+            name, power = re.fullmatch(r"([A-Z]\d?)([⁻⁰¹²³⁴⁵⁶⁷⁸⁹]*)", factor).groups()
+            power = int(power.translate(str.maketrans("⁻⁰¹²³⁴⁵⁶⁷⁸⁹", "-0123456789")) or "1")
+            made.append((names[name], power))
+        return made
+
+    def product(self, factors):
+        return by_hand.product(*(by_hand.inverse(M) if n < 0 else M for M, n in factors for _ in range(abs(n))))
+
+    def test_the_worked_example(self):
+        """A none that anybody can check: generators, tables, the product, and each step through the tables."""
+        H = Symbol([0, 1], [1, -2, 1])
+        first, second, S, R = self.found(
+            rf"Take Γ0\(2\), A = I and B = S\. The generators are {self.MATRIX} and {self.MATRIX}, and the tables of the three points 0, 1, 2 are S = (\d \d \d) and R = (\d \d \d)\."
+        )
+        self.assertEqual(tuple(generator.matrix for generator in H.generators), (self.matrix(first), self.matrix(second)))
+        s, r = by_hand.numbers(S), by_hand.numbers(R)
+        self.assertEqual((H.S, H.R), (tuple(s), tuple(r)))
+        named, letters, by_s, by_r = self.found(rf"{self.MATRIX} is T = ([SR] [SR]): 0 goes to (\d) by S and back to (\d) by R\.")
+        self.assertEqual(self.matrix(named), by_hand.T)
+        names = {"S": by_hand.S, "R": by_hand.R, "T": by_hand.T}
+        self.assertTrue(by_hand.alike(self.product(self.factors(letters, names)), by_hand.T))
+        self.assertEqual([s[0], r[s[0]]], [int(by_s), int(by_r)])
+        whole, written = self.found(rf"By Euclid's algorithm {self.MATRIX} = ([^()]*?) up to sign")
+        factors = self.factors(written, names)
+        self.assertEqual(self.matrix(whole), self.matrix(second))
+        self.assertTrue(by_hand.alike(self.product(factors), self.matrix(whole)))
+        steps = self.found(
+            r"sign: 0 goes to (\d) by (\S+), two steps along the cycle of (\d) and (\d) by (\S+), which end at (\d) again, back to (\d) by (\S+), and (\S+) leaves it there\."
+        )
+        self.assertEqual([steps[1], steps[4], steps[7], steps[8]], written.split())
+        t = [r[x] for x in s]
+        points = [0]
+        for M, n in factors:
+            table = {by_hand.S: s, by_hand.T: t}[M]
+            if n < 0:
+                table = [table.index(x) for x in range(3)]
+            points.append(points[-1])
+            for _ in range(abs(n)):
+                points[-1] = table[points[-1]]
+        self.assertEqual(points, [0, int(steps[0]), int(steps[5]), int(steps[6]), 0])
+        one, two = int(steps[2]), int(steps[3])
+        self.assertEqual((t[one], t[two]), (two, one))
+        last = self.found(r"would be B A⁻¹ = S up to sign, which takes 0 to (\d)\. Hence there is none\.")
+        self.assertEqual(int(last), s[0])
+
+    def test_which_matrices(self):
+        """The recipes' S, T and R, and Sage's names."""
+        S, T, R = self.found(rf"\*\*Which matrices\.\*\* S = {self.MATRIX}, T = {self.MATRIX} and R = S T = {self.MATRIX}\.")
+        self.assertEqual([self.matrix(M) for M in (S, T, R)], [by_hand.S, by_hand.T, by_hand.R])
+        self.assertTrue(by_hand.alike(by_hand.product(by_hand.S, by_hand.T), by_hand.R))
+        one, other, R, S3 = self.found(
+            rf"Sage calls the first two `(\w+)` and `(\w+)`, and has no name for R: what Sage calls `R` is {self.MATRIX}, and its `S3` is {self.MATRIX}\."
+        )
+        self.assertEqual((one, other), ("S2", "L"))
+        names = {one: by_hand.S, other: by_hand.T, "S3": self.matrix(S3), "R": self.matrix(R)}
+        ours, too, sages = self.found(r"Up to sign, our R is ([^,.]*), which is ([^,.]*), and Sage's R is ([^,.]*)\.")
+        self.assertTrue(by_hand.alike(self.product(self.factors(ours, names)), by_hand.R))
+        self.assertTrue(by_hand.alike(self.product(self.factors(too, names)), by_hand.R))
+        self.assertTrue(by_hand.alike(self.product(self.factors(sages, names)), names["R"]))
+        taken = self.found(r"So take `(\w+)` and `(\w+)` from Sage and nothing else; R is then S followed by T\.")
+        recipe = blocks("sage recipe")[1]
+        self.assertEqual(taken, (one, other))
+        self.assertEqual(set(re.findall(r"G\.(\w+)\(\)", recipe)), {*taken, "index"})
 
 
 class Rational:
@@ -280,7 +369,21 @@ class Pari(unittest.TestCase):
             ((edges, partners, [(1, 0, 1, 1), glued[1], glued[2]]), "doesn't pair edge"),
             ((edges, partners, [(1, 0, 0, 1), (1, 0, 0, 1), glued[2]]), "doesn't pair edge"),
             ((edges, partners, [(1, 5, 0, 1), (1, 0, 0, 1), glued[2]]), "doesn't pair edge"),
+            # the first side of a pair, and the second
+            ((edges, partners, [glued[0], (1, 5, 0, 1), glued[2]]), "pairings[1] doesn't pair edge 2"),
+            ((edges, partners, [(1, 5, 0, 1), glued[1], glued[2]]), "pairings[0] doesn't pair edge 1"),
             (([], [], []), "0 edges"),
+            # edges that are no matrices of determinant 1: a column 0/0, a path that is none, fractions that can be cancelled
+            (([(-1, 1, -1, 0), (0, 0, 0, 1), (0, 1, -1, 1)], partners, glued), "the determinant of edges[1] isn't 1"),
+            (([(-1, 0, -1, 0), (1, 0, 0, 1), (0, 1, -1, 1)], partners, glued), "the determinant of edges[0] isn't 1"),
+            (([(-7, 1, -7, 0), (1, 0, 0, 1), (0, 1, -3, 1)], partners, glued), "the determinant of edges[0] isn't 1"),
+            (([(-1, 1, -1, 0), (1, 0, 0, 1), (0, 1, -3, 1)], partners, glued), "the determinant of edges[2] isn't 1"),
+            ((edges, partners, [glued[0], (1, 0, 0, 2), glued[2]]), "the determinant of pairings[1] isn't 1"),
+            ((edges, partners, [glued[0], glued[1], (1, -1, 3, 10**5000)]), "the determinant of pairings[2] isn't 1"),
+            # from infinity to 0 and back, twice
+            (([(1, 0, 0, 1), (0, -1, 1, 0)] * 2, [2, 1, 4, 3], [(1, 0, 0, 1)] * 4), "2 edges begin at infinity"),
+            # from infinity to 0, 1 and 2, with the matrices of a symbol
+            (([(1, 0, 0, 1), (0, 1, -1, 1), (-1, 2, -1, 1)], [3, 2, 1], [glued[1], glued[2], glued[0]]), "edge 3 doesn't end where edge 1 begins"),
         ):
             with self.assertRaises(ValueError) as caught:
                 systems.from_mspolygon(*given)

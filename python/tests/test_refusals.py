@@ -31,6 +31,12 @@ class Sentences(unittest.TestCase):
         again = pickle.loads(pickle.dumps(Refusal(4, 2)))
         self.assertEqual((again.number, again.place, type(again)), (4, 2, Refusal))
 
+    def test_a_sentence_of_its_own(self):
+        refusal = Refusal(8, 2, "entry {place} of M is too large")
+        for each in (refusal, pickle.loads(pickle.dumps(refusal))):
+            self.assertEqual((each.number, each.place, each.sentence), (8, 2, "entry 2 of M is too large"))
+            self.assertEqual(str(each), "refused 8 2: entry 2 of M is too large")
+
     def test_is_an_exception(self):
         self.assertTrue(issubclass(Refusal, Exception))
         self.assertEqual(Refusal(4, 2).args, (4, 2))

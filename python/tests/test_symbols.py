@@ -6,12 +6,18 @@ import pickle
 import subprocess
 import unittest
 from fractions import Fraction
+from numbers import Rational
+from unittest import mock
 
 from farey import Generator, Refusal, Symbol
 
 from . import reckoning as by_hand
 
 GAMMA0_2 = ([(0, 1), (1, 1)], [1, -2, 1])
+
+
+class Other(Symbol):
+    """A class that stands on Symbol."""
 
 
 class StoredSymbols(unittest.TestCase):
@@ -131,6 +137,14 @@ class Permutations(unittest.TestCase):
                 self.assertTrue(all(generator.matrix in other for generator in one.generators))
                 self.assertEqual((one.S, one.R, one.T), (other.S, other.R, other.T))
 
+    def test_from_the_left_stays_from_the_left(self):
+        """However many points there are: Γ0(990), which the wide rule makes, is refused."""
+        pair = by_hand.gamma0_tables(990, by_hand.S, by_hand.R)
+        self.assertEqual(Symbol.from_permutations(*pair).index, 2592)
+        with self.assertRaises(Refusal) as caught:
+            Symbol.from_permutations(*pair, wide=False)
+        self.assertEqual(caught.exception.number, 16)
+
     def test_largest(self):
         """3,066 points, and one more."""
         # a row of triangles, joined by S: 0 1 2 | 3 4 5 | ..
@@ -218,12 +232,48 @@ class Sameness(unittest.TestCase):
         for other in (None, 0, "Gamma0(2)", GAMMA0_2, object()):
             self.assertFalse(H == other)
             self.assertTrue(H != other)
+            # so that the other one is asked
+            self.assertIs(H.__eq__(other), NotImplemented)
+
+        class Equal:
+            def __eq__(self, other):
+                return True
+
+        self.assertTrue(H == Equal())
 
     def test_copies(self):
         H = Symbol(*GAMMA0_2)
         for other in (copy.copy(H), copy.deepcopy(H), pickle.loads(pickle.dumps(H)), eval(repr(H), {"Symbol": Symbol})):
             self.assertTrue(H == other)
             self.assertEqual(other.word(by_hand.I, (1, 0, 2, 1)), [2, 1])
+
+    def test_hashes_differ(self):
+        self.assertNotEqual(hash(Symbol(*GAMMA0_2)), hash(Symbol([-1, 0], [1, -2, 1])))
+
+    def test_classes_that_stand_on_it(self):
+        """A copy is of the same class, with the attributes that it was given."""
+        H = Other(*GAMMA0_2)
+        H.name = "Γ0(2)"
+        for again in (copy.copy(H), copy.deepcopy(H), pickle.loads(pickle.dumps(H))):
+            self.assertIs(type(again), Other)
+            self.assertEqual((again.vertices, again.pairings, again.name), (H.vertices, H.pairings, "Γ0(2)"))
+        self.assertIs(type(Other.parse(str(H))), Other)
+        self.assertIs(type(Other.from_permutations(H.S, H.R)), Other)
+
+    def test_never_made(self):
+        for H in (Symbol.__new__(Symbol), object.__new__(Symbol)):
+            for ask in (lambda: H.index, lambda: H.vertices, lambda: H.word(by_hand.I, by_hand.I), lambda: by_hand.I in H, lambda: H == H, lambda: hash(H), lambda: str(H), lambda: copy.copy(H)):
+                with self.assertRaises(TypeError) as caught:
+                    ask()
+                self.assertEqual(str(caught.exception), "this Symbol was never made: Symbol(vertices, pairings) or one of its class methods makes one")
+
+    def test_figures_that_are_refused(self):
+        """18 is of the genus, 17 of the level."""
+        with mock.patch.object(Symbol, "_figures", lambda H: (3, 1, 0, 2, 18, 0, 17, 0)):
+            for name, number in (("genus", 18), ("level", 17)):
+                with self.assertRaises(Refusal) as caught:
+                    getattr(Symbol(*GAMMA0_2), name)
+                self.assertEqual((caught.exception.number, caught.exception.place), (number, 0))
 
     def test_attributes_stay(self):
         H = Symbol(*GAMMA0_2)
@@ -245,12 +295,26 @@ class Vertices(unittest.TestCase):
             def __index__(self):
                 return self.number
 
+        @Rational.register
+        class SagesRational:
+            """Its numerator and denominator are methods."""
+
+            def __init__(self, numerator, denominator):
+                self.pair = Whole(numerator), Whole(denominator)
+
+            def numerator(self):
+                return self.pair[0]
+
+            def denominator(self):
+                return self.pair[1]
+
         expected = Symbol([(0, 1), (1, 2), (1, 1)], [1, -2, -2, 1])
         for vertices in (
             [0, Fraction(1, 2), 1],
             ((0, 1), [1, 2], Fraction(1)),
             iter([0, (1, 2), 1]),
             [Whole(0), (Whole(1), Whole(2)), Whole(1)],
+            [SagesRational(0, 1), SagesRational(1, 2), SagesRational(1, 1)],
         ):
             made = Symbol(vertices, (Whole(1), -2, -2, 1))
             self.assertEqual(made.vertices, ((0, 1), (1, 2), (1, 1)))
@@ -330,6 +394,10 @@ class Texts(unittest.TestCase):
             ("-5", 1, 0),
             (fine + " " * 65536, 19, 65536),
             (fine + " " * (65536 - len(fine)), 0, 0),
+            # 65,536 characters, which are 65,537 bytes
+            (fine + " " * (65535 - len(fine)) + "é", 19, 65536),
+            # a byte order mark is no number
+            ("\ufeff" + fine, 19, 0),
             ("1 0 1 -2 -2", 7, 0),
         ):
             with self.subTest(text[:40]):
