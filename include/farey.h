@@ -40,7 +40,15 @@
  *   16  a vertex entry over 10^9 would be needed                                            the side to be split
  *   17  the level is 2^64 or more                                                           (its own figure only)
  *   18  the genus formula gives no whole number from 0                                      (its own figure only)
+ *   20  N isn't from 1 to 1,000, or the family isn't one of the three below                 0
+ *   21  the index of the named group is over 3,066                                          0
  * 19 is for the programs, which read text.
+ *
+ * NAMED GROUPS are given by a family and an N from 1 to 1,000. A matrix (a b; c d) is in the group where it meets, modulo N, the condition
+ * of its family:
+ *   FAREY_GAMMA0  Γ0(N)   c is 0
+ *   FAREY_GAMMA1  Γ1(N)   c is 0, and a and d are both 1 or both -1
+ *   FAREY_GAMMA   Γ(N)    the matrix is the identity or its negative
  */
 #ifndef FAREY_H
 #define FAREY_H
@@ -52,17 +60,24 @@
 extern "C" {
 #endif
 
-/* Stack that is enough for every call, in bytes, with what it calls in turn. This is measured and not proved, on x86-64: the two
- * imports take under 10,000 and every other call under 2,000, on the largest inputs, by a thread whose stack was filled beforehand
- * (rust/differential/tests/stack.rs, which the gate runs). A call that the dynamic linker has to look up at its first use (memset) may
- * take some thousand more, once. */
-#define FAREY_STACK 16384
+/* Stack that is enough for every call, in bytes, with what it calls in turn. This is measured and not proved, on x86-64: the symbols and
+ * queries of named groups, which keep two tables and a symbol there, take under 65,536, the other calls under 10,000, on the largest
+ * inputs, by a thread whose stack was filled beforehand (rust/differential/tests/stack.rs, which the gate runs). A call that the dynamic
+ * linker has to look up at its first use (memset) may take some thousand more, once. */
+#define FAREY_STACK 98304
 /* The length of the work space. */
 #define FAREY_WORK 32768
 /* Lengths that are enough for every symbol: of a symbol's table, of the generators, of a table of cosets or widths. */
 #define FAREY_TABLE 3070
 #define FAREY_GENERATORS 5120
 #define FAREY_COSETS 4090
+/* A length that is enough for the table of S, and of R, of every named group. */
+#define FAREY_NAMED 3066
+
+/* The families of named groups. */
+#define FAREY_GAMMA0 0
+#define FAREY_GAMMA1 1
+#define FAREY_GAMMA 2
 
 /* Whether t is a symbol: refusals 1 to 7 in this order. Count: 0. */
 uint64_t farey_check(size_t v, const int64_t *t, size_t t_len, size_t *place);
@@ -111,6 +126,32 @@ uint64_t farey_query(size_t v, const int64_t *t, size_t t_len, const int64_t *a,
  * 1 to 7 for the first, then for the second, then 11 for work. Count: 1 for yes, 0 for no. */
 uint64_t farey_same(size_t v, const int64_t *t, size_t t_len, size_t m, const int64_t *u, size_t u_len, uint16_t *work, size_t work_len,
                     size_t *place);
+
+/* The right cosets of a named group, numbered as those of farey_tables: for each, its image under multiplication on the right by S and
+ * by R, each table from the front of its space. A matrix fixes point 0 precisely when it meets the condition of its family. Refused: 20,
+ * 21, then 11 for work, then 11 for s, then for r. Count: the index, which is how many entries are written to each. */
+uint64_t farey_named_tables(uint64_t family, uint64_t n, uint16_t *work, size_t work_len, uint32_t *s, size_t s_len, uint32_t *r,
+                            size_t r_len, size_t *place);
+
+/* The symbol that farey_import makes of these tables: it generates precisely the matrices that meet the condition. out: its table, from
+ * the front. Refused: 20, 21, then 11 for work, then 16, then 11 for out. Count: v, the number of vertices; 3v + 1 numbers are
+ * written. */
+uint64_t farey_named_symbol(uint64_t family, uint64_t n, uint16_t *work, size_t work_len, int64_t *out, size_t out_len, size_t *place);
+
+/* The symbol that farey_import_wide makes of them, of the same group. In the tests no named group met 16 here. */
+uint64_t farey_named_symbol_wide(uint64_t family, uint64_t n, uint16_t *work, size_t work_len, int64_t *out, size_t out_len,
+                                 size_t *place);
+
+/* A word that takes A to B, as by farey_query on the symbol of farey_named_symbol: the letters are those of its generators, and the word
+ * stands in out from the place `start` on. Unless it is refused before 10, a word is found exactly when B A^-1 meets the condition.
+ * Refused: 20, 21, then 8, then 9, A before B under each, then 11 for work, then 16, then 10, then 11 for out, with the word's true
+ * length. Count: how many letters. */
+uint64_t farey_named_query(uint64_t family, uint64_t n, const int64_t *a, const int64_t *b, uint16_t *work, size_t work_len,
+                           int16_t *out, size_t out_len, size_t start, size_t *place);
+
+/* The same on the symbol of farey_named_symbol_wide. */
+uint64_t farey_named_query_wide(uint64_t family, uint64_t n, const int64_t *a, const int64_t *b, uint16_t *work, size_t work_len,
+                                int16_t *out, size_t out_len, size_t start, size_t *place);
 
 #ifdef __cplusplus
 }

@@ -55,6 +55,16 @@ int main(void)
     say("query without work", number, place);
     number = farey_same(2, t, 7, 2, t, 7, NULL, 0, &place);
     say("same without work", number, place);
+    number = farey_named_tables(FAREY_GAMMA0, 2, NULL, 0, NULL, 0, NULL, 0, &place);
+    say("named tables without work", number, place);
+    number = farey_named_symbol(FAREY_GAMMA0, 2, NULL, 0, NULL, 0, &place);
+    say("named symbol without work", number, place);
+    number = farey_named_symbol_wide(FAREY_GAMMA0, 2, NULL, 0, NULL, 0, &place);
+    say("wide named symbol without work", number, place);
+    number = farey_named_query(FAREY_GAMMA0, 2, one, one, NULL, 0, NULL, 0, 0, &place);
+    say("named query without work", number, place);
+    number = farey_named_query_wide(FAREY_GAMMA0, 2, one, one, NULL, 0, NULL, 0, 0, &place);
+    say("wide named query without work", number, place);
 
     /* No result space: the length that is needed. */
     number = farey_generators(2, t, 7, work, FAREY_WORK, NULL, 0, &place);
@@ -69,11 +79,27 @@ int main(void)
     say("wide import without room", number, place);
     number = farey_query(2, t, 7, one, lower, work, FAREY_WORK, NULL, 0, 0, &place);
     say("query without room", number, place);
+    number = farey_named_tables(FAREY_GAMMA0, 2, work, FAREY_WORK, NULL, 0, columns[1], 3, &place);
+    say("named tables without room for S", number, place);
+    number = farey_named_tables(FAREY_GAMMA0, 2, work, FAREY_WORK, columns[0], 3, NULL, 0, &place);
+    say("named tables without room for R", number, place);
+    number = farey_named_symbol(FAREY_GAMMA0, 2, work, FAREY_WORK, NULL, 0, &place);
+    say("named symbol without room", number, place);
+    number = farey_named_symbol_wide(FAREY_GAMMA0, 2, work, FAREY_WORK, NULL, 0, &place);
+    say("wide named symbol without room", number, place);
+    number = farey_named_query(FAREY_GAMMA0, 2, one, lower, work, FAREY_WORK, NULL, 0, 0, &place);
+    say("named query without room", number, place);
+    number = farey_named_query_wide(FAREY_GAMMA0, 2, one, lower, work, FAREY_WORK, NULL, 0, 0, &place);
+    say("wide named query without room", number, place);
 
     /* The empty word needs none, from the place 0 on. */
     number = farey_query(2, t, 7, one, one, work, FAREY_WORK, NULL, 0, 0, &place);
     say("empty word", number, place);
     number = farey_query(2, t, 7, one, one, work, FAREY_WORK, NULL, 0, 1, &place);
     say("empty word past the end", number, place);
+    number = farey_named_query(FAREY_GAMMA0, 2, one, one, work, FAREY_WORK, NULL, 0, 0, &place);
+    say("empty word by name", number, place);
+    number = farey_named_query_wide(FAREY_GAMMA0, 2, one, one, work, FAREY_WORK, NULL, 0, 1, &place);
+    say("empty word by name past the end", number, place);
     return 0;
 }

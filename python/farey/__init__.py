@@ -6,6 +6,7 @@ and gives the results names. The package itself is tested and not proved.
 | module     | what it holds                                                   |
 |------------|-----------------------------------------------------------------|
 | `symbol`   | `Symbol`: a symbol and all that can be asked of it              |
+| `named`    | `named_tables`: S and R of Γ0(N), Γ1(N) and Γ(N)                |
 | `refusal`  | `Refusal`: the exception, with number, place and sentence       |
 | `evidence` | a check, without the engine, of the statement that no word is   |
 | `cycles`   | permutations as Sage, GAP and Magma write them, points from 1   |
@@ -22,11 +23,14 @@ without it.
 (12, 1)
 >>> gamma0_11.word((1, 0, 0, 1), (1, 0, 11, 1))
 [-2, 3, 2, -3, 1]
+>>> Symbol.gamma(5).index
+60
 """
 
 from . import cycles, evidence
+from .named import named_tables
 from .refusal import Refusal
 from .symbol import Evidence, Generator, Symbol
 from . import systems  # stands on Symbol
 
-__all__ = ["Evidence", "Generator", "Refusal", "Symbol", "cycles", "evidence", "systems"]
+__all__ = ["Evidence", "Generator", "Refusal", "Symbol", "cycles", "evidence", "named_tables", "systems"]

@@ -29,8 +29,11 @@ WORK = 32768
 TABLE = 3070
 GENERATORS = 5120
 COSETS = 4090
+#: A length that is enough for the tables of S and R of every named group.
+NAMED = 3066
 
 _SYMBOL = [c_size_t, POINTER(c_int64), c_size_t]
+_NAME = [c_uint64, c_uint64]
 _WORK = [POINTER(c_uint16), c_size_t]
 _PLACE = [POINTER(c_size_t)]
 
@@ -50,6 +53,11 @@ _PARAMETERS = {
     "farey_import_wide": 2 * _space(c_uint32) + _WORK + _space(c_int64) + _PLACE,
     "farey_query": _SYMBOL + 2 * [POINTER(c_int64)] + _WORK + _space(c_int16) + [c_size_t] + _PLACE,
     "farey_same": 2 * _SYMBOL + _WORK + _PLACE,
+    "farey_named_tables": _NAME + _WORK + 2 * _space(c_uint32) + _PLACE,
+    "farey_named_symbol": _NAME + _WORK + _space(c_int64) + _PLACE,
+    "farey_named_symbol_wide": _NAME + _WORK + _space(c_int64) + _PLACE,
+    "farey_named_query": _NAME + 2 * [POINTER(c_int64)] + _WORK + _space(c_int16) + [c_size_t] + _PLACE,
+    "farey_named_query_wide": _NAME + 2 * [POINTER(c_int64)] + _WORK + _space(c_int16) + [c_size_t] + _PLACE,
 }
 
 _loaded: Optional[ctypes.CDLL] = None

@@ -9,6 +9,7 @@ from typing import Any, Dict, List, NamedTuple, Optional, Sequence, Tuple
 from . import arguments, library
 from .arguments import Matrix, Vertex, clamped, integers, matrix, shown
 from .library import Fixed
+from .named import FAMILIES, level
 from .refusal import Refusal
 
 _KINDS = {1: "free", 2: "even", 3: "odd"}
@@ -128,6 +129,58 @@ class Symbol:
         v = library.call(name, (c_uint32 * len(s))(*s), (c_uint32 * len(r))(*r), library.work(), out)
         made = cls.__new__(cls)
         made._accept(v, out[: 3 * v + 1])
+        return made
+
+    @classmethod
+    def gamma0(cls, N: int) -> Symbol:
+        """A symbol of Γ0(N), the matrices (a b; c d) with c = 0 modulo N, for N from 1
+        to 1,000. Refusals 20 (N out of range) and 21 (an index over 3,066).
+
+        It is the symbol that `from_permutations` makes with `wide=False` of the
+        group's tables, and where that is refused with 16 the one of the wide rule:
+        the one that `./farey gamma0 N` prints.
+
+        >>> Symbol.gamma0(11)
+        Symbol([(0, 1), (1, 4), (1, 3), (1, 2), (1, 1)], [1, 2, 3, 2, 3, 1])
+        >>> Symbol.gamma0(1001)
+        Traceback (most recent call last):
+        farey.refusal.Refusal: refused 20 0: N isn't from 1 to 1,000, or the family isn't Γ0, Γ1 or Γ
+        """
+        return cls._named("gamma0", N)
+
+    @classmethod
+    def gamma1(cls, N: int) -> Symbol:
+        """A symbol of Γ1(N) with -1: c = 0 modulo N, and a and d are both 1 or both
+        -1. By which rule, and what is refused: as `gamma0`.
+
+        >>> H = Symbol.gamma1(7)
+        >>> H.index, (8, 1, 7, 1) in H, (2, 1, 7, 4) in H
+        (24, True, False)
+        """
+        return cls._named("gamma1", N)
+
+    @classmethod
+    def gamma(cls, N: int) -> Symbol:
+        """A symbol of Γ(N) with -1: the matrices that are the identity or its negative
+        modulo N. By which rule, and what is refused: as `gamma0`.
+
+        >>> H = Symbol.gamma(5)
+        >>> H.index, H.genus, H.widths == (5,) * 12
+        (60, 0, True)
+        """
+        return cls._named("gamma", N)
+
+    @classmethod
+    def _named(cls, family: str, N: int) -> Symbol:
+        name = FAMILIES[family], level(N)
+        out = (c_int64 * library.TABLE)()
+        number, place = library.answer("farey_named_symbol", *name, library.work(), out)
+        if number == 16:
+            number, place = library.answer("farey_named_symbol_wide", *name, library.work(), out)
+        if number != 0:
+            raise Refusal(number, place)
+        made = cls.__new__(cls)
+        made._accept(place, out[: 3 * place + 1])
         return made
 
     @classmethod

@@ -159,6 +159,29 @@ def gamma0_tables(N, *matrices):
     return [[image(row, matrix) for row in rows] for matrix in matrices]
 
 
+def named_tables(name):
+    """S and R on the right cosets of Γ0(N), Γ1(N) or Γ(N), numbered by docs/CONVENTIONS.md,
+    4.2. A coset is known by what all its matrices have in common modulo N: the least
+    of the lower row's multiples by units, or by 1 and -1, or that of both rows."""
+    kind, _, rest = name.partition("(")
+    N = int(rest.rstrip(")"))
+    units = [u for u in range(1, N + 1) if gcd(u, N) == 1] if kind == "Gamma0" else [1, -1]
+    kept = slice(None) if kind == "Gamma" else slice(2, None)
+
+    def coset(matrix):
+        return min(tuple(u * entry % N for entry in matrix[kept]) for u in units)
+
+    place, found, tables = {coset(I): 0}, [I], ([], [])
+    for matrix in found:  # found grows
+        for table, step in zip(tables, (S, R)):
+            image = tuple(entry % N for entry in product(matrix, step))
+            number = place.setdefault(coset(image), len(found))
+            if number == len(found):
+                found.append(image)
+            table.append(number)
+    return tuple(map(tuple, tables))
+
+
 def is_in(name, matrix):
     """Whether a matrix is, up to sign, in Γ0(N), Γ1(N) or Γ(N); None for a group
     that has another name."""

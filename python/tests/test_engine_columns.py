@@ -6,7 +6,7 @@ import runpy
 import sys
 from unittest import mock
 
-from farey import Symbol, library
+from farey import Symbol, library, named_tables
 
 from . import reckoning as by_hand
 from .test_tools import MEMBERS, TOOL, Tool
@@ -38,6 +38,14 @@ class Recorder:
                 recorder.takes(("import", tuple(s[:s_len]), tuple(r[:r_len])))
                 return loaded.farey_import_wide(s, s_len, r, r_len, *rest)
 
+            def farey_named_symbol_wide(self, family, N, *rest):
+                recorder.takes(("named symbol", family, N))
+                return loaded.farey_named_symbol_wide(family, N, *rest)
+
+            def farey_named_tables(self, family, N, *rest):
+                recorder.takes(("named tables", family, N))
+                return loaded.farey_named_tables(family, N, *rest)
+
             def farey_query(self, v, t, t_len, a, b, *rest):
                 recorder.takes(("query", tuple(t[:t_len]), tuple(a), tuple(b)))
                 return loaded.farey_query(v, t, t_len, a, b, *rest)
@@ -52,6 +60,11 @@ class Recorder:
                 recorder.takes(("made", tuple(S), tuple(R)))
                 return super().from_permutations(S, R)
 
+            @classmethod
+            def gamma0(cls, N):
+                recorder.takes(("gamma0", N))
+                return super().gamma0(N)
+
             def word(self, A, B):
                 recorder.takes(("word", self.vertices, A, B))
                 return super().word(A, B)
@@ -63,7 +76,11 @@ class Recorder:
                     recorder.takes(("S", self.vertices, self.pairings))
                 return super().S
 
-        return {"Symbol": Noted, "library": mock.Mock(wraps=library, load=Calls, TABLE=library.TABLE, COSETS=library.COSETS)}
+        def tables(family, N):
+            recorder.takes(("tables by name", family, N))
+            return named_tables(family, N)
+
+        return {"Symbol": Noted, "named_tables": tables, "library": mock.Mock(wraps=library, load=Calls, TABLE=library.TABLE, COSETS=library.COSETS)}
 
 
 class EnginesColumns(Tool):
@@ -72,24 +89,30 @@ class EnginesColumns(Tool):
         matrices, and its time is the median, in milliseconds."""
         tool = runpy.run_path(str(TOOL), run_name="compare-systems")
         own = tool["engine"].__globals__
-        pair = tuple(map(tuple, tool["permutations"]()))
+        pair = named_tables("gamma0", 990)
         H = Symbol.from_permutations(*pair)
         table = tuple(entry for vertex in H.vertices for entry in vertex) + H.pairings
         kinds = [
-            ("import", *pair),
+            ("named symbol", 0, 990),
             *[("query", table, by_hand.I, member) for member in MEMBERS],
             ("tables", table),
-            ("made", *pair),
+            ("import", *pair),
+            ("named tables", 0, 990),
+            ("gamma0", 990),
             *[("word", H.vertices, by_hand.I, member) for member in MEMBERS],
             ("S", H.vertices, H.pairings),
+            ("made", *pair),
+            ("tables by name", "gamma0", 990),
         ]
-        # five of each; the medians are 3, 30, 300 .. seconds, no least, mean or last one. One symbol more is made at the start
+        # five of each; the medians are 3, 30, 300 .. seconds, no least, mean or last one. At the start the tables and a symbol are made
+        first = [kinds[11], kinds[10]]
         times = {kind: [part * 10.0**i for part in (4, 1, 3, 70, 2)] for i, kind in enumerate(kinds)}
-        times[kinds[4]].insert(0, 999.0)
+        for kind in first:
+            times[kind].insert(0, 999.0)
         recorder = Recorder(times)
         with mock.patch.dict(own, recorder.names()), mock.patch("time.perf_counter", recorder.clock):
             by_c, by_python = tool["engine"](5)
-        self.assertEqual(recorder.asked, [kinds[4]] + [kind for kind in kinds for _ in range(5)])
+        self.assertEqual(recorder.asked, first + [kind for kind in kinds for _ in range(5)])
         for i, found in enumerate(by_c + by_python):
             self.assertAlmostEqual(found / (3000 * 10.0**i), 1, 6)
 

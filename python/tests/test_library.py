@@ -11,7 +11,7 @@ import unittest
 from pathlib import Path
 
 import farey
-from farey import library
+from farey import library, named
 
 from . import reckoning as by_hand
 
@@ -125,7 +125,7 @@ class Header(unittest.TestCase):
                 kinds.append(library.POINTER(kind) if "*" in parameter else kind)
             declared[name] = kinds
         self.assertEqual(library._PARAMETERS, declared)
-        self.assertGreaterEqual(len(declared), 9)
+        self.assertGreaterEqual(len(declared), 14)
 
     def test_as_they_are_called(self):
         """What is loaded takes these parameters and gives 64 bits, as each line of the header begins."""
@@ -138,8 +138,9 @@ class Header(unittest.TestCase):
     def test_lengths(self):
         header = (by_hand.REPOSITORY / "include/farey.h").read_text("utf-8")
         lengths = {name: int(number) for name, number in re.findall(r"^#define FAREY_(\w+) (\d+)$", header, re.M)}
-        for name in ("WORK", "TABLE", "GENERATORS", "COSETS"):
+        for name in ("WORK", "TABLE", "GENERATORS", "COSETS", "NAMED"):
             self.assertEqual(getattr(library, name), lengths[name])
+        self.assertEqual(named.FAMILIES, {name.lower(): lengths[name] for name in ("GAMMA0", "GAMMA1", "GAMMA")})
 
 
 class Form(unittest.TestCase):
@@ -147,7 +148,7 @@ class Form(unittest.TestCase):
 
     def files(self):
         found = sorted((PYTHON / "farey").glob("*.py"))
-        self.assertGreaterEqual(len(found), 7)
+        self.assertGreaterEqual(len(found), 8)
         return found
 
     def test_python_3_9(self):

@@ -65,11 +65,11 @@ class Sessions(unittest.TestCase):
         result = doctest.testmod(farey, verbose=False)
         self.assertEqual(result.failed, 0)
         self.assertGreater(result.attempted, 0)
-        for name in ("symbol", "refusal", "evidence", "cycles", "systems"):
+        for name in ("symbol", "refusal", "evidence", "cycles", "named", "systems"):
             self.assertGreater(attempted[name], 1, name)
 
     def test_public_names_have_examples(self):
-        for name in ("from_permutations", "parse", "generators", "word", "why_none", "__contains__", "__eq__"):
+        for name in ("from_permutations", "gamma0", "gamma1", "gamma", "parse", "generators", "word", "why_none", "__contains__", "__eq__"):
             self.assertIn(">>>", getattr(Symbol, name).__doc__, name)
 
 

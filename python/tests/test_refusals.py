@@ -15,7 +15,7 @@ class Sentences(unittest.TestCase):
         lines = (by_hand.REPOSITORY / "rust/farey/refusals.txt").read_text("utf-8").splitlines()
         listed = {int(number): sentence for number, sentence in (line.split(" ", 1) for line in lines)}
         self.assertEqual(SENTENCES, listed)
-        self.assertGreaterEqual(len(listed), 19)
+        self.assertGreaterEqual(len(listed), 21)
 
     def test_place_is_put_in(self):
         for number, sentence in SENTENCES.items():
@@ -59,6 +59,9 @@ class Examples(unittest.TestCase):
                 H = Symbol.parse(text)
                 return [H.genus, H.level]
             given = by_hand.numbers(text)
+            if file.suffix == ".group":
+                family, N = given
+                return (Symbol.gamma0, Symbol.gamma1, Symbol.gamma)[family](N)
             if file.suffix == ".pair":
                 n = given[0]
                 return Symbol.from_permutations(given[1 : n + 1], given[n + 1 :], wide=False)
@@ -75,7 +78,7 @@ class Examples(unittest.TestCase):
                 # 17 is the level's own. 11 is the program's: a word over 16,384 letters, which Python gives
                 self.assertEqual(self.said(file), answer.replace("level ", ""))
                 met.append(number)
-        self.assertEqual(sorted(met), [1, 3, 4, 5, 6, 7, 8, 9, 10, 11, 12, 13, 14, 15, 16, 17, 19])
+        self.assertEqual(sorted(met), [1, 3, 4, 5, 6, 7, 8, 9, 10, 11, 12, 13, 14, 15, 16, 17, 19, 20, 21])
 
     def test_only_the_level_is_refused(self):
         H = Symbol.parse((by_hand.REPOSITORY / "examples/refusals/17.txt").read_text("utf-8"))

@@ -58,7 +58,7 @@ class Tool(unittest.TestCase):
         keeps = {name: KEEPS.format(python=sys.executable, line=line) for name, line in (("sage", "ms 1 2 3 4"), ("gp", "ms 5"))}
         came = self.run_with(keeps, str(runs), given=found)
         self.assertEqual((came.returncode, came.stderr), (0, ""))
-        self.assertEqual([row[1:3] for row in self.rows(came.stdout)], [["1", "5"], ["2", ""], ["3", ""], ["4", ""]])
+        self.assertEqual([row[1:3] for row in self.rows(came.stdout)], [["1", "5"], ["2", ""], ["3", ""], ["4", ""], ["", ""], ["", ""]])
         return found
 
 
@@ -69,7 +69,7 @@ class CompareSystems(Tool):
         for name in ("sage", "gp"):
             self.assertIn(f"there is no {name} on the PATH", came.stderr)
         rows = self.rows(came.stdout)
-        self.assertEqual(len(rows), 4)
+        self.assertEqual(len(rows), 6)
         for _, sage, pari, by_c, by_python in rows:
             self.assertEqual((sage, pari), ("", ""))
             self.assertGreater(float(by_c), 0)
@@ -78,7 +78,8 @@ class CompareSystems(Tool):
     def test_both_are_there(self):
         came = self.run_with({"sage": "echo ms 995 337 34 15.9", "gp": "echo ms 12.5"}, "1")
         self.assertEqual((came.returncode, came.stderr), (0, ""))
-        self.assertEqual([row[1:3] for row in self.rows(came.stdout)], [["995", "12.5"], ["337", ""], ["34", ""], ["15.9", ""]])
+        said = [row[1:3] for row in self.rows(came.stdout)]
+        self.assertEqual(said, [["995", "12.5"], ["337", ""], ["34", ""], ["15.9", ""], ["", ""], ["", ""]])
 
     def test_one_fails(self):
         for script in ("exit 1", "echo nothing", "echo ms 1"):
@@ -167,13 +168,32 @@ class Texts(Tool):
         self.assertEqual(came.returncode, 0, came.stderr)
         self.assertEqual("there is no gp on the PATH" in came.stderr, not links)
         column = [row[2] for row in self.rows(came.stdout)]
-        self.assertEqual(column[1:], [""] * 3)
+        self.assertEqual(column[1:], [""] * 5)
         self.assertEqual([float(time) > 0 for time in column[:1] if time], [True] * len(links))
 
-    def test_the_engines_tables(self):
-        """What the engine is given are S and R on the rows (c : d) modulo 990, and the same two matrices."""
+    def test_the_engines_group(self):
+        """What the engine is asked for is Γ0(990), and the same two matrices."""
         tool = runpy.run_path(str(TOOL), run_name="compare-systems")
-        s, r = tool["permutations"]()
-        self.assertEqual(by_hand.renumbered(s, r), by_hand.renumbered(*by_hand.gamma0_tables(990, by_hand.S, by_hand.R)))
-        self.assertEqual(len(s), 2592)
-        self.assertEqual((tool["ONE"], tool["MEMBERS"]), (by_hand.I, MEMBERS))
+        self.assertEqual((tool["N"], tool["ONE"], tool["MEMBERS"]), (990, by_hand.I, MEMBERS))
+        self.assertEqual(len(tool["JOBS"]), 6)
+        asked = []
+
+        class Library:
+            """The library, with a note of each family and N."""
+
+            def __getattr__(self, name):
+                function = getattr(library.load(), name)
+
+                def noted(*arguments):
+                    if name.startswith("farey_named"):
+                        asked.append((name, *arguments[:2]))
+                    return function(*arguments)
+
+                return noted
+
+        # the tool's own functions look for it in their module
+        names = tool["engine"].__globals__
+        with mock.patch.dict(names, library=mock.Mock(wraps=library, load=Library, TABLE=library.TABLE, COSETS=library.COSETS)):
+            times = names["engine"](2)
+        self.assertEqual([len(row) for row in times], [6, 6])
+        self.assertEqual(sorted(set(asked)), [("farey_named_symbol_wide", 0, 990), ("farey_named_tables", 0, 990)])

@@ -2,3 +2,4 @@
 pub mod Zero
 pub mod Said
 pub mod Imported
+pub mod Named

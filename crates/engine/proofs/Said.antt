@@ -1,4 +1,5 @@
--- WHAT THE NUMBER OF A QUERY TELLS (`query-says`): 10 that there is no such product, 0 that the word is one. Assumes nothing.
+-- WHAT THE NUMBER OF A QUERY TELLS (`query-says`; on a group with a name, `named-says`): 10 that there is no such product, 0 that the word is one.
+-- Assumes nothing.
 use mathlib.Core.Path.{_≡_, refl, sym, ap, subst, _∙_}
 use mathlib.Core.Logic.{_⊎_, inl, inr}
 use mathlib.Core.List.{List}
@@ -6,51 +7,70 @@ use Prim.Native.Nat.{ℕ}
 use native.Mathlib.Omega.{arith}
 use lib.ListN.{length}
 use lib.IntN.{ℤ}
-use Rattle.matrix.specs.Matrix.{ofList, _⊗_, _≈_}
+use Rattle.matrix.specs.Matrix.{Mat, ofList, _⊗_, _≈_}
 use Rattle.pairing.specs.Generator.{generators}
 use Rattle.pairing.specs.Subgroup.{IsWord, valueOf}
-use Rattle.refusal.specs.Refusal.{noRefusal}
-use Rattle.word.specs.Answer.{queryRefusal, foundWord, partOf}
+use Rattle.refusal.specs.Refusal.{noRefusal, noWord}
+use Rattle.import_rule.specs.Order.{Order}
+use Rattle.named_groups.specs.Claim.{NamedClaim, NamedQuerySays}
+use Rattle.word.specs.Answer.{queryRefusal, partOf}
 use Rattle.word.specs.Claim.{Asked, Answered, Joined, Claim, QuerySays}
 use Rattle.word.specs.declared.Queried.{Queried}
 use Rattle.word.specs.declared.Queried.the-variants as queried
 use Rattle.word.proofs.Claim.{same-number}
 use Rattle.engine.specs.Exported.{queryPlace}
 
-module _ {v : ℕ} {t a b : List ℤ} {w : List ℕ} {out : List ℤ} {start : ℕ} {r : Queried} {out' : List ℤ} (c : Claim v t a b w out start r out') where
-  abbrev word : List ℤ
-  word = foundWord v t (ofList a) (ofList b)
-
-  -- a number 0 under the claim is no refusal
-  zero : Answered v t (ofList a) (ofList b) word out start r out' → queryRefusal r .number ≡ 0 → queryRefusal r ≡ noRefusal
-  zero s z = go r refl
+-- a number 0 under the claim is no refusal, and the word stands where the answer says
+module _ {v : ℕ} {t : List ℤ} {A B : Mat} {word out : List ℤ} {start : ℕ} {r : Queried} {out' : List ℤ} (s : Answered v t A B word out start r out') where
+  pub zero : queryRefusal r .number ≡ 0 → queryRefusal r ≡ noRefusal
+  zero z = go r refl
     where
       go : (x : Queried) → r ≡ x → queryRefusal r ≡ noRefusal
       go (queried.Word i k) e = ap queryRefusal e
       go (queried.Refused f) e =
-          let never : Joined v t (ofList a) (ofList b) → ⊥ = λ j. elim (s .found .1 j) [
+          let never : Joined v t A B → ⊥ = λ j. elim (s .found .1 j) [
             | inl y ↦ (let q = sym e ∙ s .names y in let u : _≡_ {A = ℕ} 0 1 = cc in absurd (omega arith))
             | inr y ↦ absurd (omega (arith, same-number y, z))
           ] in
           absurd (omega (arith, same-number (s .none .1 never), z))
 
+  pub stands-at : {place : ℕ} → place ≡ queryPlace r → queryRefusal r .number ≡ 0 → word ≡ partOf out' start place
+  stands-at p z = sym (s .stands (zero z) .1) ∙ ap (λ (m : ℕ). partOf out' start m) (sym (p ∙ ap queryPlace (s .names (zero z))))
+
+  pub zero-letters : {place : ℕ} → place ≡ queryPlace r → queryRefusal r .number ≡ 0 → IsWord (length (generators v t)) (partOf out' start place)
+  zero-letters p z = subst (IsWord (length (generators v t))) (stands-at p z) (s .letters (inl (zero z)))
+
+  pub zero-product : {place : ℕ} → place ≡ queryPlace r → queryRefusal r .number ≡ 0 → valueOf (generators v t) (partOf out' start place) ⊗ A ≈ B
+  zero-product p z = subst (λ (x : List ℤ). valueOf (generators v t) x ⊗ A ≈ B) (stands-at p z) (s .product (inl (zero z)))
+
+  -- a number 10 is 'none'
+  pub ten-none : queryRefusal r .number ≡ noWord .number → Joined v t A B → ⊥
+  ten-none z j = elim (s .found .1 j) [ inl y ↦ absurd (omega (arith, same-number y, z)) | inr y ↦ absurd (omega (arith, same-number y, z)) ]
+
+module _ {v : ℕ} {t a b : List ℤ} {w : List ℕ} {out : List ℤ} {start : ℕ} {r : Queried} {out' : List ℤ} (c : Claim v t a b w out start r out') where
   pub query-says : (n place : ℕ) → n ≡ queryRefusal r .number → place ≡ queryPlace r → QuerySays v t a b w start n place out'
   query-says n place e p = record {
-    none = λ z. (
-        let q = c .asked (inr (sym e ∙ z)) in
-        let s = c .answered q in
-        (q, λ j. elim (s .found .1 j) [ inl y ↦ absurd (omega (arith, same-number y, e, z)) | inr y ↦ absurd (omega (arith, same-number y, e, z)) ])
-        );
+    none = λ z. (let q = c .asked (inr (sym e ∙ z)) in (q, ten-none (c .answered q) (sym e ∙ z)));
     asked = λ z. c .asked (inl (sym e ∙ z));
-    letters = λ z. subst (IsWord (length (generators v t))) (stands z) (answer z .letters (inl (no z)));
-    product = λ z. subst (λ (x : List ℤ). valueOf (generators v t) x ⊗ ofList a ≈ ofList b) (stands z) (answer z .product (inl (no z)));
+    letters = λ z. zero-letters (c .answered (c .asked (inl (sym e ∙ z)))) p (sym e ∙ z);
+    product = λ z. zero-product (c .answered (c .asked (inl (sym e ∙ z)))) p (sym e ∙ z);
   }
-    where
-      answer : n ≡ 0 → Answered v t (ofList a) (ofList b) word out start r out'
-      answer z = c .answered (c .asked (inl (sym e ∙ z)))
 
-      no : n ≡ 0 → queryRefusal r ≡ noRefusal
-      no z = zero (answer z) (sym e ∙ z)
-
-      stands : n ≡ 0 → word ≡ partOf out' start place
-      stands z = sym (answer z .stands (no z) .1) ∙ ap (λ (m : ℕ). partOf out' start m) (sym (p ∙ ap queryPlace (answer z .names (no z))))
+-- the same on a group with a name
+module _ {order : Order} {k n : ℕ} {a b : List ℤ} {w : List ℕ} {out : List ℤ} {start : ℕ} {r : Queried} {out' : List ℤ} (c : NamedClaim order k n a b w out start r out') where
+  pub named-says : (number place : ℕ) → number ≡ queryRefusal r .number → place ≡ queryPlace r → NamedQuerySays order k n a b w start number place out'
+  named-says number place e p = record {
+    asked = λ z. elim z [ inl y ↦ c .asked (inl (sym e ∙ y)) | inr y ↦ c .asked (inr (sym e ∙ y)) ];
+    none = λ z.
+        let q = c .asked (inr (sym e ∙ z)) in
+        let m = q .1 in
+        let y = c .answered (q .0) (m .vertices) (m .table) (m .is) in
+        λ h. elim (y .found .1 h) [ inl u ↦ absurd (omega (arith, same-number u, e, z)) | inr u ↦ absurd (omega (arith, same-number u, e, z)) ];
+    some = λ z.
+        let q = c .asked (inl (sym e ∙ z)) in
+        let m = q .1 in
+        let y = c .answered (q .0) (m .vertices) (m .table) (m .is) in
+        y .found .0 (inl (zero (y .claim) (sym e ∙ z)));
+    letters = λ z v t g. zero-letters (c .answered (c .asked (inl (sym e ∙ z)) .0) v t g .claim) p (sym e ∙ z);
+    product = λ z v t g. zero-product (c .answered (c .asked (inl (sym e ∙ z)) .0) v t g .claim) p (sym e ∙ z);
+  }

@@ -34,6 +34,10 @@ use Rattle.import_rule.specs.Symbol as rule
 use Rattle.import_table.specs.Answer.{grownOf}
 use Rattle.permutations.specs.Check as passport
 use Rattle.permutations.specs.Import.{importBy}
+use Rattle.congruence.specs.Index.{familyIndex}
+use Rattle.named_groups.specs.Group.{familyOf, groupCheck}
+use Rattle.named_groups.specs.Answer.{roomTwo, namedTablesOf, namedRule, namedSymbolBy}
+use Rattle.named_groups.proofs.Checked.{group-numbers}
 use Rattle.engine.specs.Exported.{filledPlace, samenessPlace}
 
 -- ---- numbers above 0
@@ -84,6 +88,10 @@ module _ (v : ℕ) (t : List ℤ) (work : ℕ) where
       go (Refused f) h = omega (arith, h .0)
       go Accepted h = by-length (ltb work workLength)
 
+grown-above : (g : rule.Ruled) (room : ℕ) → AboveIn (grownOf g room)
+grown-above (rule.made v t) room = above-pick (ltb room (3 * v + 1)) (filled.Refused (tooShort (3 * v + 1))) (filled.Made v) (omega arith) tt
+grown-above (rule.over i) room = omega arith
+
 module _ (s r : List ℕ) where
   pairs-among : Among 12 15 (passport.pairCheck s r)
   pairs-among =
@@ -105,14 +113,31 @@ module _ (s r : List ℕ) where
       (among-first 12 15 (passport.check14 passport.thriceMoved r) c15 (among-refuse 12 15 (ltb y (length r)) (wrongOrder y) (omega arith) (omega arith))
       (among-refuse 12 15 (ltb z n) (unreached z) (omega arith) (omega arith))))))
 
-  grown-above : (g : rule.Ruled) (room : ℕ) → AboveIn (grownOf g room)
-  grown-above (rule.made v t) room = above-pick (ltb room (3 * v + 1)) (filled.Refused (tooShort (3 * v + 1))) (filled.Made v) (omega arith) tt
-  grown-above (rule.over i) room = omega arith
-
   pub import-above : (order : Order) (work room : ℕ) → AboveIn (importBy order s r work room)
   import-above order work room =
       let g = rule.ruledBy order s r in
       above-by 12 15 (passport.pairCheck s r) (byWork work (grownOf g room)) (omega arith) pairs-among (above-work work (grownOf g room) (grown-above g room))
+
+-- ---- groups with names
+
+module _ (k n work : ℕ) where
+  groups-among : (c : Checked) → groupCheck k n ≡ c → Among 20 21 c
+  groups-among (Refused f) e = group-numbers k n e
+  groups-among Accepted e = tt
+
+  pub named-tables-above : (a b : ℕ) → AboveIn (namedTablesOf k n work a b)
+  named-tables-above a b =
+      let m = familyIndex (familyOf k) n in
+      let short = filled.Refused (tooShort m) in
+      let second = pick (ltb b m) short (filled.Made m) in
+      above-by 20 21 (groupCheck k n) (byWork work (roomTwo m a b)) (omega arith) (groups-among (groupCheck k n) refl)
+      (above-work work (roomTwo m a b) (above-pick (ltb a m) short second (omega arith) (above-pick (ltb b m) short (filled.Made m) (omega arith) tt)))
+
+  pub named-symbol-above : (order : Order) (room : ℕ) → AboveIn (namedSymbolBy order k n work room)
+  named-symbol-above order room =
+      let g = namedRule order k n in
+      above-by 20 21 (groupCheck k n) (byWork work (grownOf g room)) (omega arith) (groups-among (groupCheck k n) refl)
+      (above-work work (grownOf g room) (grown-above g room))
 
 -- sameness: a number 0 is yes or no, by the place
 pub zero-same : (v : ℕ) (t : List ℤ) (v' : ℕ) (t' : List ℤ) (work : ℕ) (r : Sameness) → r ≡ samenessOf v t v' t' work → samenessRefusal r .number ≡ 0

@@ -25,6 +25,12 @@ ghost use Rattle.permutations.specs.Check as passport;
 ghost use Rattle.permutations.specs.Import as import;
 ghost use Rattle.word.specs.Answer.{queryOf, queryRefusal, foundWord, wordLeft, queryWork};
 ghost use Rattle.word.specs.Claim.{Claim, QuerySays};
+ghost use Rattle.congruence.specs.Cosets.{familyS, familyR};
+ghost use Rattle.import_rule.specs.Order.{leftmost, longestOpen};
+ghost use Rattle.import_table.specs.Answer.{ruledLeft};
+ghost use Rattle.named_groups.specs.Group.{familyOf, groupCheck};
+ghost use Rattle.named_groups.specs.Answer.{namedTablesOf, NamedTables, namedRule, namedSymbolBy, NamedSymbol, ruledWord, namedQueryBy, namedQueryWork};
+ghost use Rattle.named_groups.specs.Claim.{NamedClaim, NamedQuerySays};
 ghost use Rattle.engine.specs.Exported.{filledPlace, queryPlace, samenessPlace, figuresLeft};
 
 mod answers;
@@ -229,6 +235,124 @@ pub extern "C" fn farey_same(
     ensures { λ n. ⌜ (n ≡ 0 → SameSays v (now (t .entry)) m (now (u .entry)) (now (place .exit))) ⌝ }
 {
     let said = of_sameness(pairing::same::same(v, t, m, u, w));
+    *place = said.place;
+    said.number
+}
+
+// The tables of S and R of a congruence group by its family's number and N, each from the front of its space.
+#[no_mangle]
+pub extern "C" fn farey_named_tables(
+    family: u64,
+    n: u64,
+    w: &mut [u16],
+    s: &mut [u32],
+    r: &mut [u32],
+    place: &mut usize,
+) -> u64
+    ensures { λ i. ⌜ i ≡ filledRefusal (namedTablesOf family n (length (now (w .entry))) (length (now (s .entry))) (length (now (r .entry)))) .number ⌝ }
+    ensures { λ i. ⌜ now (place .exit) ≡ filledPlace (namedTablesOf family n (length (now (w .entry))) (length (now (s .entry))) (length (now (r .entry)))) ⌝ }
+    ensures { λ i. ⌜ now (w .exit) ≡ workAfter (groupCheck family n) (now (w .entry)) ⌝ }
+    ensures { λ i. ⌜ now (s .exit) ≡ columnLeft (namedTablesOf family n (length (now (w .entry))) (length (now (s .entry))) (length (now (r .entry))))
+        (familyS (familyOf family) n) (now (s .entry)) ⌝ }
+    ensures { λ i. ⌜ now (r .exit) ≡ columnLeft (namedTablesOf family n (length (now (w .entry))) (length (now (s .entry))) (length (now (r .entry))))
+        (familyR (familyOf family) n) (now (r .entry)) ⌝ }
+    ensures { λ i. ⌜ (i ≡ 0 → NamedTables family n (now (place .exit))) ⌝ }
+{
+    let said = of_filled(named_groups::named_tables(family, n, w, s, r));
+    *place = said.place;
+    said.number
+}
+
+// The symbol of a congruence group by the rule, from the front of out.
+#[no_mangle]
+pub extern "C" fn farey_named_symbol(
+    family: u64,
+    n: u64,
+    w: &mut [u16],
+    out: &mut [i64],
+    place: &mut usize,
+) -> u64
+    ensures { λ i. ⌜ i ≡ filledRefusal (namedSymbolBy leftmost family n (length (now (w .entry))) (length (now (out .entry)))) .number ⌝ }
+    ensures { λ i. ⌜ now (place .exit) ≡ filledPlace (namedSymbolBy leftmost family n (length (now (w .entry))) (length (now (out .entry)))) ⌝ }
+    ensures { λ i. ⌜ now (w .exit) ≡ workAfter (groupCheck family n) (now (w .entry)) ⌝ }
+    ensures { λ i. ⌜ now (out .exit) ≡ ruledLeft (namedRule leftmost family n) (namedSymbolBy leftmost family n (length (now (w .entry))) (length (now (out .entry))))
+        (now (out .entry)) ⌝ }
+    ensures { λ i. ⌜ (i ≡ 0 → NamedSymbol (familyOf family) n (now (place .exit)) (take (3 * now (place .exit) + 1) (now (out .exit)))) ⌝ }
+{
+    let said = of_filled(named_groups::named_symbol(family, n, w, out));
+    *place = said.place;
+    said.number
+}
+
+// The same by the wide rule.
+#[no_mangle]
+pub extern "C" fn farey_named_symbol_wide(
+    family: u64,
+    n: u64,
+    w: &mut [u16],
+    out: &mut [i64],
+    place: &mut usize,
+) -> u64
+    ensures { λ i. ⌜ i ≡ filledRefusal (namedSymbolBy longestOpen family n (length (now (w .entry))) (length (now (out .entry)))) .number ⌝ }
+    ensures { λ i. ⌜ now (place .exit) ≡ filledPlace (namedSymbolBy longestOpen family n (length (now (w .entry))) (length (now (out .entry)))) ⌝ }
+    ensures { λ i. ⌜ now (w .exit) ≡ workAfter (groupCheck family n) (now (w .entry)) ⌝ }
+    ensures { λ i. ⌜ now (out .exit) ≡ ruledLeft (namedRule longestOpen family n) (namedSymbolBy longestOpen family n (length (now (w .entry))) (length (now (out .entry))))
+        (now (out .entry)) ⌝ }
+    ensures { λ i. ⌜ (i ≡ 0 → NamedSymbol (familyOf family) n (now (place .exit)) (take (3 * now (place .exit) + 1) (now (out .exit)))) ⌝ }
+{
+    let said = of_filled(named_groups::named_symbol_wide(family, n, w, out));
+    *place = said.place;
+    said.number
+}
+
+// A word in the generators of the group's symbol by the rule that takes A to B up to sign, or 10: B A⁻¹ is not in the group.
+#[no_mangle]
+pub extern "C" fn farey_named_query(
+    family: u64,
+    n: u64,
+    a: &[i64; 4],
+    b: &[i64; 4],
+    w: &mut [u16],
+    out: &mut [i16],
+    start: usize,
+    place: &mut usize,
+) -> u64
+    ensures { λ i. ⌜ i ≡ queryRefusal (namedQueryBy leftmost family n (now (a .entry)) (now (b .entry)) (length (now (w .entry))) (length (now (out .entry))) start) .number ⌝ }
+    ensures { λ i. ⌜ now (place .exit) ≡ queryPlace (namedQueryBy leftmost family n (now (a .entry)) (now (b .entry)) (length (now (w .entry))) (length (now (out .entry))) start) ⌝ }
+    ensures { λ i. ⌜ now (w .exit) ≡ namedQueryWork family n (now (a .entry)) (now (b .entry)) (now (w .entry)) ⌝ }
+    ensures { λ i. ⌜ now (out .exit) ≡ wordLeft (namedQueryBy leftmost family n (now (a .entry)) (now (b .entry)) (length (now (w .entry))) (length (now (out .entry))) start)
+        (ruledWord (namedRule leftmost family n) (now (a .entry)) (now (b .entry))) (now (out .entry)) ⌝ }
+    ensures { λ i. ⌜ NamedClaim leftmost family n (now (a .entry)) (now (b .entry)) (now (w .entry)) (now (out .entry)) start
+        (namedQueryBy leftmost family n (now (a .entry)) (now (b .entry)) (length (now (w .entry))) (length (now (out .entry))) start) (now (out .exit)) ⌝ }
+    ensures { λ i. ⌜ NamedQuerySays leftmost family n (now (a .entry)) (now (b .entry)) (now (w .entry)) start i (now (place .exit)) (now (out .exit)) ⌝ }
+{
+    let said = of_query(named_groups::named_query(family, n, *a, *b, w, out, start));
+    *place = said.place;
+    said.number
+}
+
+// The same on the symbol by the wide rule.
+#[no_mangle]
+pub extern "C" fn farey_named_query_wide(
+    family: u64,
+    n: u64,
+    a: &[i64; 4],
+    b: &[i64; 4],
+    w: &mut [u16],
+    out: &mut [i16],
+    start: usize,
+    place: &mut usize,
+) -> u64
+    ensures { λ i. ⌜ i ≡ queryRefusal (namedQueryBy longestOpen family n (now (a .entry)) (now (b .entry)) (length (now (w .entry))) (length (now (out .entry))) start) .number ⌝ }
+    ensures { λ i. ⌜ now (place .exit) ≡ queryPlace (namedQueryBy longestOpen family n (now (a .entry)) (now (b .entry)) (length (now (w .entry))) (length (now (out .entry))) start) ⌝ }
+    ensures { λ i. ⌜ now (w .exit) ≡ namedQueryWork family n (now (a .entry)) (now (b .entry)) (now (w .entry)) ⌝ }
+    ensures { λ i. ⌜ now (out .exit) ≡ wordLeft (namedQueryBy longestOpen family n (now (a .entry)) (now (b .entry)) (length (now (w .entry))) (length (now (out .entry))) start)
+        (ruledWord (namedRule longestOpen family n) (now (a .entry)) (now (b .entry))) (now (out .entry)) ⌝ }
+    ensures { λ i. ⌜ NamedClaim longestOpen family n (now (a .entry)) (now (b .entry)) (now (w .entry)) (now (out .entry)) start
+        (namedQueryBy longestOpen family n (now (a .entry)) (now (b .entry)) (length (now (w .entry))) (length (now (out .entry))) start) (now (out .exit)) ⌝ }
+    ensures { λ i. ⌜ NamedQuerySays longestOpen family n (now (a .entry)) (now (b .entry)) (now (w .entry)) start i (now (place .exit)) (now (out .exit)) ⌝ }
+{
+    let said = of_query(named_groups::named_query_wide(family, n, *a, *b, w, out, start));
     *place = said.place;
     said.number
 }

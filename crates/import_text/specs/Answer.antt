@@ -64,7 +64,7 @@ tablesIn ns =
     pick (ltb (length ns) 3) (refused pointCount) (tables (pointsFrom 1 n ns) (pointsFrom (n + 1) n ns))
 
 abbrev pub importFormat : Format
-importFormat = record { most = 3066; each = 2; more = 1 }
+importFormat = record { least = 1; most = 3066; each = 2; more = 1 }
 
 abbrev pub requestBy : Reading → List ℤ → Request
 requestBy (reading.Numbers k) ns = tablesIn (take k ns)

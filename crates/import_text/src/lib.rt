@@ -48,7 +48,7 @@ fn count_line(n: usize, out: &mut [u8]) -> usize
 }
 
 // A symbol of v vertices.
-fn symbol_lines(v: usize, table: &[i64], out: &mut [u8]) -> usize
+pub fn symbol_lines(v: usize, table: &[i64], out: &mut [u8]) -> usize
     requires { ⌜ (v ≤ 1023) × (length (now table) ≡ 3 * v + 1) × (65536 ≤ length (now out)) ⌝ }
     ensures { λ r. ⌜ Puts (symbolLines v (now (table .entry))) 0 r (now (out .entry)) (now (out .exit)) ⌝ }
 {
@@ -160,6 +160,7 @@ fn import_text(
         text,
         longer,
         Format {
+            least: 1,
             most: 3066,
             each: 2,
             more: 1,

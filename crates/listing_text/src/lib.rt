@@ -89,6 +89,7 @@ fn list_text(
         text,
         longer,
         Format {
+            least: 1,
             most: 1023,
             each: 3,
             more: 2,

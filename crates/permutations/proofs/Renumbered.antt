@@ -2,7 +2,7 @@
 -- Why: both sets carry an action of the matrices, every point of either is reached from its point 0, and the matrices that fix point 0
 -- are the same, H. So the matrices that lead to one point of the tables are those that lead to one given point: points go over into points,
 -- one to one, 0 into 0, and S and R go over into S and R. The numbering rule is made of nothing else.
--- In order: one coset, one point (`one-point`); the numbering goes over (`to-over`); the points go over (`over`, `over-S`, `over-R`);
+-- In order: one coset, one point (`one-point`); the points go over (`over`, `over-S`, `over-R`);
 -- as many points (`as-many`); the tables (`renumbered-S`, `renumbered-R`).
 -- Assumes nothing.
 use mathlib.Core.Path.{_≡_, refl, sym, ap, _∙_}
@@ -33,6 +33,7 @@ use Rattle.numbering.proofs.Find.{getD-find, getD-in, find-map, once-below, onc
 use Rattle.numbering.proofs.Order.{add-old, add-new, All, add-all, to-more, to-done, to-once, to-low, numbering}
 use Rattle.numbering.proofs.Table.{getD-map, map-last}
 use Rattle.numbering.proofs.Numbered.{upTo-length, upTo-at}
+use Rattle.numbering.proofs.Over.{to-over}
 use Rattle.coset.specs.Tables.{indexOf, tableS, tableR, tableT}
 use Rattle.coset.specs.Theorem.{leads, Led, Cosets}
 
@@ -42,52 +43,14 @@ module _ (gens : List Mat) (m n : Mat) (dm : det m ≡ pos 1) where
   away : n ⊗ adj m ⊗ m ≡ n
   away = ⊗-assoc n (adj m) m ∙ ap (λ (x : Mat). n ⊗ x) (adj-⊗ m dm) ∙ ⊗-idr n
 
-  from-coset : SameCoset gens m n → InH gens (n ⊗ adj m)
+  pub from-coset : SameCoset gens m n → InH gens (n ⊗ adj m)
   from-coset c =
       let h = valueOf gens (c .word) in
       let e : h ⊗ m ⊗ adj m ≡ h = ⊗-assoc h m (adj m) ∙ ap (λ (x : Mat). h ⊗ x) (⊗-adj m dm) ∙ ⊗-idr h in
       record { word = c .word; letters = c .letters; is = ≈-sym (rw e at (≈-right (adj m) (c .is))) }
 
-  to-coset : InH gens (n ⊗ adj m) → SameCoset gens m n
+  pub to-coset : InH gens (n ⊗ adj m) → SameCoset gens m n
   to-coset h = record { word = h .word; letters = h .letters; is = ≈-sym (rw away at (≈-right m (h .is))) }
-
--- ---- the numbering goes over
-
--- f is injective on the points below k
-module _ (k : ℕ) (f : ℕ → ℕ) (one : (x y : ℕ) → x < k → y < k → f x ≡ f y → x ≡ y) where
-  add-over : (l : List ℕ) (x : ℕ) → All (λ (y : ℕ). y < k) l → x < k → add (map f l) (f x) ≡ map f (add l x)
-  add-over l x all p =
-      let same = find-map f l x (λ y h. one y x (all .each y h) p) in
-      let len = length-map l f in
-      elim (decLt (find l x) (length l)) [
-        | yes h ↦ add-old (map f l) (f x) (omega arith) ∙ ap (map f) (sym (add-old l x h))
-        | no h ↦ add-new (map f l) (f x) (omega arith) ∙ sym (map-last f l x) ∙ ap (map f) (sym (add-new l x (omega arith)))
-      ]
-
-  module _ (s r σ ρ : ℕ → ℕ) (start : ℕ) (maps : Maps s r start k) (by-s : (x : ℕ) → x < k → f (s x) ≡ σ (f x)) (by-r : (x : ℕ) → x < k → f (r x) ≡ ρ (f x)) where
-    low : (i : ℕ) → All (λ (y : ℕ). y < k) (orderTo s r start i)
-    low i = record { each = λ y h. to-low s r start k maps i y h }
-
-    visit-over : (l : List ℕ) (i : ℕ) → All (λ (y : ℕ). y < k) l → i < length l → visit σ ρ (map f l) i ≡ map f (visit s r l i)
-    visit-over l i all h =
-        let x = getD l i 0 in
-        let p = all .each x (getD-in l i h) in
-        rw (getD-map f l i h, ← by-s x p, ← by-r x p, add-over l (s x) all (maps .σ-low x p))
-        (add-over (add l (s x)) (r x) (add-all (λ (y : ℕ). y < k) l (s x) all (maps .σ-low x p)) (maps .ρ-low x p))
-
-    to-over : (i : ℕ) → orderTo σ ρ (f start) i ≡ map f (orderTo s r start i)
-    unfolding orderTo
-    to-over zero = refl
-    to-over (suc i) =
-        let e = to-over i in
-        let l = orderTo s r start i in
-        let len = length-map l f in
-        elim (decLt i (length l)) [
-          | yes h ↦
-              to-more σ ρ (f start) i (rw e (omega arith)) ∙ ap (λ (x : List ℕ). visit σ ρ x i) e
-              ∙ visit-over l i (low i) h ∙ ap (map f) (sym (to-more s r start i h))
-          | no h ↦ to-done σ ρ (f start) i (rw e (omega arith)) ∙ e ∙ ap (map f) (sym (to-done s r start i (omega arith)))
-        ]
 
 -- ---- the given permutations, and the tables of a symbol whose group fixes point 0
 

@@ -89,7 +89,7 @@ lettersTo ns letters = byCount ns letters (lettersLeft (countIn ns) (symbolIn ns
 -- ---- the text
 
 abbrev pub queryFormat : Format
-queryFormat = record { most = 1023; each = 3; more = 10 }
+queryFormat = record { least = 1; most = 1023; each = 3; more = 10 }
 
 abbrev pub replyBy : Reading → List ℤ → List ℕ
 replyBy (Numbers k) ns = repliedTo (take k ns)

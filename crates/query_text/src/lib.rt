@@ -92,6 +92,7 @@ fn reply_text(
         text,
         longer,
         Format {
+            least: 1,
             most: 1023,
             each: 3,
             more: 10,

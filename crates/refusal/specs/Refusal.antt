@@ -4,7 +4,7 @@
 --   Refusal            a number and a place
 --   noRefusal          none: the number 0, and the place 0
 --   refusal n p        the refusal with the number n at the place p
---   badVertexCount .. badText     the refusals 1 to 19 by name, each at its place
+--   badVertexCount .. largeIndex  the refusals 1 to 21 by name, each at its place
 --   Checked            the answer of checks: accepted, or refused
 --   c orElse d         the first refusal of the two
 --   checkedRefusal     the refusal that an answer of checks is
@@ -111,6 +111,16 @@ noGenus = refusal 18 0
 -- text that isn't the numbers that are wanted: the offset
 abbrev pub badText : ℕ → Refusal
 badText p = refusal 19 p
+
+-- ---- whoever names a group
+
+-- N is out of range, or there is no such family
+abbrev pub badLevel : Refusal
+badLevel = refusal 20 0
+
+-- the index is over 3,066
+abbrev pub largeIndex : Refusal
+largeIndex = refusal 21 0
 
 -- ---- the answers of checks
 

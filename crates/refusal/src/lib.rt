@@ -61,6 +61,10 @@ pub const LEVEL_TOO_LARGE: u64 = 17;
 pub const NO_GENUS: u64 = 18;
 // Whoever types.
 pub const BAD_TEXT: u64 = 19;
+// Whoever names a group.
+pub const BAD_LEVEL: u64 = 20;
+
+pub const LARGE_INDEX: u64 = 21;
 
 // The refusal that an answer of checks is.
 pub fn checked_refusal(answer: Checked) -> Refusal

@@ -14,7 +14,7 @@ use Rattle.text.specs.declared.Format.{Format}
 use Rattle.text.specs.declared.Reading.the-variants.{Numbers, Refused}
 
 abbrev listing : Format
-listing = record { most = 1023; each = 3; more = 2 }
+listing = record { least = 1; most = 1023; each = 3; more = 2 }
 
 -- 2, 0 1 1 1, 1 -2 1 on three lines
 whole : readingOf listing (50 ∷ 10 ∷ 48 ∷ 32 ∷ 49 ∷ 32 ∷ 49 ∷ 32 ∷ 49 ∷ 10 ∷ 49 ∷ 32 ∷ 45 ∷ 50 ∷ 32 ∷ 49 ∷ []) 8 ≡ Numbers 8

@@ -82,9 +82,9 @@ sound f t e = go (decLt textMost (length t))
 
 some-wanted : (f : Format) (v : ℤ) (w : ℕ) → 1 ≤ f .more → wanted f v ≡ some w → 1 ≤ w
 unfolding wanted
-some-wanted f (pos v) w m e = go (leb 1 v && leb v (f .most)) refl
+some-wanted f (pos v) w m e = go (leb (f .least) v && leb v (f .most)) refl
   where
-    go : (b : Bool) → (leb 1 v && leb v (f .most)) ≡ b → 1 ≤ w
+    go : (b : Bool) → (leb (f .least) v && leb v (f .most)) ≡ b → 1 ≤ w
     go true h = let g : some (f .each * v + f .more) ≡ some w = rw (wanted, h) at e in let k : f .each * v + f .more ≡ w = cc in omega arith
     go false h = no-place (sym (rw (wanted, h) at e))
 some-wanted f (negsuc v) w m e = no-place (sym e)

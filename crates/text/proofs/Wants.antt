@@ -1,8 +1,9 @@
 -- The first number against its range, by the tests that the code makes on its 64 bits.
 --     natOf v       v's magnitude, as the code casts it
 --     natural-fits  the cast is defined from 0 on
---     want-low      below 1: any count
---     from-one      at least 1: v is its magnitude
+--     want-negative a negative number: any count
+--     from-zero     from 0 on: v is its magnitude
+--     want-low      before the range: any count
 --     cast-fits     and the cast is defined there too
 --     want-high     past the range's end: any count
 --     want-these    in range: the format's count
@@ -28,14 +29,14 @@ use Rattle.text.proofs.Clash.{clash}
 abbrev pub natOf : ℤ → ℕ
 natOf v = natAbs (toZ w64 (ofZ w64 v))
 
-low : (f : Format) (v : ℤ) → ltZ v (pos 1) ≡ true → wanted f v ≡ none
+negative : (f : Format) (v : ℤ) → ltZ v (pos 0) ≡ true → wanted f v ≡ none
 unfolding wanted
-low f (pos n) h = rw (lt-leb 1 n (ltb-true n 1 h))
-low f (negsuc n) h = refl
+negative f (pos n) h = let no : n < 0 = ltb-true n 0 h in absurd (omega arith)
+negative f (negsuc n) h = refl
 
-one-up : (v : ℤ) → ltZ v (pos 1) ≡ false → (v ≡ pos (natAbs v)) × (1 ≤ natAbs v) × T (nonNeg v)
-one-up (pos n) h = (refl, ltb-false n 1 h, tt)
-one-up (negsuc n) h = clash (cc)
+its-own : (v : ℤ) → ltZ v (pos 0) ≡ false → v ≡ pos (natAbs v)
+its-own (pos n) h = refl
+its-own (negsuc n) h = clash (cc)
 
 zero-up : (v : ℤ) → ltZ v (pos 0) ≡ false → T (nonNeg v)
 zero-up (pos n) h = tt
@@ -48,24 +49,29 @@ module _ {v : ℤ} (fit : SFits w64 v) where
   pub natural-fits : ltZ (toZ w64 (ofZ w64 v)) (pos 0) ≡ false → T (nonNeg (toZ w64 (ofZ w64 v))) × Fits w64 (natOf v)
   natural-fits h = (zero-up (toZ w64 (ofZ w64 v)) h, nat-fits)
 
-  pub want-low : (f : Format) → ltZ (toZ w64 (ofZ w64 v)) (pos 1) ≡ true → wanted f v ≡ none
-  want-low f h = low f v (rw (toZ-ofZ fit) at h)
+  pub want-negative : (f : Format) → ltZ (toZ w64 (ofZ w64 v)) (pos 0) ≡ true → wanted f v ≡ none
+  want-negative f h = negative f v (rw (toZ-ofZ fit) at h)
 
-  module _ (h : ltZ (toZ w64 (ofZ w64 v)) (pos 1) ≡ false) where
-    pub from-one : (v ≡ pos (natOf v)) × (1 ≤ natOf v)
-    from-one = let u = one-up (toZ w64 (ofZ w64 v)) h in (sym (toZ-ofZ fit) ∙ u .0, u .1)
+  module _ (h : ltZ (toZ w64 (ofZ w64 v)) (pos 0) ≡ false) where
+    pub from-zero : v ≡ pos (natOf v)
+    from-zero = sym (toZ-ofZ fit) ∙ its-own (toZ w64 (ofZ w64 v)) h
 
     pub cast-fits : T (nonNeg (toZ w64 (ofZ w64 v))) × Fits w64 (natOf v)
-    cast-fits = (one-up (toZ w64 (ofZ w64 v)) h .2, nat-fits)
+    cast-fits = natural-fits h
 
-module _ (f : Format) (n : ℕ) (one : 1 ≤ n) where
-  pub want-high : f .most < n → wanted f (pos n) ≡ none
+module _ (f : Format) (n : ℕ) where
+  pub want-low : n < f .least → wanted f (pos n) ≡ none
   unfolding wanted
-  want-high h = rw (le-leb 1 n one, lt-leb n (f .most) h)
+  want-low h = rw (lt-leb (f .least) n h)
 
-  pub want-these : n ≤ f .most → wanted f (pos n) ≡ some (f .each * n + f .more)
-  unfolding wanted
-  want-these h = rw (le-leb 1 n one, le-leb n (f .most) h)
+  module _ (low : f .least ≤ n) where
+    pub want-high : f .most < n → wanted f (pos n) ≡ none
+    unfolding wanted
+    want-high h = rw (le-leb (f .least) n low, lt-leb n (f .most) h)
+
+    pub want-these : n ≤ f .most → wanted f (pos n) ≡ some (f .each * n + f .more)
+    unfolding wanted
+    want-these h = rw (le-leb (f .least) n low, le-leb n (f .most) h)
 
 pub count-fits : (each n more : ℕ) → each < 65536 → n < 65536 → more < 65536 → each * n + more < 4294967296
 count-fits each n more a b c =

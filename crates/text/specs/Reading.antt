@@ -34,7 +34,7 @@ abbrev pub textMost : ℕ
 textMost = 65536
 
 unfoldable pub wanted : Format → ℤ → Option ℕ
-wanted f (pos v) = pick (leb 1 v && leb v (f .most)) (some (f .each * v + f .more)) none
+wanted f (pos v) = pick (leb (f .least) v && leb v (f .most)) (some (f .each * v + f .more)) none
 wanted f (negsuc v) = none
 
 abbrev pub wantedOr1 : Option ℕ → ℕ
@@ -74,7 +74,7 @@ unfoldable pub readingOf : Format → List ℕ → ℕ → Reading
 readingOf f t room = answer (place19 f t) (handed f (numbers (pieces t))) room
 
 abbrev pub symbolFormat : Format
-symbolFormat = record { most = 1023; each = 3; more = 2 }
+symbolFormat = record { least = 1; most = 1023; each = 3; more = 2 }
 
 unfoldable pub inputOf : Bool → Format → List ℕ → ℕ → Reading
 inputOf longer f t room = pick longer (Refused (badText textMost)) (readingOf f t room)

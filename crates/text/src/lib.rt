@@ -26,9 +26,10 @@ const LEAST: u64 = 9223372036854775808;
 // The greatest length.
 const ROOM_MOST: usize = 18446744073709551615;
 
-// Which first numbers v are in range, and how many numbers a text then has, v among them: v is in range from 1 to
+// Which first numbers v are in range, and how many numbers a text then has, v among them: v is in range from `least` to
 // `most`, and `each * v + more` numbers are wanted.
 pub struct Format {
+    pub least: u16,
     pub most: u16,
     pub each: u16,
     pub more: u16,
@@ -282,10 +283,14 @@ fn fill(text: &[u8], k: usize, out: &mut [i64])
 fn wanted_for(format: Format, v: i64) -> Wanted
     ensures { λ r. ⌜ r ≡ wantedOf (wanted format v) ⌝ }
 {
-    if v < 1 {
+    if v < 0 {
         return Wanted::Any;
     }
     let n = v as usize;
+    let least = format.least as usize;
+    if n < least {
+        return Wanted::Any;
+    }
     let most = format.most as usize;
     if most < n {
         return Wanted::Any;

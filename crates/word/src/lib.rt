@@ -82,7 +82,7 @@ fn is_unit(m: [i64; 4]) -> bool
 }
 
 // Refusals 8 and 9: the first entry that is too large, 8 or 9 for the first determinant that isn't 1, or 10 where the pair passes.
-fn judge(a: [i64; 4], b: [i64; 4]) -> usize
+pub fn judge(a: [i64; 4], b: [i64; 4]) -> usize
     ensures { λ r. ⌜ r ≡ judgedOf a b ⌝ }
 {
     let i = first_large(a, b);

@@ -22,7 +22,7 @@ pub fn plain_import_wide(text: &[u8]) -> Vec<u8> {
     symbol_text(try_import(text, wide))
 }
 
-fn symbol_text(answer: Result<Parts, Refusal>) -> Vec<u8> {
+pub(crate) fn symbol_text(answer: Result<Parts, Refusal>) -> Vec<u8> {
     match answer {
         Ok((vertices, pairings)) => {
             let mut out = Vec::with_capacity(24 * vertices.len() + 6 * pairings.len() + 16);
@@ -43,7 +43,7 @@ fn symbol_text(answer: Result<Parts, Refusal>) -> Vec<u8> {
 }
 
 /// Vertex entries and pairings.
-type Parts = (Vec<i64>, Vec<i64>);
+pub type Parts = (Vec<i64>, Vec<i64>);
 
 /// The table as 16-bit numbers, or the first entry that is outside or repeated.
 fn permutation(entries: &[i64]) -> Result<Vec<u16>, Refusal> {
@@ -93,7 +93,7 @@ fn check(entries: &[i64], n: usize) -> Result<(Vec<u16>, Vec<u16>), Refusal> {
 
 /// A side that isn't settled yet: its right end and its point.
 #[derive(Clone, Copy)]
-struct Open {
+pub(crate) struct Open {
     num: i64,
     den: i64,
     point: u16,
@@ -104,9 +104,9 @@ fn side(num: i64, den: i64, point: u16) -> Open {
 }
 
 /// The two permutations.
-struct Pair {
-    s: Vec<u16>,
-    r: Vec<u16>,
+pub struct Pair {
+    pub s: Vec<u16>,
+    pub r: Vec<u16>,
 }
 
 impl Pair {
@@ -129,7 +129,7 @@ impl Pair {
 }
 
 /// The symbol, from where the three first sides are known on.
-type Way = fn(&Pair, [Open; 3]) -> Result<Parts, Refusal>;
+pub(crate) type Way = fn(&Pair, [Open; 3]) -> Result<Parts, Refusal>;
 
 fn try_import(text: &[u8], way: Way) -> Result<Parts, Refusal> {
     let numbers = numbers(text, IMPORT)?;
@@ -138,7 +138,11 @@ fn try_import(text: &[u8], way: Way) -> Result<Parts, Refusal> {
         return Err((12, 0));
     }
     let (s, r) = check(&numbers[1..], n as usize)?;
-    let pair = Pair { s, r };
+    symbol_of(&Pair { s, r }, way)
+}
+
+/// The symbol of permutations that are those of a group's cosets.
+pub(crate) fn symbol_of(pair: &Pair, way: Way) -> Result<Parts, Refusal> {
     let s = |m: u16| pair.s(m);
     let q = |m: u16| pair.q(m);
     if s(0) == 0 && pair.t(0) == 0 {
@@ -161,11 +165,11 @@ fn try_import(text: &[u8], way: Way) -> Result<Parts, Refusal> {
             side(1, 0, 0),
         ]
     };
-    way(&pair, first)
+    way(pair, first)
 }
 
 /// The leftmost open side is split.
-fn leftmost(pair: &Pair, first: [Open; 3]) -> Result<Parts, Refusal> {
+pub(crate) fn leftmost(pair: &Pair, first: [Open; 3]) -> Result<Parts, Refusal> {
     let n = pair.s.len();
     let mut held = vec![false; n];
     let mut stack: Vec<Open> = Vec::with_capacity(n + 3);
@@ -279,7 +283,7 @@ impl Row<'_> {
 }
 
 /// The side that has been open longest is split.
-fn wide(pair: &Pair, first: [Open; 3]) -> Result<Parts, Refusal> {
+pub(crate) fn wide(pair: &Pair, first: [Open; 3]) -> Result<Parts, Refusal> {
     let n = pair.s.len();
     let mut row = Row {
         pair,

@@ -121,5 +121,8 @@ pub fn inputs() -> Vec<Input> {
         input("import_wide-short.txt", "3\n1 0 2\n2 0 1\n".to_string()),
         input("import_wide-2592.txt", pair_text(&gamma0(990))),
         input("import_wide-3066.txt", pair_text(&largest_pair())),
+        input("named-short.txt", "0 2\n".to_string()),
+        input("named-2592.txt", "0 990\n".to_string()),
+        input("named-2880.txt", "2 20\n".to_string()),
     ]
 }

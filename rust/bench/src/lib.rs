@@ -1,4 +1,4 @@
-//! A yardstick: the engine's four programs once more, in plain Rust, written
+//! A yardstick: the engine's five programs once more, in plain Rust, written
 //! for speed and without any proof. Whoever wants to know what the engine's
 //! proofs cost in time compares its programs with these.
 //!
@@ -10,6 +10,7 @@
 //! | `listing` | a symbol's text in, its listing out                              |
 //! | `query`   | a symbol and two matrices in, a word out, letter by letter       |
 //! | `import`  | two permutations in, a symbol out, by either rule                |
+//! | `named`   | a family and N in, a symbol out                                  |
 //! | `inputs`  | texts to measure with                                            |
 //! | `timing`  | wall times of two programs, run by turns                         |
 //!
@@ -21,6 +22,7 @@
 pub mod import;
 pub mod inputs;
 pub mod listing;
+pub mod named;
 pub mod polygon;
 pub mod query;
 pub mod symbol;
@@ -31,6 +33,7 @@ use std::io::{self, Read, Write};
 
 pub use import::{plain_import, plain_import_wide};
 pub use listing::plain_listing;
+pub use named::plain_named;
 pub use query::plain_query;
 
 /// A refusal's number and place.

@@ -4,28 +4,39 @@ use crate::Refusal;
 
 pub const MAX_TEXT: usize = 65_536;
 
-/// A text whose first number n is at most `most` has `each` n + `more` numbers.
+/// A text whose first number n is from `least` to `most` has `each` n + `more`
+/// numbers.
 #[derive(Clone, Copy)]
 pub struct Format {
+    pub least: i64,
     pub most: i64,
     pub each: usize,
     pub more: usize,
 }
 
 pub const LISTING: Format = Format {
+    least: 1,
     most: 1_023,
     each: 3,
     more: 2,
 };
 pub const QUERY: Format = Format {
+    least: 1,
     most: 1_023,
     each: 3,
     more: 10,
 };
 pub const IMPORT: Format = Format {
+    least: 1,
     most: 3_066,
     each: 2,
     more: 1,
+};
+pub const NAMED: Format = Format {
+    least: 0,
+    most: 2,
+    each: 0,
+    more: 2,
 };
 
 #[inline]
@@ -85,7 +96,7 @@ pub fn numbers(text: &[u8], format: Format) -> Result<Vec<i64>, Refusal> {
             size as i64
         };
         if found.is_empty() {
-            wanted = if (1..=format.most).contains(&number) {
+            wanted = if (format.least..=format.most).contains(&number) {
                 format.each * number as usize + format.more
             } else {
                 1
@@ -93,7 +104,8 @@ pub fn numbers(text: &[u8], format: Format) -> Result<Vec<i64>, Refusal> {
         }
         found.push(number);
     }
-    let counted = found.first().is_some_and(|n| (1..=format.most).contains(n));
+    let range = format.least..=format.most;
+    let counted = found.first().is_some_and(|n| range.contains(n));
     if found.is_empty() || (counted && found.len() < wanted) {
         return Err((19, text.len()));
     }

@@ -2,10 +2,14 @@
 //! other answers would be no measure.
 
 use bench::inputs::inputs;
-use bench::{plain_import, plain_import_wide, plain_listing, plain_query};
+use bench::named::{named_symbol, named_symbol_wide, named_tables};
+use bench::{plain_import, plain_import_wide, plain_listing, plain_named, plain_query};
+use reference::congruence;
+use reference::permutations::Rule;
+use reference::random::faults::{faulty_text, scratch, typed, TEXT_FAULTS};
 use reference::random::pairs::rows_pair;
 use reference::random::{import_case, listing_case, query_case, Rng};
-use reference::{import, import_wide, listing, query};
+use reference::{import, import_wide, listing, named, query};
 
 fn same(text: &[u8], plain: &[u8], reference: &str) {
     let start = &text[..text.len().min(500)];
@@ -59,6 +63,66 @@ fn deep_imports() {
     assert!(refused >= 100, "only {refused}");
 }
 
+/// Every family and every N: tables and both symbols.
+#[test]
+fn named_groups() {
+    let mut groups = 0;
+    for family in -1..=3 {
+        for n in -1..=1_002 {
+            let pair = match congruence::named(family, n) {
+                Ok((family, n)) => family.pair(n),
+                Err(refusal) => {
+                    let came = named_tables(family, n).err();
+                    let expected = (refusal.number, refusal.place as usize);
+                    assert_eq!(came, Some(expected), "{family} {n}");
+                    continue;
+                }
+            };
+            let came = named_tables(family, n).expect("a group");
+            let wide = |table: Vec<u16>| table.into_iter().map(i64::from).collect::<Vec<_>>();
+            assert_eq!(
+                (wide(came.s), wide(came.r)),
+                (pair.s, pair.r),
+                "{family} {n}"
+            );
+            // For each tenth group, and each small one, the symbols too.
+            if n > 40 && n % 10 > 0 {
+                continue;
+            }
+            for (rule, plain) in [
+                (Rule::Leftmost, named_symbol as fn(i64, i64) -> _),
+                (Rule::Wide, named_symbol_wide),
+            ] {
+                let expected = congruence::named_symbol(rule, family, n);
+                let expected = expected.map_err(|r| (r.number, r.place as usize));
+                let expected = expected.map(|made| {
+                    let vertices = made.vertices.iter().flat_map(|&(a, b)| [a, b]);
+                    (vertices.collect(), made.pairings)
+                });
+                assert_eq!(plain(family, n), expected, "{family} {n}");
+            }
+            groups += 1;
+        }
+    }
+    assert!(groups >= 190, "only {groups}");
+}
+
+#[test]
+fn names() {
+    let mut rng = Rng::new(65);
+    for _ in 0..500 {
+        let numbers = [rng.range(-1, 3), rng.range(-2, 40)];
+        let mut text = typed(&mut rng, &numbers).bytes;
+        same(&text, &plain_named(&text), &named(&text));
+        scratch(&mut rng, &mut text);
+        same(&text, &plain_named(&text), &named(&text));
+        for fault in TEXT_FAULTS {
+            let (text, _) = faulty_text(&mut rng, &numbers, fault);
+            same(&text, &plain_named(&text), &named(&text));
+        }
+    }
+}
+
 /// The texts to measure with are what their names say.
 #[test]
 fn measured_texts() {
@@ -68,6 +132,7 @@ fn measured_texts() {
             Some("listing") => (plain_listing(text), listing(text)),
             Some("query") => (plain_query(text), query(text)),
             Some("import_wide") => (plain_import_wide(text), import_wide(text)),
+            Some("named") => (plain_named(text), named(text)),
             _ => (plain_import(text), import(text)),
         };
         same(text, &plain, &reference);
@@ -84,6 +149,9 @@ fn measured_texts() {
             "import_wide-short.txt" => "2\n0 1 1 1\n1 -2 1\n",
             "import_wide-2592.txt" => "865\n",
             "import_wide-3066.txt" => "1023\n",
+            "named-short.txt" => "2\n0 1 1 1\n1 -2 1\n",
+            "named-2592.txt" => "865\n",
+            "named-2880.txt" => "961\n",
             name => panic!("{name} isn't known here"),
         };
         assert!(

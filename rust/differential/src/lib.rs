@@ -12,7 +12,8 @@
 //! | `symbols`    | v and a table, sound or damaged                             |
 //! | `counts`     | how often each call was answered and refused                |
 //! | `listed`     | what `generators` and `widths` have in common               |
-//! | the others   | one call each: `case` makes an input, calls and compares    |
+//! | the others   | one call each, or a few of a kind: a case makes an input,   |
+//! |              | calls and compares                                          |
 
 #![forbid(unsafe_code)]
 
@@ -22,6 +23,7 @@ pub mod figures;
 pub mod generators;
 pub mod import;
 pub mod listed;
+pub mod named;
 pub mod outcome;
 pub mod query;
 pub mod same;
@@ -40,7 +42,7 @@ use reference::random::Rng;
 pub type Call = (&'static str, fn(&mut Rng) -> Outcome);
 
 /// All calls.
-pub const CALLS: [Call; 9] = [
+pub const CALLS: [Call; 14] = [
     ("check", check::case),
     ("generators", generators::case),
     ("figures", figures::case),
@@ -50,6 +52,11 @@ pub const CALLS: [Call; 9] = [
     ("import_wide", import::wide_case),
     ("query", query::case),
     ("same", same::case),
+    ("named_tables", named::tables_case),
+    ("named_symbol", named::symbol_case),
+    ("named_symbol_wide", named::symbol_wide_case),
+    ("named_query", named::query_case),
+    ("named_query_wide", named::query_wide_case),
 ];
 
 /// Makes every call once for each case: the counts of each, in the order of

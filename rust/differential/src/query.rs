@@ -111,7 +111,7 @@ fn matrices(rng: &mut Rng, symbol: Option<&Symbol>) -> [[i64; 4]; 2] {
 }
 
 /// Length and start place of a space for a word of so many letters.
-fn word_space(rng: &mut Rng, needed: usize) -> (usize, usize) {
+pub fn word_space(rng: &mut Rng, needed: usize) -> (usize, usize) {
     let len = around(rng, needed);
     let inside = rng.below(40);
     match rng.below(20) {
@@ -126,7 +126,7 @@ fn word_space(rng: &mut Rng, needed: usize) -> (usize, usize) {
 }
 
 /// Where a word stands, or begins past the end.
-fn start_place(len: usize, start: usize) -> &'static str {
+pub fn start_place(len: usize, start: usize) -> &'static str {
     match start {
         0 => "at 0",
         _ if start < len => "inside",
@@ -136,20 +136,20 @@ fn start_place(len: usize, start: usize) -> &'static str {
 }
 
 /// Refusal 11 for a word of so many letters, unless it fits.
-fn fits(letters: usize, len: usize, start: usize) -> Result<(), Refusal> {
+pub fn fits(letters: usize, len: usize, start: usize) -> Result<(), Refusal> {
     match len.checked_sub(start) {
         Some(room) if room >= letters => Ok(()),
         _ => Err(Refusal::new(11, letters)),
     }
 }
 
-fn four(space: &Space<i64>) -> &[i64; 4] {
+pub fn four(space: &Space<i64>) -> &[i64; 4] {
     space.read().try_into().expect("a space of four numbers")
 }
 
 /// Whether the letters that came are letters of the symbol and their product
 /// takes A to B, up to sign.
-fn leads(
+pub fn leads(
     symbol: &Symbol,
     out: &[i16],
     start: usize,

@@ -17,6 +17,15 @@ fn plain(numbers: impl Iterator<Item = u64>) -> Vec<Reason> {
     numbers.map(|number| (number, "")).collect()
 }
 
+/// A word that is found: returned, or too long for its space, from each start
+/// place; and 11 for the work space.
+fn words() -> Vec<Reason> {
+    let places = ["at 0", "inside", "at the end", "past the end"];
+    let answers = places[..3].iter().map(|&place| (0, place));
+    let short = places.iter().map(|&place| (11, place));
+    answers.chain(short).chain([(11, "work")]).collect()
+}
+
 /// Everything that a call can answer; number 0 is an answer without refusal.
 /// 18 isn't among it: it is believed impossible for a symbol that passes the
 /// checks.
@@ -35,17 +44,21 @@ fn reachable(call: &str) -> BTreeSet<Reason> {
             [vec![(0, "")], symbol, spaces].concat()
         }
         "import" | "import_wide" => [vec![(0, "")], plain(12..=16), spaces].concat(),
-        "query" => {
-            let places = ["at 0", "inside", "at the end", "past the end"];
-            let answers = places[..3].iter().map(|&place| (0, place)).collect();
-            let short = places.iter().map(|&place| (11, place)).collect();
-            [answers, plain(1..=10), short, vec![(11, "work")]].concat()
-        }
+        "query" => [words(), plain(1..=10)].concat(),
         "same" => {
             let second = (1..=7).map(|number| (number, "second")).collect();
             let answers = vec![(0, "yes"), (0, "no")];
             [answers, symbol, second, vec![(11, "work")]].concat()
         }
+        "named_tables" => {
+            let spaces = vec![(11, "work"), (11, "s"), (11, "r")];
+            [vec![(0, "")], plain(20..=21), spaces].concat()
+        }
+        "named_symbol" => [vec![(0, "")], plain(20..=21), plain(16..=16), spaces].concat(),
+        // The wide rule refuses no named group with 16.
+        "named_symbol_wide" => [vec![(0, "")], plain(20..=21), spaces].concat(),
+        "named_query" => [words(), plain(20..=21), plain(8..=10), plain(16..=16)].concat(),
+        "named_query_wide" => [words(), plain(20..=21), plain(8..=10)].concat(),
         _ => panic!("no call {call}"),
     };
     reasons.into_iter().collect()
@@ -79,8 +92,12 @@ fn every_call_is_as_the_reference_has_it() {
     assert_eq!(calls["import_wide"].largest, 1_023);
     assert!(calls["widths"].largest >= 500);
     assert!(calls["query"].largest >= 30_000);
-    // Over all calls each number from 1 to 16; 17 is met by a figure alone.
-    for number in 1..=16 {
+    assert!(calls["named_tables"].largest >= 2_500);
+    assert!(calls["named_symbol_wide"].largest >= 800);
+    assert!(calls["named_query_wide"].largest >= 300);
+    // Over all calls each number but 19; 17 is met by a figure alone, and 18
+    // isn't known to happen.
+    for number in (1..=16).chain(20..=21) {
         let count: usize = tallies.iter().map(|tally| tally.number(number)).sum();
         assert!(count >= LEAST, "refusal {number} only {count} times");
     }

@@ -28,6 +28,21 @@ const STACK: usize = 1 << 20;
 const PAGE: usize = 4096;
 /// The symbols of each size that are asked about.
 const ROUNDS: usize = 12;
+/// A family's number and an N for each round.
+const NAMES: [(u64, u64); ROUNDS] = [
+    (0, 990),
+    (0, 840),
+    (1, 90),
+    (1, 72),
+    (2, 20),
+    (2, 18),
+    (0, 119),
+    (1, 12),
+    (2, 5),
+    (0, 1),
+    (2, 19),
+    (0, 0),
+];
 
 /// `pthread_attr_t` of x86-64 Linux has 56 bytes.
 #[repr(C)]
@@ -118,7 +133,7 @@ fn calls_stay_within_the_stack_that_the_header_names() {
     let mut table = vec![0; calls::TABLE];
     let mut columns = [(); 3].map(|()| vec![0; calls::COSETS]);
     let mut word = vec![0; 20_000];
-    for round in 0..ROUNDS {
+    for (round, &(family, n)) in NAMES.iter().enumerate() {
         let draft = match round {
             0..=5 => draft_of_size(&mut rng, 1_023),
             6..=8 => many_cusps(&mut rng),
@@ -173,8 +188,31 @@ fn calls_stay_within_the_stack_that_the_header_names() {
         measure("farey_import_wide", &mut || {
             let _ = black_box(calls::import_wide(&s, &r, &mut work, &mut table));
         });
+        // The largest indices of each family, entries over 10^9, small groups, an
+        // index over the limit and an N out of range.
+        let [s, r, _] = &mut columns;
+        measure("farey_named_tables", &mut || {
+            let _ = black_box(calls::named_tables(family, n, &mut work, s, r));
+        });
+        measure("farey_named_symbol", &mut || {
+            let _ = black_box(calls::named_symbol(family, n, &mut work, &mut table));
+        });
+        measure("farey_named_symbol_wide", &mut || {
+            let _ = black_box(calls::named_symbol_wide(family, n, &mut work, &mut table));
+        });
+        let to = [1, 0, 5 * n as i64, 1];
+        for (a, b) in [(a, b), (one, to)] {
+            measure("farey_named_query", &mut || {
+                let asked = calls::named_query(family, n, &a, &b, &mut work, &mut word, 0);
+                let _ = black_box(asked);
+            });
+            measure("farey_named_query_wide", &mut || {
+                let asked = calls::named_query_wide(family, n, &a, &b, &mut work, &mut word, 0);
+                let _ = black_box(asked);
+            });
+        }
     }
-    assert_eq!(most.0.len(), 9);
+    assert_eq!(most.0.len(), 14);
     let promised = promised();
     println!("a thread by itself: {nothing}; FAREY_STACK: {promised}");
     for (call, bytes) in most.0 {

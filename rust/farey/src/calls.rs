@@ -17,6 +17,8 @@ pub const TABLE: usize = 3_070;
 pub const GENERATORS: usize = 5_120;
 /// Enough for every symbol's widths, and for each table of its cosets.
 pub const COSETS: usize = 4_090;
+/// Enough for the table of S, and of R, of every named group.
+pub const NAMED: usize = 3_066;
 
 /// What stands at `place` before a call. No count and no place is as large, so
 /// it would show if the engine didn't write there.
@@ -113,6 +115,59 @@ mod engine {
             u_len: usize,
             work: *mut u16,
             work_len: usize,
+            place: *mut usize,
+        ) -> u64;
+        pub fn farey_named_tables(
+            family: u64,
+            n: u64,
+            work: *mut u16,
+            work_len: usize,
+            s: *mut u32,
+            s_len: usize,
+            r: *mut u32,
+            r_len: usize,
+            place: *mut usize,
+        ) -> u64;
+        pub fn farey_named_symbol(
+            family: u64,
+            n: u64,
+            work: *mut u16,
+            work_len: usize,
+            out: *mut i64,
+            out_len: usize,
+            place: *mut usize,
+        ) -> u64;
+        pub fn farey_named_symbol_wide(
+            family: u64,
+            n: u64,
+            work: *mut u16,
+            work_len: usize,
+            out: *mut i64,
+            out_len: usize,
+            place: *mut usize,
+        ) -> u64;
+        pub fn farey_named_query(
+            family: u64,
+            n: u64,
+            a: *const i64,
+            b: *const i64,
+            work: *mut u16,
+            work_len: usize,
+            out: *mut i16,
+            out_len: usize,
+            start: usize,
+            place: *mut usize,
+        ) -> u64;
+        pub fn farey_named_query_wide(
+            family: u64,
+            n: u64,
+            a: *const i64,
+            b: *const i64,
+            work: *mut u16,
+            work_len: usize,
+            out: *mut i16,
+            out_len: usize,
+            start: usize,
             place: *mut usize,
         ) -> u64;
     }
@@ -311,6 +366,134 @@ pub fn same(v: usize, t: &[i64], m: usize, u: &[i64], work: &mut [u16]) -> Resul
         )
     };
     answer(number, place).map(|yes| yes == 1)
+}
+
+/// The tables of S and R of a named group to the fronts of s and r: the index.
+/// `Family::number` gives the number of a family.
+pub fn named_tables(
+    family: u64,
+    n: u64,
+    work: &mut [u16],
+    s: &mut [u32],
+    r: &mut [u32],
+) -> Result<usize, Refusal> {
+    let mut place = UNWRITTEN;
+    let number = unsafe {
+        engine::farey_named_tables(
+            family,
+            n,
+            work.as_mut_ptr(),
+            work.len(),
+            s.as_mut_ptr(),
+            s.len(),
+            r.as_mut_ptr(),
+            r.len(),
+            &mut place,
+        )
+    };
+    answer(number, place)
+}
+
+/// The table of the symbol that `import` makes of these tables to the front of
+/// out: its vertices.
+pub fn named_symbol(
+    family: u64,
+    n: u64,
+    work: &mut [u16],
+    out: &mut [i64],
+) -> Result<usize, Refusal> {
+    let mut place = UNWRITTEN;
+    let number = unsafe {
+        engine::farey_named_symbol(
+            family,
+            n,
+            work.as_mut_ptr(),
+            work.len(),
+            out.as_mut_ptr(),
+            out.len(),
+            &mut place,
+        )
+    };
+    answer(number, place)
+}
+
+/// The same by the wide rule, as `import_wide`.
+pub fn named_symbol_wide(
+    family: u64,
+    n: u64,
+    work: &mut [u16],
+    out: &mut [i64],
+) -> Result<usize, Refusal> {
+    let mut place = UNWRITTEN;
+    let number = unsafe {
+        engine::farey_named_symbol_wide(
+            family,
+            n,
+            work.as_mut_ptr(),
+            work.len(),
+            out.as_mut_ptr(),
+            out.len(),
+            &mut place,
+        )
+    };
+    answer(number, place)
+}
+
+/// A word that takes a to b, up to sign, in the generators of the symbol of
+/// `named_symbol`, in out from `start` on: its letters.
+pub fn named_query(
+    family: u64,
+    n: u64,
+    a: &[i64; 4],
+    b: &[i64; 4],
+    work: &mut [u16],
+    out: &mut [i16],
+    start: usize,
+) -> Result<usize, Refusal> {
+    let mut place = UNWRITTEN;
+    let number = unsafe {
+        engine::farey_named_query(
+            family,
+            n,
+            a.as_ptr(),
+            b.as_ptr(),
+            work.as_mut_ptr(),
+            work.len(),
+            out.as_mut_ptr(),
+            out.len(),
+            start,
+            &mut place,
+        )
+    };
+    answer(number, place)
+}
+
+/// The same in the generators of the symbol of `named_symbol_wide`.
+pub fn named_query_wide(
+    family: u64,
+    n: u64,
+    a: &[i64; 4],
+    b: &[i64; 4],
+    work: &mut [u16],
+    out: &mut [i16],
+    start: usize,
+) -> Result<usize, Refusal> {
+    let mut place = UNWRITTEN;
+    let number = unsafe {
+        engine::farey_named_query_wide(
+            family,
+            n,
+            a.as_ptr(),
+            b.as_ptr(),
+            work.as_mut_ptr(),
+            work.len(),
+            out.as_mut_ptr(),
+            out.len(),
+            start,
+            &mut place,
+        )
+    };
+    answer(number, place)
 }
 
 #[cfg(test)]

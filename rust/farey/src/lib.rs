@@ -8,6 +8,7 @@
 //! | module    | what it holds                                             |
 //! |-----------|-----------------------------------------------------------|
 //! | `calls`   | one safe function for each exported one, on lent slices   |
+//! | `family`  | the families Γ0, Γ1 and Γ, and their tables by name       |
 //! | `refusal` | the error: number, place and a sentence                   |
 //! | `symbol`  | symbols that own their tables, and what can be asked      |
 //!
@@ -22,9 +23,11 @@
 //! ```
 
 pub mod calls;
+pub mod family;
 pub mod refusal;
 pub mod symbol;
 
+pub use family::Family;
 pub use refusal::Refusal;
 pub use symbol::{Figures, Generator, Kind, Symbol, Tables};
 

@@ -1,7 +1,7 @@
 //! The wrapper on the instances of the engine's paper on conventions: what is
 //! expected here is what the paper says, not what a run printed.
 
-use farey::{Kind, Refusal, Symbol};
+use farey::{Family, Kind, Refusal, Symbol};
 
 const ONE: [i64; 4] = [1, 0, 0, 1];
 const S: [i64; 4] = [0, -1, 1, 0];
@@ -185,4 +185,76 @@ fn sameness() {
     assert!(gamma0_2().is_same(&labels));
     let other = Symbol::new(&[(-1, 1), (0, 1)], &[1, -2, 1]).expect("a symbol");
     assert!(!gamma0_2().is_same(&other));
+}
+
+/// PSL2(Z) by each of its names, and Γ0(2).
+#[test]
+fn small_named_groups() {
+    let whole = Symbol::new(&[(0, 1)], &[-2, -3]).expect("a symbol");
+    for group in [Symbol::gamma0, Symbol::gamma1, Symbol::gamma] {
+        assert_eq!(group(1), Ok(whole.clone()));
+    }
+    assert_eq!(Symbol::gamma0(2), Ok(gamma0_2()));
+    assert_eq!(Symbol::gamma1(2), Ok(gamma0_2()));
+    let tables = Symbol::gamma(2).expect("index 6").tables();
+    assert_eq!((tables.s, tables.r), Family::Gamma.tables(2).unwrap());
+    assert_eq!(
+        Family::Gamma.tables(2),
+        Ok((vec![1, 0, 4, 5, 2, 3], vec![2, 3, 5, 4, 1, 0]))
+    );
+}
+
+/// The rule's symbol where there is one, and else that of the wide rule: Γ0(11)
+/// has two symbols, Γ0(120) is refused by the rule.
+#[test]
+fn named_groups_by_which_rule() {
+    for (n, by_the_rule) in [(11, true), (120, false)] {
+        let (s, r) = Family::Gamma0.tables(n).expect("a small index");
+        let leftmost = Symbol::from_permutations(&s, &r);
+        let wide = Symbol::from_permutations_wide(&s, &r).expect("small entries");
+        assert_ne!(leftmost.as_ref(), Ok(&wide));
+        assert_eq!(leftmost.is_ok(), by_the_rule);
+        let expected = leftmost.unwrap_or_else(|refusal| {
+            assert_eq!(refusal.number, 16);
+            wide
+        });
+        assert_eq!(Symbol::gamma0(n), Ok(expected));
+    }
+}
+
+/// N out of range, and an index over 3,066. That of Γ(19) is 19 · 360/2 = 3,420,
+/// that of Γ(20) is 20 · 288/2 = 2,880, that of Γ1(89) is 89² - 1 over 2, 3,960,
+/// that of Γ1(90) is 90 · 90 · 3/4 · 8/9 · 24/25 over 2, 2,592.
+#[test]
+fn refused_names() {
+    for family in [Family::Gamma0, Family::Gamma1, Family::Gamma] {
+        for n in [0, 1_001, 1 << 32, u64::MAX] {
+            let refusal = Symbol::named(family, n).expect_err("out of range");
+            assert_eq!((refusal.number, refusal.place), (20, 0));
+            assert_eq!(
+                refusal.to_string(),
+                "refused 20 0: N isn't from 1 to 1,000, or the family isn't Γ0, Γ1 or Γ"
+            );
+            assert_eq!(family.tables(n), Err(refusal));
+        }
+    }
+    let large = Refusal {
+        number: 21,
+        place: 0,
+    };
+    assert_eq!(Symbol::gamma(19), Err(large));
+    assert_eq!(Symbol::gamma1(89), Err(large));
+    assert_eq!(Symbol::gamma1(1_000), Err(large));
+    assert_eq!(
+        Symbol::gamma(20).map(|group| group.figures().index),
+        Ok(2_880)
+    );
+    assert_eq!(
+        Symbol::gamma1(90).map(|group| group.figures().index),
+        Ok(2_592)
+    );
+    assert_eq!(
+        Symbol::gamma0(990).map(|group| group.figures().index),
+        Ok(2_592)
+    );
 }

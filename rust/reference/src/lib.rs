@@ -18,8 +18,8 @@
 //! | `coset`        | tables of S, R, T and the figures drawn from them               |
 //! | `word`         | pair queries: membership, the walk, multiplying a word out      |
 //! | `permutations` | checks 12 to 16, from two permutations to a symbol, two rules   |
-//! | `congruence`   | the permutations of Γ0(N), Γ1(N) and Γ(N)                       |
-//! | `report`       | the whole output of the four programs                           |
+//! | `congruence`   | Γ0(N), Γ1(N), Γ(N): condition, index, permutations; 20 and 21   |
+//! | `report`       | the whole output of the five programs                           |
 //! | `random`       | test symbols, pairs, matrices and texts, sound and damaged      |
 
 #![forbid(unsafe_code)]
@@ -37,4 +37,4 @@ pub mod text;
 pub mod word;
 
 pub use refusal::Refusal;
-pub use report::{import, import_wide, listing, query};
+pub use report::{import, import_wide, listing, named, query};

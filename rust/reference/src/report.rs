@@ -1,7 +1,8 @@
-//! The whole output of the four programs, from the bytes of standard input.
+//! The whole output of the five programs, from the bytes of standard input.
 
 use std::fmt::{Display, Write};
 
+use crate::congruence::named_symbol;
 use crate::coset::Cosets;
 use crate::permutations::{import_pair, Imported, Rule};
 use crate::refusal::Refusal;
@@ -125,4 +126,20 @@ fn try_import(rule: Rule, text: &[u8]) -> Result<Imported, Refusal> {
     let (s, r) = numbers[1..].split_at(n as usize);
     // The program lends space for the largest symbol.
     import_pair(rule, s, r, 3 * MAX_VERTICES + 1)
+}
+
+/// What the program `named` prints: the symbol by the rule, or where that is
+/// refused with 16 the one by the wide rule.
+pub fn named(text: &[u8]) -> String {
+    symbol_text(try_named(text))
+}
+
+fn try_named(text: &[u8]) -> Result<Imported, Refusal> {
+    let numbers = numbers(text, Format::Named)?;
+    // With another family the count is free, and refusal 20 comes first.
+    let (family, n) = (numbers[0], numbers.get(1).copied().unwrap_or(0));
+    match named_symbol(Rule::Leftmost, family, n) {
+        Err(refusal) if refusal.number == 16 => named_symbol(Rule::Wide, family, n),
+        answer => answer,
+    }
 }

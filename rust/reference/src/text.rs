@@ -19,25 +19,23 @@ pub enum Format {
     Query,
     /// n, then n images of S, then n images of R.
     Import,
+    /// The number of a family, then N.
+    Named,
 }
 
 impl Format {
     /// How many numbers a text with this first number has, or `None` when the
     /// first number is out of range and the count therefore free.
     pub fn wanted(self, head: i64) -> Option<usize> {
-        let largest = match self {
-            Format::Import => MAX_POINTS,
-            _ => MAX_VERTICES as i64,
+        // The range of the first number, how many numbers each one of it wants,
+        // and how many there are beside these.
+        let (range, each, more) = match self {
+            Format::Listing => (1..=MAX_VERTICES as i64, 3, 2),
+            Format::Query => (1..=MAX_VERTICES as i64, 3, 10),
+            Format::Import => (1..=MAX_POINTS, 2, 1),
+            Format::Named => (0..=2, 0, 2),
         };
-        if !(1..=largest).contains(&head) {
-            return None;
-        }
-        let n = head as usize;
-        Some(match self {
-            Format::Listing => 1 + 3 * n + 1,
-            Format::Query => 1 + 3 * n + 1 + 8,
-            Format::Import => 1 + 2 * n,
-        })
+        range.contains(&head).then(|| each * head as usize + more)
     }
 }
 
@@ -91,7 +89,7 @@ fn pieces(text: &[u8]) -> Result<Vec<(usize, i64)>, Refusal> {
     Ok(found)
 }
 
-/// The numbers of a text in one of the three formats.
+/// The numbers of a text in one of the formats.
 ///
 /// With a first number out of range all numbers are returned uncounted: the
 /// rule on that number refuses next. A text without any number has too few.
@@ -192,6 +190,11 @@ mod tests {
         assert_eq!(place(b"1 0 1 -2 -3 1 0 0 1 1 0 0 1 -9", Format::Query), 28);
         assert_eq!(place(b"2 0 1 0", Format::Import), 7);
         assert_eq!(place(b"2 0 1 0 1 4", Format::Import), 10);
+        assert_eq!(place(b" 0\n", Format::Named), 3);
+        assert_eq!(place(b"2", Format::Named), 1);
+        assert_eq!(place(b"2 11  5 x", Format::Named), 8);
+        assert_eq!(place(b"2 11  5 6", Format::Named), 6);
+        assert_eq!(numbers(b"-0 011", Format::Named), Ok(vec![0, 11]));
     }
 
     #[test]
@@ -206,6 +209,10 @@ mod tests {
             assert!(numbers(text, Format::Query).is_ok());
         }
         assert!(numbers(b"3067 1", Format::Import).is_ok());
+        for text in [&b"3"[..], b"-1 5", b"3 5 7", b"9223372036854775807 1 1"] {
+            assert!(numbers(text, Format::Named).is_ok());
+        }
+        assert_eq!(place(b"3 5 x", Format::Named), 4);
         assert_eq!(place(b"3066 1", Format::Import), 6);
         assert_eq!(place(b"1023 1", Format::Listing), 6);
     }

@@ -9,7 +9,7 @@ use std::path::PathBuf;
 
 use child::{repository, Program};
 use reference::congruence::gamma0;
-use reference::{import, import_wide, listing, query};
+use reference::{import, import_wide, listing, named, query};
 
 /// One program's examples.
 struct Kind {
@@ -48,6 +48,14 @@ const WIDE_IMPORTS: Kind = Kind {
     output: "wide",
     reference: import_wide,
     ..IMPORTS
+};
+
+const NAMED: Kind = Kind {
+    folder: "examples/named",
+    input: "group",
+    output: "symbol",
+    reference: named,
+    least: 6,
 };
 
 struct Example {
@@ -121,7 +129,7 @@ impl Kind {
 
 #[test]
 fn by_the_reference() {
-    for kind in [LISTINGS, QUERIES, IMPORTS, WIDE_IMPORTS] {
+    for kind in [LISTINGS, QUERIES, IMPORTS, WIDE_IMPORTS, NAMED] {
         kind.by_the_reference();
     }
 }
@@ -144,6 +152,38 @@ fn imports_by_the_program() {
 #[test]
 fn wide_imports_by_the_program() {
     WIDE_IMPORTS.by_the_program("IMPORT_WIDE_PROGRAM");
+}
+
+#[test]
+fn named_by_the_program() {
+    NAMED.by_the_program("NAMED_PROGRAM");
+}
+
+/// A group's name gives the symbol that the imports make of its permutations:
+/// the one by the rule, or for Γ0(120) the one by the wide rule.
+#[test]
+fn names_and_permutations() {
+    assert_eq!(NAMED.expected("psl2z"), IMPORTS.expected("psl2z"));
+    assert_eq!(
+        NAMED.expected("gamma0-120"),
+        WIDE_IMPORTS.expected("gamma0-120")
+    );
+    assert_eq!(NAMED.expected("refused"), "refused 21 0\n");
+    // Γ0(11) has two cusps and genus 1; modulo 7 and up to sign there are three
+    // units, so Γ1(7) has the index 3 · 8; Γ(5) has that of the icosahedral group.
+    for (name, lines) in [
+        ("gamma0-11", ["index 12", "widths 1 11", "genus 1"]),
+        ("gamma1-7", ["index 24", "level 7", "genus 0"]),
+        (
+            "gamma-5",
+            ["index 60", "widths 5 5 5 5 5 5 5 5 5 5 5 5", "genus 0"],
+        ),
+    ] {
+        let listed = listing(NAMED.expected(name).as_bytes());
+        for line in lines {
+            assert!(listed.lines().any(|other| other == line), "{name}: {line}");
+        }
+    }
 }
 
 /// Γ0(120), from the projective line over Z/120 alone: refused by the one rule,

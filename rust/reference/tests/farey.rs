@@ -100,7 +100,7 @@ impl Folder {
         }
         folder.put(
             "crates.txt",
-            "low:\nlisting: low io\nquery: low\nimport_wide: low\n",
+            "low:\nlisting: low io\nquery: low\nimport_wide: low\nnamed: low\n",
         );
         folder.put("crates/low/src/lib.rt", "first");
         folder.put("crates/listing/src/main.rt", "");
@@ -382,7 +382,7 @@ fn explained(line: &str) -> String {
 fn refusals_have_numbers_in_order() {
     let numbers: Vec<String> = sentences().into_iter().map(|(n, _)| n).collect();
     let expected: Vec<String> = (1..=numbers.len()).map(|n| n.to_string()).collect();
-    assert!(numbers.len() >= 19);
+    assert!(numbers.len() >= 21);
     assert_eq!(numbers, expected);
 }
 
@@ -398,14 +398,18 @@ fn refusals_are_explained() {
     for entry in fs::read_dir(folder).expect("there are examples") {
         let path = entry.expect("it can be listed").path();
         let kind = path.extension().and_then(|kind| kind.to_str());
-        let names: &[&str] = match kind {
-            Some("txt") => &["listing"],
-            Some("query") => &["query"],
-            Some("pair") => &["import", "import-wide"],
+        let held = fs::read(&path).expect("it can be read");
+        let came: Vec<Output> = match kind {
+            Some("txt") => vec![run_on(&farey, "listing", &held)],
+            Some("query") => vec![run_on(&farey, "query", &held)],
+            Some("pair") => {
+                let names = ["import", "import-wide"];
+                names.map(|name| run_on(&farey, name, &held)).into()
+            }
+            Some("group") => vec![by_name(&farey, &text(&held))],
             _ => panic!("{}: no program reads this", path.display()),
         };
-        for name in names {
-            let came = run_on(&farey, name, &fs::read(&path).expect("it can be read"));
+        for came in came {
             let stdout = text(&came.stdout);
             let line = stdout.lines().find(|line| line.contains("refused "));
             let line = line.unwrap_or_else(|| panic!("{}: {stdout}", path.display()));
@@ -414,7 +418,104 @@ fn refusals_are_explained() {
         }
         seen += 1;
     }
-    assert!(seen >= 17, "only {seen} examples");
+    assert!(seen >= 19, "only {seen} examples");
+}
+
+/// `./farey` with the words for a text of the program `named`.
+fn by_name(farey: &Program, text: &str) -> Output {
+    let (family, n) = text.trim_end().split_once(' ').expect("a family and N");
+    let family: usize = family.parse().expect("a family's number");
+    let mut command = farey.command();
+    command.args([["gamma0", "gamma1", "gamma"][family], n]);
+    command.stdin(Stdio::null());
+    command.output().expect("./farey starts")
+}
+
+/// A group by its name: what the program prints of its family and N, and a
+/// sentence where it is refused. A number out of range is, however long it is.
+#[test]
+fn groups_by_name() {
+    let Some(farey) = farey() else {
+        return;
+    };
+    let huge = "9".repeat(5_000);
+    let zeros = format!("{}7", "0".repeat(5_000));
+    for (words, reads) in [
+        ("0 11", "0 11"),
+        ("1 7", "1 7"),
+        ("2 5", "2 5"),
+        ("0 1", "0 1"),
+        ("0 1000", "0 1000"),
+        ("0 120", "0 120"),
+        ("0 0011", "0 11"),
+        (&format!("1 {zeros}"), "1 7"),
+        ("2 19", "2 19"),
+        ("1 1000", "1 1000"),
+        ("0 0", "0 0"),
+        ("0 000", "0 0"),
+        ("2 1001", "2 1001"),
+        ("1 18446744073709551617", "1 1001"),
+        (&format!("0 {huge}"), "0 1001"),
+    ] {
+        let came = by_name(&farey, words);
+        let expected = reference::named(reads.as_bytes());
+        assert_eq!(text(&came.stdout), expected, "{words:.40}");
+        let said = match expected.strip_suffix('\n').expect("a whole line") {
+            line if line.starts_with("refused ") => explained(line),
+            _ => String::new(),
+        };
+        assert_eq!(text(&came.stderr), said, "{words:.40}");
+        assert!(came.status.success(), "{words:.40}");
+    }
+}
+
+/// Standard input isn't read for a name: it may be closed, or hold anything.
+#[test]
+fn a_name_reads_nothing() {
+    let Some(farey) = farey() else {
+        return;
+    };
+    let expected = reference::named(b"0 11");
+    for line in [
+        r#""$0" gamma0 11 <&-"#,
+        r#"echo refused 15 2 | "$0" gamma0 11"#,
+        r#""$0" gamma0 11 < /"#,
+    ] {
+        let mut shell = Command::new("bash");
+        shell.args(["-c", line]).arg(farey.command().get_program());
+        let came = shell.output().expect("there is a shell");
+        assert_eq!(text(&came.stdout), expected, "{line}");
+        assert_eq!(text(&came.stderr), "", "{line}");
+    }
+}
+
+/// The program of a name is that of the crate `named`, and it is given the number
+/// of the family and N.
+#[test]
+fn the_crate_of_a_name() {
+    let folder = Folder::new("name");
+    let came = folder.run(&["gamma1", "7"]);
+    assert_eq!(text(&came.stdout), "first\n", "{}", text(&came.stderr));
+    let asked = fs::read_to_string(folder.at("asked")).expect("rt was asked");
+    assert!(asked.lines().all(|line| line == "check named"), "{asked}");
+    for (family, number) in [("gamma0", 0), ("gamma1", 1), ("gamma", 2)] {
+        let program = folder.at("target/bin/named");
+        fs::write(&program, "#!/bin/sh\ncat\n").expect("it can be written");
+        let sources = fs::read_to_string(folder.at("target/farey/named")).expect("a record");
+        let (sources, _) = sources.split_once("  - ").expect("two sums");
+        let sum = Command::new("sh")
+            .args(["-c", r#"sha256sum < "$0""#])
+            .arg(&program)
+            .output()
+            .expect("there is sha256sum");
+        folder.put(
+            "target/farey/named",
+            &format!("{sources}  - {}", text(&sum.stdout)),
+        );
+        let came = folder.run(&[family, "0042"]);
+        assert_eq!(text(&came.stdout), format!("{number} 42\n"));
+    }
+    assert_eq!(folder.proofs(), 1);
 }
 
 fn run_on(farey: &Program, name: &str, text: &[u8]) -> Output {
@@ -434,7 +535,7 @@ fn a_refusal_is_passed_on() {
         return;
     };
     for name in ["listing", "query", "import", "import-wide"] {
-        for line in ["refused 15 2\n", "refused 19 65536\n"] {
+        for line in ["refused 15 2\n", "refused 19 65536\n", "refused 21 0\n"] {
             let came = run_on(&farey, name, line.as_bytes());
             assert_eq!(text(&came.stdout), line);
             assert_eq!(text(&came.stderr), "");
@@ -443,7 +544,7 @@ fn a_refusal_is_passed_on() {
         // A refusal of the engine has a number that has a sentence.
         let read: [&[u8]; 10] = [
             b"refused 0 0\n",
-            b"refused 20 0\n",
+            b"refused 22 0\n",
             b"refused 999 7\n",
             b"refused 015 2\n",
             b"refused 15 02\n",
@@ -515,6 +616,23 @@ fn wrong_words_are_refused() {
         &["-h"],
         &["import_wide"],
         &["import wide"],
+        &["gamma0"],
+        &["gamma0", "11", "12"],
+        &["gamma0", ""],
+        &["gamma0", "x"],
+        &["gamma1", "-7"],
+        &["gamma1", "+7"],
+        &["gamma", "5.0"],
+        &["gamma", "5x"],
+        &["gamma", " 5"],
+        &["gamma", "5\n6"],
+        &["gamma", "\u{b2}"],
+        &["gamma2", "5"],
+        &["Gamma0", "11"],
+        &["11", "gamma0"],
+        &["named"],
+        &["named", "11"],
+        &["listing", "11"],
     ] {
         let came = Command::new(&farey).args(words).output();
         let came = came.expect("./farey starts");

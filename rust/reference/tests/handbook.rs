@@ -17,7 +17,7 @@ use std::fs;
 use std::process::Command;
 
 use child::{farey, repository, Program};
-use reference::{import, import_wide, listing, query};
+use reference::{import, import_wide, listing, named, query};
 
 /// A block between two fences: what stands behind the first one, and the lines.
 struct Block {
@@ -92,6 +92,7 @@ fn answers(program: &str, text: &[u8]) -> [String; 2] {
         "query" => ("QUERY_PROGRAM", query),
         "import" => ("IMPORT_PROGRAM", import),
         "import-wide" => ("IMPORT_WIDE_PROGRAM", import_wide),
+        "named" => ("NAMED_PROGRAM", named),
         _ => panic!("there is no program {program}"),
     };
     let expected = reference(text);
@@ -101,26 +102,35 @@ fn answers(program: &str, text: &[u8]) -> [String; 2] {
     }
 }
 
-/// The answers to a command `./farey PROGRAM < PATH`, perhaps with `| ./farey
-/// PROGRAM` behind it: by the reference, by the programs, and by the command
-/// itself. `./farey` alone lists Γ0(2).
+/// The program that `./farey` runs for these words, and the text that it reads:
+/// that of a file, or what stands for a group's name.
+fn asked(words: &str) -> (String, Vec<u8>) {
+    let words = words.strip_prefix("./farey ").expect("./farey and words");
+    if let Some((program, path)) = words.split_once(" < ") {
+        return (program.to_string(), file(path));
+    }
+    let (family, n) = words.split_once(' ').expect("a family and N");
+    let families = ["gamma0", "gamma1", "gamma"];
+    let number = families.iter().position(|&name| name == family);
+    let number = number.unwrap_or_else(|| panic!("no family {family}"));
+    ("named".to_string(), format!("{number} {n}\n").into_bytes())
+}
+
+/// The answers to a command `./farey PROGRAM < PATH` or `./farey FAMILY N`,
+/// perhaps with `| ./farey PROGRAM` behind it: by the reference, by the programs,
+/// and by the command itself. `./farey` alone lists Γ0(2).
 fn run(command: &str) -> [String; 3] {
     let whole = match command {
         "./farey" => "./farey listing < examples/gamma0-2.txt",
         _ => command,
     };
     let mut stages = whole.split(" | ");
-    let first = stages.next().expect("there is a command");
-    let (call, path) = first.split_once(" < ").expect("a file is read");
-    let named = |call: &str| {
-        call.strip_prefix("./farey ")
-            .expect("./farey and a program")
-            .to_string()
-    };
-    let mut came = answers(&named(call), &file(path));
+    let (program, text) = asked(stages.next().expect("there is a command"));
+    let mut came = answers(&program, &text);
     for stage in stages {
         assert_eq!(came[0], came[1], "{command}");
-        came = answers(&named(stage), came[0].as_bytes());
+        let program = stage.strip_prefix("./farey ").expect("./farey once more");
+        came = answers(program, came[0].as_bytes());
     }
     let [reference, by_programs] = came;
     let by_script = match farey() {
@@ -170,7 +180,15 @@ fn commands_print_what_is_shown() {
         }
         programs.extend(command.split(' ').nth(1).map(str::to_string));
     }
-    for program in ["listing", "query", "import", "import-wide"] {
+    for program in [
+        "listing",
+        "query",
+        "import",
+        "import-wide",
+        "gamma0",
+        "gamma1",
+        "gamma",
+    ] {
         assert!(
             programs.iter().any(|name| name == program),
             "no example of {program}"
@@ -233,6 +251,7 @@ fn refusals_are_met() {
             "txt" => "listing",
             "query" => "query",
             "pair" => "import",
+            "group" => "named",
             _ => panic!("{}: no program reads this", row.example),
         };
         assert!(

@@ -200,10 +200,10 @@ fn lines_to_read_are_counted() {
         assert_eq!(counts.len(), number);
         assert_eq!(lines, counts[number - 1].to_string(), "row {number}");
     }
-    assert_eq!(counts.len(), 8);
-    let calls: usize = counts[..6].iter().sum();
+    assert_eq!(counts.len(), 9);
+    let calls: usize = counts[..7].iter().sum();
     let all: usize = counts.iter().sum();
     assert!(page.contains(&format!(
-        "imports; {calls} for the calls of the library,\nrows 1 to 6, and {all} in all"
+        "imports; {calls} for the calls of the library,\nrows 1 to 7, and {all} in all"
     )));
 }

@@ -9,10 +9,11 @@
 //! | a reader that is gone  | the system's signal ends it, unless it is ignored: then as a write    |
 //! | nothing, but a pause   | the answer to the whole text                                          |
 //!
-//! Each test is made of each of the four programs (`LISTING_PROGRAM`,
-//! `QUERY_PROGRAM`, `IMPORT_PROGRAM`, `IMPORT_WIDE_PROGRAM`) and of `./farey`
-//! with each of their names (`FAREY_PROGRAM`), whose exit status isn't 0 then. A
-//! program of the engine has no exit status of its own to give.
+//! Each test is made of each of the five programs (`LISTING_PROGRAM`,
+//! `QUERY_PROGRAM`, `IMPORT_PROGRAM`, `IMPORT_WIDE_PROGRAM`, `NAMED_PROGRAM`) and
+//! of `./farey` with each of their names (`FAREY_PROGRAM`), whose exit status isn't
+//! 0 then. A program of the engine has no exit status of its own to give. Of the
+//! program `named`, for which `./farey` reads nothing, it is the tests of writing.
 
 mod child;
 
@@ -29,7 +30,7 @@ use child::{farey, repository, shown, Program};
 use reference::random::pairs::shallow_pair;
 use reference::random::Rng;
 use reference::text::MAX_TEXT;
-use reference::{import, import_wide, listing, query};
+use reference::{import, import_wide, listing, named, query};
 
 /// How long a program may take before it counts as hanging.
 const TIME_LIMIT: Duration = Duration::from_secs(120);
@@ -65,6 +66,17 @@ struct Subject {
 }
 
 impl Subject {
+    /// Those that read standard input.
+    fn reading() -> Vec<Subject> {
+        let all = Subject::all().into_iter();
+        all.filter(|subject| !subject.is_name()).collect()
+    }
+
+    /// `./farey` with a group's name, which reads nothing.
+    fn is_name(&self) -> bool {
+        self.by_script && self.name == "named"
+    }
+
     fn all() -> Vec<Subject> {
         type Row = (
             &'static str,
@@ -72,7 +84,7 @@ impl Subject {
             fn(&[u8]) -> String,
             &'static str,
         );
-        let rows: [Row; 4] = [
+        let rows: [Row; 5] = [
             (
                 "LISTING_PROGRAM",
                 "listing",
@@ -92,6 +104,7 @@ impl Subject {
                 import_wide,
                 "3\n1 0 2\n2 0 1\n",
             ),
+            ("NAMED_PROGRAM", "named", named, "0 11"),
         ];
         let mut all = Vec::new();
         for by_script in [false, true] {
@@ -115,7 +128,9 @@ impl Subject {
 
     fn command(&self) -> Command {
         let mut command = self.program.command();
-        if self.by_script {
+        if self.is_name() {
+            command.args(["gamma0", "990"]);
+        } else if self.by_script {
             command.arg(self.name);
         }
         command.stderr(Stdio::piped());
@@ -139,6 +154,7 @@ impl Subject {
         match self.name {
             // T to the power 3,000, in a group that has T for a generator.
             "query" => "2 0 1 1 1 1 -2 1 1 0 0 1 1 3000 0 1".to_string(),
+            "named" => "0 990".to_string(),
             _ => {
                 let pair = shallow_pair(&mut Rng::new(7), 1_000).numbers();
                 let pieces: Vec<String> = pair.iter().map(i64::to_string).collect();
@@ -276,7 +292,7 @@ fn with_text(command: &mut Command, text: &str) -> Child {
 
 #[test]
 fn a_directory_as_input() {
-    for subject in Subject::all() {
+    for subject in Subject::reading() {
         let folder = File::open(repository()).expect("a folder opens");
         let mut command = subject.command();
         command.stdin(folder).stdout(Stdio::piped());
@@ -287,7 +303,7 @@ fn a_directory_as_input() {
 
 #[test]
 fn no_input() {
-    for subject in Subject::all() {
+    for subject in Subject::reading() {
         let mut command = subject.command();
         command.stdin(Stdio::null()).stdout(Stdio::piped());
         let came = ended(
@@ -313,7 +329,7 @@ fn no_output() {
 /// the second one doesn't come before the program has ended.
 #[test]
 fn a_piece_without_waiting() {
-    for subject in Subject::all() {
+    for subject in Subject::reading() {
         for cut in subject.cuts() {
             let (reader, writer) = new_pipe();
             set_non_blocking(&reader);
@@ -333,7 +349,7 @@ fn a_piece_without_waiting() {
 /// 65,536 bytes and no end yet: only one more read can tell that there is more.
 #[test]
 fn a_full_buffer_without_an_end() {
-    for subject in Subject::all() {
+    for subject in Subject::reading() {
         let (reader, writer) = new_pipe();
         set_non_blocking(&reader);
         let mut writer = File::from(writer);
@@ -351,7 +367,7 @@ fn a_full_buffer_without_an_end() {
 /// A pipe that waits: the second piece comes when the first has been read.
 #[test]
 fn two_pieces_with_waiting() {
-    for subject in Subject::all() {
+    for subject in Subject::reading() {
         let expected = (subject.reference)(subject.text.as_bytes());
         for cut in subject.cuts() {
             let (reader, writer) = new_pipe();

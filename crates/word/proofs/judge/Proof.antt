@@ -7,7 +7,8 @@ use native.Mathlib.Omega.{arith}
 use borrow.Author.Tests.{not-true, not-false}
 use Rattle.basics.specs.Count.{first}
 use Rattle.word.specs.Answer.{large}
-use Rattle.word.proofs.Order.{passed-small, judged-first, judged-A, judged-B, judged-passed}
+use Rattle.word.proofs.Order.{passed-small}
+use Rattle.word.proofs.Refused.{judged-first, judged-A, judged-B, judged-passed}
 use borrow.Author.Needs.{needs}
 use Rattle.word.proofs.judge.Statement.{statement}
 use Rattle.word.proofs.judge.Tie as tie

@@ -6,7 +6,9 @@ use Rattle.symbol.specs.Check.{symbolCheck}
 use Rattle.symbol.specs.Symbol.{IsSymbol}
 use Rattle.refusal.specs.declared.Checked.the-variants.{Accepted}
 use Rattle.symbol.proofs.Accepted.{accepted}
-use Rattle.word.proofs.Order.{by-fault, by-large, by-determinant, by-short, by-long, passed-by, asked, claim}
+use Rattle.word.specs.Answer.{foundOf}
+use Rattle.word.proofs.Refused.{by-fault, by-large, by-determinant, by-short, by-long, passed-by}
+use Rattle.word.proofs.Order.{asked, claim}
 use borrow.Author.Needs.{needs}
 use Rattle.word.proofs.query.Statement.{statement}
 use Rattle.word.proofs.query.Tie as tie
@@ -46,7 +48,7 @@ returns c =
     let w = s .args .w .now in
     let room = length (s .args .out .now) in
     let start = s .args .start in
-    let k = by-large v t a b w room start (ok e) (j .result) (j .ensures) (c .if1 .taken) in
+    let k = by-large (symbolCheck v t) (foundOf v t a b start room) a b w (ok e) (j .result) (j .ensures) (c .if1 .taken) in
     (k .0, (k .1, (refl, claim (k .0) refl)))
 
 returns-2 : tie.Need-returns-2
@@ -61,7 +63,7 @@ returns-2 c =
     let w = s .args .w .now in
     let room = length (s .args .out .now) in
     let start = s .args .start in
-    let k = by-determinant v t a b w room start (ok e) (j .result) (j .ensures) (c .before .if1 .left) (c .if2 .taken) in
+    let k = by-determinant (symbolCheck v t) (foundOf v t a b start room) a b w (ok e) (j .result) (j .ensures) (c .before .if1 .left) (c .if2 .taken) in
     (k .0, (k .1, (refl, claim (k .0) refl)))
 
 returns-3 : tie.Need-returns-3
@@ -77,7 +79,7 @@ returns-3 c =
     let room = length (s .args .out .now) in
     let start = s .args .start in
     let p = passed-by a b (j .result) (j .ensures) (c .before .if2 .left) in
-    let k = by-short v t a b w room start (ok e) (p .entries) (p .A) (p .B) (c .if3 .taken) in
+    let k = by-short (symbolCheck v t) (foundOf v t a b start room) a b w (ok e) (p .entries) (p .A) (p .B) (c .if3 .taken) in
     (k .0, (k .1, (refl, claim (k .0) refl)))
 
 answer-requires : tie.Need-answer-requires
@@ -92,7 +94,8 @@ returns-4 : tie.Need-returns-4
 returns-4 c =
     let k = c .before in
     let s = c .before .before .before .before .before in
-    let b = by-fault (s .args .v) (s .args .t .now) (s .args .a) (s .args .b) (s .args .w .now) (length (s .args .out .now)) (s .args .start)
+    let b = by-fault (symbolCheck (s .args .v) (s .args .t .now))
+    (foundOf (s .args .v) (s .args .t .now) (s .args .a) (s .args .b) (s .args .start) (length (s .args .out .now))) (s .args .a) (s .args .b) (s .args .w .now)
     (k .checked .given .0 .0) (sym (c .before .before .before .check .ensures .returned) ∙ k .checked .given .1) in
     (b .0, (b .1, (refl, claim (b .0) refl)))
 
@@ -115,7 +118,7 @@ returns-5 c =
     let room = length (s .args .out .now) in
     let start = s .args .start in
     let p = passed-by a b (j .result) (j .ensures) (c .before .before .before .before .before .before .before .if2 .left) in
-    let k = by-long v t a b w room start (ok e) (p .entries) (p .A) (p .B) (c .before .before .before .before .before .before .if3 .left) in
+    let k = by-long (symbolCheck v t) (foundOf v t a b start room) a b w (ok e) (p .entries) (p .A) (p .B) (c .before .before .before .before .before .before .if3 .left) in
     let f = c .before .before .before .answer .ensures in
     let r = f .0 ∙ k .0 in
     (r, (f .1 .1 ∙ k .1, (f .1 .0, claim r (f .1 .0))))

@@ -2,8 +2,8 @@
 //!
 //!     benchmarks FOLDER [RUNS]
 //!
-//! FOLDER has the engine's programs `listing`, `query`, `import` and
-//! `import_wide`. Each job is run RUNS times (200 unless given) by the engine and
+//! FOLDER has the engine's programs `listing`, `query`, `import`, `import_wide`
+//! and `named`. Each job is run RUNS times (200 unless given) by the engine and
 //! by the plain program, by turns.
 
 use std::path::Path;

@@ -6,7 +6,7 @@ use std::hint::black_box;
 use std::time::{Duration, Instant};
 
 use bench::inputs::inputs;
-use bench::{plain_import, plain_import_wide, plain_listing, plain_query};
+use bench::{plain_import, plain_import_wide, plain_listing, plain_named, plain_query};
 
 /// The fastest and the middle one of many calls, in microseconds.
 fn times(answer: fn(&[u8]) -> Vec<u8>, text: &[u8]) -> (f64, f64) {
@@ -29,6 +29,7 @@ fn main() {
             Some("listing") => plain_listing,
             Some("query") => plain_query,
             Some("import_wide") => plain_import_wide,
+            Some("named") => plain_named,
             _ => plain_import,
         };
         let (fastest, median) = times(answer, input.text.as_bytes());

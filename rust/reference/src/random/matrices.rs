@@ -178,6 +178,48 @@ pub fn any_pair(rng: &mut Rng, long: bool) -> ([i64; 4], [i64; 4]) {
     (small(matrix(rng)), small(matrix(rng)))
 }
 
+/// A and B whose rows agree modulo n, or nearly: their quotient B A^-1 lies in
+/// Γ(n), or only in Γ1(n), or only in Γ0(n), or beside all three.
+pub fn congruent_pair(rng: &mut Rng, n: usize) -> ([i64; 4], [i64; 4]) {
+    let n = n as i128;
+    let a = matrix(rng);
+    let Matrix([_, _, c, d]) = a;
+    for _ in 0..20 {
+        // The lower row of B is that of A times a number, and mostly plus or
+        // minus that row.
+        let factor = match rng.below(4) {
+            0 => rng.below(n as usize) as i128,
+            1 => -1,
+            _ => 1,
+        };
+        let multiples = i128::from(MAX_MATRIX_ENTRY) / (n * (n + 1));
+        let mut near = |entry: i128| {
+            let far = rng.range(-1 - multiples as i64, multiples as i64);
+            entry.rem_euclid(n) + n * i128::from(far)
+        };
+        let (near_c, near_d) = (near(factor * c), near(factor * d));
+        let near_c = near_c + i128::from(rng.chance(10));
+        let Matrix([p, q, r, s]) = with_column(near_c, near_d);
+        if (p, r) != (near_c, near_d) {
+            continue;
+        }
+        // The upper row of B so that the upper right entry of B A^-1 is 0 modulo
+        // n, or another one.
+        let b = Matrix([-q, -s, p, r]);
+        let Matrix([_, upper, _, _]) = b * a.inverse();
+        let turn = match rng.below(4) {
+            0 => rng.below(n as usize) as i128,
+            _ => (-upper * factor).rem_euclid(n),
+        };
+        let b = Matrix([1, turn, 0, 1]) * b;
+        if fits(b) {
+            let b = if rng.chance(30) { b.negated() } else { b };
+            return (small(a), small(b));
+        }
+    }
+    (small(a), small(a.negated()))
+}
+
 /// Puts an entry that is too large (8) or a wrong determinant (9) into a pair.
 pub fn put_matrix_fault(rng: &mut Rng, pair: &mut [i64; 8], fault: u32) {
     let limit = MAX_MATRIX_ENTRY;

@@ -43,8 +43,14 @@ pub fn farey() -> Option<Program> {
     static PROVED: OnceLock<()> = OnceLock::new();
     let script = Program::named_by("FAREY_PROGRAM")?;
     PROVED.get_or_init(|| {
-        for name in ["listing", "query", "import", "import-wide"] {
-            let came = script.command().arg(name).stdin(Stdio::null()).output();
+        for words in [
+            &["listing"][..],
+            &["query"],
+            &["import"],
+            &["import-wide"],
+            &["gamma0", "1"],
+        ] {
+            let came = script.command().args(words).stdin(Stdio::null()).output();
             let came = came.expect("./farey starts");
             let said = String::from_utf8_lossy(&came.stderr);
             assert!(came.status.success(), "{said}");

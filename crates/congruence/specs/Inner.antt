@@ -1,0 +1,2 @@
+-- What the proofs of the crate `congruence` share with the crates above. A reader who trusts the checker need not read it.
+pub mod Listed

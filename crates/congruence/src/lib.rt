@@ -1,0 +1,12 @@
+// The congruence groups Γ0(N), Γ1(N) and Γ(N): the conditions that name them, their indexes, and the numbering of their right cosets.
+// The only code is the name of a family; specs/ has the definitions and the theorems. The crates above compute by them.
+
+// Which of the three groups of a number N.
+pub enum Family {
+    // The lower left entry is 0 modulo N.
+    Gamma0,
+    // It is 0, and the diagonal entries are both 1 or both -1.
+    Gamma1,
+    // The matrix is the identity or its negative.
+    Gamma,
+}

@@ -1,0 +1,67 @@
+-- `congruence_tables::image_s` meets its contract, by the family: the entry of a point, or the product with S with the first sign.
+-- Assumes nothing.
+use borrow.Author.Needs.{needs}
+use Rattle.residues.proofs.Images.{image-1, image-2}
+use Rattle.matrix.specs.Matrix.{matS}
+use Rattle.congruence_tables.proofs.Image.{point-of, residues-1, residues-2, points-S, image-S}
+use Rattle.congruence_tables.proofs.image_s.Statement.{statement}
+use Rattle.congruence_tables.proofs.image_s.Tie as tie
+
+enum-told : tie.Need-enum-told
+enum-told c = search needs
+
+opposite-requires : tie.Need-opposite-requires
+opposite-requires c κs = let p = c .before .before .before .pre in (p .modulus, point-of p (c .enum-told .given .1) .c-low)
+
+point-requires : tie.Need-point-requires
+point-requires c κs = points-S (c .before .before .before .before .pre) (c .before .enum-told .given .1) (c .opposite .ensures)
+
+enum-told-2 : tie.Need-enum-told-2
+enum-told-2 c = search needs
+
+times-s-requires : tie.Need-times-s-requires
+times-s-requires c κs = let p = c .before .before .before .pre in (p .modulus, residues-1 p (c .enum-told2 .given .1))
+
+signed-requires : tie.Need-signed-requires
+signed-requires c κs = (c .before .before .before .before .pre .modulus, c .times-s .ensures .low)
+
+enum-told-3 : tie.Need-enum-told-3
+enum-told-3 c = search needs
+
+times-s-requires-2 : tie.Need-times-s-requires-2
+times-s-requires-2 c κs = let p = c .before .before .before .pre in (p .modulus, residues-2 p (c .enum-told3 .given .1))
+
+signed-requires-2 : tie.Need-signed-requires-2
+signed-requires-2 c κs = (c .before .before .before .before .pre .modulus, c .times-s2 .ensures .low)
+
+returns : tie.Need-returns
+returns c = image-S (c .before .before .before .before .before .pre) (c .before .before .enum-told .given .1) (c .before .opposite .ensures) (c .point .ensures)
+
+returns-2 : tie.Need-returns-2
+returns-2 c =
+    let s = c .before .before .before .before .before .args in
+    let t = c .before .times-s in
+    image-1 (s .n) matS (s .x) (t .result) (c .signed .result) (t .ensures) (c .signed .ensures) (c .before .before .enum-told2 .given .1)
+
+returns-3 : tie.Need-returns-3
+returns-3 c =
+    let s = c .before .before .before .before .before .args in
+    let t = c .before .times-s2 in
+    image-2 (s .n) matS (s .x) (t .result) (c .signed2 .result) (t .ensures) (c .signed2 .ensures) (c .before .before .enum-told3 .given .1)
+
+pub image-s-spec : {M : Type 1} → statement M
+image-s-spec =
+    tie.close
+    (tie.spec
+    enum-told
+    opposite-requires
+    point-requires
+    enum-told-2
+    times-s-requires
+    signed-requires
+    enum-told-3
+    times-s-requires-2
+    signed-requires-2
+    returns
+    returns-2
+    returns-3)

@@ -1,0 +1,270 @@
+// The tables of S and R of Γ0(N), Γ1(N) and Γ(N). The right cosets are numbered as they are met: each is kept as an entry of four numbers, of which
+// some tell the cosets apart (crate `residues`), and found again by a bucket of these. specs/Inner/Held.antt says what stands in the work space.
+// The functions have `requires`, for they are called from inside the engine.
+use congruence::Family;
+use modular::common_divisor;
+use residues::Residues;
+use residues::bucket;
+use residues::difference;
+use residues::opposite;
+use residues::same_entry;
+use residues::signed;
+use residues::times_r;
+use residues::times_s;
+ghost use mathlib.Core.Path.{_≡_};
+ghost use mathlib.Core.List.{_++_};
+ghost use Prim.Native.Nat.{_+_, _≤_, _<_};
+ghost use lib.ListN.{length, drop};
+ghost use Rattle.workspace.specs.Space.{workLength};
+ghost use Rattle.congruence.specs.Index.{familyIndex};
+ghost use Rattle.congruence.specs.Cosets.{familyS, familyR};
+ghost use Rattle.matrix.specs.Matrix.{𝟙, matS, matR};
+ghost use Rattle.modular.specs.Inner.Common.{Modulus};
+ghost use Rattle.residues.specs.Inner.Residues.{Stands, ImageBy};
+ghost use Rattle.congruence_tables.specs.Inner.Held.{residuesAt, Group, Finds, withColumn, Columns, ColumnsMade, Points, PointAt, TakesImage};
+ghost use Rattle.congruence_tables.specs.Inner.Held.{withMatrix, Pushes, Seeks, Enters, EntersAs, Visits, VisitsTo, Started, Tabulates};
+
+// The places of the tables in the work space.
+pub const ENTRY_A: usize = 4096;
+
+pub const ENTRY_B: usize = 8192;
+
+pub const ENTRY_C: usize = 12288;
+
+pub const ENTRY_D: usize = 16384;
+
+pub const HEAD: usize = 20480;
+
+pub const EARLIER: usize = 24576;
+
+pub const PART: usize = 28672;
+
+pub const MULTIPLIER: usize = 29696;
+
+// What `enter` answers: the place of the coset, and how many there are now.
+struct Entry {
+    place: usize,
+    count: usize,
+}
+
+fn wide(x: u16) -> u64
+    ensures { λ r. ⌜ r ≡ x ⌝ }
+{
+    x as u64
+}
+
+// The entry j.
+fn load(w: &[u16], j: usize) -> Residues
+    requires { ⌜ (workLength ≤ length (now w)) × (j < 4096) ⌝ }
+    ensures { λ r. ⌜ r ≡ residuesAt (now (w .entry)) j ⌝ }
+{
+    Residues {
+        a: wide(w[ENTRY_A + j]),
+        b: wide(w[ENTRY_B + j]),
+        c: wide(w[ENTRY_C + j]),
+        d: wide(w[ENTRY_D + j]),
+    }
+}
+
+// The part h and the multiplier s of the column c.
+fn put(w: &mut [u16], c: usize, h: u64, s: u64)
+    requires { ⌜ (workLength ≤ length (now w)) × (c ≤ 1000) × (h ≤ 1000) × (s ≤ 1000) ⌝ }
+    ensures { λ _. ⌜ now (w .exit) ≡ withColumn (now (w .entry)) c h s ⌝ }
+{
+    w[PART + c] = h as u16;
+    w[MULTIPLIER + c] = s as u16;
+}
+
+// The parts and multipliers of all columns. Those of -c are the part of c and the negative of its multiplier.
+fn columns(n: u64, w: &mut [u16])
+    requires { ⌜ Modulus n × (workLength ≤ length (now w)) ⌝ }
+    ensures { λ _. ⌜ ColumnsMade n (now (w .entry)) (now (w .exit)) ⌝ }
+{
+    let mut c: u64 = 0;
+    while c + c <= n {
+        let r = common_divisor(n, c);
+        put(w, c as usize, r.h, r.s);
+        put(w, (n - c) as usize, r.h, n - r.s);
+        c += 1;
+    }
+}
+
+// The entry of the point (c : d).
+fn point(n: u64, w: &[u16], c: u64, d: u64) -> Residues
+    requires { ⌜ Points n (now w) c d ⌝ }
+    ensures { λ r. ⌜ PointAt n c d r ⌝ }
+{
+    let i = c as usize;
+    let h = wide(w[PART + i]);
+    let s = wide(w[MULTIPLIER + i]);
+    Residues {
+        a: h,
+        b: d * s % h,
+        c: c,
+        d: d,
+    }
+}
+
+// The entry of m S, where x is one of m.
+fn image_s(f: Family, n: u64, w: &[u16], x: Residues) -> Residues
+    requires { ⌜ TakesImage f n (now w) x ⌝ }
+    ensures { λ r. ⌜ ImageBy f n matS x r ⌝ }
+{
+    match f {
+        Family::Gamma0 => point(n, w, x.d, opposite(n, x.c)),
+        Family::Gamma1 => signed(n, times_s(n, x)),
+        Family::Gamma => signed(n, times_s(n, x)),
+    }
+}
+
+// The entry of m R.
+fn image_r(f: Family, n: u64, w: &[u16], x: Residues) -> Residues
+    requires { ⌜ TakesImage f n (now w) x ⌝ }
+    ensures { λ r. ⌜ ImageBy f n matR x r ⌝ }
+{
+    match f {
+        Family::Gamma0 => point(n, w, x.d, difference(n, x.d, x.c)),
+        Family::Gamma1 => signed(n, times_r(n, x)),
+        Family::Gamma => signed(n, times_r(n, x)),
+    }
+}
+
+// x becomes the entry i, at the head of the chain of the bucket k.
+fn push(w: &mut [u16], i: usize, x: Residues, k: usize)
+    requires { ⌜ Pushes (now w) i x k ⌝ }
+    ensures { λ _. ⌜ now (w .exit) ≡ withMatrix (now (w .entry)) i x k ⌝ }
+{
+    w[ENTRY_A + i] = x.a as u16;
+    w[ENTRY_B + i] = x.b as u16;
+    w[ENTRY_C + i] = x.c as u16;
+    w[ENTRY_D + i] = x.d as u16;
+    w[EARLIER + i] = w[HEAD + k];
+    w[HEAD + k] = (i + 1) as u16;
+}
+
+// The place of the coset of x, whose bucket is k, or `count`.
+fn find(f: Family, n: u64, w: &[u16], count: usize, x: Residues, k: usize) -> usize
+    requires { ⌜ Seeks f n (now w) count x k ⌝ }
+    ensures { λ p. ⌜ Finds f n (now (w .entry)) count x p ⌝ }
+    ensures { λ p. ⌜ p ≤ count ⌝ }
+{
+    let mut p = workspace::index(w[HEAD + k]);
+    while 0 < p {
+        let q = p - 1;
+        let y = load(w, q);
+        if same_entry(f, x, y) {
+            return q;
+        }
+        p = workspace::index(w[EARLIER + q]);
+    }
+    count
+}
+
+// The coset of x joins the list, if it is new.
+fn enter(f: Family, n: u64, w: &mut [u16], count: usize, x: Residues) -> Entry
+    requires { ⌜ Enters f n (now w) count x ⌝ }
+    ensures { λ e. ⌜ EntersAs f n (now (w .entry)) count x (now (w .exit)) (e .place) (e .count) ⌝ }
+{
+    let k = bucket(f, n, x);
+    let p = find(f, n, w, count, x, k);
+    if p < count {
+        return Entry {
+            place: p,
+            count: count,
+        };
+    }
+    push(w, count, x, k);
+    Entry {
+        place: count,
+        count: count + 1,
+    }
+}
+
+fn narrow(x: usize) -> u32
+    requires { ⌜ x < 4096 ⌝ }
+    ensures { λ r. ⌜ r ≡ x ⌝ }
+{
+    x as u32
+}
+
+// The images of the coset i by S, and next by R, join the list; their places are the images of i in the tables s and r. How many
+// there are now.
+fn visit(
+    f: Family,
+    n: u64,
+    w: &mut [u16],
+    s: &mut [u32],
+    r: &mut [u32],
+    i: usize,
+    count: usize,
+) -> usize
+    requires { ⌜ Visits f n (now w) (now s) (now r) i count ⌝ }
+    ensures { λ k. ⌜ VisitsTo f n (now (w .entry)) (now (s .entry)) (now (r .entry)) i count (now (w .exit)) (now (s .exit)) (now (r .exit)) k ⌝ }
+{
+    let x = load(w, i);
+    let y = image_s(f, n, w, x);
+    let a = enter(f, n, w, count, y);
+    let z = image_r(f, n, w, x);
+    let b = enter(f, n, w, a.count, z);
+    s[i] = narrow(a.place);
+    r[i] = narrow(b.place);
+    b.count
+}
+
+// The entry of the identity.
+fn identity(f: Family, n: u64, w: &[u16]) -> Residues
+    requires { ⌜ Modulus n × (workLength ≤ length (now w)) × Columns n (now w) ⌝ }
+    ensures { λ r. ⌜ Stands f n r 𝟙 ⌝ }
+{
+    let one = 1 % n;
+    match f {
+        Family::Gamma0 => point(n, w, 0, one),
+        Family::Gamma1 => signed(
+            n,
+            Residues {
+                a: one,
+                b: 0,
+                c: 0,
+                d: one,
+            },
+        ),
+        Family::Gamma => signed(
+            n,
+            Residues {
+                a: one,
+                b: 0,
+                c: 0,
+                d: one,
+            },
+        ),
+    }
+}
+
+// The columns, and the identity's coset with the number 0.
+fn begin(f: Family, n: u64, w: &mut [u16])
+    requires { ⌜ Group f n × (workLength ≤ length (now w)) ⌝ }
+    ensures { λ _. ⌜ Started f n (now (w .entry)) (now (w .exit)) ⌝ }
+{
+    workspace::clear(w);
+    columns(n, w);
+    let x = identity(f, n, w);
+    let k = bucket(f, n, x);
+    push(w, 0, x, k);
+}
+
+// The tables of S and R at the front of s and r. How many points they have. The work space is not cleared after.
+pub fn tables(f: Family, n: u64, w: &mut [u16], s: &mut [u32], r: &mut [u32]) -> usize
+    requires { ⌜ Tabulates f n (now w) (now s) (now r) ⌝ }
+    ensures { λ k. ⌜ k ≡ familyIndex f n ⌝ }
+    ensures { λ k. ⌜ now (s .exit) ≡ familyS f n ++ drop (familyIndex f n) (now (s .entry)) ⌝ }
+    ensures { λ k. ⌜ now (r .exit) ≡ familyR f n ++ drop (familyIndex f n) (now (r .entry)) ⌝ }
+{
+    begin(f, n, w);
+    let mut count: usize = 1;
+    let mut i: usize = 0;
+    while i < count {
+        count = visit(f, n, w, s, r, i, count);
+        i += 1;
+    }
+    count
+}

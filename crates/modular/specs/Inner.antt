@@ -1,0 +1,3 @@
+-- What the functions of the crate `modular` promise each other and the crates above: what is asked of a modulus, and a common divisor.
+-- A reader who trusts the checker need not read it.
+pub mod Common

@@ -1,0 +1,179 @@
+-- WHAT A QUERY ON A GROUP WITH A NAME SAYS: `named-claim`.
+-- Why: the rule's symbol generates precisely the matrices that meet the condition, so a product of generators takes A to B up to sign exactly when B A⁻¹
+-- meets it; and the claim of a pair query holds of that symbol.
+-- In order: the symbol that the rule gives; the order of refusals; the claim.
+-- Assumes nothing.
+use mathlib.Core.Path.{_≡_, refl, sym, _∙_, ap, subst}
+use mathlib.Core.Logic.{_⊎_, inl, inr, _↔_}
+use mathlib.Core.List.{List, []}
+use Prim.Native.Nat.{ℕ, _+_, _*_, _≤_, _<_}
+use native.Mathlib.Omega.{arith}
+use lib.ListN.{length, take, drop}
+use lib.IntN.{ℤ}
+use borrow.Author.Tests.{le-ltb}
+use Rattle.matrix.specs.Matrix.{Mat, _⊗_, adj, ofList}
+use Rattle.matrix.proofs.Matrix.{det-one, det-adj}
+use Rattle.basics.specs.Count.{first}
+use Rattle.basics.proofs.Count.{first-clear}
+use Rattle.refusal.specs.Refusal.{noWord, tooShort, entryTooLarge}
+use Rattle.refusal.specs.declared.Refusal.{Refusal}
+use Rattle.refusal.specs.declared.Checked.{Checked}
+use Rattle.refusal.specs.declared.Checked.the-variants as checked
+use Rattle.refusal.specs.declared.Filled.the-variants as filled
+use Rattle.workspace.specs.Space.{workLength}
+use Rattle.pairing.specs.Generator.{generators}
+use Rattle.permutations.proofs.Means.{made-means}
+use Rattle.permutations.proofs.Renumbered.{from-coset, to-coset}
+use Rattle.congruence.specs.Condition.{Unit}
+use Rattle.congruence.specs.Congruence.{Meets}
+use Rattle.congruence.specs.Cosets.{familyS, familyR}
+use Rattle.congruence.specs.declared.Family.{Family}
+use Rattle.congruence_tables.specs.Inner.Held.{Group}
+use Rattle.import_rule.specs.Order.{Order}
+use Rattle.import_rule.specs.Symbol.{Ruled, made, over, ruledBy}
+use Rattle.import_table.specs.Answer.{grownOf, ruledTable}
+use Rattle.word.specs.Answer.{queryRefusal, large, foundWord, foundOf, wordLeft}
+use Rattle.word.specs.Claim.{Joined, Found, Answered, ShortWork}
+use Rattle.word.specs.declared.Queried.{Queried}
+use Rattle.word.specs.declared.Queried.the-variants as queried
+use Rattle.word.proofs.Pair.{small-clear, unit-is, is-unit}
+use Rattle.word.proofs.Claim.{same-number, answered}
+use Rattle.word.proofs.Order.{passed-small}
+use Rattle.word.proofs.Refused as refused
+use Rattle.word.proofs.Refused.{Passed, Gets, Short, Stopped, reaches}
+use Rattle.named_groups.specs.Group.{familyOf, groupCheck, NamedGroup}
+use Rattle.named_groups.specs.Answer.{namedRule, NamedSymbol, ruledQuery, ruledWord, namedQueryBy}
+use Rattle.named_groups.specs.Claim.{NamedAsked, NamedAnswered, RuleMakes, NamedClaim}
+use Rattle.named_groups.proofs.Checked.{check-named, check-accepts, group-of, group-numbers}
+use Rattle.named_groups.proofs.Symbols.{symbol-named}
+use Rattle.named_groups.proofs.Answers.{import-long}
+
+-- ---- the symbol that the rule gives
+
+pub rule-symbol : (f : Family) (n : ℕ) → Group f n → (order : Order) (v : ℕ) (t : List ℤ) → ruledBy order (familyS f n) (familyR f n) ≡ made v t → NamedSymbol f n v t
+rule-symbol f n g order v t e =
+    let room = 3 * v + 1 in
+    let grown : grownOf (ruledBy order (familyS f n) (familyR f n)) room ≡ filled.Made v = rw (e, le-ltb room room (omega arith)) in
+    let y = made-means order (familyS f n) (familyR f n) workLength room v (import-long f n g order workLength room (omega arith) ∙ grown) in
+    symbol-named f n g v t (rw e at y)
+
+-- ---- the pair
+
+pub pair-passed : (a b : List ℤ) → Rattle.matrix.specs.Bounds.Small 1000000 (ofList a) → Rattle.matrix.specs.Bounds.Small 1000000 (ofList b) → Unit (ofList a) → Unit (ofList b) → Passed a b
+pair-passed a b sa sb ua ub = record {
+  entries = omega (arith, first-clear (large a b) 8 (small-clear a b sa sb));
+  A = is-unit a ua;
+  B = is-unit b ub;
+}
+
+-- ---- the claim
+
+module _ (order : Order) (k n : ℕ) (a b : List ℤ) (w : List ℕ) (out : List ℤ) (start : ℕ) (r : Queried) (out' : List ℤ) where
+  abbrev G : Ruled
+  G = namedRule order k n
+
+  abbrev found : Queried
+  found = ruledQuery G a b start (length out)
+
+  asked-of : Gets (groupCheck k n) found a b w r → NamedAsked k n a b w
+  asked-of g =
+      let s = passed-small a b (g .passed .entries) in
+      record {
+        group = check-named k n (g .accepted);
+        work = g .work;
+        entries-A = s .0;
+        entries-B = s .1;
+        unit-A = unit-is a (g .passed .A);
+        unit-B = unit-is b (g .passed .B);
+      }
+
+  -- what a query that gets past the checks answers
+  found-of : r ≡ namedQueryBy order k n a b (length w) (length out) start → NamedAsked k n a b w → r ≡ found
+  found-of e q =
+      let p = pair-passed a b (q .entries-A) (q .entries-B) (q .unit-A) (q .unit-B) in
+      e ∙ sym (refused.by-long (groupCheck k n) found a b w (check-accepts k n (q .group)) (p .entries) (p .A) (p .B) (q .work) .0)
+
+  -- an answer 0 or 10 is no 16
+  makes : (g : Ruled) → G ≡ g → r ≡ ruledQuery g a b start (length out) → (queryRefusal r .number ≡ 0) ⊎ (queryRefusal r .number ≡ noWord .number) → RuleMakes order k n
+  makes (made v t) e q h = record { vertices = v; table = t; is = e }
+  makes (over i) e q h = let z = same-number (ap queryRefusal q) in elim h [ inl y ↦ absurd (omega (arith, z, y)) | inr y ↦ absurd (omega (arith, z, y)) ]
+
+  asked-by : r ≡ namedQueryBy order k n a b (length w) (length out) start → (queryRefusal r .number ≡ 0) ⊎ (queryRefusal r .number ≡ noWord .number)
+      → NamedAsked k n a b w × RuleMakes order k n
+  asked-by e h = go (reaches (groupCheck k n) found a b w r e)
+    where
+      no : {x : Refusal} → r ≡ queried.Refused x → (x .number ≡ 0 → ⊥) → (x .number ≡ 10 → ⊥) → NamedAsked k n a b w × RuleMakes order k n
+      no s y z = let e = same-number (ap queryRefusal s) in elim h [ inl q ↦ absurd (y (sym e ∙ q)) | inr q ↦ absurd (z (sym e ∙ q)) ]
+
+      stopped : Stopped (groupCheck k n) r → NamedAsked k n a b w × RuleMakes order k n
+      stopped (refused.checked f q s) = let z = group-numbers k n q in no s (λ y. omega (arith, z .0, y)) (λ y. omega (arith, z .0, y))
+      stopped (refused.entry i s) = no s (λ y. omega arith) (λ y. omega arith)
+      stopped (refused.determinant i s) = no s (λ y. omega arith) (λ y. omega arith)
+
+      go : Gets (groupCheck k n) found a b w r ⊎ Short w r ⊎ Stopped (groupCheck k n) r → NamedAsked k n a b w × RuleMakes order k n
+      go (inl g) = (asked-of g, makes G refl (g .is) h)
+      go (inr (inl s)) = no (s .is) (λ y. omega arith) (λ y. omega arith)
+      go (inr (inr s)) = stopped s
+
+  makes-short : (g : Ruled) → G ≡ g → r ≡ ruledQuery g a b start (length out) → queryRefusal r .number ≡ 11 → RuleMakes order k n
+  makes-short (made v t) e q h = record { vertices = v; table = t; is = e }
+  makes-short (over i) e q h = let z = same-number (ap queryRefusal q) in absurd (omega (arith, z, h))
+
+  short-by : r ≡ namedQueryBy order k n a b (length w) (length out) start → (m : ℕ) → queryRefusal r .number ≡ tooShort m .number
+      → (NamedAsked k n a b w × RuleMakes order k n) ⊎ ShortWork w r
+  short-by e m h = go (reaches (groupCheck k n) found a b w r e)
+    where
+      no : {x : Refusal} → r ≡ queried.Refused x → (x .number ≡ 11 → ⊥) → (NamedAsked k n a b w × RuleMakes order k n) ⊎ ShortWork w r
+      no s y = let e = same-number (ap queryRefusal s) in absurd (y (sym e ∙ h))
+
+      stopped : Stopped (groupCheck k n) r → (NamedAsked k n a b w × RuleMakes order k n) ⊎ ShortWork w r
+      stopped (refused.checked f q s) = let z = group-numbers k n q in no s (λ y. omega (arith, z .0, y))
+      stopped (refused.entry i s) = no s (λ y. omega arith)
+      stopped (refused.determinant i s) = no s (λ y. omega arith)
+
+      go : Gets (groupCheck k n) found a b w r ⊎ Short w r ⊎ Stopped (groupCheck k n) r → (NamedAsked k n a b w × RuleMakes order k n) ⊎ ShortWork w r
+      go (inl g) = inl (asked-of g, makes-short G refl (g .is) h)
+      go (inr (inl s)) = inr (s .low, ap queryRefusal (s .is))
+      go (inr (inr s)) = stopped s
+
+  module _ (e : r ≡ namedQueryBy order k n a b (length w) (length out) start) (d : out' ≡ wordLeft r (ruledWord G a b) out) (q : NamedAsked k n a b w) where
+    module _ (v : ℕ) (t : List ℤ) (g : G ≡ made v t) where
+      abbrev A : Mat
+      A = ofList a
+
+      abbrev B : Mat
+      B = ofList b
+
+      symbol : NamedSymbol (familyOf k) n v t
+      symbol = rule-symbol (familyOf k) n (group-of k n (q .group)) order v t g
+
+      walked : Answered v t A B (foundWord v t A B) out start r out'
+      walked =
+          let z : r ≡ foundOf v t a b start (length out) = rw g at (found-of e q) in
+          let y : out' ≡ wordLeft r (foundWord v t A B) out = rw g at d in
+          subst (λ (o : List ℤ). Answered v t A B (foundWord v t A B) out start r o) (sym y)
+          (subst (λ (x : Queried). Answered v t A B (foundWord v t A B) out start x (wordLeft x (foundWord v t A B) out)) (sym z)
+          (answered (symbol .symbol) a b (q .unit-A) (q .unit-B) out start))
+
+      joined-meets : Joined v t A B ↔ Meets (familyOf k) n (B ⊗ adj A)
+      joined-meets =
+          let u : Unit (B ⊗ adj A) = det-one B (adj A) (q .unit-B) (det-adj A ∙ q .unit-A) in
+          let s = symbol .group (B ⊗ adj A) u in
+          ((λ h. s .0 (from-coset (generators v t) A B (q .unit-A) h)), (λ h. to-coset (generators v t) A B (q .unit-A) (s .1 h)))
+
+      pub answered-named : NamedAnswered (familyOf k) n v t A B out start r out'
+      answered-named =
+          let c = walked in
+          let j = joined-meets in
+          record {
+            symbol = symbol;
+            claim = c;
+            found = ((λ h. j .0 (c .found .0 h)), (λ h. c .found .1 (j .1 h)));
+            none = ((λ h m. c .none .0 h (j .1 m)), (λ h. c .none .1 (λ y. h (j .0 y))));
+          }
+
+    answered-over : (i : ℕ) → G ≡ over i → queryRefusal r ≡ entryTooLarge i
+    answered-over i g = ap queryRefusal (rw g at (found-of e q))
+
+  pub named-claim : r ≡ namedQueryBy order k n a b (length w) (length out) start → out' ≡ wordLeft r (ruledWord G a b) out → NamedClaim order k n a b w out start r out'
+  named-claim e d = record { asked = asked-by e; short = short-by e; answered = λ q v t g. answered-named e d q v t g; over = λ q i g. answered-over e d q i g }

@@ -1,0 +1,295 @@
+// The congruence groups Γ0(N), Γ1(N) and Γ(N) by name: their tables, their symbols, and pair queries on them. specs/Group.antt says which groups have a
+// name, specs/Answer.antt what the calls answer and leave, specs/Claim.antt what a query means.
+use congruence::Family;
+use modular::family_index;
+use refusal::BAD_DETERMINANT;
+use refusal::BAD_LEVEL;
+use refusal::Checked;
+use refusal::Filled;
+use refusal::LARGE_INDEX;
+use refusal::MATRIX_ENTRY;
+use refusal::Refusal;
+use refusal::TOO_SHORT;
+use word::Queried;
+use word::judge;
+ghost use mathlib.Core.Path.{_≡_};
+ghost use Prim.Native.Nat.{_≤_};
+ghost use lib.ListN.{length};
+ghost use Rattle.workspace.specs.Space.{workLength, zeros};
+ghost use Rattle.pairing.specs.Generator.{workAfter};
+ghost use Rattle.coset.specs.Answer.{columnLeft};
+ghost use Rattle.congruence.specs.Index.{familyIndex};
+ghost use Rattle.congruence.specs.Cosets.{familyS, familyR};
+ghost use Rattle.congruence_tables.specs.Inner.Held.{Group};
+ghost use Rattle.import_rule.specs.Order.{leftmost, longestOpen};
+ghost use Rattle.import_rule.specs.Symbol.{ruledBy};
+ghost use Rattle.import_table.specs.Answer.{orderBy, grownOf, ruledLeft};
+ghost use Rattle.word.specs.Answer.{wordLeft};
+ghost use Rattle.named_groups.specs.Group.{familyOf, groupCheck, GroupVerdict};
+ghost use Rattle.named_groups.specs.Answer.{roomTwo, namedTablesOf, NamedTablesMean, namedRule, namedSymbolBy, NamedSymbolMeans, ruledQuery, ruledWord, namedQueryBy, namedQueryWork};
+ghost use Rattle.named_groups.specs.Claim.{NamedClaim};
+ghost use Rattle.named_groups.specs.Inner.Ready.{QueryReady};
+
+// The family with the number k.
+pub fn family_of(k: u64) -> Family
+    ensures { λ r. ⌜ r ≡ familyOf k ⌝ }
+{
+    if k == 0 {
+        return Family::Gamma0;
+    }
+    if k == 1 {
+        return Family::Gamma1;
+    }
+    Family::Gamma
+}
+
+// The checks 20 and 21.
+pub fn check(k: u64, n: u64) -> Checked
+    ensures { λ c. ⌜ GroupVerdict k n c ⌝ }
+{
+    if 2 < k {
+        return Checked::Refused(Refusal {
+            number: BAD_LEVEL,
+            place: 0,
+        });
+    }
+    if n < 1 {
+        return Checked::Refused(Refusal {
+            number: BAD_LEVEL,
+            place: 0,
+        });
+    }
+    if 1000 < n {
+        return Checked::Refused(Refusal {
+            number: BAD_LEVEL,
+            place: 0,
+        });
+    }
+    if 3066 < family_index(family_of(k), n) {
+        return Checked::Refused(Refusal {
+            number: LARGE_INDEX,
+            place: 0,
+        });
+    }
+    Checked::Accepted
+}
+
+// The tables at the front of s and r, where there is room for both.
+fn fill_tables(f: Family, n: u64, w: &mut [u16], s: &mut [u32], r: &mut [u32]) -> Filled
+    requires { ⌜ Group f n × (workLength ≤ length (now w)) ⌝ }
+    ensures { λ a. ⌜ a ≡ roomTwo (familyIndex f n) (length (now (s .entry))) (length (now (r .entry))) ⌝ }
+    ensures { λ a. ⌜ now (s .exit) ≡ columnLeft a (familyS f n) (now (s .entry)) ⌝ }
+    ensures { λ a. ⌜ now (r .exit) ≡ columnLeft a (familyR f n) (now (r .entry)) ⌝ }
+{
+    let k = family_index(f, n) as usize;
+    if s.len() < k {
+        return Filled::Refused(Refusal {
+            number: TOO_SHORT,
+            place: k,
+        });
+    }
+    if r.len() < k {
+        return Filled::Refused(Refusal {
+            number: TOO_SHORT,
+            place: k,
+        });
+    }
+    congruence_tables::tables(f, n, w, s, r);
+    Filled::Made(k)
+}
+
+// The same; the work space is cleared after.
+fn make_tables(f: Family, n: u64, w: &mut [u16], s: &mut [u32], r: &mut [u32]) -> Filled
+    requires { ⌜ Group f n × (workLength ≤ length (now w)) ⌝ }
+    ensures { λ a. ⌜ a ≡ roomTwo (familyIndex f n) (length (now (s .entry))) (length (now (r .entry))) ⌝ }
+    ensures { λ a. ⌜ now (w .exit) ≡ zeros (length (now (w .entry))) ⌝ }
+    ensures { λ a. ⌜ now (s .exit) ≡ columnLeft a (familyS f n) (now (s .entry)) ⌝ }
+    ensures { λ a. ⌜ now (r .exit) ≡ columnLeft a (familyR f n) (now (r .entry)) ⌝ }
+{
+    let made = fill_tables(f, n, w, s, r);
+    workspace::clear(w);
+    made
+}
+
+// The tables of S and R of the group, each at the front of its space: 20, 21, then the work space, then the spaces for S and R.
+pub fn named_tables(k: u64, n: u64, w: &mut [u16], s: &mut [u32], r: &mut [u32]) -> Filled
+    ensures { λ a. ⌜ a ≡ namedTablesOf k n (length (now (w .entry))) (length (now (s .entry))) (length (now (r .entry))) ⌝ }
+    ensures { λ a. ⌜ now (w .exit) ≡ workAfter (groupCheck k n) (now (w .entry)) ⌝ }
+    ensures { λ a. ⌜ now (s .exit) ≡ columnLeft a (familyS (familyOf k) n) (now (s .entry)) ⌝ }
+    ensures { λ a. ⌜ now (r .exit) ≡ columnLeft a (familyR (familyOf k) n) (now (r .entry)) ⌝ }
+    ensures { λ a. ⌜ NamedTablesMean k n a ⌝ }
+{
+    let checked = check(k, n);
+    match checked {
+        Checked::Refused(refusal) => Filled::Refused(refusal),
+        Checked::Accepted => {
+            if w.len() < workspace::WORK {
+                return Filled::Refused(Refusal {
+                    number: TOO_SHORT,
+                    place: workspace::WORK,
+                });
+            }
+            make_tables(family_of(k), n, w, s, r)
+        }
+    }
+}
+
+// The symbol of the group's tables, by the wide rule or by the rule; the work space is cleared after.
+fn make_symbol(f: Family, n: u64, w: &mut [u16], out: &mut [i64], wide: bool) -> Filled
+    requires { ⌜ Group f n × (workLength ≤ length (now w)) ⌝ }
+    ensures { λ a. ⌜ a ≡ grownOf (ruledBy (orderBy wide) (familyS f n) (familyR f n)) (length (now (out .entry))) ⌝ }
+    ensures { λ a. ⌜ now (w .exit) ≡ zeros (length (now (w .entry))) ⌝ }
+    ensures { λ a. ⌜ now (out .exit) ≡ ruledLeft (ruledBy (orderBy wide) (familyS f n) (familyR f n)) a (now (out .entry)) ⌝ }
+{
+    let mut s = [0u32; 3066];
+    let mut r = [0u32; 3066];
+    let k = congruence_tables::tables(f, n, w, &mut s, &mut r);
+    permutations::import_by(&s[..k], &r[..k], w, out, wide)
+}
+
+// The symbol of the group, by the wide rule or by the rule.
+pub fn named_symbol_by(k: u64, n: u64, w: &mut [u16], out: &mut [i64], wide: bool) -> Filled
+    ensures { λ a. ⌜ a ≡ namedSymbolBy (orderBy wide) k n (length (now (w .entry))) (length (now (out .entry))) ⌝ }
+    ensures { λ a. ⌜ now (w .exit) ≡ workAfter (groupCheck k n) (now (w .entry)) ⌝ }
+    ensures { λ a. ⌜ now (out .exit) ≡ ruledLeft (namedRule (orderBy wide) k n) a (now (out .entry)) ⌝ }
+    ensures { λ a. ⌜ NamedSymbolMeans k n a (now (out .exit)) ⌝ }
+{
+    let checked = check(k, n);
+    match checked {
+        Checked::Refused(refusal) => Filled::Refused(refusal),
+        Checked::Accepted => {
+            if w.len() < workspace::WORK {
+                return Filled::Refused(Refusal {
+                    number: TOO_SHORT,
+                    place: workspace::WORK,
+                });
+            }
+            make_symbol(family_of(k), n, w, out, wide)
+        }
+    }
+}
+
+// The symbol of the group by the rule, its table at the front of out: 20, 21, then the work space, then 16, then out.
+pub fn named_symbol(k: u64, n: u64, w: &mut [u16], out: &mut [i64]) -> Filled
+    ensures { λ a. ⌜ a ≡ namedSymbolBy leftmost k n (length (now (w .entry))) (length (now (out .entry))) ⌝ }
+    ensures { λ a. ⌜ now (w .exit) ≡ workAfter (groupCheck k n) (now (w .entry)) ⌝ }
+    ensures { λ a. ⌜ now (out .exit) ≡ ruledLeft (namedRule leftmost k n) a (now (out .entry)) ⌝ }
+    ensures { λ a. ⌜ NamedSymbolMeans k n a (now (out .exit)) ⌝ }
+{
+    named_symbol_by(k, n, w, out, false)
+}
+
+// The same by the wide rule.
+pub fn named_symbol_wide(k: u64, n: u64, w: &mut [u16], out: &mut [i64]) -> Filled
+    ensures { λ a. ⌜ a ≡ namedSymbolBy longestOpen k n (length (now (w .entry))) (length (now (out .entry))) ⌝ }
+    ensures { λ a. ⌜ now (w .exit) ≡ workAfter (groupCheck k n) (now (w .entry)) ⌝ }
+    ensures { λ a. ⌜ now (out .exit) ≡ ruledLeft (namedRule longestOpen k n) a (now (out .entry)) ⌝ }
+    ensures { λ a. ⌜ NamedSymbolMeans k n a (now (out .exit)) ⌝ }
+{
+    named_symbol_by(k, n, w, out, true)
+}
+
+// The answer for an accepted group and pair: by the symbol that the rule gives, or 16. The work space is cleared after.
+fn answer_query(
+    f: Family,
+    n: u64,
+    a: [i64; 4],
+    b: [i64; 4],
+    w: &mut [u16],
+    out: &mut [i16],
+    start: usize,
+    wide: bool,
+) -> Queried
+    requires { ⌜ QueryReady f n a b (now w) ⌝ }
+    ensures { λ r. ⌜ r ≡ ruledQuery (ruledBy (orderBy wide) (familyS f n) (familyR f n)) a b start (length (now (out .entry))) ⌝ }
+    ensures { λ r. ⌜ now (w .exit) ≡ zeros (length (now (w .entry))) ⌝ }
+    ensures { λ r. ⌜ now (out .exit) ≡ wordLeft r (ruledWord (ruledBy (orderBy wide) (familyS f n) (familyR f n)) a b) (now (out .entry)) ⌝ }
+{
+    let mut t = [0i64; 3070];
+    let made = make_symbol(f, n, w, &mut t, wide);
+    match made {
+        Filled::Refused(refusal) => Queried::Refused(refusal),
+        Filled::Made(v) => word::query(v, &t[..3 * v + 1], a, b, w, out, start),
+    }
+}
+
+// A query on the group's symbol, by the wide rule or by the rule.
+pub fn named_query_by(
+    k: u64,
+    n: u64,
+    a: [i64; 4],
+    b: [i64; 4],
+    w: &mut [u16],
+    out: &mut [i16],
+    start: usize,
+    wide: bool,
+) -> Queried
+    ensures { λ r. ⌜ r ≡ namedQueryBy (orderBy wide) k n a b (length (now (w .entry))) (length (now (out .entry))) start ⌝ }
+    ensures { λ r. ⌜ now (w .exit) ≡ namedQueryWork k n a b (now (w .entry)) ⌝ }
+    ensures { λ r. ⌜ now (out .exit) ≡ wordLeft r (ruledWord (namedRule (orderBy wide) k n) a b) (now (out .entry)) ⌝ }
+    ensures { λ r. ⌜ NamedClaim (orderBy wide) k n a b (now (w .entry)) (now (out .entry)) start r (now (out .exit)) ⌝ }
+{
+    let checked = check(k, n);
+    match checked {
+        Checked::Refused(refusal) => Queried::Refused(refusal),
+        Checked::Accepted => {
+            let judged = judge(a, b);
+            if judged < 8 {
+                return Queried::Refused(Refusal {
+                    number: MATRIX_ENTRY,
+                    place: judged,
+                });
+            }
+            if judged < 10 {
+                return Queried::Refused(Refusal {
+                    number: BAD_DETERMINANT,
+                    place: judged - 8,
+                });
+            }
+            if w.len() < workspace::WORK {
+                return Queried::Refused(Refusal {
+                    number: TOO_SHORT,
+                    place: workspace::WORK,
+                });
+            }
+            answer_query(family_of(k), n, a, b, w, out, start, wide)
+        }
+    }
+}
+
+// A word in the generators of the group's symbol by the rule that takes A to B up to sign: 20, 21, then 8 and 9, A before B under each, then the
+// work space, then 16, then 10, then the word space.
+pub fn named_query(
+    k: u64,
+    n: u64,
+    a: [i64; 4],
+    b: [i64; 4],
+    w: &mut [u16],
+    out: &mut [i16],
+    start: usize,
+) -> Queried
+    ensures { λ r. ⌜ r ≡ namedQueryBy leftmost k n a b (length (now (w .entry))) (length (now (out .entry))) start ⌝ }
+    ensures { λ r. ⌜ now (w .exit) ≡ namedQueryWork k n a b (now (w .entry)) ⌝ }
+    ensures { λ r. ⌜ now (out .exit) ≡ wordLeft r (ruledWord (namedRule leftmost k n) a b) (now (out .entry)) ⌝ }
+    ensures { λ r. ⌜ NamedClaim leftmost k n a b (now (w .entry)) (now (out .entry)) start r (now (out .exit)) ⌝ }
+{
+    named_query_by(k, n, a, b, w, out, start, false)
+}
+
+// The same on the symbol by the wide rule.
+pub fn named_query_wide(
+    k: u64,
+    n: u64,
+    a: [i64; 4],
+    b: [i64; 4],
+    w: &mut [u16],
+    out: &mut [i16],
+    start: usize,
+) -> Queried
+    ensures { λ r. ⌜ r ≡ namedQueryBy longestOpen k n a b (length (now (w .entry))) (length (now (out .entry))) start ⌝ }
+    ensures { λ r. ⌜ now (w .exit) ≡ namedQueryWork k n a b (now (w .entry)) ⌝ }
+    ensures { λ r. ⌜ now (out .exit) ≡ wordLeft r (ruledWord (namedRule longestOpen k n) a b) (now (out .entry)) ⌝ }
+    ensures { λ r. ⌜ NamedClaim longestOpen k n a b (now (w .entry)) (now (out .entry)) start r (now (out .exit)) ⌝ }
+{
+    named_query_by(k, n, a, b, w, out, start, true)
+}

@@ -1,0 +1,5 @@
+//! The program `named` in plain Rust.
+
+fn main() -> std::io::Result<()> {
+    bench::run(bench::plain_named)
+}
