@@ -199,6 +199,9 @@ module _ {f : Family} {n : ℕ} {s₀ r₀ w s r : List ℕ} {count i : ℕ} (p 
   pub part-end : count ≤ i → count ≡ familyIndex f n
   part-end h = let e = ended h in omega (arith, p .upto)
 
+  pub part-holds : count ≤ i → HoldsCosets f n (familyCosets f n) w count
+  part-holds h = subst (λ (k : ℕ). HoldsCosets f n (cosetsTo (meets f n) k) w count) (ended h) (p .holds)
+
   pub part-S : count ≤ i → s ≡ familyS f n ++ drop (familyIndex f n) s₀
   part-S h = rw (ended h) at (p .S-is) ∙ ap (λ (t : List ℕ). t ++ drop (familyIndex f n) s₀) (taken (familyS f n) (length-S f n (p .group)))
 

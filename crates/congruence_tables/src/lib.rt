@@ -17,11 +17,11 @@ ghost use Prim.Native.Nat.{_+_, _≤_, _<_};
 ghost use lib.ListN.{length, drop};
 ghost use Rattle.workspace.specs.Space.{workLength};
 ghost use Rattle.congruence.specs.Index.{familyIndex};
-ghost use Rattle.congruence.specs.Cosets.{familyS, familyR};
+ghost use Rattle.congruence.specs.Cosets.{familyCosets, familyS, familyR};
 ghost use Rattle.matrix.specs.Matrix.{𝟙, matS, matR};
 ghost use Rattle.modular.specs.Inner.Common.{Modulus};
 ghost use Rattle.residues.specs.Inner.Residues.{Stands, ImageBy};
-ghost use Rattle.congruence_tables.specs.Inner.Held.{residuesAt, Group, Finds, withColumn, Columns, ColumnsMade, Points, PointAt, TakesImage};
+ghost use Rattle.congruence_tables.specs.Inner.Held.{residuesAt, Group, HoldsCosets, Finds, withColumn, Columns, ColumnsMade, Points, PointAt, TakesImage};
 ghost use Rattle.congruence_tables.specs.Inner.Held.{withMatrix, Pushes, Seeks, Enters, EntersAs, Visits, VisitsTo, Started, Tabulates};
 
 // The places of the tables in the work space.
@@ -258,6 +258,7 @@ pub fn tables(f: Family, n: u64, w: &mut [u16], s: &mut [u32], r: &mut [u32]) ->
     ensures { λ k. ⌜ k ≡ familyIndex f n ⌝ }
     ensures { λ k. ⌜ now (s .exit) ≡ familyS f n ++ drop (familyIndex f n) (now (s .entry)) ⌝ }
     ensures { λ k. ⌜ now (r .exit) ≡ familyR f n ++ drop (familyIndex f n) (now (r .entry)) ⌝ }
+    ensures { λ k. ⌜ HoldsCosets f n (familyCosets f n) (now (w .exit)) k ⌝ }
 {
     begin(f, n, w);
     let mut count: usize = 1;

@@ -1,7 +1,7 @@
 -- The slices that the program lends: what is left in them.
 --
 --   groupNumbers longer t ns     what is left where the numbers of the text are put
---   groupWork a w                what is left in the work space: zeros where a symbol was asked for, else all as it was
+--   groupWork a w                what is left in the work space: zeros where the group asked for has a name, else all as it was
 --   groupTable a t               what is left in the result space: the symbol's table at its front, or all as it was
 --   GroupLeaves                  the last two, of what is asked
 use mathlib.Core.Path.{_≡_}

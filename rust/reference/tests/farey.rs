@@ -456,6 +456,8 @@ fn groups_by_name() {
         ("2 1001", "2 1001"),
         ("1 18446744073709551617", "1 1001"),
         (&format!("0 {huge}"), "0 1001"),
+        ("1 -7", "1 -7"),
+        (&format!("2 -{zeros}"), "2 -7"),
     ] {
         let came = by_name(&farey, words);
         let expected = reference::named(reads.as_bytes());
@@ -620,7 +622,8 @@ fn wrong_words_are_refused() {
         &["gamma0", "11", "12"],
         &["gamma0", ""],
         &["gamma0", "x"],
-        &["gamma1", "-7"],
+        &["gamma1", "--7"],
+        &["gamma1", "-"],
         &["gamma1", "+7"],
         &["gamma", "5.0"],
         &["gamma", "5x"],

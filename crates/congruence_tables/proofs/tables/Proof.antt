@@ -6,7 +6,7 @@ use mathlib.Core.Path.{_≡_, refl, _∙_}
 use Prim.Native.Nat.{_-_}
 use native.Mathlib.Omega.{arith}
 use lib.ListN.{length}
-use Rattle.congruence_tables.proofs.Walked.{Part, part-start, part-few, part-visits, part-more, part-end, part-S, part-R}
+use Rattle.congruence_tables.proofs.Walked.{Part, part-start, part-few, part-visits, part-more, part-end, part-S, part-R, part-holds}
 use Rattle.congruence_tables.proofs.tables.Statement.{statement}
 use Rattle.congruence_tables.proofs.tables.Tie as tie
 use Rattle.congruence_tables.proofs.tables.Reads as reads
@@ -63,7 +63,7 @@ same-length-3 c = search needs
 returns : tie.Need-returns Inv-loop μ-loop
 returns c =
     let inv = c .before .loop .inv .0 in
-    (part-end inv (omega arith), (part-S inv (omega arith), part-R inv (omega arith)))
+    (part-end inv (omega arith), (part-S inv (omega arith), (part-R inv (omega arith), part-holds inv (omega arith))))
 
 pub tables-spec : {M : Type 1} → statement M
 tables-spec =

@@ -51,7 +51,7 @@ returns-3 c =
     let args = c .before .before .before .before .before .before .before .before .before .before .before .before .before .before .before .before .args in
     let e = c .before .before .before .before .before .before .before .before .before .before .before .before .family-index .ensures in
     let tables = c .before .before .before .before .before .before .tables in
-    (room-both (length (args .s .now)) (length (args .r .now)) e (omega arith) (omega arith), (tables .ensures .1 .0 ∙ drop-by (familyS (args .f) (args .n)) (args .s .now) e, tables .ensures .1 .1 ∙ drop-by (familyR (args .f) (args .n)) (args .r .now) e))
+    (room-both (length (args .s .now)) (length (args .r .now)) e (omega arith) (omega arith), (tables .ensures .1 .0 ∙ drop-by (familyS (args .f) (args .n)) (args .s .now) e, tables .ensures .1 .1 .0 ∙ drop-by (familyR (args .f) (args .n)) (args .r .now) e))
 
 pub fill-tables-spec : {M : Type 1} → statement M
 fill-tables-spec =

@@ -43,7 +43,7 @@ slice-aggregate-import-by-2 : tie.Need-slice-aggregate-import-by-2
 slice-aggregate-import-by-2 c =
     let s = c .before .before .before .before .before .before .before .before .before .before .before .args in
     let t = c .before .before .before .before .before .before .tables in
-    front-length (familyR (s .f) (s .n)) _ (t .ensures .0) (length-R (s .f) (s .n) (c .before .before .before .before .before .before .before .before .before .before .before .pre .0)) (t .ensures .1 .1)
+    front-length (familyR (s .f) (s .n)) _ (t .ensures .0) (length-R (s .f) (s .n) (c .before .before .before .before .before .before .before .before .before .before .before .pre .0)) (t .ensures .1 .1 .0)
 
 -- src/lib.rt:147:5
 import-by-requires : tie.Need-import-by-requires
@@ -66,7 +66,7 @@ returns c =
     let i = c .before .before .before .import-by in
     imported (s .f) (s .n) g (orderBy (s .wide)) _ _ (s .w .now) _ (s .out .now) (i .result) _ _
     (front (familyS (s .f) (s .n)) _ (t .ensures .0) (length-S (s .f) (s .n) g) (t .ensures .1 .0))
-    (front (familyR (s .f) (s .n)) _ (t .ensures .0) (length-R (s .f) (s .n) g) (t .ensures .1 .1))
+    (front (familyR (s .f) (s .n)) _ (t .ensures .0) (length-R (s .f) (s .n) g) (t .ensures .1 .1 .0))
     (c .before .before .before .before .before .before .before .before .before .before .before .w .given) (c .before .before .before .before .before .before .before .before .before .before .before .before .before .before .before .before .before .pre .1) (i .ensures .0) (i .ensures .1 .0) (i .ensures .1 .1 .0)
 
 pub make-symbol-spec : {M : Type 1} → statement M
