@@ -145,6 +145,13 @@ index0-is n h =
     let some = over-some (λ (q : ℕ). q) n (suc n) (λ q k. omega (arith, k .big)) in
     rw (div-eq-of-eq-mul-left some (sym (c .formula))) (c .index)
 
+-- the division leaves no rest
+pub index0-exact : (n : ℕ) → 0 < n → index0 n * overPrimes (λ (q : ℕ). q) n (suc n) ≡ n * overPrimes suc n (suc n)
+index0-exact n h =
+    let c = counted (suc n) n n (omega arith) h (omega arith) in
+    let some = over-some (λ (q : ℕ). q) n (suc n) (λ q k. omega (arith, k .big)) in
+    rw (div-eq-of-eq-mul-left some (sym (c .formula))) (c .formula)
+
 pub index0-unique : (n : ℕ) → 0 < n → {i : ℕ} → Index Everything (Gamma0 n) i → index0 n ≡ i
 index0-unique n h i = one-length (gamma0 n) (index0-is n h .transversal) (i .transversal)
 

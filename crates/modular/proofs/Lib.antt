@@ -2,4 +2,3 @@
 pub mod Euclid
 pub mod Units
 pub mod Primes
-pub mod Family

@@ -1,9 +1,8 @@
-// Arithmetic modulo N for the congruence groups: a common divisor with its multiplier, units, and the index of each family.
+// Arithmetic modulo N for the congruence groups: a common divisor with its multiplier, units, and the index of Γ0(N) by its primes.
 // The functions have `requires`, for they are called from inside the engine.
-use congruence::Family;
 ghost use mathlib.Core.Path.{_≡_};
 ghost use Prim.Native.Nat.{_*_, _≤_, _<_};
-ghost use Rattle.congruence.specs.Index.{index0, isHalfUnit, halfUnits, familyIndex};
+ghost use Rattle.congruence.specs.Index.{index0, isHalfUnit, halfUnits};
 ghost use Rattle.modular.specs.Inner.Common.{Modulus, CommonOf};
 
 // The greatest common divisor g of N and a number c, a multiplier s with s c = g modulo N, and the part h = N / g.
@@ -95,17 +94,4 @@ pub fn half_units(n: u64) -> u64
         u += 1;
     }
     count
-}
-
-// The index of a family.
-pub fn family_index(f: Family, n: u64) -> u64
-    requires { ⌜ Modulus n ⌝ }
-    ensures { λ r. ⌜ r ≡ familyIndex f n ⌝ }
-{
-    let zero = index_of_gamma0(n);
-    match f {
-        Family::Gamma0 => zero,
-        Family::Gamma1 => half_units(n) * zero,
-        Family::Gamma => n * (half_units(n) * zero),
-    }
 }

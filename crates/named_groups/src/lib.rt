@@ -1,7 +1,7 @@
 // The congruence groups Γ0(N), Γ1(N) and Γ(N) by name: their tables, their symbols, and pair queries on them. specs/Group.antt says which groups have a
 // name, specs/Answer.antt what the calls answer and leave, specs/Claim.antt what a query means.
 use congruence::Family;
-use modular::family_index;
+use family_index::family_index;
 use refusal::BAD_DETERMINANT;
 use refusal::BAD_LEVEL;
 use refusal::Checked;

@@ -68,9 +68,13 @@ fn blocks(page: &str) -> Vec<Block> {
     blocks
 }
 
+/// The rows of the page on refusals.
 fn rows(page: &str) -> Vec<Row> {
     let unmarked = |cell: &str| cell.trim().trim_matches('`').to_string();
-    page.lines()
+    let (_, behind) = page.split_once("\n## Refusals\n").expect("that page");
+    let (refusals, _) = behind.split_once("\n## ").expect("a page behind it");
+    refusals
+        .lines()
         .filter_map(|line| {
             let cells: Vec<&str> = line.split('|').collect();
             let number = cells.get(1)?.trim().parse().ok()?;

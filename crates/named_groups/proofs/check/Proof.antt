@@ -7,7 +7,7 @@ use Rattle.named_groups.proofs.check.Statement.{statement}
 use Rattle.named_groups.proofs.check.Tie as tie
 use Rattle.named_groups.proofs.check.Reads as reads
 use Rattle.named_groups.proofs.check.Lts as lts
-use Rattle.modular.proofs.family_index.Reads as family-index-reads
+use Rattle.family_index.proofs.family_index.Reads as family-index-reads
 use Rattle.named_groups.proofs.family_of.Reads as family-of-reads
 
 -- src/lib.rt:51:9

@@ -11,7 +11,7 @@ use Rattle.named_groups.proofs.fill_tables.Tie as tie
 use Rattle.named_groups.proofs.fill_tables.Reads as reads
 use Rattle.named_groups.proofs.fill_tables.Lts as lts
 use Rattle.congruence_tables.proofs.tables.Reads as tables-reads
-use Rattle.modular.proofs.family_index.Reads as family-index-reads
+use Rattle.family_index.proofs.family_index.Reads as family-index-reads
 
 -- src/lib.rt:84:13
 family-index-requires : tie.Need-family-index-requires

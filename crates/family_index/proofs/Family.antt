@@ -1,5 +1,5 @@
 -- Laws of the index of a family: what it is for each, and that the products stay small for a modulus.
--- Why: with n at most 1,000 the index of Γ0(n) is at most 1,000,000, and the units up to sign are at most 1,000.
+-- Why: an entry of the table has 16 bits, and the units up to sign are at most 1,000.
 -- Assumes nothing.
 use mathlib.Core.Path.{_≡_}
 use Prim.Native.Nat.{ℕ, _*_, _≤_}
@@ -8,16 +8,14 @@ use native.Mathlib.Nat.{mul-le-mul}
 use Rattle.congruence.specs.Index.{index0, halfUnits, familyIndex}
 use Rattle.congruence.specs.declared.Family.{Family}
 use Rattle.congruence.specs.declared.Family.the-variants as family
 use Rattle.modular.specs.Inner.Common.{Modulus}
 
-pub fits1 : {n units index : ℕ} → Modulus n → units ≤ n → index ≤ n * n → units * index ≤ 1000000000
+pub fits1 : {n units index : ℕ} → Modulus n → units ≤ n → index ≤ 65535 → units * index ≤ 65535000
 fits1 {n} {units} {index} m u z =
     let low : units ≤ 1000 = omega (arith, m .most) in
-    let square : n * n ≤ 1000 * 1000 = mul-le-mul (m .most) (m .most) in
-    let index-low : index ≤ 1000000 = omega arith in
-    mul-le-mul low index-low
+    mul-le-mul low z
 
-pub fits : {n units index : ℕ} → Modulus n → units ≤ n → index ≤ n * n → n * (units * index) ≤ 1000000000000
+pub fits : {n units index : ℕ} → Modulus n → units ≤ n → index ≤ 65535 → n * (units * index) ≤ 65535000000
 fits {n} {units} {index} m u z = mul-le-mul (m .most) (fits1 m u z)
 
 pub of-gamma0 : {f : Family} (n : ℕ) {index : ℕ} → f ≡ family.Gamma0 → index ≡ index0 n → index ≡ familyIndex f n

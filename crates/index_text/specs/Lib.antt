@@ -1,0 +1,2 @@
+-- What a reader of the crate `index_text` must believe.
+pub mod Lines
