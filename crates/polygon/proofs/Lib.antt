@@ -7,6 +7,7 @@ pub mod Edges
 pub mod Scan
 pub mod Triangles
 pub mod Flip
+pub mod Corner
 pub mod Steps
 pub mod Promise
 pub mod Near

@@ -15,6 +15,7 @@ ghost use Rattle.polygon.specs.Inner.Tables.{Built};
 mod cutting;
 mod pairs;
 mod reading;
+pub mod turning;
 pub mod walking;
 
 // The tables in the work space (specs/Space.antt).

@@ -3,6 +3,7 @@ use super::reading::beyond;
 use super::reading::number_of;
 use super::reading::pairing;
 use super::reading::partner_of;
+use super::turning::next_corner;
 use symbol::Pairing;
 use symbol::is_zero;
 ghost use mathlib.Core.Path.{_≡_};
@@ -23,10 +24,8 @@ pub fn turn_q(v: usize, p: usize) -> usize
     if 3 * (v - 1) <= p {
         return p;
     }
-    if p % 3 == 2 {
-        return p - 2;
-    }
-    p + 1
+    let c = p % 3;
+    p - c + next_corner(c, false)
 }
 
 // S at the real position p.

@@ -1,5 +1,7 @@
--- The laws behind the walk, in reading order: letters stored, what is left of the matrix, one letter at a time, and the walk put together.
+-- The laws behind the walk, in reading order: letters stored, what is left of the matrix, one letter at a time, the walk put together, and two
+-- letters at once.
 pub mod Stored
 pub mod Forms
 pub mod Letters
 pub mod Onward
+pub mod Stride

@@ -80,7 +80,7 @@ module _ {v : ℕ} {t : List ℤ} (m : Mat) (d : det m ≡ pos 1) (small : Small
 
 -- ---- S and a power of Q
 
-swap-proper : (f : Form) → properOf f ≡ true → Proper (swap f)
+pub swap-proper : (f : Form) → properOf f ≡ true → Proper (swap f)
 swap-proper f h = let k = properly f h in record { not-one = omega (arith, k .not-S); not-S = omega (arith, k .not-one) }
 
 module _ {v : ℕ} {t : List ℤ} (g : Polygon v t) {start limit : ℕ} where

@@ -4,6 +4,8 @@
 // is known to fit. specs/Way.antt has the state and what each part leaves.
 use polygon::walking::letter_q;
 use polygon::walking::turn_q;
+use walk_steps::back;
+use walk_steps::forth;
 use walk_steps::letter;
 use walk_steps::next;
 use walk_steps::turn_back;
@@ -123,7 +125,8 @@ fn is_proper(way: Way) -> bool
     way.p + way.s != 0
 }
 
-// S and a power of Q.
+// S and a power of Q: the rows change places and the smaller one is taken from the larger, so each row stays where it is; the tables lead over both at
+// once. A turn changes nothing of what it writes, so its letter is read where it has led to.
 fn block(
     t: &[i64],
     v: usize,
@@ -136,8 +139,34 @@ fn block(
     requires { ⌜ Setting (now t) v (now w) (now out) start limit × Sound v (now t) (2 ^ 60) way × (properOf (formOf way) ≡ true) ⌝ }
     ensures { λ r. ⌜ Going v (now (t .entry)) start limit way (now (out .entry)) r (now (out .exit)) × (total (formOf r) < total (formOf way)) × (length (now (out .exit)) ≡ length (now (out .entry))) ⌝ }
 {
-    let turned = cross(t, v, w, way, out, start, limit);
-    power(t, v, w, turned, out, start, limit)
+    let at = way.at;
+    let z = letter(t, v, w, at);
+    if way.r + way.s <= way.p + way.q {
+        let to = forth(t, v, w, at);
+        let y = letter_q(t, v, w, to, false);
+        let count = put(out, start, limit, way.count, z);
+        let more = put(out, start, limit, count, y);
+        return Way {
+            p: way.p - way.r,
+            q: way.q - way.s,
+            r: way.r,
+            s: way.s,
+            at: to,
+            count: more,
+        };
+    }
+    let to = back(t, v, w, at);
+    let y = letter_q(t, v, w, to, true);
+    let count = put(out, start, limit, way.count, z);
+    let more = put(out, start, limit, count, y);
+    Way {
+        p: way.p,
+        q: way.q,
+        r: way.r - way.p,
+        s: way.s - way.q,
+        at: to,
+        count: more,
+    }
 }
 
 // The last S, if there is one.

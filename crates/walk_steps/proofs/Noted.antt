@@ -1,7 +1,8 @@
--- The tables of steps by S.
+-- The tables of steps by S, and by S and then a turn.
 --
 -- In order: which places are positions (`real-low`, `real-high`); codes of letters (`coded-…`, `decoded-fits`, `letter-most`); one step
--- noted (`prepared-none`, `prepared-more`, `prepared-skip`, `prepared-all`); where S leads is a position (`step-low`); Q twice (`back-…`).
+-- noted (`prepared-none`, `prepared-skip`, `prepared-more`, `prepared-all`); where S leads is a position, and so it is after a turn
+-- (`step-low`, `forth-low`, `back-low`); Q twice on an outer face (`back-face`).
 -- Assumes nothing.
 use mathlib.Core.Path.{_≡_, refl, sym, _∙_, ap}
 use mathlib.Core.Bool.{Bool, true, false, _||_}
@@ -18,7 +19,7 @@ use mir.Facts.{toZ-ofZ}
 use borrow.Author.Tests.{lt-ltb, le-ltb, ltb-true, ltb-false}
 use borrow.Author.Count.{below-more}
 use Rattle.matrix.specs.Matrix.{nth}
-use Rattle.matrix.specs.Words.{S}
+use Rattle.matrix.specs.Words.{S, Q, P}
 use Rattle.symbol.specs.Table.{pairingEntry}
 use Rattle.symbol.specs.Symbol.{IsSymbol}
 use Rattle.pairing.specs.Generator.{generators, isLeader}
@@ -27,11 +28,11 @@ use Rattle.basics.proofs.Choice.{clash}
 use Rattle.polygon.specs.Cut.{corners, places}
 use Rattle.polygon.specs.Step.{oddAt, real, Real, stepS, turnQ, written}
 use Rattle.polygon.specs.Inner.Tables.{PolygonTables, lettersOf}
-use Rattle.polygon.proofs.Flip.{real-in, turn-face, turn-last, turn-next}
+use Rattle.polygon.proofs.Flip.{real-in, turn-face}
 use Rattle.polygon.proofs.Polygon.{polygon}
 use Rattle.polygon.proofs.Partners.{tables-set}
 use Rattle.polygon.proofs.SymbolFacts.{length-generators, count-most}
-use Rattle.walk_steps.specs.Inner.Steps.{NEXT, LETTER, StepsReady}
+use Rattle.walk_steps.specs.Inner.Steps.{NEXT, LETTER, FORTH, BACK, StepsReady}
 
 -- ---- which places are positions
 
@@ -97,7 +98,14 @@ letter-most v t ok p z r e =
 -- ---- one step noted
 
 pub prepared-none : {t : List ℤ} {v : ℕ} {w : List ℕ} → PolygonTables t v w → StepsReady t v w 0
-prepared-none g = record { tables = g; steps = λ p h. absurd (omega arith); codes = λ p h. absurd (omega arith); letters = λ p h. absurd (omega arith) }
+prepared-none g = record {
+  tables = g;
+  steps = λ p h. absurd (omega arith);
+  codes = λ p h. absurd (omega arith);
+  letters = λ p h. absurd (omega arith);
+  forths = λ p h. absurd (omega arith);
+  backs = λ p h. absurd (omega arith);
+}
 
 module _ {t : List ℤ} {v : ℕ} {w : List ℕ} {p : ℕ} (g : StepsReady t v w p) (h : p < places v) where
   pub prepared-skip : real v t p ≡ false → StepsReady t v w (p + 1)
@@ -106,50 +114,88 @@ module _ {t : List ℤ} {v : ℕ} {w : List ℕ} {p : ℕ} (g : StepsReady t v w
     steps = below-more _ p (g .steps) (λ r. clash r e);
     codes = below-more _ p (g .codes) (λ r. clash r e);
     letters = below-more _ p (g .letters) (λ r. clash r e);
+    forths = below-more _ p (g .forths) (λ r. clash r e);
+    backs = below-more _ p (g .backs) (λ r. clash r e);
   }
 
-  pub prepared-more : (to code : ℕ) (z : ℤ) → to ≡ stepS v t p → code ≤ 2048 → pos code -ℤ pos 1024 ≡ z → lettersOf z ≡ written v t S p
-      → StepsReady t v (set (set w (NEXT + p) to) (LETTER + p) code) (p + 1)
-  prepared-more to code z e f k l =
-      let most = g .tables .symbol .most in
-      let long = g .tables .long in
-      let w1 = set w (NEXT + p) to in
-      let long1 = length-set w (NEXT + p) to in
-      let other : (j : ℕ) → j < p → getD (set w1 (LETTER + p) code) (LETTER + j) 0 ≡ getD w (LETTER + j) 0 =
-      λ j b. getD-set-other w1 (LETTER + p) (LETTER + j) code 0 (λ y. omega arith) ∙ getD-set-other w (NEXT + p) (LETTER + j) to 0 (λ y. omega arith) in
-      let here : getD (set w1 (LETTER + p) code) (LETTER + p) 0 ≡ code = getD-set-same w1 (LETTER + p) code 0 (omega arith) in
-      record {
-        tables = tables-set (LETTER + p) code (tables-set (NEXT + p) to (g .tables) (omega arith) (omega arith)) (omega arith) (omega arith);
-        steps = below-more _ p
-            (λ j b r. getD-set-other w1 (LETTER + p) (NEXT + j) code 0 (λ y. omega arith) ∙ getD-set-other w (NEXT + p) (NEXT + j) to 0 (λ y. omega arith)
-            ∙ g .steps j b r)
-            (λ r. getD-set-other w1 (LETTER + p) (NEXT + p) code 0 (λ y. omega arith) ∙ getD-set-same w (NEXT + p) to 0 (omega arith) ∙ e);
-        codes = below-more _ p (λ j b r. rw (other j b) (g .codes j b r)) (λ r. rw here f);
-        letters = below-more _ p (λ j b r. ap (λ (n : ℕ). lettersOf (pos n -ℤ pos 1024)) (other j b) ∙ g .letters j b r)
-            (λ r. ap (λ (n : ℕ). lettersOf (pos n -ℤ pos 1024)) here ∙ ap lettersOf k ∙ l);
-      }
+  -- the four stores, one after another
+  module _ (to code f b : ℕ) where
+    abbrev w1 : List ℕ
+    w1 = set w (NEXT + p) to
+
+    abbrev w2 : List ℕ
+    w2 = set w1 (LETTER + p) code
+
+    abbrev w3 : List ℕ
+    w3 = set w2 (FORTH + p) f
+
+    abbrev pub noted : List ℕ
+    noted = set w3 (BACK + p) b
+
+    -- an entry of none of them stays
+    other : (i : ℕ) → (i ≡ NEXT + p → ⊥) → (i ≡ LETTER + p → ⊥) → (i ≡ FORTH + p → ⊥) → (i ≡ BACK + p → ⊥) → getD noted i 0 ≡ getD w i 0
+    other i a c d e =
+        getD-set-other w3 (BACK + p) i b 0 e ∙ getD-set-other w2 (FORTH + p) i f 0 d
+        ∙ getD-set-other w1 (LETTER + p) i code 0 c ∙ getD-set-other w (NEXT + p) i to 0 a
+
+    pub noted-long : length noted ≡ length w
+    noted-long = length-set w3 (BACK + p) b ∙ length-set w2 (FORTH + p) f ∙ length-set w1 (LETTER + p) code ∙ length-set w (NEXT + p) to
+
+    pub prepared-more : (z : ℤ) → to ≡ stepS v t p → code ≤ 2048 → pos code -ℤ pos 1024 ≡ z → lettersOf z ≡ written v t S p
+        → f ≡ turnQ v to → b ≡ turnQ v (turnQ v to) → StepsReady t v noted (p + 1)
+    prepared-more z e c k l y x =
+        let most = g .tables .symbol .most in
+        let long = g .tables .long in
+        let long1 = length-set w (NEXT + p) to in
+        let long2 = length-set w1 (LETTER + p) code in
+        let long3 = length-set w2 (FORTH + p) f in
+        let tables2 = tables-set (LETTER + p) code (tables-set (NEXT + p) to (g .tables) (omega arith) (omega arith)) (omega arith) (omega arith) in
+        let tables3 = tables-set (FORTH + p) f tables2 (omega arith) (omega arith) in
+        let step : getD noted (NEXT + p) 0 ≡ to =
+        getD-set-other w3 (BACK + p) (NEXT + p) b 0 (λ n. omega arith) ∙ getD-set-other w2 (FORTH + p) (NEXT + p) f 0 (λ n. omega arith)
+        ∙ getD-set-other w1 (LETTER + p) (NEXT + p) code 0 (λ n. omega arith) ∙ getD-set-same w (NEXT + p) to 0 (omega arith) in
+        let here : getD noted (LETTER + p) 0 ≡ code =
+        getD-set-other w3 (BACK + p) (LETTER + p) b 0 (λ n. omega arith) ∙ getD-set-other w2 (FORTH + p) (LETTER + p) f 0 (λ n. omega arith)
+        ∙ getD-set-same w1 (LETTER + p) code 0 (omega arith) in
+        let on : getD noted (FORTH + p) 0 ≡ f =
+        getD-set-other w3 (BACK + p) (FORTH + p) b 0 (λ n. omega arith) ∙ getD-set-same w2 (FORTH + p) f 0 (omega arith) in
+        let letter : (j : ℕ) → j < p → getD noted (LETTER + j) 0 ≡ getD w (LETTER + j) 0 =
+        λ j a. other (LETTER + j) (λ n. omega arith) (λ n. omega arith) (λ n. omega arith) (λ n. omega arith) in
+        record {
+          tables = tables-set (BACK + p) b tables3 (omega arith) (omega arith);
+          steps = below-more _ p
+              (λ j a r. other (NEXT + j) (λ n. omega arith) (λ n. omega arith) (λ n. omega arith) (λ n. omega arith) ∙ g .steps j a r)
+              (λ r. step ∙ e);
+          codes = below-more _ p (λ j a r. rw (letter j a) (g .codes j a r)) (λ r. rw here c);
+          letters = below-more _ p (λ j a r. ap (λ (n : ℕ). lettersOf (pos n -ℤ pos 1024)) (letter j a) ∙ g .letters j a r)
+              (λ r. ap (λ (n : ℕ). lettersOf (pos n -ℤ pos 1024)) here ∙ ap lettersOf k ∙ l);
+          forths = below-more _ p
+              (λ j a r. other (FORTH + j) (λ n. omega arith) (λ n. omega arith) (λ n. omega arith) (λ n. omega arith) ∙ g .forths j a r)
+              (λ r. on ∙ y ∙ ap (turnQ v) e);
+          backs = below-more _ p
+              (λ j a r. other (BACK + j) (λ n. omega arith) (λ n. omega arith) (λ n. omega arith) (λ n. omega arith) ∙ g .backs j a r)
+              (λ r. getD-set-same w3 (BACK + p) b 0 (omega arith) ∙ x ∙ ap (λ (i : ℕ). turnQ v (turnQ v i)) e);
+        }
 
 pub prepared-all : {t : List ℤ} {v : ℕ} {w : List ℕ} (p : ℕ) → StepsReady t v w p → p ≡ places v → StepsReady t v w (places v)
 prepared-all p g e = rw (sym e) g
 
--- where S leads is a position
-pub step-low : (v : ℕ) (t : List ℤ) → IsSymbol v t → (p to : ℕ) → Real v t p → to ≡ stepS v t p → to < places v
-step-low v t ok p to r e = rw e (real-in v t ok (stepS v t p) (polygon v t ok .closed S p r))
+-- where S leads is a position, and so are those that turns lead to from there
+module _ (v : ℕ) (t : List ℤ) (ok : IsSymbol v t) (p to : ℕ) (r : Real v t p) (e : to ≡ stepS v t p) where
+  step-real : Real v t to
+  step-real = rw e (polygon v t ok .closed S p r)
+
+  pub step-low : to < places v
+  step-low = real-in v t ok to step-real
+
+  pub forth-low : (q : ℕ) → q ≡ turnQ v to → q < places v
+  forth-low q f = rw f (real-in v t ok (turnQ v to) (polygon v t ok .closed Q to step-real))
+
+  pub back-low : (q : ℕ) → q ≡ turnQ v (turnQ v to) → q < places v
+  back-low q f = rw f (real-in v t ok (turnQ v (turnQ v to)) (polygon v t ok .closed P to step-real))
 
 -- ---- Q twice
 
 module _ (v p : ℕ) where
   pub back-face : corners v ≤ p → p ≡ turnQ v (turnQ v p)
   back-face h = let e = turn-face v p h in sym (ap (turnQ v) e ∙ e)
-
-  pub back-first : p < corners v → p % 3 ≡ 0 → p + 2 ≡ turnQ v (turnQ v p)
-  back-first h e = sym (ap (turnQ v) (turn-next v p h (λ z. omega arith)) ∙ turn-next v (p + 1) (omega arith) (λ z. omega arith) ∙ omega arith)
-
-  pub back-other : p < corners v → (p % 3 ≡ 0 → ⊥) → p - 1 ≡ turnQ v (turnQ v p)
-  back-other h e = go (ltb (p % 3) 2) refl
-    where
-      go : (b : Bool) → ltb (p % 3) 2 ≡ b → p - 1 ≡ turnQ v (turnQ v p)
-      go true f = let k = ltb-true (p % 3) 2 f in let m : p % 3 ≡ 1 = omega arith in
-          sym (ap (turnQ v) (turn-next v p h (λ z. omega arith)) ∙ turn-last v (p + 1) (omega arith) (omega arith) ∙ omega arith)
-      go false f = let k = ltb-false (p % 3) 2 f in let m : p % 3 ≡ 2 = omega arith in
-          sym (ap (turnQ v) (turn-last v p h m) ∙ turn-next v (p - 2) (omega arith) (λ z. omega arith) ∙ omega arith)

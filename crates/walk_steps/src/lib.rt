@@ -1,6 +1,8 @@
-// The steps of a symbol's polygon by S, looked up: a table of where S leads and one of the letters that it writes.
+// The steps of a symbol's polygon by S, looked up: a table of where S leads, one of the letters that it writes, and two of where S and then a turn lead.
+use polygon::turning::next_corner;
 use polygon::walking::letter_s;
 use polygon::walking::step_s;
+use polygon::walking::turn_q;
 ghost use mathlib.Core.Path.{_≡_};
 ghost use Prim.Native.Nat.{_+_, _≤_, _<_};
 ghost use lib.ListN.{length};
@@ -15,6 +17,10 @@ ghost use Rattle.walk_steps.specs.Inner.Steps.{StepsReady};
 pub const NEXT: usize = 8192;
 
 pub const LETTER: usize = 12288;
+
+pub const FORTH: usize = 16384;
+
+pub const BACK: usize = 20480;
 
 // Whether the place p is a position: a corner, or the outer face of an odd side.
 fn is_real(t: &[i64], v: usize, p: usize) -> bool
@@ -47,6 +53,10 @@ fn note_step(t: &[i64], v: usize, w: &mut [u16], p: usize)
     let code = coded(letter);
     w[NEXT + p] = to as u16;
     w[LETTER + p] = code;
+    let forth = turn_q(v, to);
+    let back = turn_back(v, to);
+    w[FORTH + p] = forth as u16;
+    w[BACK + p] = back as u16;
 }
 
 // The same for any place p, where nothing is noted if it is no position.
@@ -105,8 +115,22 @@ pub fn turn_back(v: usize, p: usize) -> usize
     if 3 * (v - 1) <= p {
         return p;
     }
-    if p % 3 == 0 {
-        return p + 2;
-    }
-    p - 1
+    let c = p % 3;
+    p - c + next_corner(c, true)
+}
+
+// S and then Q at the real position p.
+pub fn forth(t: &[i64], v: usize, w: &[u16], p: usize) -> usize
+    requires { ⌜ StepsReady (now t) v (now w) (places v) × Real v (now t) p ⌝ }
+    ensures { λ r. ⌜ r ≡ turnQ v (stepS v (now (t .entry)) p) ⌝ }
+{
+    workspace::index(w[FORTH + p])
+}
+
+// S and then Q⁻¹ there.
+pub fn back(t: &[i64], v: usize, w: &[u16], p: usize) -> usize
+    requires { ⌜ StepsReady (now t) v (now w) (places v) × Real v (now t) p ⌝ }
+    ensures { λ r. ⌜ r ≡ turnQ v (turnQ v (stepS v (now (t .entry)) p)) ⌝ }
+{
+    workspace::index(w[BACK + p])
 }

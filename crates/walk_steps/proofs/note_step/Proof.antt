@@ -1,12 +1,11 @@
--- `note_step` stores where S leads from p and what it writes; what is noted below p stays, so now it is noted below p + 1
--- (`prepared-more`). Both numbers fit 16 bits (`step-low`, `letter-most`). Assumes nothing.
+-- `note_step` stores where S leads from p, what it writes, and where a turn leads then; what is noted below p stays, so now it is noted
+-- below p + 1 (`prepared-more`). All four numbers fit 16 bits (`step-low`, `letter-most`, `forth-low`, `back-low`). Assumes nothing.
 use native.Mathlib.Omega.{arith}
 use mathlib.Core.Path.{_∙_}
-use Prim.Native.Nat.{_+_}
-use lib.ListN.{set, length-set}
+use lib.ListN.{length-set}
 use mir.Facts.{toZ-ofZ}
 use mir.Syntax.{w16}
-use Rattle.walk_steps.proofs.Noted.{letter-most, step-low, prepared-more}
+use Rattle.walk_steps.proofs.Noted.{letter-most, step-low, forth-low, back-low, noted-long, prepared-more}
 use borrow.Author.Needs.{needs}
 use Rattle.walk_steps.proofs.note_step.Statement.{statement}
 use Rattle.walk_steps.proofs.note_step.Tie as tie
@@ -53,19 +52,70 @@ slice-write-w-2 c =
     let s = c .before .before .before .before .before .before in
     simp length-set (omega (arith, s .pre .1, s .pre .0 .tables .symbol .most, s .pre .0 .tables .long))
 
+turn-q-requires : tie.Need-turn-q-requires
+turn-q-requires c κs = search needs
+
+turn-back-requires : tie.Need-turn-back-requires
+turn-back-requires c κs = search needs
+
+cast-w-2 : tie.Need-cast-w-2
+cast-w-2 c =
+    let s = c .before .before .before .before .before .before .before .before in
+    let to = c .before .before .before .before .before .step-s in
+    omega (
+      arith,
+      forth-low (s .args .v) (s .args .t .now) (s .pre .0 .tables .symbol) (s .args .p) (to .result) (s .pre .2) (to .ensures)
+          (c .before .turn-q .result) (c .before .turn-q .ensures),
+      s .pre .0 .tables .symbol .most,
+    )
+
+add-w-3 : tie.Need-add-w-3
+add-w-3 c = search needs
+
+mul-w-3 : tie.Need-mul-w-3
+mul-w-3 c = search needs
+
+slice-write-w-3 : tie.Need-slice-write-w-3
+slice-write-w-3 c =
+    let s = c .before .before .before .before .before .before .before .before in
+    simp length-set (omega (arith, s .pre .1, s .pre .0 .tables .symbol .most, s .pre .0 .tables .long))
+
+cast-w-3 : tie.Need-cast-w-3
+cast-w-3 c =
+    let s = c .before .before .before .before .before .before .before .before in
+    let to = c .before .before .before .before .before .step-s in
+    omega (
+      arith,
+      back-low (s .args .v) (s .args .t .now) (s .pre .0 .tables .symbol) (s .args .p) (to .result) (s .pre .2) (to .ensures)
+          (c .turn-back .result) (c .turn-back .ensures),
+      s .pre .0 .tables .symbol .most,
+    )
+
+add-w-4 : tie.Need-add-w-4
+add-w-4 c = search needs
+
+mul-w-4 : tie.Need-mul-w-4
+mul-w-4 c = search needs
+
+slice-write-w-4 : tie.Need-slice-write-w-4
+slice-write-w-4 c =
+    let s = c .before .before .before .before .before .before .before .before in
+    simp length-set (omega (arith, s .pre .1, s .pre .0 .tables .symbol .most, s .pre .0 .tables .long))
+
 same-length : tie.Need-same-length
 same-length c = search needs
 
 returns : tie.Need-returns
 returns c =
-    let s = c .before .before .before .before .before .before in
-    let w = s .args .w .now in
-    let to = c .before .before .before .step-s .result in
-    let code = c .coded .result in
-    let l = c .before .letter-s in (
-      prepared-more (s .pre .0) (s .pre .1) to code (l .result) (c .before .before .before .step-s .ensures) (c .coded .ensures .0)
-          (c .coded .ensures .1 ∙ toZ-ofZ {w = w16} {z = l .result} (record { sfits = l .ok })) (l .ensures),
-      length-set (set w (8192 + s .args .p) to) (12288 + s .args .p) code ∙ length-set w (8192 + s .args .p) to,
+    let s = c .before .before .before .before .before .before .before .before in
+    let to = c .before .before .before .before .before .step-s in
+    let l = c .before .before .before .letter-s in
+    let k = c .before .before .coded in
+    let f = c .before .turn-q in
+    let b = c .turn-back in (
+      prepared-more (s .pre .0) (s .pre .1) (to .result) (k .result) (f .result) (b .result) (l .result) (to .ensures) (k .ensures .0)
+          (k .ensures .1 ∙ toZ-ofZ {w = w16} {z = l .result} (record { sfits = l .ok })) (l .ensures) (f .ensures) (b .ensures),
+      noted-long (s .pre .0) (s .pre .1) (to .result) (k .result) (f .result) (b .result),
     )
 
 pub note-step-spec : {M : Type 1} → statement M
@@ -82,5 +132,15 @@ note-step-spec =
     add-w-2
     mul-w-2
     slice-write-w-2
+    turn-q-requires
+    turn-back-requires
+    cast-w-2
+    add-w-3
+    mul-w-3
+    slice-write-w-3
+    cast-w-3
+    add-w-4
+    mul-w-4
+    slice-write-w-4
     same-length
     returns)

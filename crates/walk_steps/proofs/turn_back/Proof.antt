@@ -1,7 +1,8 @@
--- `turn_back` is Q twice: an outer face stays (`back-face`), corner 0 goes to corner 2 (`back-first`), and any other goes one back
--- (`back-other`). Assumes nothing.
+-- `turn_back` is Q twice: an outer face stays (`back-face`), and a corner goes to the one that the turn by Q⁻¹ leads to (`back-is`).
+-- Assumes nothing.
 use native.Mathlib.Omega.{arith}
-use Rattle.walk_steps.proofs.Noted.{back-face, back-first, back-other}
+use Rattle.polygon.proofs.Corner.{back-is}
+use Rattle.walk_steps.proofs.Noted.{back-face}
 use borrow.Author.Needs.{needs}
 use Rattle.walk_steps.proofs.turn_back.Statement.{statement}
 use Rattle.walk_steps.proofs.turn_back.Tie as tie
@@ -13,9 +14,13 @@ mul-if1 : tie.Need-mul-if1
 mul-if1 c = search needs
 
 returns : tie.Need-returns
-returns c =
-    let s = c .before in
-    back-face (s .args .v) (s .args .p) (c .if1 .taken)
+returns c = let s = c .before in back-face (s .args .v) (s .args .p) (c .if1 .taken)
+
+sub-result : tie.Need-sub-result
+sub-result c = search needs
+
+next-corner-requires : tie.Need-next-corner-requires
+next-corner-requires c κs = search needs
 
 add-result : tie.Need-add-result
 add-result c = search needs
@@ -23,16 +28,10 @@ add-result c = search needs
 returns-2 : tie.Need-returns-2
 returns-2 c =
     let s = c .before .before in
-    back-first (s .args .v) (s .args .p) (omega (arith, c .before .if1 .left)) (c .if2 .taken)
-
-sub-result : tie.Need-sub-result
-sub-result c = search needs
-
-returns-3 : tie.Need-returns-3
-returns-3 c =
-    let s = c .before .before in
-    back-other (s .args .v) (s .args .p) (omega (arith, c .before .if1 .left)) (c .if2 .left)
+    let r = c .next-corner in
+    back-is (s .args .v) (s .args .p) (r .result) (omega (arith, c .before .if1 .left)) (r .ensures .0) (r .ensures .1)
 
 pub turn-back-spec : {M : Type 1} → statement M
 turn-back-spec =
-    tie.close (tie.spec sub-if1 mul-if1 returns add-result returns-2 sub-result returns-3)
+    tie.close
+    (tie.spec sub-if1 mul-if1 returns sub-result next-corner-requires add-result returns-2)

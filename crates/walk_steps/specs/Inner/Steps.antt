@@ -1,6 +1,7 @@
--- The steps by S, once for each position, in the work space: where S leads, and the letter that it writes.
+-- The steps by S, once for each position, in the work space: where S leads, the letter that it writes, and where S and then a turn lead.
 --
---   NEXT, LETTER       where the two tables lie
+--   NEXT, LETTER       where the tables of S lie
+--   FORTH, BACK        where those of S and then Q, of S and then Q⁻¹, which is Q twice
 --   letterIn w p       the letter that w holds for p, 0 for none: it is stored 1024 higher
 --   StepsReady t v w n  w holds the polygon's tables, and the steps from the real positions below n
 use mathlib.Core.Path.{_≡_}
@@ -9,7 +10,7 @@ use Prim.Native.Nat.{ℕ, _+_, _≤_, _<_}
 use lib.ListN.{getD}
 use lib.IntN.{ℤ, pos, _-ℤ_}
 use Rattle.matrix.specs.Words.{S}
-use Rattle.polygon.specs.Step.{Real, stepS, written}
+use Rattle.polygon.specs.Step.{Real, stepS, turnQ, written}
 use Rattle.polygon.specs.Inner.Tables.{PolygonTables, lettersOf}
 
 abbrev pub NEXT : ℕ
@@ -17,6 +18,12 @@ NEXT = 8192
 
 abbrev pub LETTER : ℕ
 LETTER = 12288
+
+abbrev pub FORTH : ℕ
+FORTH = 16384
+
+abbrev pub BACK : ℕ
+BACK = 20480
 
 abbrev pub letterIn : List ℕ → ℕ → ℤ
 letterIn w p = pos (getD w (LETTER + p) 0) -ℤ pos 1024
@@ -26,3 +33,5 @@ pub record StepsReady (t : List ℤ) (v : ℕ) (w : List ℕ) (n : ℕ) : Type 0
   pub steps : (p : ℕ) → p < n → Real v t p → getD w (NEXT + p) 0 ≡ stepS v t p
   pub codes : (p : ℕ) → p < n → Real v t p → getD w (LETTER + p) 0 ≤ 2048
   pub letters : (p : ℕ) → p < n → Real v t p → lettersOf (letterIn w p) ≡ written v t S p
+  pub forths : (p : ℕ) → p < n → Real v t p → getD w (FORTH + p) 0 ≡ turnQ v (stepS v t p)
+  pub backs : (p : ℕ) → p < n → Real v t p → getD w (BACK + p) 0 ≡ turnQ v (turnQ v (stepS v t p))

@@ -1,9 +1,9 @@
--- `turn_q`: an outer face stays (`turn-face`), corner 2 of a triangle goes back to corner 0 (`turn-last`), and any other goes one on
--- (`turn-next`). Assumes nothing.
+-- `turn_q`: an outer face stays (`turn-face`), and a corner goes to the one that the turn by Q leads to (`forth-is`). Assumes nothing.
 use mathlib.Core.Path.{sym}
 use native.Mathlib.Omega.{arith}
+use Rattle.polygon.proofs.Flip.{turn-face}
+use Rattle.polygon.proofs.Corner.{forth-is}
 use borrow.Author.Needs.{needs}
-use Rattle.polygon.proofs.Flip.{turn-face, turn-last, turn-next}
 use Rattle.polygon.proofs.walking.turn_q.Statement.{statement}
 use Rattle.polygon.proofs.walking.turn_q.Tie as tie
 
@@ -19,15 +19,19 @@ returns c = let s = c .before in sym (turn-face (s .args .v) (s .args .p) (c .if
 sub-result : tie.Need-sub-result
 sub-result c = search needs
 
-returns-2 : tie.Need-returns-2
-returns-2 c = let s = c .before .before in sym (turn-last (s .args .v) (s .args .p) (omega (arith, c .before .if1 .left)) (c .if2 .taken))
+next-corner-requires : tie.Need-next-corner-requires
+next-corner-requires c κs = search needs
 
 add-result : tie.Need-add-result
 add-result c = search needs
 
-returns-3 : tie.Need-returns-3
-returns-3 c = let s = c .before .before in sym (turn-next (s .args .v) (s .args .p) (omega (arith, c .before .if1 .left)) (c .if2 .left))
+returns-2 : tie.Need-returns-2
+returns-2 c =
+    let s = c .before .before in
+    let r = c .next-corner in
+    forth-is (s .args .v) (s .args .p) (r .result) (omega (arith, c .before .if1 .left)) (r .ensures .0) (r .ensures .1)
 
 pub turn-q-spec : {M : Type 1} → statement M
 turn-q-spec =
-    tie.close (tie.spec sub-if1 mul-if1 returns sub-result returns-2 add-result returns-3)
+    tie.close
+    (tie.spec sub-if1 mul-if1 returns sub-result next-corner-requires add-result returns-2)
