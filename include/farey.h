@@ -61,8 +61,8 @@ extern "C" {
 #endif
 
 /* Stack that is enough for every call, in bytes, with what it calls in turn. This is measured and not proved, on x86-64: the symbols and
- * queries of named groups, which keep two tables and a symbol there, take under 65,536, the other calls under 10,000, on the largest
- * inputs, by a thread whose stack was filled beforehand (rust/differential/tests/stack.rs, which the gate runs). A call that the dynamic
+ * queries of named groups, which keep two tables and a symbol there, take under 65,536, farey_same, which keeps two tables, under 20,000,
+ * the other calls under 10,000, on the largest inputs, by a thread whose stack was filled beforehand (rust/differential/tests/stack.rs, which the gate runs). A call that the dynamic
  * linker has to look up at its first use (memset) may take some thousand more, once. */
 #define FAREY_STACK 98304
 /* The length of the work space. */
@@ -122,7 +122,8 @@ uint64_t farey_import_wide(const uint32_t *s, size_t s_len, const uint32_t *r, s
 uint64_t farey_query(size_t v, const int64_t *t, size_t t_len, const int64_t *a, const int64_t *b, uint16_t *work, size_t work_len,
                      int16_t *out, size_t out_len, size_t start, size_t *place);
 
-/* Whether two symbols are the same: equal vertices, and equal pairings once free labels are renumbered by their leftmost side. Refused:
+/* Whether two symbols generate the same subgroup: yes precisely when every generator of each is, up to sign, a word in the other's generators and
+ * inverses. So two symbols of one group are the same, whatever their vertices are, and symbols that differ in their free labels alone are. Refused:
  * 1 to 7 for the first, then for the second, then 11 for work. Count: 1 for yes, 0 for no. */
 uint64_t farey_same(size_t v, const int64_t *t, size_t t_len, size_t m, const int64_t *u, size_t u_len, uint16_t *work, size_t work_len,
                     size_t *place);

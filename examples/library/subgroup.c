@@ -91,7 +91,7 @@ int main(void)
     expect(farey_same(v, table, length, 3, relabelled, 10, work, FAREY_WORK, &place), &place);
     printf("same %s\n", place == 1 ? "yes" : "no");
 
-    /* The rule that splits the leftmost open side: for a group as small as this one it finds the same symbol. */
+    /* The rule that splits the leftmost open side: whichever symbol it finds, it is one of the same subgroup. */
     expect(farey_import(given_s, 7, given_r, 7, work, FAREY_WORK, leftmost, FAREY_TABLE, &count), &count);
     expect(farey_same(v, table, length, count, leftmost, 3 * count + 1, work, FAREY_WORK, &place), &place);
     printf("same from the left %s\n", place == 1 ? "yes" : "no");

@@ -52,8 +52,8 @@ fn main() -> Result<(), Refusal> {
     }
     let relabelled = Symbol::new(&[(-1, 1), (0, 1), (1, 1)], &[-2, -3, 4, 4])?;
     println!("same {}", yes_or_no(symbol.is_same(&relabelled)));
-    // The rule that splits the leftmost open side: for a group as small as this
-    // one it finds the same symbol.
+    // The rule that splits the leftmost open side: whichever symbol it finds, it
+    // is one of the same subgroup.
     let leftmost = Symbol::from_permutations(&s, &r)?;
     println!(
         "same from the left {}",

@@ -49,6 +49,7 @@ class _Made(NamedTuple):
 
 class Symbol:
     """An accepted Farey symbol, and the subgroup H that its generators generate.
+    Two are equal when their subgroups are.
 
     `vertices` are the finite ones from left to right: pairs (numerator,
     denominator), Fractions or integers. `pairings` has one number more, for the
@@ -356,23 +357,23 @@ class Symbol:
         return number != 10
 
     def __eq__(self, other: object) -> bool:
-        """Whether the two are the same symbol: equal vertices, and equal pairings
-        once labels are renumbered by their leftmost side.
+        """Whether the two generate the same subgroup: every generator of each is, up
+        to sign, a word in the other's. Vertices and labels may differ; compare
+        `vertices` and `pairings` where the symbol itself is meant.
 
-        This is sameness of symbols. Two different symbols of one group compare
-        unequal; whether two groups are equal is for a later release.
-
-        >>> Symbol([0, 1], [1, -2, 1]) == Symbol([0, 1], [3, -2, 3])
+        >>> Symbol([0, 1], [1, -2, 1]) == Symbol([-1, 0], [1, -2, 1])
         True
+        >>> Symbol([0, 1], [1, -2, 1]) == Symbol([0, 1], [1, 1, -2])
+        False
         """
         if not isinstance(other, Symbol):
             return NotImplemented
         return library.call("farey_same", self._v, self._space, other._v, other._space, library.work()) == 1
 
     def __hash__(self) -> int:
-        labels: Dict[int, int] = {}
-        renumbered = (p if p < 0 else labels.setdefault(p, len(labels) + 1) for p in self.pairings)
-        return hash((self._numbers[: 2 * self._v], tuple(renumbered)))
+        """That of the tables of S and R, which are equal for two symbols precisely
+        when their subgroups are."""
+        return hash((self.S, self.R))
 
     def __str__(self) -> str:
         """The symbol in three lines, which `parse` and `./farey listing` read."""

@@ -118,6 +118,22 @@ def renumbered(s, r):
     return tuple(new[s[point]] for point in order), tuple(new[r[point]] for point in order)
 
 
+def renamed(s, r, base):
+    """Both tables, with the points 0 and `base` in each other's place."""
+    name = {0: base, base: 0}
+    tables = []
+    for table in (s, r):
+        images = {name.get(point, point): name.get(image, image) for point, image in enumerate(table)}
+        tables.append(tuple(images[point] for point in range(len(table))))
+    return tuple(tables)
+
+
+def symbol_itself(H):
+    """A symbol's vertices, and its pairings with the labels renumbered by their leftmost sides: what `==` doesn't ask."""
+    labels = {}
+    return H.vertices, [p if p < 0 else labels.setdefault(p, len(labels) + 1) for p in H.pairings]
+
+
 def figures_of(s, r):
     """e2, e3, genus and the widths in rising order, from two permutations."""
     t = [r[s[x]] for x in range(len(s))]

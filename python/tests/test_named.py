@@ -121,7 +121,7 @@ class Named(unittest.TestCase):
             pass
 
         self.assertIs(type(Other.gamma0(11)), Other)
-        self.assertEqual(Symbol.parse(str(Symbol.gamma0(11))), Symbol.gamma0(11))
+        self.assertEqual(repr(Symbol.parse(str(Symbol.gamma0(11)))), repr(Symbol.gamma0(11)))
 
 
 class Wrong(unittest.TestCase):

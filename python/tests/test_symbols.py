@@ -224,8 +224,50 @@ class Sameness(unittest.TestCase):
         one, other = Symbol(*GAMMA0_2), Symbol([-1, 0], [1, -2, 1])
         self.assertTrue(all(generator.matrix in other for generator in one.generators))
         self.assertTrue(all(generator.matrix in one for generator in other.generators))
-        self.assertFalse(one == other)
-        self.assertTrue(one != other)
+        self.assertNotEqual(one.vertices, other.vertices)
+        self.assertTrue(one == other)
+        self.assertFalse(one != other)
+        self.assertEqual(hash(one), hash(other))
+        self.assertEqual(len({one, other}), 1)
+        self.assertEqual({one: "Γ0(2)"}[other], "Γ0(2)")
+
+    def test_both_rules(self):
+        """The stored groups by both rules: equal, with equal hashes, and mostly other vertices."""
+        others = 0
+        for name, vertices, pairings, *_ in by_hand.stored_symbols():
+            H = Symbol(vertices, pairings)
+            for wide in (False, True):
+                K = Symbol.from_permutations(H.S, H.R, wide=wide)
+                self.assertTrue(H == K and K == H, name)
+                self.assertEqual(hash(H), hash(K), name)
+                others += H.vertices != K.vertices
+        self.assertGreaterEqual(others, 50)
+
+    def test_conjugates(self):
+        """Γ0(2), and what fixes its other two points: equal figures, and no two equal."""
+        groups = [Symbol.from_permutations(*by_hand.renamed((1, 0, 2), (2, 0, 1), base)) for base in range(3)]
+        self.assertEqual({(H.index, H.e2, H.e3, tuple(sorted(H.widths))) for H in groups}, {(3, 1, 0, (1, 2))})
+        for i, H in enumerate(groups):
+            for k, K in enumerate(groups):
+                self.assertEqual(H == K, i == k)
+        self.assertEqual(len(set(groups)), 3)
+        self.assertEqual(set(groups), {Symbol(*GAMMA0_2), Symbol([0, 1], [1, 1, -2]), Symbol([0, 1], [-2, 1, 1])})
+
+    def test_a_group_within_another(self):
+        H, K = Symbol(*GAMMA0_2), Symbol.gamma(2)
+        self.assertTrue(all(generator.matrix in H for generator in K.generators))
+        self.assertFalse(H == K)
+        self.assertFalse(K == H)
+
+    def test_stored_groups(self):
+        """Two stored groups are equal precisely when every generator of each is in the other."""
+        groups = [Symbol(vertices, pairings) for _, vertices, pairings, *_ in by_hand.stored_symbols()]
+        small = [H for H in groups if H.index <= 24]
+        for H in small:
+            for K in small:
+                inside = [all(generator.matrix in B for generator in A.generators) for A, B in ((H, K), (K, H))]
+                self.assertEqual(H == K, all(inside))
+                self.assertFalse(H == K and hash(H) != hash(K))
 
     def test_other_things(self):
         H = Symbol(*GAMMA0_2)
@@ -245,10 +287,11 @@ class Sameness(unittest.TestCase):
         H = Symbol(*GAMMA0_2)
         for other in (copy.copy(H), copy.deepcopy(H), pickle.loads(pickle.dumps(H)), eval(repr(H), {"Symbol": Symbol})):
             self.assertTrue(H == other)
+            self.assertEqual((other.vertices, other.pairings), (H.vertices, H.pairings))
             self.assertEqual(other.word(by_hand.I, (1, 0, 2, 1)), [2, 1])
 
     def test_hashes_differ(self):
-        self.assertNotEqual(hash(Symbol(*GAMMA0_2)), hash(Symbol([-1, 0], [1, -2, 1])))
+        self.assertNotEqual(hash(Symbol(*GAMMA0_2)), hash(Symbol([0, 1], [1, 1, -2])))
 
     def test_classes_that_stand_on_it(self):
         """A copy is of the same class, with the attributes that it was given."""
@@ -366,7 +409,7 @@ class Texts(unittest.TestCase):
 
     def test_leading_zeros_and_line_ends(self):
         H = Symbol.parse("\r\n 002 000 01 1 " + "0" * 5000 + "1\n\n1 -2 1 ")
-        self.assertTrue(H == Symbol(*GAMMA0_2))
+        self.assertEqual((H.vertices, H.pairings), (((0, 1), (1, 1)), (1, -2, 1)))
 
     def test_refusals(self):
         """By docs/CONVENTIONS.md, 10.2."""
@@ -402,7 +445,8 @@ class Texts(unittest.TestCase):
         ):
             with self.subTest(text[:40]):
                 if number == 0:
-                    self.assertTrue(Symbol.parse(text) == Symbol(*GAMMA0_2))
+                    H = Symbol.parse(text)
+                    self.assertEqual((H.vertices, H.pairings), (((0, 1), (1, 1)), (1, -2, 1)))
                     continue
                 with self.assertRaises(Refusal) as caught:
                     Symbol.parse(text)

@@ -76,7 +76,7 @@ fn origin(t: &[i64], v: usize, w: &[u16], start: usize) -> usize
 }
 
 // The tables of S, R and T of an accepted symbol are put into the work space: how many cosets there are.
-pub(crate) fn arrange(v: usize, t: &[i64], w: &mut [u16]) -> usize
+pub fn arrange(v: usize, t: &[i64], w: &mut [u16]) -> usize
     requires { ⌜ IsSymbol v (now t) × (workLength ≤ length (now w)) ⌝ }
     ensures { λ r. ⌜ Arranged (now (t .entry)) v (now (w .exit)) r × (length (now (w .exit)) ≡ length (now (w .entry))) ⌝ }
 {

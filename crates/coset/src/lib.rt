@@ -27,7 +27,7 @@ ghost use Rattle.coset.specs.Answer.{roomFor, tabledOf, columnLeft, room
 ghost use Rattle.coset.specs.Inner.Survey.{Surveyed};
 ghost use Rattle.coset.specs.declared.Figured.the-variants as figured;
 
-mod arrange;
+pub mod arrange;
 
 // Copies the tables of n cosets, where there is room for all three.
 fn copy_tables(w: &[u16], n: usize, s: &mut [u32], r: &mut [u32], u: &mut [u32]) -> Filled

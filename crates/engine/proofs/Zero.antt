@@ -22,9 +22,10 @@ use Rattle.basics.specs.Count.{first}
 use Rattle.symbol.specs.Check.{symbolCheck}
 use Rattle.symbol.proofs.Accepted.{among-refuse, check-among}
 use Rattle.pairing.specs.Generator.{leaders, roomOf, byWork, generatedOf}
-use Rattle.pairing.specs.Same.{sameSymbol, samenessBy, samenessFor, samenessOf, samenessRefusal, SameMeans, SameSays}
-use Rattle.pairing.specs.declared.same.Sameness.{Sameness}
-use Rattle.pairing.specs.declared.same.Sameness.the-variants as sameness
+use Rattle.sameness.specs.Group.{sameTables}
+use Rattle.sameness.specs.Same.{samenessBy, samenessFor, samenessOf, samenessRefusal, SameMeans, SameSays}
+use Rattle.sameness.specs.declared.Sameness.{Sameness}
+use Rattle.sameness.specs.declared.Sameness.the-variants as sameness
 use Rattle.coset.specs.Tables.{indexOf}
 use Rattle.coset.specs.declared.Figured.{Figured}
 use Rattle.coset.specs.declared.Figured.the-variants as figured
@@ -157,7 +158,7 @@ zero-same v t v' t' work r e z = go r refl
     above : (c d : Checked) → Among 1 7 c → Among 1 7 d → AboveSame (samenessBy c d (samenessFor v t v' t' work))
     above (Refused f) d h k = omega (arith, h .0)
     above Accepted (Refused f) h k = omega (arith, k .0)
-    above Accepted Accepted h k = by-length (ltb work workLength) (sameSymbol v t v' t')
+    above Accepted Accepted h k = by-length (ltb work workLength) (sameTables v t v' t')
 
     go : (x : Sameness) → r ≡ x → ((samenessPlace r ≡ 1) × (r ≡ sameness.Yes)) ⊎ ((samenessPlace r ≡ 0) × (r ≡ sameness.No))
     go sameness.Yes q = inl (ap samenessPlace q, q)
@@ -169,8 +170,8 @@ zero-same v t v' t' work r e z = go r refl
 pub same-says : (v : ℕ) (t : List ℤ) (v' : ℕ) (t' : List ℤ) (work : ℕ) (r : Sameness) → r ≡ samenessOf v t v' t' work → SameMeans v t v' t' r → {place : ℕ}
     → place ≡ samenessPlace r → samenessRefusal r .number ≡ 0 → SameSays v t v' t' place
 same-says v t v' t' work r e m {place} p z = elim (zero-same v t v' t' work r e z) [
-  | inl y ↦ (let k = m .yes (y .1) in record { one = k .0; other = k .1; answer = inl (p ∙ y .0, k .2) })
-  | inr n ↦ (let k = m .no (n .1) in record { one = k .0; other = k .1; answer = inr (p ∙ n .0, k .2) })
+  | inl y ↦ inl (p ∙ y .0, m .yes (y .1))
+  | inr n ↦ inr (p ∙ n .0, m .no (n .1))
 ]
 
 -- ---- what a call that made something means

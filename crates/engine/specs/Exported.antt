@@ -13,8 +13,8 @@ use mathlib.Core.List.{List, [], _∷_}
 use Prim.Native.Nat.{ℕ}
 use Rattle.refusal.specs.declared.Filled.{Filled}
 use Rattle.refusal.specs.declared.Filled.the-variants as filled
-use Rattle.pairing.specs.declared.same.Sameness.{Sameness}
-use Rattle.pairing.specs.declared.same.Sameness.the-variants as sameness
+use Rattle.sameness.specs.declared.Sameness.{Sameness}
+use Rattle.sameness.specs.declared.Sameness.the-variants as sameness
 use Rattle.figures.specs.declared.Figure.{Figure}
 use Rattle.figures.specs.declared.Figure.the-variants as figure
 use Rattle.coset.specs.declared.Figured.{Figured}

@@ -1,12 +1,12 @@
 // What an exported function says of the answer of its call (specs/Exported.antt).
 use figures::Figure;
-use pairing::same::Sameness;
 use refusal::Filled;
 use refusal::Refusal;
+use sameness::Sameness;
 use word::Queried;
 ghost use mathlib.Core.Path.{_≡_};
 ghost use Rattle.refusal.specs.Refusal.{filledRefusal};
-ghost use Rattle.pairing.specs.Same.{samenessRefusal};
+ghost use Rattle.sameness.specs.Same.{samenessRefusal};
 ghost use Rattle.word.specs.Answer.{queryRefusal};
 ghost use Rattle.engine.specs.Exported.{filledPlace, queryPlace, samenessPlace, figureNumber, figureValue};
 

@@ -17,7 +17,7 @@ ghost use Rattle.matrix.specs.Matrix.{ofList};
 ghost use Rattle.refusal.specs.Refusal.{checkedRefusal, filledRefusal};
 ghost use Rattle.symbol.specs.Check.{symbolCheck};
 ghost use Rattle.pairing.specs.Generator.{generatorTable, generatedOf, tableLeft, workAfter, Generates};
-ghost use Rattle.pairing.specs.Same.{samenessOf, samenessRefusal, workAfterBoth, SameSays};
+ghost use Rattle.sameness.specs.Same.{samenessOf, samenessRefusal, workAfterBoth, SameSays};
 ghost use Rattle.symbol.specs.Symbol.{IsSymbol};
 ghost use Rattle.coset.specs.Tables.{tableS, tableR, tableT};
 ghost use Rattle.coset.specs.Answer.{tabledOf, columnLeft, widthsOf, widthedOf, figuredOf, figuredRefusal, Meaning};
@@ -219,7 +219,7 @@ pub extern "C" fn farey_query(
     said.number
 }
 
-// Whether two tables hold the same symbol: 1 for yes, 0 for no.
+// Whether two tables hold symbols of one subgroup: 1 for yes, 0 for no.
 #[no_mangle]
 pub extern "C" fn farey_same(
     v: usize,
@@ -234,7 +234,7 @@ pub extern "C" fn farey_same(
     ensures { λ n. ⌜ now (w .exit) ≡ workAfterBoth (symbolCheck v (now (t .entry))) (symbolCheck m (now (u .entry))) (now (w .entry)) ⌝ }
     ensures { λ n. ⌜ (n ≡ 0 → SameSays v (now (t .entry)) m (now (u .entry)) (now (place .exit))) ⌝ }
 {
-    let said = of_sameness(pairing::same::same(v, t, m, u, w));
+    let said = of_sameness(sameness::same(v, t, m, u, w));
     *place = said.place;
     said.number
 }

@@ -27,12 +27,13 @@ use Rattle.polygon.specs.Cut.{flipOf, underZero}
 use Rattle.polygon.specs.Step.{real, stepS, turnQ, written, startOf, originOf}
 use Rattle.polygon.specs.Walk.{followed}
 use Rattle.coset.specs.Tables.{stepR, cosets, tableS, tableR, tableT}
+use Rattle.sameness.specs.Group.{sameTables}
 use Rattle.word.specs.Answer.{queryOf, queryRefusal, closes, foundWord}
 use Rattle.instances.specs.Instances.{Answer, refuses, gives, answerTo, tables, Γ2, Γ0-2, I, S, lentTable, Instance, instances, instanceAt}
 use Rattle.instances.specs.Instances.{sameList, sameAnswer, holds, allHold, Holds}
 
 pub all-hold : allHold instances ≡ true
-unfolding _⊗_ adj det matS matQ at find add orderTo renamed flipOf underZero real stepS turnQ written startOf originOf followed stepR cosets tableS tableR tableT closes foundWord
+unfolding _⊗_ adj det matS matQ at find add orderTo renamed flipOf underZero real stepS turnQ written startOf originOf followed stepR cosets tableS tableR tableT sameTables closes foundWord
 all-hold = refl
 
 -- ---- from the test to the instances

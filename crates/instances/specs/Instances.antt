@@ -39,6 +39,9 @@ use Rattle.coset.specs.Tables.{tableS, tableR, tableT}
 use Rattle.coset.specs.Answer.{tabledOf, columnLeft, figuredOf}
 use Rattle.coset.specs.declared.Figured.{Figured}
 use Rattle.coset.specs.declared.Figured.the-variants as figured
+use Rattle.sameness.specs.Same.{samenessOf, samenessRefusal}
+use Rattle.sameness.specs.declared.Sameness.{Sameness}
+use Rattle.sameness.specs.declared.Sameness.the-variants as sameness
 use Rattle.word.specs.Answer.{queryOf, queryRefusal, foundWord, wordLeft, partOf}
 use Rattle.word.specs.declared.Queried.{Queried}
 use Rattle.word.specs.declared.Queried.the-variants as queried
@@ -58,6 +61,8 @@ pub data Question : Type 0 where
   tables : (v : ℕ) (t : List ℤ) (work : ℕ) (s r u : List ℕ) → Question
   -- word's `query`, and `word_part` of what it answers
   query : (v : ℕ) (t a b : List ℤ) (work : ℕ) (out : List ℤ) (start : ℕ) → Question
+  -- sameness's `same`
+  same : (v : ℕ) (t : List ℤ) (v' : ℕ) (t' : List ℤ) (work : ℕ) → Question
   -- permutations' `import`, and `import_wide`
   import importWide : (s r : List ℕ) (work : ℕ) (out : List ℤ) → Question
 
@@ -98,6 +103,12 @@ abbrev pub verticesIn : Filled → List ℤ
 verticesIn (filled.Made v) = pos v ∷ []
 verticesIn (filled.Refused f) = []
 
+-- 1 for yes, 0 for no
+abbrev pub yesIn : Sameness → List ℤ
+yesIn sameness.Yes = pos 1 ∷ []
+yesIn sameness.No = pos 0 ∷ []
+yesIn (sameness.Refused f) = []
+
 abbrev pub answerTo : Question → Answer
 answerTo (check v t) = says (checkedRefusal (symbol.symbolCheck v t)) []
 answerTo (index v t work) = indexSays (figuredOf v t work)
@@ -111,6 +122,7 @@ answerTo (query v t a b work out start) =
     let r = queryOf v t a b work (length out) start in
     let left = wordLeft r (foundWord v t (ofList a) (ofList b)) out in
     says (queryRefusal r) (wordIn r left ∷ left ∷ [])
+answerTo (same v t v' t' work) = let a = samenessOf v t v' t' work in says (samenessRefusal a) (yesIn a ∷ [])
 answerTo (import s r work out) =
     let a = importOf s r work (length out) in
     says (filledRefusal a) (verticesIn a ∷ passport.importTable (ruleFor s r) a out ∷ [])
@@ -143,6 +155,10 @@ abbrev pub Γ2 : List ℤ
 -- 0/1, 1/1, pairings 1 -2 1
 abbrev pub Γ0-2 : List ℤ
 Γ0-2 = pos 0 ∷ pos 1 ∷ pos 1 ∷ pos 1 ∷ pos 1 ∷ negsuc 1 ∷ pos 1 ∷ []
+
+-- -1/1, 0/1, pairings 1 -2 1
+abbrev pub Γ0-2-moved : List ℤ
+Γ0-2-moved = negsuc 0 ∷ pos 1 ∷ pos 0 ∷ pos 1 ∷ pos 1 ∷ negsuc 1 ∷ pos 1 ∷ []
 
 abbrev pub I : List ℤ
 I = pos 1 ∷ pos 0 ∷ pos 0 ∷ pos 1 ∷ []
@@ -210,6 +226,9 @@ instances =
     ∷ (query 2 Γ0-2 I -I workLength (lent 0) 0 answers word [])
     -- S 1 0 2, R 2 0 1 gives back the symbol above
     ∷ (import (1 ∷ 0 ∷ 2 ∷ []) (2 ∷ 0 ∷ 1 ∷ []) workLength (lent 7) answers gives ((pos 2 ∷ []) ∷ Γ0-2 ∷ []))
+    -- -1/1, 0/1 with 1 -2 1 generates Γ0(2) too; Γ(2) is another group
+    ∷ (same 2 Γ0-2-moved 2 Γ0-2 workLength answers gives ((pos 1 ∷ []) ∷ []))
+    ∷ (same 2 Γ0-2 3 Γ2 workLength answers gives ((pos 0 ∷ []) ∷ []))
     -- behind those of docs/CONVENTIONS.md: twelve points for which the two rules of import give two symbols, each of five vertices:
     -- -3, -2, -1, 0, 1 with 1 2 3 3 2 1, and -2, -1, 0, 1/2, 1 with 1 2 2 1 3 3
     ∷ (import twelveS twelveR workLength (lent 16) answers gives ((pos 5 ∷ []) ∷
@@ -225,10 +244,10 @@ instanceAt i = getD instances i (check 0 [] answers refuses 1 0 [])
 -- ---- the test
 
 abbrev pub sameList : {A : Type 0} → (A → A → Bool) → List A → List A → Bool
-sameList same [] [] = true
-sameList same [] (y ∷ m) = false
-sameList same (x ∷ l) [] = false
-sameList same (x ∷ l) (y ∷ m) = same x y && sameList same l m
+sameList equal [] [] = true
+sameList equal [] (y ∷ m) = false
+sameList equal (x ∷ l) [] = false
+sameList equal (x ∷ l) (y ∷ m) = equal x y && sameList equal l m
 
 abbrev pub sameAnswer : Answer → Answer → Bool
 sameAnswer a b = eqb (a .number) (b .number) && (eqb (a .place) (b .place) && sameList (sameList eqZ) (a .rows) (b .rows))

@@ -1,8 +1,6 @@
 -- The laws behind the crate's promises, in reading order. Each upper crate may cite them.
 pub mod Facts
 pub mod Partners
-pub mod Relabel
-pub mod Alike
 pub mod Rows
 pub mod Meaning
 pub mod Admitted

@@ -18,7 +18,7 @@ ghost use Rattle.text.specs.Writing.{roomMost, writtenOf, bytesPlaced, s
 ghost use Rattle.text.specs.Inner.Inside.{naturalOf, integerOf, digitPushed, wantedOf, stretch, Steps, surveyOf, countedOf};
 
 // The most bytes that a text may have.
-const TEXT_MOST: usize = 65536;
+pub const TEXT_MOST: usize = 65536;
 // The greatest number of 64 signed bits, and the magnitude of the least.
 const GREATEST: u64 = 9223372036854775807;
 
@@ -64,13 +64,13 @@ enum Integer {
 }
 
 // How many numbers are wanted, or any count where v is out of range.
-enum Wanted {
+pub enum Wanted {
     Exactly(usize),
     Any,
 }
 
 // What stands first in the rest of a text.
-enum Step {
+pub enum Step {
     // No piece.
     End,
     // A piece that is no number: where it begins.
@@ -80,7 +80,7 @@ enum Step {
 }
 
 // What all the pieces of a text come to.
-enum Survey {
+pub enum Survey {
     // Where the first that is no number begins.
     Bad(usize),
     // All are numbers: how many.
@@ -200,7 +200,7 @@ fn signed(piece: &[u8]) -> Integer
 }
 
 // What stands first in the text from `from` on.
-fn next(text: &[u8], from: usize) -> Step
+pub fn next(text: &[u8], from: usize) -> Step
     requires { ⌜ from ≤ length (now text) ⌝ }
     ensures { λ r. ⌜ Steps (now (text .entry)) from r ⌝ }
 {
@@ -216,7 +216,7 @@ fn next(text: &[u8], from: usize) -> Step
 }
 
 // The place of the first piece that is no number, or else how many pieces the text has.
-fn survey_of(text: &[u8]) -> Survey
+pub fn survey_of(text: &[u8]) -> Survey
     ensures { λ r. ⌜ r ≡ surveyOf (pieces (now (text .entry))) ⌝ }
 {
     let mut from = 0;
@@ -235,7 +235,7 @@ fn survey_of(text: &[u8]) -> Survey
 }
 
 // Where the piece k begins, counted from 0; 0 where there are not so many. No piece is bad, by the contract.
-fn place(text: &[u8], k: usize) -> usize
+pub fn place(text: &[u8], k: usize) -> usize
     requires { ⌜ firstBad (pieces (now text)) ≡ none ⌝ }
     ensures { λ r. ⌜ r ≡ placeAt (pieces (now (text .entry))) k ⌝ }
 {
@@ -280,7 +280,7 @@ fn fill(text: &[u8], k: usize, out: &mut [i64])
 }
 
 // How many numbers a text of the format has that begins with v.
-fn wanted_for(format: Format, v: i64) -> Wanted
+pub fn wanted_for(format: Format, v: i64) -> Wanted
     ensures { λ r. ⌜ r ≡ wantedOf (wanted format v) ⌝ }
 {
     if v < 0 {

@@ -1,6 +1,6 @@
-//! A yardstick: the engine's five programs once more, in plain Rust, written
-//! for speed and without any proof. Whoever wants to know what the engine's
-//! proofs cost in time compares its programs with these.
+//! A yardstick: five of the engine's programs, and sameness as a function, once
+//! more in plain Rust, written for speed and without any proof. Whoever wants to
+//! know what the engine's proofs cost in time compares with these.
 //!
 //! | module    | what it holds                                                    |
 //! |-----------|------------------------------------------------------------------|
@@ -11,6 +11,7 @@
 //! | `query`   | a symbol and two matrices in, a word out, letter by letter       |
 //! | `import`  | two permutations in, a symbol out, by either rule                |
 //! | `named`   | a family and N in, a symbol out                                  |
+//! | `same`    | whether two symbols generate the same subgroup, as a function    |
 //! | `inputs`  | texts to measure with                                            |
 //! | `timing`  | wall times of two programs, run by turns                         |
 //!
@@ -25,6 +26,7 @@ pub mod listing;
 pub mod named;
 pub mod polygon;
 pub mod query;
+pub mod same;
 pub mod symbol;
 pub mod text;
 pub mod timing;

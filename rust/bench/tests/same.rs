@@ -6,9 +6,12 @@ use bench::named::{named_symbol, named_symbol_wide, named_tables};
 use bench::{plain_import, plain_import_wide, plain_listing, plain_named, plain_query};
 use reference::congruence;
 use reference::permutations::Rule;
-use reference::random::faults::{faulty_text, scratch, typed, TEXT_FAULTS};
+use reference::random::drafts::{draft, draft_of_size};
+use reference::random::faults::{faulty_text, poke, scratch, typed, TEXT_FAULTS};
 use reference::random::pairs::rows_pair;
+use reference::random::twins::second;
 use reference::random::{import_case, listing_case, query_case, Rng};
+use reference::sameness;
 use reference::{import, import_wide, listing, named, query};
 
 fn same(text: &[u8], plain: &[u8], reference: &str) {
@@ -121,6 +124,34 @@ fn names() {
             same(&text, &plain_named(&text), &named(&text));
         }
     }
+}
+
+/// Whether two symbols generate the same subgroup, and the refusals.
+#[test]
+fn sameness() {
+    let mut rng = Rng::new(66);
+    let mut counts = [0; 3];
+    for case in 0..2_000 {
+        let one = match case {
+            0..=1_499 => draft_of_size(&mut rng, 1 + case % 30),
+            _ => draft(&mut rng),
+        };
+        let other = second(&mut rng, &one);
+        let mut tables = [one.numbers(), other.numbers()];
+        if rng.chance(10) {
+            let numbers = &mut tables[rng.below(2)];
+            poke(&mut rng, numbers);
+        }
+        let [one, other] = &tables;
+        let expected = sameness::same(one[0], &one[1..], other[0], &other[1..]);
+        let came = bench::same::same(one[0], &one[1..], other[0], &other[1..]);
+        let by_tables = bench::same::same_by_tables(one[0], &one[1..], other[0], &other[1..]);
+        assert_eq!(came, by_tables, "{one:?} {other:?}");
+        let refused = |refusal: reference::Refusal| (refusal.number, refusal.place as usize);
+        assert_eq!(came, expected.map_err(refused), "{one:?} {other:?}");
+        counts[came.map_or(2, usize::from)] += 1;
+    }
+    assert!(counts.iter().all(|&count| count >= 100), "{counts:?}");
 }
 
 /// The texts to measure with are what their names say.

@@ -1,10 +1,14 @@
-//! `same`: whether two tables hold the same symbol; refusals 1 to 7 for the
-//! first, then for the second, 11 for the work space.
+//! `same`: whether two symbols generate the same subgroup; refusals 1 to 7 for
+//! the first, then for the second, 11 for the work space.
+//!
+//! The reference asks of each generator of the one whether it lies in the group of
+//! the other; the engine compares tables of cosets.
 
 use farey::calls;
-use reference::random::drafts::{draft, draft_of_size, pairings, Draft, Style};
+use reference::random::drafts::draft;
+use reference::random::twins::second;
 use reference::random::Rng;
-use reference::symbol::same;
+use reference::sameness::same_group;
 
 use crate::outcome::{Expected, Outcome};
 use crate::spaces::work;
@@ -12,19 +16,13 @@ use crate::symbols::Lent;
 
 pub fn case(rng: &mut Rng) -> Outcome {
     let one = draft(rng);
-    let two = other(rng, &one);
+    let two = second(rng, &one);
     let (one, two) = (Lent::of(rng, &one), Lent::of(rng, &two));
     let mut work = work(rng);
     let first = one.symbol();
-    let both = first.and_then(|_| two.symbol());
-    let expected = Expected::in_order(both, &work, |_| {
-        let yes = same(
-            one.v as i64,
-            one.table.read(),
-            two.v as i64,
-            two.table.read(),
-        )?;
-        Ok(usize::from(yes))
+    let both = first.and_then(|first| Ok((first, two.symbol()?)));
+    let expected = Expected::in_order(both, &work, |(first, second)| {
+        Ok(usize::from(same_group(&first, &second)))
     });
     let came = calls::same(
         one.v,
@@ -43,31 +41,4 @@ pub fn case(rng: &mut Rng) -> Outcome {
         Err(_) => outcome.about,
     };
     outcome.on(|| format!("{}\n{}\nwork {}", one.told(), two.told(), work.length()))
-}
-
-/// A symbol that is the same, or nearly, or not at all.
-fn other(rng: &mut Rng, one: &Draft) -> Draft {
-    let mut two = one.clone();
-    let sides = one.pairings.len();
-    match rng.below(8) {
-        0 => {}
-        1..=3 => rename(rng, &mut two.pairings),
-        4 => {
-            rename(rng, &mut two.pairings);
-            two.pairings.swap(rng.below(sides), rng.below(sides));
-        }
-        5 => two.pairings = pairings(rng, sides, Style::AllFree, &[]),
-        6 => two = draft_of_size(rng, one.v()),
-        _ => two = draft(rng),
-    }
-    two
-}
-
-/// Other labels for the free pairs.
-fn rename(rng: &mut Rng, pairings: &mut [i64]) {
-    let mut labels: Vec<i64> = (1..=pairings.len() as i64).collect();
-    rng.shuffle(&mut labels);
-    for pairing in pairings.iter_mut().filter(|pairing| **pairing > 0) {
-        *pairing = labels[*pairing as usize - 1];
-    }
 }

@@ -349,7 +349,7 @@ pub fn query(
     answer(number, place)
 }
 
-/// Whether t and u hold the same symbol.
+/// Whether t and u hold symbols of the same subgroup.
 pub fn same(v: usize, t: &[i64], m: usize, u: &[i64], work: &mut [u16]) -> Result<bool, Refusal> {
     let mut place = UNWRITTEN;
     let number = unsafe {

@@ -4,8 +4,8 @@ use crate::calls::{self, COSETS, GENERATORS, TABLE, WORK};
 use crate::family::Family;
 use crate::refusal::Refusal;
 
-/// An accepted Farey symbol. Two are equal when their tables are; `is_same` lets
-/// free labels differ.
+/// An accepted Farey symbol. Two are equal when their tables are; `is_same` asks
+/// whether they generate the same subgroup.
 #[derive(Clone, Debug, PartialEq, Eq)]
 pub struct Symbol {
     v: usize,
@@ -267,8 +267,8 @@ impl Symbol {
         }
     }
 
-    /// Whether the two are the same symbol: equal vertices, and equal pairings
-    /// once free labels are renumbered by their leftmost side.
+    /// Whether the two generate the same subgroup: every generator of each is, up
+    /// to sign, a word in the other's. Their vertices and labels may differ.
     pub fn is_same(&self, other: &Symbol) -> bool {
         certain(calls::same(
             self.v,

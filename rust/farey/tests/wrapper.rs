@@ -131,7 +131,7 @@ fn permutations_and_back() {
 }
 
 /// The same by the wide rule, and a group for which the two rules differ: the
-/// symbols have other vertices, and the same tables.
+/// symbols have other vertices, the same tables and the same subgroup.
 #[test]
 fn permutations_and_back_by_the_wide_rule() {
     let group = Symbol::from_permutations_wide(&[1, 0, 2], &[2, 0, 1]).expect("a transitive pair");
@@ -153,7 +153,8 @@ fn permutations_and_back_by_the_wide_rule() {
     let tables = gamma0_11.tables();
     let leftmost = Symbol::from_permutations(&tables.s, &tables.r).expect("small entries");
     let wide = Symbol::from_permutations_wide(&tables.s, &tables.r).expect("small entries");
-    assert!(!wide.is_same(&leftmost));
+    assert_ne!(wide, leftmost);
+    assert!(wide.is_same(&leftmost) && wide.is_same(&gamma0_11));
     assert_eq!(wide.tables(), tables);
     assert_eq!(leftmost.tables(), tables);
 }
@@ -183,8 +184,18 @@ fn most_vertices() {
 fn sameness() {
     let labels = Symbol::new(&[(0, 1), (1, 1)], &[3, -2, 3]).expect("a symbol");
     assert!(gamma0_2().is_same(&labels));
-    let other = Symbol::new(&[(-1, 1), (0, 1)], &[1, -2, 1]).expect("a symbol");
-    assert!(!gamma0_2().is_same(&other));
+    // Another symbol of the same group: (-1 -1; 2 1) for its even side.
+    let moved = Symbol::new(&[(-1, 1), (0, 1)], &[1, -2, 1]).expect("a symbol");
+    assert!(gamma0_2().is_same(&moved) && moved.is_same(&gamma0_2()));
+    assert_ne!(gamma0_2(), moved);
+    // Conjugates of it, and a group within it.
+    for pairings in [[1, 1, -2], [-2, 1, 1]] {
+        let conjugate = Symbol::new(&[(0, 1), (1, 1)], &pairings).expect("a symbol");
+        assert_eq!(conjugate.figures(), gamma0_2().figures());
+        assert!(!gamma0_2().is_same(&conjugate));
+    }
+    let gamma_2 = Symbol::gamma(2).expect("index 6");
+    assert!(!gamma0_2().is_same(&gamma_2) && !gamma_2.is_same(&gamma0_2()));
 }
 
 /// PSL2(Z) by each of its names, and Γ0(2).

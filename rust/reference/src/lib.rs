@@ -13,13 +13,14 @@
 //! | `refusal`      | number and place of a refusal                                   |
 //! | `text`         | numbers from bytes, refusal 19                                  |
 //! | `matrix`       | integer matrices of determinant 1 and the cusps they name       |
-//! | `symbol`       | checks 1 to 7, sides, frames, generators, sameness              |
+//! | `symbol`       | checks 1 to 7, sides, frames, generators                        |
 //! | `polygon`      | carrying an edge back into the polygon, with the letters used   |
 //! | `coset`        | tables of S, R, T and the figures drawn from them               |
+//! | `sameness`     | whether two symbols generate the same subgroup                  |
 //! | `word`         | pair queries: membership, the walk, multiplying a word out      |
 //! | `permutations` | checks 12 to 16, from two permutations to a symbol, two rules   |
 //! | `congruence`   | Γ0(N), Γ1(N), Γ(N): condition, index, permutations; 20 and 21   |
-//! | `report`       | the whole output of the five programs                           |
+//! | `report`       | the whole output of the six programs                            |
 //! | `random`       | test symbols, pairs, matrices and texts, sound and damaged      |
 
 #![forbid(unsafe_code)]
@@ -32,9 +33,10 @@ pub mod polygon;
 pub mod random;
 pub mod refusal;
 pub mod report;
+pub mod sameness;
 pub mod symbol;
 pub mod text;
 pub mod word;
 
 pub use refusal::Refusal;
-pub use report::{import, import_wide, listing, named, query};
+pub use report::{import, import_wide, listing, named, query, same};

@@ -11,7 +11,9 @@
 //! within 2 * 10^12. Seen from the frame of the side that it lies beyond, an
 //! edge has entries of no more than about 10^16, and carrying it back only
 //! shortens them; from outside that makes 10^25, and 10^34 once it is compared
-//! with a vertex. 2^127 is about 10^38. Overflow is checked all the same.
+//! with a vertex. A generator of another symbol, with entries of 2 * 10^18, is
+//! carried too, and that makes 4 * 10^27 and 4 * 10^36. 2^127 is about
+//! 1.7 * 10^38. Overflow is checked all the same.
 
 use std::cmp::Ordering;
 use std::ops::Mul;

@@ -1,4 +1,4 @@
-//! The whole output of the five programs, from the bytes of standard input.
+//! The whole output of the six programs, from the bytes of standard input.
 
 use std::fmt::{Display, Write};
 
@@ -6,8 +6,9 @@ use crate::congruence::named_symbol;
 use crate::coset::Cosets;
 use crate::permutations::{import_pair, Imported, Rule};
 use crate::refusal::Refusal;
+use crate::sameness::same_group;
 use crate::symbol::{Symbol, MAX_VERTICES};
-use crate::text::{numbers, Format, MAX_POINTS};
+use crate::text::{numbers, two_symbols, Format, MAX_POINTS};
 use crate::word::pair_query;
 
 /// The letters that the query program lends.
@@ -142,4 +143,20 @@ fn try_named(text: &[u8]) -> Result<Imported, Refusal> {
         Err(refusal) if refusal.number == 16 => named_symbol(Rule::Wide, family, n),
         answer => answer,
     }
+}
+
+/// What the program `same` prints.
+pub fn same(text: &[u8]) -> String {
+    match try_same(text) {
+        Ok(true) => "same\n".to_string(),
+        Ok(false) => "different\n".to_string(),
+        Err(refusal) => format!("{refusal}\n"),
+    }
+}
+
+fn try_same(text: &[u8]) -> Result<bool, Refusal> {
+    let (first, second) = two_symbols(text)?;
+    let one = Symbol::from_numbers(&first)?;
+    let other = Symbol::from_numbers(&second)?;
+    Ok(same_group(&one, &other))
 }

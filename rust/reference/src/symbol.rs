@@ -1,5 +1,5 @@
-//! Farey symbols: the checks 1 to 7, the sides with their frames, the
-//! generators, and sameness.
+//! Farey symbols: the checks 1 to 7, the sides with their frames and the
+//! generators.
 //!
 //! A symbol with v vertices has the sides 0 to v. Side i has vertex i - 1 at its
 //! left and vertex i at its right; the missing ends of the outer sides are
@@ -219,34 +219,6 @@ impl Symbol {
     }
 }
 
-/// Pairings in which free labels count up from 1 as they first appear.
-fn renumbered(pairings: &[i64]) -> Vec<i64> {
-    let mut names: HashMap<i64, i64> = HashMap::new();
-    pairings
-        .iter()
-        .map(|&pairing| {
-            if pairing < 0 {
-                return pairing;
-            }
-            let next = names.len() as i64 + 1;
-            *names.entry(pairing).or_insert(next)
-        })
-        .collect()
-}
-
-/// Whether two tables hold the same symbol, whatever their labels are called.
-/// Both tables are checked, from first to last, before they are compared.
-pub fn same(v1: i64, first: &[i64], v2: i64, second: &[i64]) -> Result<bool, Refusal> {
-    check(v1, first)?;
-    check(v2, second)?;
-    if v1 != v2 {
-        return Ok(false);
-    }
-    let (vertices1, pairings1) = first.split_at(2 * v1 as usize);
-    let (vertices2, pairings2) = second.split_at(2 * v1 as usize);
-    Ok(vertices1 == vertices2 && renumbered(pairings1) == renumbered(pairings2))
-}
-
 #[cfg(test)]
 mod tests {
     use super::*;
@@ -300,20 +272,5 @@ mod tests {
         let symbol = Symbol::new(3, &[0, 1, 1, 1, 2, 1, 1, 2, 2, 1]).unwrap();
         let listed: Vec<_> = symbol.generators.iter().map(|g| g.matrix.0).collect();
         assert_eq!(listed, [[1, 2, 0, 1], [3, -2, 2, -1]]);
-    }
-
-    #[test]
-    fn sameness() {
-        let one = [0, 1, 1, 1, 2, 1, 1, 2, 2, 1];
-        let renamed = [0, 1, 1, 1, 2, 1, 4, 1, 1, 4];
-        let other = [0, 1, 1, 1, 2, 1, 1, 2, 1, 2];
-        let moved = [-1, 1, 0, 1, 1, 1, 1, 2, 2, 1];
-        assert_eq!(same(3, &one, 3, &renamed), Ok(true));
-        assert_eq!(same(3, &one, 3, &other), Ok(false));
-        assert_eq!(same(3, &one, 3, &moved), Ok(false));
-        assert_eq!(same(3, &one, 1, &[0, 1, -3, -3]), Ok(false));
-        assert_eq!(same(3, &one, 0, &[]), Err(Refusal::new(1, 0)));
-        assert_eq!(same(1, &[0, 1, -2, -2], 0, &[]), Err(Refusal::new(7, 0)));
-        assert_eq!(same(1, &[0, 1], 0, &[]), Err(Refusal::new(2, 2)));
     }
 }

@@ -112,6 +112,41 @@ pub fn numbers(text: &[u8], format: Format) -> Result<Vec<i64>, Refusal> {
     Ok(found.into_iter().map(|(_, number)| number).collect())
 }
 
+/// The numbers of two symbols' texts that stand one after the other in one text.
+///
+/// The first v says where the second text begins. Where it is out of range this
+/// is refused with 1 at once; where the second v is, the numbers behind it aren't
+/// counted and the second part is v alone, which the checks of that symbol
+/// refuse.
+pub fn two_symbols(text: &[u8]) -> Result<(Vec<i64>, Vec<i64>), Refusal> {
+    if text.len() > MAX_TEXT {
+        return Err(Refusal::new(19, MAX_TEXT));
+    }
+    let found = pieces(text)?;
+    let short = Refusal::new(19, text.len());
+    let count = |rest: &[(usize, i64)]| match rest.first() {
+        Some(&(_, v)) => Ok(Format::Listing.wanted(v)),
+        None => Err(short),
+    };
+    let first = count(&found)?.ok_or(Refusal::new(1, 0))?;
+    if found.len() < first {
+        return Err(short);
+    }
+    let (one, rest) = found.split_at(first);
+    let second = count(rest)?;
+    if let Some(second) = second {
+        if rest.len() < second {
+            return Err(short);
+        }
+        if rest.len() > second {
+            return Err(Refusal::new(19, rest[second].0));
+        }
+    }
+    let other = &rest[..second.unwrap_or(1)];
+    let values = |part: &[(usize, i64)]| part.iter().map(|&(_, number)| number).collect();
+    Ok((values(one), values(other)))
+}
+
 #[cfg(test)]
 mod tests {
     use super::*;
@@ -215,5 +250,38 @@ mod tests {
         assert_eq!(place(b"3 5 x", Format::Named), 4);
         assert_eq!(place(b"3066 1", Format::Import), 6);
         assert_eq!(place(b"1023 1", Format::Listing), 6);
+    }
+    #[test]
+    fn two_texts() {
+        let both = |text: &str| two_symbols(text.as_bytes());
+        let refused = |number: u32, place: usize| Err(Refusal::new(number, place));
+        let (one, other) = (vec![1, 0, 1, -2, -3], vec![1, 0, 1, -3, -3]);
+        let text = "1 0 1 -2 -3\n1 0 1 -3 -3\n";
+        assert_eq!(both(text), Ok((one.clone(), other.clone())));
+        assert_eq!(both(&text.replace('\n', " ")), Ok((one.clone(), other)));
+        // The end of the first text isn't one of a line.
+        assert_eq!(both("1 0 1 -2 -3 0"), Ok((one.clone(), vec![0])));
+        assert_eq!(both("1 0 1 -2 -3 1024 5 5"), Ok((one.clone(), vec![1_024])));
+        assert_eq!(both("1 0 1 -2 -3 -1 5"), Ok((one, vec![-1])));
+        assert_eq!(both(""), refused(19, 0));
+        assert_eq!(both(" \n"), refused(19, 2));
+        assert_eq!(both("1 0 1 -2"), refused(19, 8));
+        assert_eq!(both("1 0 1 -2 -3"), refused(19, 11));
+        assert_eq!(both("1 0 1 -2 -3 \n"), refused(19, 13));
+        assert_eq!(both("1 0 1 -2 -3 1 0 1 -3"), refused(19, 20));
+        assert_eq!(both("1 0 1 -2 -3 1 0 1 -3 -3  9 9"), refused(19, 25));
+        // A first v out of range: nothing else is counted.
+        assert_eq!(both("0"), refused(1, 0));
+        assert_eq!(both("1024 1 1 1"), refused(1, 0));
+        assert_eq!(both("-1 1 0 1 -2 -3"), refused(1, 0));
+        // Pieces that are no numbers go before that, wherever they stand.
+        assert_eq!(both("0 x"), refused(19, 2));
+        assert_eq!(both("1 0 1 -2 x"), refused(19, 9));
+        assert_eq!(both("1 0 1 -2 -3 0 +"), refused(19, 14));
+        assert_eq!(both("1 0 1 -2 -3 1 0 1 -3 -3 9 x"), refused(19, 26));
+        let long = format!("{text}{}", " ".repeat(MAX_TEXT - text.len()));
+        assert!(both(&long).is_ok());
+        assert_eq!(both(&format!("{long} ")), refused(19, MAX_TEXT));
+        assert_eq!(both(&"x".repeat(MAX_TEXT + 1)), refused(19, MAX_TEXT));
     }
 }

@@ -9,7 +9,7 @@ use std::path::PathBuf;
 
 use child::{repository, Program};
 use reference::congruence::gamma0;
-use reference::{import, import_wide, listing, named, query};
+use reference::{import, import_wide, listing, named, query, same};
 
 /// One program's examples.
 struct Kind {
@@ -56,6 +56,14 @@ const NAMED: Kind = Kind {
     output: "symbol",
     reference: named,
     least: 6,
+};
+
+const SAMES: Kind = Kind {
+    folder: "examples/same",
+    input: "txt",
+    output: "answer",
+    reference: same,
+    least: 7,
 };
 
 struct Example {
@@ -129,7 +137,7 @@ impl Kind {
 
 #[test]
 fn by_the_reference() {
-    for kind in [LISTINGS, QUERIES, IMPORTS, WIDE_IMPORTS, NAMED] {
+    for kind in [LISTINGS, QUERIES, IMPORTS, WIDE_IMPORTS, NAMED, SAMES] {
         kind.by_the_reference();
     }
 }
@@ -157,6 +165,36 @@ fn wide_imports_by_the_program() {
 #[test]
 fn named_by_the_program() {
     NAMED.by_the_program("NAMED_PROGRAM");
+}
+
+#[test]
+fn same_by_the_program() {
+    SAMES.by_the_program("SAME_PROGRAM");
+}
+
+/// The two symbols of Γ0(2) that the request has, and what the others are of.
+#[test]
+fn stated_sameness() {
+    for (name, answer) in [
+        ("gamma0-2-moved", "same\n"),
+        ("gamma0-2-relabelled", "same\n"),
+        ("gamma0-2-conjugate", "different\n"),
+        ("gamma0-11-two-symbols", "same\n"),
+        ("gamma0-11-gamma1-7", "different\n"),
+        ("one-symbol", "refused 19 17\n"),
+        ("second-refused", "refused 6 0\n"),
+        ("second-out-of-range", "refused 1 0\n"),
+    ] {
+        assert_eq!(SAMES.expected(name), answer, "{name}");
+    }
+    // Γ0(11): the listed symbol, and the one of its name.
+    let listed = LISTINGS.examples();
+    let listed = listed.iter().find(|one| one.name == "gamma0-11");
+    let listed = &listed.expect("the group is among the examples").text;
+    let both = [&listed[..], NAMED.expected("gamma0-11").as_bytes()].concat();
+    let asked = SAMES.examples();
+    let asked = asked.iter().find(|one| one.name == "gamma0-11-two-symbols");
+    assert_eq!(asked.expect("it is among the examples").text, both);
 }
 
 /// A group's name gives the symbol that the imports make of its permutations:

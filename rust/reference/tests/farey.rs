@@ -100,7 +100,7 @@ impl Folder {
         }
         folder.put(
             "crates.txt",
-            "low:\nlisting: low io\nquery: low\nimport_wide: low\nnamed: low\n",
+            "low:\nlisting: low io\nquery: low\nimport_wide: low\nnamed: low\nsame: low\n",
         );
         folder.put("crates/low/src/lib.rt", "first");
         folder.put("crates/listing/src/main.rt", "");
@@ -501,23 +501,27 @@ fn the_crate_of_a_name() {
     let asked = fs::read_to_string(folder.at("asked")).expect("rt was asked");
     assert!(asked.lines().all(|line| line == "check named"), "{asked}");
     for (family, number) in [("gamma0", 0), ("gamma1", 1), ("gamma", 2)] {
-        let program = folder.at("target/bin/named");
-        fs::write(&program, "#!/bin/sh\ncat\n").expect("it can be written");
-        let sources = fs::read_to_string(folder.at("target/farey/named")).expect("a record");
-        let (sources, _) = sources.split_once("  - ").expect("two sums");
-        let sum = Command::new("sh")
-            .args(["-c", r#"sha256sum < "$0""#])
-            .arg(&program)
-            .output()
-            .expect("there is sha256sum");
-        folder.put(
-            "target/farey/named",
-            &format!("{sources}  - {}", text(&sum.stdout)),
-        );
+        stand_in(&folder, "named");
         let came = folder.run(&[family, "0042"]);
         assert_eq!(text(&came.stdout), format!("{number} 42\n"));
     }
     assert_eq!(folder.proofs(), 1);
+}
+
+/// Puts a program that prints what it reads in the place of one that was proved,
+/// and its sum into the record.
+fn stand_in(folder: &Folder, name: &str) {
+    let program = folder.at(&format!("target/bin/{name}"));
+    fs::write(&program, "#!/bin/sh\ncat\n").expect("it can be written");
+    let record = format!("target/farey/{name}");
+    let sources = fs::read_to_string(folder.at(&record)).expect("a record");
+    let (sources, _) = sources.split_once("  - ").expect("two sums");
+    let sum = Command::new("sh")
+        .args(["-c", r#"sha256sum < "$0""#])
+        .arg(&program)
+        .output()
+        .expect("there is sha256sum");
+    folder.put(&record, &format!("{sources}  - {}", text(&sum.stdout)));
 }
 
 fn run_on(farey: &Program, name: &str, text: &[u8]) -> Output {
@@ -636,6 +640,11 @@ fn wrong_words_are_refused() {
         &["named"],
         &["named", "11"],
         &["listing", "11"],
+        &["same"],
+        &["same", "examples/gamma0-2.txt"],
+        &["same", "a", "b", "c"],
+        &["listing", "a", "b"],
+        &["Same", "a", "b"],
     ] {
         let came = Command::new(&farey).args(words).output();
         let came = came.expect("./farey starts");
@@ -659,20 +668,162 @@ fn a_dash_in_a_name() {
     assert!(folder.at("target/farey/import_wide").is_file());
 }
 
+/// `./farey same` in a folder, with two texts in files.
+fn same_of(farey: &Program, folder: &Folder, one: &[u8], other: &[u8]) -> Output {
+    let paths = [folder.at("one text"), folder.at("-other")];
+    for (path, held) in paths.iter().zip([one, other]) {
+        fs::write(path, held).expect("a file can be written");
+    }
+    let mut command = farey.command();
+    command.current_dir(&folder.0).stdin(Stdio::null());
+    command.args(["same", "one text", "-other"]);
+    command.output().expect("./farey starts")
+}
+
+/// Two files, one after the other: what the reference says of both texts.
+#[test]
+fn two_files() {
+    let Some(farey) = farey() else {
+        return;
+    };
+    let folder = Folder::new("files");
+    let (one, moved) = ("2\n0 1 1 1\n1 -2 1\n", "2\n-1 1 0 1\n1 -2 1\n");
+    let long = format!("{one}{}", " ".repeat(65_536 - one.len() - moved.len()));
+    for (first, second) in [
+        (one, moved),
+        (moved, one),
+        (one, "2 0 1 1 1 1 1 -2"),
+        (one, ""),
+        ("", one),
+        ("", ""),
+        ("0\n", one),
+        (one, "0 1 2\n"),
+        (one, "2 0 1 1 1 1 -2 1 5"),
+        ("2 0 1 1 1 1 -2 x\n", one),
+        ("1 0 1 -2 -2\n", one),
+        (one, "1 0 1 -2 -2"),
+        (one, "refused 15 2"),
+        (one, "refused 15 2\n\n"),
+        ("refused ", "7 0"),
+        (&long, moved),
+        (&format!("{long}\n"), moved),
+        (&" ".repeat(70_000), one),
+        (one, &" ".repeat(70_000)),
+    ] {
+        let came = same_of(&farey, &folder, first.as_bytes(), second.as_bytes());
+        let expected = reference::same(format!("{first}{second}").as_bytes());
+        assert_eq!(text(&came.stdout), expected, "{first:.40}, {second:.40}");
+        let said = match expected.strip_suffix('\n').expect("a whole line") {
+            line if line.starts_with("refused ") => explained(line),
+            _ => String::new(),
+        };
+        assert_eq!(text(&came.stderr), said, "{first:.40}, {second:.40}");
+        assert!(came.status.success());
+    }
+}
+
+/// A first file without a line end: its last number isn't joined with the
+/// second's first.
+#[test]
+fn two_files_without_line_ends() {
+    let Some(farey) = farey() else {
+        return;
+    };
+    let folder = Folder::new("ends");
+    let (one, moved) = ("2 0 1 1 1 1 -2 1", "2 -1 1 0 1 1 -2 1");
+    for between in ["", " ", "\r", "\n", "\r\n", "\n\n"] {
+        let first = format!("{one}{between}");
+        let came = same_of(&farey, &folder, first.as_bytes(), moved.as_bytes());
+        assert_eq!(text(&came.stdout), "same\n", "{between:?}");
+        assert_eq!(text(&came.stderr), "", "{between:?}");
+    }
+    let came = same_of(&farey, &folder, b"2 0 1 1 1 1 -2 1\0", moved.as_bytes());
+    assert_eq!(text(&came.stdout), "refused 19 15\n");
+}
+
+/// A file that is the line of a refusal is an answer already.
+#[test]
+fn a_refusal_in_a_file_is_passed_on() {
+    let Some(farey) = farey() else {
+        return;
+    };
+    let folder = Folder::new("passed");
+    let one = "2 0 1 1 1 1 -2 1\n";
+    for (first, second, answer) in [
+        ("refused 16 28\n", one, "refused 16 28\n"),
+        (one, "refused 21 0\n", "refused 21 0\n"),
+        ("refused 6 0\n", "refused 21 0\n", "refused 6 0\n"),
+    ] {
+        let came = same_of(&farey, &folder, first.as_bytes(), second.as_bytes());
+        assert_eq!(text(&came.stdout), answer);
+        assert_eq!(text(&came.stderr), "");
+        assert!(came.status.success());
+    }
+}
+
+/// A file that can't be read is told, by its name, and nothing is proved for it.
+#[test]
+fn files_that_cannot_be_read() {
+    let folder = Folder::new("unread");
+    folder.put("held", "2 0 1 1 1 1 -2 1\n");
+    for words in [
+        ["same", "held", "none"],
+        ["same", "none", "held"],
+        ["same", "held", "crates"],
+        ["same", "", "held"],
+    ] {
+        let came = folder.command(&words).current_dir(&folder.0).output();
+        let came = came.expect("./farey starts");
+        assert_eq!(text(&came.stdout), "", "{words:?}");
+        assert_eq!(came.status.code(), Some(1), "{words:?}");
+        let wrong = words[1..].iter().find(|word| **word != "held");
+        let wrong = wrong.expect("one of them can't be read");
+        let line = format!("farey: {wrong} could not be read to its end, so there is no answer\n");
+        assert_eq!(text(&came.stderr), line);
+    }
+    assert_eq!(folder.asked(), 0);
+}
+
+/// The program of two files is that of the crate `same`, and it is given both.
+#[test]
+fn the_crate_of_two_files() {
+    let folder = Folder::new("same");
+    folder.put("one", "2 0 1");
+    folder.put("other", "7 8\n");
+    let run = || {
+        let mut command = folder.command(&["same", "one", "other"]);
+        let came = command.current_dir(&folder.0).output();
+        text(&came.expect("./farey starts").stdout)
+    };
+    assert_eq!(run(), "first\n");
+    let asked = fs::read_to_string(folder.at("asked")).expect("rt was asked");
+    assert!(asked.lines().all(|line| line == "check same"), "{asked}");
+    stand_in(&folder, "same");
+    assert_eq!(run(), "2 0 1\n7 8\n");
+    assert_eq!(folder.proofs(), 1);
+}
+
 /// Texts are kept for a moment in files that are gone afterwards.
 #[test]
 fn nothing_is_left_behind() {
     let folder = Folder::new("temporary");
     let kept = folder.at("temporary");
     fs::create_dir(&kept).expect("a folder can be made");
-    for _ in 0..2 {
+    folder.put("one", "2 0 1 1 1 1 -2 1\n");
+    for (words, status) in [
+        (&["listing"][..], 0),
+        (&["listing"], 0),
+        (&["same", "one", "one"], 0),
+        (&["same", "one", "none"], 1),
+    ] {
         let came = folder
-            .command(&["listing"])
+            .command(words)
+            .current_dir(&folder.0)
             .env("TMPDIR", &kept)
             .output()
             .expect("./farey starts");
-        assert!(came.status.success());
-        assert_eq!(count(&kept), 0);
+        assert_eq!(came.status.code(), Some(status), "{words:?}");
+        assert_eq!(count(&kept), 0, "{words:?}");
     }
 }
 

@@ -17,7 +17,7 @@ use std::fs;
 use std::process::Command;
 
 use child::{farey, repository, Program};
-use reference::{import, import_wide, listing, named, query};
+use reference::{import, import_wide, listing, named, query, same};
 
 /// A block between two fences: what stands behind the first one, and the lines.
 struct Block {
@@ -97,6 +97,7 @@ fn answers(program: &str, text: &[u8]) -> [String; 2] {
         "import" => ("IMPORT_PROGRAM", import),
         "import-wide" => ("IMPORT_WIDE_PROGRAM", import_wide),
         "named" => ("NAMED_PROGRAM", named),
+        "same" => ("SAME_PROGRAM", same),
         _ => panic!("there is no program {program}"),
     };
     let expected = reference(text);
@@ -107,11 +108,15 @@ fn answers(program: &str, text: &[u8]) -> [String; 2] {
 }
 
 /// The program that `./farey` runs for these words, and the text that it reads:
-/// that of a file, or what stands for a group's name.
+/// that of a file, or of two, or what stands for a group's name.
 fn asked(words: &str) -> (String, Vec<u8>) {
     let words = words.strip_prefix("./farey ").expect("./farey and words");
     if let Some((program, path)) = words.split_once(" < ") {
         return (program.to_string(), file(path));
+    }
+    if let Some(paths) = words.strip_prefix("same ") {
+        let (one, other) = paths.split_once(' ').expect("two files");
+        return ("same".to_string(), [file(one), file(other)].concat());
     }
     let (family, n) = words.split_once(' ').expect("a family and N");
     let families = ["gamma0", "gamma1", "gamma"];
@@ -120,8 +125,8 @@ fn asked(words: &str) -> (String, Vec<u8>) {
     ("named".to_string(), format!("{number} {n}\n").into_bytes())
 }
 
-/// The answers to a command `./farey PROGRAM < PATH` or `./farey FAMILY N`,
-/// perhaps with `| ./farey PROGRAM` behind it: by the reference, by the programs,
+/// The answers to a command `./farey PROGRAM < PATH`, `./farey FAMILY N` or
+/// `./farey same PATH PATH`, perhaps with `| ./farey PROGRAM` behind it: by the reference, by the programs,
 /// and by the command itself. `./farey` alone lists Γ0(2).
 fn run(command: &str) -> [String; 3] {
     let whole = match command {
@@ -192,6 +197,7 @@ fn commands_print_what_is_shown() {
         "gamma0",
         "gamma1",
         "gamma",
+        "same",
     ] {
         assert!(
             programs.iter().any(|name| name == program),

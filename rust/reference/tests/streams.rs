@@ -9,11 +9,13 @@
 //! | a reader that is gone  | the system's signal ends it, unless it is ignored: then as a write    |
 //! | nothing, but a pause   | the answer to the whole text                                          |
 //!
-//! Each test is made of each of the five programs (`LISTING_PROGRAM`,
-//! `QUERY_PROGRAM`, `IMPORT_PROGRAM`, `IMPORT_WIDE_PROGRAM`, `NAMED_PROGRAM`) and
-//! of `./farey` with each of their names (`FAREY_PROGRAM`), whose exit status isn't
-//! 0 then. A program of the engine has no exit status of its own to give. Of the
-//! program `named`, for which `./farey` reads nothing, it is the tests of writing.
+//! Each test is made of each of the six programs (`LISTING_PROGRAM`,
+//! `QUERY_PROGRAM`, `IMPORT_PROGRAM`, `IMPORT_WIDE_PROGRAM`, `NAMED_PROGRAM`,
+//! `SAME_PROGRAM`) and of `./farey` with each of their names (`FAREY_PROGRAM`),
+//! whose exit status isn't 0 then. A program of the engine has no exit status of
+//! its own to give. Of `./farey` with the programs `named` and `same`, for which it
+//! doesn't read standard input, it is the tests of writing. No answer of `same` is
+//! long enough to fill a pipe.
 
 mod child;
 
@@ -30,7 +32,7 @@ use child::{farey, repository, shown, Program};
 use reference::random::pairs::shallow_pair;
 use reference::random::Rng;
 use reference::text::MAX_TEXT;
-use reference::{import, import_wide, listing, named, query};
+use reference::{import, import_wide, listing, named, query, same};
 
 /// How long a program may take before it counts as hanging.
 const TIME_LIMIT: Duration = Duration::from_secs(120);
@@ -69,12 +71,19 @@ impl Subject {
     /// Those that read standard input.
     fn reading() -> Vec<Subject> {
         let all = Subject::all().into_iter();
-        all.filter(|subject| !subject.is_name()).collect()
+        all.filter(|subject| !subject.reads_nothing()).collect()
     }
 
-    /// `./farey` with a group's name, which reads nothing.
-    fn is_name(&self) -> bool {
-        self.by_script && self.name == "named"
+    /// Those that have long answers.
+    fn at_length() -> Vec<Subject> {
+        let all = Subject::all().into_iter();
+        all.filter(|subject| subject.name != "same").collect()
+    }
+
+    /// `./farey` with a group's name or with the names of two files, which doesn't
+    /// read standard input.
+    fn reads_nothing(&self) -> bool {
+        self.by_script && matches!(self.name, "named" | "same")
     }
 
     fn all() -> Vec<Subject> {
@@ -84,7 +93,7 @@ impl Subject {
             fn(&[u8]) -> String,
             &'static str,
         );
-        let rows: [Row; 5] = [
+        let rows: [Row; 6] = [
             (
                 "LISTING_PROGRAM",
                 "listing",
@@ -105,6 +114,12 @@ impl Subject {
                 "3\n1 0 2\n2 0 1\n",
             ),
             ("NAMED_PROGRAM", "named", named, "0 11"),
+            (
+                "SAME_PROGRAM",
+                "same",
+                same,
+                "2\n0 1 1 1\n1 -2 1\n2\n-1 1 0 1\n1 -2 1\n",
+            ),
         ];
         let mut all = Vec::new();
         for by_script in [false, true] {
@@ -128,11 +143,16 @@ impl Subject {
 
     fn command(&self) -> Command {
         let mut command = self.program.command();
-        if self.is_name() {
-            command.args(["gamma0", "990"]);
-        } else if self.by_script {
-            command.arg(self.name);
-        }
+        let examples = repository().join("examples");
+        match (self.by_script, self.name) {
+            (false, _) => &mut command,
+            (true, "named") => command.args(["gamma0", "990"]),
+            (true, "same") => command.arg("same").args([
+                examples.join("gamma0-2.txt"),
+                examples.join("gamma0-2-moved.txt"),
+            ]),
+            (true, name) => command.arg(name),
+        };
         command.stderr(Stdio::piped());
         command
     }
@@ -434,7 +454,7 @@ fn a_reader_that_went_away() {
 /// A pipe that doesn't wait for its reader: the answer doesn't fit.
 #[test]
 fn a_full_pipe_without_waiting() {
-    for subject in Subject::all() {
+    for subject in Subject::at_length() {
         let text = subject.long_text();
         let expected = (subject.reference)(text.as_bytes());
         assert!(expected.len() > SMALL as usize, "{expected}");

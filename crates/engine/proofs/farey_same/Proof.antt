@@ -1,8 +1,8 @@
 -- `farey_same` meets its contract: the number and the count of the answer, what the call leaves, and what that means. Assumes nothing.
 use mathlib.Core.Path.{sym, ap, _∙_}
 use lib.ListN.{length}
-use Rattle.pairing.specs.Same.{samenessRefusal}
-use Rattle.pairing.specs.declared.same.Sameness.{Sameness}
+use Rattle.sameness.specs.Same.{samenessRefusal}
+use Rattle.sameness.specs.declared.Sameness.{Sameness}
 use Rattle.engine.specs.Exported.{samenessPlace}
 use Rattle.engine.proofs.Zero.{same-says}
 use borrow.Author.Needs.{needs}

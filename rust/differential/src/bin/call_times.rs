@@ -1,5 +1,6 @@
-//! Times of the calls by name beside the plain functions of `bench`, without any
-//! process: one after the other by turns, and the medians in microseconds.
+//! Times of the calls by name, and of sameness, beside the plain functions of
+//! `bench`, without any process: one after the other by turns, and the medians in
+//! microseconds.
 //!
 //!     call-times [RUNS]
 
@@ -8,7 +9,10 @@ use std::hint::black_box;
 use std::time::{Duration, Instant};
 
 use bench::named::{named_symbol_wide, named_tables};
+use bench::same::{same, same_by_tables};
 use farey::calls;
+use reference::random::pairs::{shallow_pair, Pair};
+use reference::random::Rng;
 
 fn timed(job: &mut dyn FnMut()) -> Duration {
     let begin = Instant::now();
@@ -49,6 +53,70 @@ fn main() {
         };
         row(name, "symbol", runs, &mut symbol, &mut plain_symbol);
     }
+    for (name, one, other) in pairs_of_symbols(&mut work) {
+        let (v, m) = (one.len() / 3, other.len() / 3);
+        let mut engine = || {
+            let came = calls::same(v, &one, m, &other, &mut work);
+            black_box(came.expect("two symbols"));
+        };
+        let mut plain = || {
+            let came = same(v as i64, &one, m as i64, &other);
+            black_box(came.expect("two symbols"));
+        };
+        row(&name, "same", runs, &mut engine, &mut plain);
+        let mut plain = || {
+            let came = same_by_tables(v as i64, &one, m as i64, &other);
+            black_box(came.expect("two symbols"));
+        };
+        row(
+            &name,
+            "same, plain by tables",
+            runs,
+            &mut engine,
+            &mut plain,
+        );
+    }
+}
+
+/// Two symbols of one group, by `import` and by `import_wide`; and one of them with
+/// a symbol of a conjugate that isn't the same group. Each with its index.
+fn pairs_of_symbols(work: &mut [u16]) -> Vec<(String, Vec<i64>, Vec<i64>)> {
+    let mut rng = Rng::new(19);
+    let mut rows = Vec::new();
+    // About 300, and the largest that both rules make.
+    for vertices in [101, 1_023] {
+        let mut made = |pair: &Pair, wide: bool| {
+            let points = |table: &[i64]| table.iter().map(|&x| x as u32).collect::<Vec<u32>>();
+            let (s, r) = (points(&pair.s), points(&pair.r));
+            let mut out = vec![0; calls::TABLE];
+            let v = match wide {
+                true => calls::import_wide(&s, &r, work, &mut out),
+                false => calls::import(&s, &r, work, &mut out),
+            };
+            out.truncate(3 * v.ok()? + 1);
+            Some(out)
+        };
+        let (pair, one, other) = loop {
+            // Some are refused from the left, with 16.
+            let pair = shallow_pair(&mut rng, vertices);
+            if let Some(one) = made(&pair, false) {
+                break (pair.clone(), one, made(&pair, true).expect("small entries"));
+            }
+        };
+        assert_ne!(one, other);
+        let mut names: Vec<usize> = (0..pair.points()).collect();
+        names.swap(0, pair.s[0].max(pair.r[0]) as usize);
+        let conjugate = made(&pair.renamed(&names), true).expect("small entries");
+        let plain = |other: &[i64]| {
+            let (v, m) = (one.len() / 3, other.len() / 3);
+            same(v as i64, &one, m as i64, other)
+        };
+        assert_eq!([plain(&other), plain(&conjugate)], [Ok(true), Ok(false)]);
+        let index = pair.points();
+        rows.push((format!("index {index}, one group"), one.clone(), other));
+        rows.push((format!("index {index}, a conjugate"), one, conjugate));
+    }
+    rows
 }
 
 /// A row of the table.

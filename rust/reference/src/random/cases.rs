@@ -8,6 +8,7 @@ use super::faults::{
 use super::matrices::{any_pair, found_pair, put_matrix_fault};
 use super::pairs::{pair, put_pair_fault, PAIR_FAULTS};
 use super::rng::Rng;
+use super::twins::second;
 use crate::coset::Cosets;
 use crate::symbol::{Symbol, MAX_VERTICES};
 
@@ -200,6 +201,33 @@ pub fn import_case(seed: u64, case: u64) -> Vec<u8> {
         numbers[i] = rng.range(-1, numbers.len() as i64);
     }
     // Damage to bytes suits short texts: a long one would only be too long.
+    if rng.chance(10) && numbers.len() < 2_000 {
+        damaged_text(rng, &numbers)
+    } else {
+        typed(rng, &numbers).bytes
+    }
+}
+
+/// The text of one case for the program `same`: first each symbol of the list
+/// with each.
+pub fn same_case(seed: u64, case: u64) -> Vec<u8> {
+    let (one, other) = (case as usize / SYMBOLS.len(), case as usize % SYMBOLS.len());
+    if let Some(one) = SYMBOLS.get(one) {
+        return format!("{one}{}", SYMBOLS[other]).into_bytes();
+    }
+    let rng = &mut Rng::for_case(seed ^ 0x7361_6d65, case);
+    let v = match rng.below(10) {
+        0..=6 => 1 + rng.below(12),
+        _ => size(rng),
+    };
+    let one = draft_of_size(rng, v);
+    let other = second(rng, &one);
+    let parts = [one, other].map(|draft| match rng.below(100) {
+        0..=7 => damaged(rng, &draft),
+        _ => draft.numbers(),
+    });
+    let numbers = parts.concat();
+    // Damage to bytes suits short texts.
     if rng.chance(10) && numbers.len() < 2_000 {
         damaged_text(rng, &numbers)
     } else {

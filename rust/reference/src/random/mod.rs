@@ -8,6 +8,7 @@
 //! | `faults`   | symbols with faults 1 and 3 to 7, texts with fault 19      |
 //! | `matrices` | matrices of determinant 1, pairs with and without a word   |
 //! | `pairs`    | permutation pairs, with faults 12 to 15                    |
+//! | `twins`    | a second symbol, of the same group or of another           |
 //! | `cases`    | whole texts for the programs                               |
 
 pub mod cases;
@@ -16,6 +17,7 @@ pub mod faults;
 pub mod matrices;
 pub mod pairs;
 pub mod rng;
+pub mod twins;
 
-pub use cases::{import_case, listing_case, query_case};
+pub use cases::{import_case, listing_case, query_case, same_case};
 pub use rng::Rng;

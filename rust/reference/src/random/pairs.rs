@@ -465,7 +465,7 @@ pub fn renamed(rng: &mut Rng, pair: &Pair) -> Pair {
 }
 
 /// The pair with new names, 0 for the point `base`.
-fn based(rng: &mut Rng, pair: &Pair, base: usize) -> Pair {
+pub fn based(rng: &mut Rng, pair: &Pair, base: usize) -> Pair {
     let mut names = names(rng, pair.points(), true);
     let holder = names.iter().position(|&name| name == 0);
     names.swap(base, holder.expect("0 is a name"));

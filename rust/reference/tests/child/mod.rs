@@ -49,6 +49,7 @@ pub fn farey() -> Option<Program> {
             &["import"],
             &["import-wide"],
             &["gamma0", "1"],
+            &["same", "/dev/null", "/dev/null"],
         ] {
             let came = script.command().args(words).stdin(Stdio::null()).output();
             let came = came.expect("./farey starts");

@@ -1,0 +1,21 @@
+-- `answer` meets its contract: the arrays are long enough, and the bytes are the line of the answer of `same`, which means what it says (`print-means`).
+-- Assumes nothing.
+use native.Mathlib.Omega.{arith}
+use Rattle.text_line.proofs.Placing.{puts-within, puts-front}
+use Rattle.same_text.proofs.Lines.{print-means}
+use borrow.Author.Needs.{needs}
+use Rattle.same_text.proofs.answer.Statement.{statement}
+use Rattle.same_text.proofs.answer.Tie as tie
+
+same-input-requires : tie.Need-same-input-requires
+same-input-requires c κs = search needs
+
+returns : tie.Need-returns
+returns c =
+    let l = c .same-input in
+    let s = c .before .before .before .before .before .before in
+    let p = l .ensures .0 in
+    ((p, omega (arith, puts-within p (omega arith) (omega arith))), (l .ensures .1, print-means (s .args .longer) (s .args .text .now) _ (puts-front p)))
+
+pub answer-spec : {M : Type 1} → statement M
+answer-spec = tie.close (tie.spec same-input-requires returns)

@@ -1,0 +1,2 @@
+-- What a reader of the crate `text_part` must believe.
+pub mod Part
