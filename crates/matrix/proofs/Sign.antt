@@ -44,22 +44,22 @@ abbrev tailᵉ : Bool → MExp
 tailᵉ s = signedᵉ false s (var 0) (var 1) (var 2) (var 3)
 
 -- S Q and S P add a row to the other; Q alone and P alone make the rows agree
-S-Q-signed : (s : Bool) (f : Form) → matS ⊗ (matQ ⊗ signed false s f) ≡ neg (signed false s (upper f))
+pub S-Q-signed : (s : Bool) (f : Form) → matS ⊗ (matQ ⊗ signed false s f) ≡ neg (signed false s (upper f))
 unfolding matS matQ
 S-Q-signed true f = ringM (env f) (const matS ⊛ (const matQ ⊛ tailᵉ true)) (∼ signedᵉ false true (var 0 ⊕ var 2) (var 1 ⊕ var 3) (var 2) (var 3)) tt
 S-Q-signed false f = ringM (env f) (const matS ⊛ (const matQ ⊛ tailᵉ false)) (∼ signedᵉ false false (var 0 ⊕ var 2) (var 1 ⊕ var 3) (var 2) (var 3)) tt
 
-S-P-signed : (s : Bool) (f : Form) → matS ⊗ (matP ⊗ signed false s f) ≡ signed false s (lower f)
+pub S-P-signed : (s : Bool) (f : Form) → matS ⊗ (matP ⊗ signed false s f) ≡ signed false s (lower f)
 unfolding adj matS matQ matP
 S-P-signed true f = ringM (env f) (const matS ⊛ (const matP ⊛ tailᵉ true)) (signedᵉ false true (var 0) (var 1) (var 2 ⊕ var 0) (var 3 ⊕ var 1)) tt
 S-P-signed false f = ringM (env f) (const matS ⊛ (const matP ⊛ tailᵉ false)) (signedᵉ false false (var 0) (var 1) (var 2 ⊕ var 0) (var 3 ⊕ var 1)) tt
 
-Q-signed : (s : Bool) (f : Form) → matQ ⊗ signed false s f ≡ signed true s (swap (upper f))
+pub Q-signed : (s : Bool) (f : Form) → matQ ⊗ signed false s f ≡ signed true s (swap (upper f))
 unfolding matQ
 Q-signed true f = ringM (env f) (const matQ ⊛ tailᵉ true) (signedᵉ true true (var 2) (var 3) (var 0 ⊕ var 2) (var 1 ⊕ var 3)) tt
 Q-signed false f = ringM (env f) (const matQ ⊛ tailᵉ false) (signedᵉ true false (var 2) (var 3) (var 0 ⊕ var 2) (var 1 ⊕ var 3)) tt
 
-P-signed : (s : Bool) (f : Form) → matP ⊗ signed false s f ≡ neg (signed true s (swap (lower f)))
+pub P-signed : (s : Bool) (f : Form) → matP ⊗ signed false s f ≡ neg (signed true s (swap (lower f)))
 unfolding adj matQ matP
 P-signed true f = ringM (env f) (const matP ⊛ tailᵉ true) (∼ signedᵉ true true (var 2 ⊕ var 0) (var 3 ⊕ var 1) (var 0) (var 1)) tt
 P-signed false f = ringM (env f) (const matP ⊛ tailᵉ false) (∼ signedᵉ true false (var 2 ⊕ var 0) (var 3 ⊕ var 1) (var 0) (var 1)) tt

@@ -1,7 +1,8 @@
 -- What the cut promises: the other side of each position, the turns within a triangle, and the frames that go with both.
 --
 -- In order: turns (`turn-next`, `turn-last`, `turn-face`, `order-three`); positions that are real (`real-corner`, `real-face`, `real-odd`);
--- the cut (`triangles`), and with it where the edge from infinity to 0 is (`Cutting`, `cutting`).
+-- the cut (`triangles`), and with it where the edge from infinity to 0 is and that corner 0 has the frame of its chord, sign included (`Cutting`,
+-- `cutting`).
 -- Assumes nothing.
 use mathlib.Core.Path.{_≡_, sym, _∙_, ap}
 use mathlib.Core.Bool.{true}
@@ -22,7 +23,7 @@ use Rattle.polygon.specs.Step.{oddAt, real, Real, turnQ}
 use Rattle.polygon.specs.Triangles.{Farey, Triangles}
 use Rattle.polygon.proofs.SymbolFacts.{odd-in}
 use Rattle.polygon.proofs.Edges.{Known, corner, face, known-in, spun, frame-outer, frame-corner, Way, Shut}
-use Rattle.polygon.proofs.Scan.{framed, Whole, whole}
+use Rattle.polygon.proofs.Scan.{Over, framed, Whole, whole}
 use Rattle.polygon.proofs.Triangles.{side-edge, farey}
 
 -- ---- turns
@@ -90,6 +91,7 @@ real-in v t ok p r = elim (place v p) [ inner h ↦ omega arith | outside i e �
 pub record Cutting (v : ℕ) (t : List ℤ) : Type 0 where
   pub frame : ℕ → Mat
   pub cut : Triangles v t frame
+  pub chords : (k : ℕ) → k < v - 1 → Over v t (frame (3 * k))
   pub zero-in : underZero v t < places v
   pub zero-is : frame (underZero v t) ≡ matS
 
@@ -165,6 +167,7 @@ module _ (v : ℕ) (t : List ℤ) (ok : IsSymbol v t) where
   cutting = record {
     frame = framed v t top;
     cut = triangles;
+    chords = λ k h. rw (at (3 * k) k 0 (omega arith) (omega arith) (omega arith)) (w .overs k h);
     zero-in = w .zero .0;
     zero-is = w .zero .1;
   }

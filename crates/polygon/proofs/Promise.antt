@@ -40,7 +40,7 @@ use Rattle.polygon.proofs.Steps.{at-corner, at-face, written-S, Beyond,
 
 -- ---- the generators about an edge: n x m⁻¹ takes m to n x
 
-carried-own : (n x m : Mat) → det m ≡ pos 1 → carried n x m ⊗ m ≡ n ⊗ x
+pub carried-own : (n x m : Mat) → det m ≡ pos 1 → carried n x m ⊗ m ≡ n ⊗ x
 carried-own n x m d = ⊗-assoc (n ⊗ x) (adj m) m ∙ ap (λ (k : Mat). n ⊗ x ⊗ k) (adj-⊗ m d) ∙ ⊗-idr (n ⊗ x)
 
 -- f is the other side of m
@@ -60,10 +60,10 @@ module _ (v : ℕ) (t : List ℤ) where
   one-letter : (z : ℤ) → valueOf (generators v t) (z ∷ []) ≡ letterOf (generators v t) z
   one-letter z = ⊗-idr (letterOf (generators v t) z)
 
-  forth-is : (i k : ℕ) → Number v t i k → valueOf (generators v t) (forth (generatorNumber v t i)) ≡ generator v t k
+  pub forth-is : (i k : ℕ) → Number v t i k → valueOf (generators v t) (forth (generatorNumber v t i)) ≡ generator v t k
   forth-is i k n = ap (λ (j : ℕ). valueOf (generators v t) (forth j)) (n .number) ∙ one-letter (pos (suc (n .rank))) ∙ n .is
 
-  back-is : (i k : ℕ) → Number v t i k → valueOf (generators v t) (back (generatorNumber v t i)) ≡ adj (generator v t k)
+  pub back-is : (i k : ℕ) → Number v t i k → valueOf (generators v t) (back (generatorNumber v t i)) ≡ adj (generator v t k)
   back-is i k n = ap (λ (j : ℕ). valueOf (generators v t) (back j)) (n .number) ∙ one-letter (negsuc (n .rank)) ∙ ap adj (n .is)
 
   forth-word : (i k : ℕ) → Number v t i k → IsWord (length (generators v t)) (forth (generatorNumber v t i))
@@ -74,13 +74,13 @@ module _ (v : ℕ) (t : List ℤ) where
 
   -- ---- generators by the kind of their side
 
-  generator-even : (i : ℕ) → pairingAt v t i ≡ Even → generator v t i ≡ carried (frameAt v t i) matS (frameAt v t i)
+  pub generator-even : (i : ℕ) → pairingAt v t i ≡ Even → generator v t i ≡ carried (frameAt v t i) matS (frameAt v t i)
   generator-even i e = ap (λ (k : Pairing). generatorBy k (frameAt v t i) (frameAt v t (partner v t i))) e
 
   generator-odd : (i : ℕ) → pairingAt v t i ≡ Odd → generator v t i ≡ carried (frameAt v t i) matQ (frameAt v t i)
   generator-odd i e = ap (λ (k : Pairing). generatorBy k (frameAt v t i) (frameAt v t (partner v t i))) e
 
-  generator-free : (i l : ℕ) → pairingAt v t i ≡ Free l → generator v t i ≡ carried (frameAt v t (partner v t i)) matS (frameAt v t i)
+  pub generator-free : (i l : ℕ) → pairingAt v t i ≡ Free l → generator v t i ≡ carried (frameAt v t (partner v t i)) matS (frameAt v t i)
   generator-free i l e = ap (λ (k : Pairing). generatorBy k (frameAt v t i) (frameAt v t (partner v t i))) e
 
   module _ (ok : IsSymbol v t) where
@@ -150,30 +150,30 @@ module _ (v : ℕ) (t : List ℤ) where
 
       -- ---- Q and P
 
-      silent-Q : (p : ℕ) → p < corners v → written v t Q p ≡ []
+      pub silent-Q : (p : ℕ) → p < corners v → written v t Q p ≡ []
       unfolding written
       silent-Q p h = at-corner v t p (λ i. forth (generatorNumber v t i)) h
 
-      silent-P : (p : ℕ) → p < corners v → written v t P p ≡ []
+      pub silent-P : (p : ℕ) → p < corners v → written v t P p ≡ []
       unfolding written
       silent-P p h = at-corner v t p (λ i. back (generatorNumber v t i)) h
 
-      written-Q : (p i : ℕ) → p ≡ outer v i → written v t Q p ≡ forth (generatorNumber v t i)
+      pub written-Q : (p i : ℕ) → p ≡ outer v i → written v t Q p ≡ forth (generatorNumber v t i)
       unfolding written
       written-Q p i e = at-face v t p i (λ i. forth (generatorNumber v t i)) e
 
-      written-P : (p i : ℕ) → p ≡ outer v i → written v t P p ≡ back (generatorNumber v t i)
+      pub written-P : (p i : ℕ) → p ≡ outer v i → written v t P p ≡ back (generatorNumber v t i)
       unfolding written
       written-P p i e = at-face v t p i (λ i. back (generatorNumber v t i)) e
 
       odd-pairing : (i : ℕ) → oddAt v t i ≡ true → pairingAt v t i ≡ Odd
       odd-pairing i o = elim (kind v t ok i (odd-in v t ok i o)) [ even k n ↦ clash o n | odd k n ↦ k | free l k n m ↦ clash o n ]
 
-      number-face : (p i : ℕ) → p ≡ outer v i → Real v t p → Number v t i i
+      pub number-face : (p i : ℕ) → p ≡ outer v i → Real v t p → Number v t i i
       number-face p i e r = let o = real-odd v t p i e r in number-odd v t i (odd-in v t ok i o) (odd-pairing i o)
 
       -- at an odd face with frame m the generator takes m to m Q
-      odd-face : (p i : ℕ) → p ≡ outer v i → Real v t p → (det (generator v t i) ≡ pos 1) × (generator v t i ⊗ C .frame p ≡ C .frame p ⊗ matQ)
+      pub odd-face : (p i : ℕ) → p ≡ outer v i → Real v t p → (det (generator v t i) ≡ pos 1) × (generator v t i ⊗ C .frame p ≡ C .frame p ⊗ matQ)
       odd-face p i e r =
           let o = real-odd v t p i e r in
           let h = odd-in v t ok i o in (
@@ -188,7 +188,7 @@ module _ (v : ℕ) (t : List ℤ) where
         | outside i e ↦ rw (written-Q p i e, forth-is i i (number-face p i e r), turn-face v p (omega arith)) (inl (sym (odd-face p i e r .1)))
       ]
 
-      twice-Q : (p : ℕ) → Real v t p → p < corners v → C .frame p ⊗ matP ≡ C .frame (turnQ v (turnQ v p))
+      pub twice-Q : (p : ℕ) → Real v t p → p < corners v → C .frame p ⊗ matP ≡ C .frame (turnQ v (turnQ v p))
       twice-Q p r h = go (place v (turnQ v p))
         where
           go : Place v (turnQ v p) → C .frame p ⊗ matP ≡ C .frame (turnQ v (turnQ v p))
