@@ -1,6 +1,7 @@
--- THE THEOREM on the numbered right cosets of a condition: `cosets-are`.
+-- THE THEOREM on the numbered right cosets of a condition: `places-cosets`, for any points that are places of the matrices, with any maps that
+-- are steps by S and R among them; and `cosets-are`, where the condition is decided and the points are the numbers of a transversal.
 --
--- In order: the maps, and that every point is reached; words in the tables; the theorem.
+-- In order: the maps, and that every point is reached; words in the tables; the theorem; the condition that is decided.
 -- Not here: the place of a matrix, and words followed among the places (proofs/Place.antt).
 -- Assumes nothing.
 use mathlib.Core.Path.{_≡_, refl, sym, _∙_, ap}
@@ -29,43 +30,23 @@ use Rattle.coset.specs.Theorem.{byTableQ, leads, Led}
 use Rattle.congruence.specs.Cosets.{CosetsOf}
 use Rattle.congruence.proofs.Place.{place, byS, byR, byQ, adj-𝟙, det-R, Places, places}
 
--- ---- the cosets by number, and the tables
-
-module _ (meets : Mat → Bool) (n : ℕ) (rep : ℕ → Mat) where
-  abbrev pub order : List ℕ
-  order = orderOf (byS meets n rep) (byR meets n rep) (place meets n rep 𝟙) n
-
-  unfoldable pub tableS : List ℕ
-  tableS = renamed order (byS meets n rep)
-
-  unfoldable pub tableR : List ℕ
-  tableR = renamed order (byR meets n rep)
-
-module _ {C : Mat → Type 0} (c : Condition C) {meets : Mat → Bool} (decides : Decides C meets) {n : ℕ} {rep : ℕ → Mat} (t : Transversal Everything C n rep) where
-  abbrev pl : Mat → ℕ
-  pl = place meets n rep
-
-  abbrev σ : ℕ → ℕ
-  σ = byS meets n rep
-
-  abbrev ρ : ℕ → ℕ
-  ρ = byR meets n rep
+module _ {C : Mat → Type 0} {n : ℕ} {rep : ℕ → Mat} {pl : Mat → ℕ} {σ ρ : ℕ → ℕ} (all : Places C n rep pl σ ρ) where
+  open Places all using (unit-rep, place-rep, place-low, place-same, same-place, σ-is, ρ-is, word-is, σσ, ρρρ)
 
   abbrev κ : ℕ → ℕ
   κ = byQ σ ρ
-
-  all : Places C n rep pl σ ρ
-  all = places c decides t
-
-  open Places all using (unit-rep, place-rep, place-low, place-same, same-place, σ-is, ρ-is, word-is, σσ, ρρρ)
 
   -- ---- the maps; every point is reached
 
   maps : Maps σ ρ (pl 𝟙) n
   maps = record {
     start-low = place-low 𝟙 det-𝟙;
-    σ-low = λ x h. place-low (rep x ⊗ matS) (det-one (rep x) matS (unit-rep x h) (det-letter S));
-    ρ-low = λ x h. place-low (rep x ⊗ matR) (det-one (rep x) matR (unit-rep x h) det-R);
+    σ-low = λ x h.
+        let u = unit-rep x h in
+        rw (ap σ (sym (place-rep x h)) ∙ σ-is (rep x) u) (place-low (rep x ⊗ matS) (det-one (rep x) matS u (det-letter S)));
+    ρ-low = λ x h.
+        let u = unit-rep x h in
+        rw (ap ρ (sym (place-rep x h)) ∙ ρ-is (rep x) u) (place-low (rep x ⊗ matR) (det-one (rep x) matR u det-R));
   }
 
   word-reached : (l : List Letter) (x : ℕ) → Reached σ ρ (pl 𝟙) x → Reached σ ρ (pl 𝟙) (action.run σ κ x l)
@@ -75,7 +56,7 @@ module _ {C : Mat → Type 0} (c : Condition C) {meets : Mat → Bool} (decides 
   word-reached (P ∷ l) x r = word-reached l (κ (κ x)) (by-σ (by-ρ (by-ρ (by-σ (by-σ (by-ρ (by-ρ (by-σ r))))))))
 
   abbrev list : List ℕ
-  list = order meets n rep
+  list = orderOf σ ρ (pl 𝟙) n
 
   numbers : Numbering σ ρ (pl 𝟙) n list
   numbers = numbering σ ρ (pl 𝟙) n maps
@@ -89,20 +70,18 @@ module _ {C : Mat → Type 0} (c : Condition C) {meets : Mat → Bool} (decides 
   -- ---- words in the tables
 
   abbrev s : List ℕ
-  s = tableS meets n rep
+  s = renamed list σ
 
   abbrev r : List ℕ
-  r = tableR meets n rep
+  r = renamed list ρ
 
   abbrev number : ℕ → ℕ
   number x = find list x
 
   natural-S : Natural list σ s
-  unfolding tableS
   natural-S = renaming σ ρ (pl 𝟙) n maps .S
 
   natural-R : Natural list ρ r
-  unfolding tableR
   natural-R = renaming σ ρ (pl 𝟙) n maps .R
 
   q-step : (x : ℕ) → x < n → byTableQ s r (number x) ≡ number (κ x)
@@ -132,7 +111,7 @@ module _ {C : Mat → Type 0} (c : Condition C) {meets : Mat → Bool} (decides 
   zero-is : number (pl 𝟙) ≡ 0
   zero-is = ap number (sym (numbers .first)) ∙ numbers .once .place 0 (numbers .some)
 
-  pub leads-is : (m : Mat) → Unit m → leads s r m ≡ number (pl m)
+  leads-is : (m : Mat) → Unit m → leads s r m ≡ number (pl m)
   unfolding action.at
   leads-is m u =
       ap (λ (z : ℕ). action.run (imageAt s) (byTableQ s r) z (wordOf m)) (sym zero-is)
@@ -201,11 +180,10 @@ module _ {C : Mat → Type 0} (c : Condition C) {meets : Mat → Bool} (decides 
       record { matrix = rep x; unit = u; is = leads-is (rep x) u ∙ ap number (place-rep x (entry-low j h)) ∙ number-entry j h }
 
   in-order : orderOf (imageAt s) (imageAt r) 0 n ≡ upTo n
-  unfolding tableS tableR
   in-order = rw size-is at (numbered σ ρ (pl 𝟙) n maps)
 
-  pub cosets-are : CosetsOf C n (tableS meets n rep) (tableR meets n rep)
-  cosets-are = record {
+  pub places-cosets : CosetsOf C n (renamed (orderOf σ ρ (pl 𝟙) n) σ) (renamed (orderOf σ ρ (pl 𝟙) n) ρ)
+  places-cosets = record {
     size-S = natural-S .long ∙ size-is;
     size-R = natural-R .long ∙ size-is;
     permutes-S = permutes list σ s (numbers .once) natural-S injective-S;
@@ -220,3 +198,20 @@ module _ {C : Mat → Type 0} (c : Condition C) {meets : Mat → Bool} (decides 
     reached = all-led;
     numbered = in-order;
   }
+
+-- ---- the cosets of a condition that is decided, by number, and the tables
+
+module _ (meets : Mat → Bool) (n : ℕ) (rep : ℕ → Mat) where
+  abbrev pub order : List ℕ
+  order = orderOf (byS meets n rep) (byR meets n rep) (place meets n rep 𝟙) n
+
+  unfoldable pub tableS : List ℕ
+  tableS = renamed order (byS meets n rep)
+
+  unfoldable pub tableR : List ℕ
+  tableR = renamed order (byR meets n rep)
+
+module _ {C : Mat → Type 0} (c : Condition C) {meets : Mat → Bool} (decides : Decides C meets) {n : ℕ} {rep : ℕ → Mat} (t : Transversal Everything C n rep) where
+  pub cosets-are : CosetsOf C n (tableS meets n rep) (tableR meets n rep)
+  unfolding tableS tableR
+  cosets-are = places-cosets (places c decides t)

@@ -1,4 +1,5 @@
--- The tables of a symbol are those of the right cosets of its subgroup, numbered by the rule: `symbol-cosets`.
+-- The tables of a symbol are those of the right cosets of its subgroup, numbered by the rule: `subgroup-cosets`, of any
+-- tables that say what a symbol's do, and `symbol-cosets`.
 -- In order: two matrices are in one coset exactly where m l⁻¹ is in the subgroup (`from-coset`, `to-coset`); in the tables the sign of a matrix
 -- doesn't show (`sign-leads`), so S twice and R three times move nothing; the law. And the same tables stand where the subgroup is the same (`cosets-as`).
 -- Assumes nothing.
@@ -33,10 +34,10 @@ module _ (gens : List Mat) (l m : Mat) (u : Unit l) where
   away : m ⊗ adj l ⊗ l ≡ m
   away = ⊗-assoc m (adj l) l ∙ ap (λ (x : Mat). m ⊗ x) (adj-⊗ l u) ∙ ⊗-idr m
 
-  from-coset : SameCoset gens l m → InH gens (m ⊗ adj l)
+  pub from-coset : SameCoset gens l m → InH gens (m ⊗ adj l)
   from-coset c = record { word = c .word; letters = c .letters; is = ≈-sym (rw (over (valueOf gens (c .word))) at (≈-right (adj l) (c .is))) }
 
-  to-coset : InH gens (m ⊗ adj l) → SameCoset gens l m
+  pub to-coset : InH gens (m ⊗ adj l) → SameCoset gens l m
   to-coset h = record { word = h .word; letters = h .letters; is = ≈-sym (rw away at (≈-right l (h .is))) }
 
 -- ---- the relations
@@ -57,18 +58,9 @@ thrice-R m =
 
 -- ---- the tables of a symbol
 
-module _ (v : ℕ) (t : List ℤ) (ok : IsSymbol v t) where
+module _ (v : ℕ) (t : List ℤ) {s r u : List ℕ} (c : Cosets v t s r u) where
   abbrev gens : List Mat
   gens = generators v t
-
-  abbrev s : List ℕ
-  s = tableS v t
-
-  abbrev r : List ℕ
-  r = tableR v t
-
-  c : Cosets v t s r (tableT v t)
-  c = meaning ok .cosets
 
   unit-S : (m : Mat) → Unit m → Unit (m ⊗ matS)
   unit-S m u = det-one m matS u (det-letter S)
@@ -101,8 +93,8 @@ module _ (v : ℕ) (t : List ℤ) (ok : IsSymbol v t) where
       let e = one-coset m 𝟙 u det-𝟙 in
       (λ h. rw (adj-𝟙 m) at (e .0 (h ∙ sym (c .zero))), λ h. e .1 (rw (adj-𝟙 m) h) ∙ c .zero)
 
-  pub symbol-cosets : CosetsOf (InH gens) (indexOf v t) s r
-  symbol-cosets = record {
+  pub subgroup-cosets : CosetsOf (InH (generators v t)) (indexOf v t) s r
+  subgroup-cosets = record {
     size-S = c .size-S;
     size-R = c .size-R;
     permutes-S = c .permutations .S;
@@ -117,6 +109,9 @@ module _ (v : ℕ) (t : List ℤ) (ok : IsSymbol v t) where
     reached = c .reached;
     numbered = c .numbered;
   }
+
+pub symbol-cosets : (v : ℕ) (t : List ℤ) → IsSymbol v t → CosetsOf (InH (generators v t)) (indexOf v t) (tableS v t) (tableR v t)
+symbol-cosets v t ok = subgroup-cosets v t (meaning ok .cosets)
 
 -- ---- the same tables, where the subgroup is the same
 
