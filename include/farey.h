@@ -1,5 +1,9 @@
 /* The Farey symbol engine: finite index subgroups of PSL2(Z) from C.
  *
+ * MATRICES COUNT UP TO SIGN, as in PSL2(Z). Whoever works in SL2(Z), where B and -B are two matrices, takes farey_signed_query for
+ * farey_query, farey_named_signed_query for farey_named_query and farey_named_signed_query_wide for farey_named_query_wide: the same word,
+ * with the sign that tells which of the two it gives.
+ *
  * Link with libengine.a, or with libfarey.so (./farey library), on x86-64 Linux. The code of every function below is proved to do what
  * its comment says, and is then compiled (docs/HANDBOOK.md says what is assumed there), for every input that keeps these rules of C's
  * side, which nothing can check:
@@ -115,12 +119,19 @@ uint64_t farey_import(const uint32_t *s, size_t s_len, const uint32_t *r, size_t
 uint64_t farey_import_wide(const uint32_t *s, size_t s_len, const uint32_t *r, size_t r_len, uint16_t *work, size_t work_len, int64_t *out,
                            size_t out_len, size_t *place);
 
-/* A word in the generators that takes A to B, up to sign: the product of its letters from left to right, times A, is B or -B. a and b
- * point to four numbers each. Letter j is generator j, -j its inverse. The word stands in out from the place `start` on. A word is
- * found exactly when there is such a product, of whatever length; 10 says that there is none. Refused: 1 to 7, then 8, then 9, A before
- * B under each, then 11 for work, then 10, then 11 for out, with the word's true length. Count: how many letters. */
+/* A word in the generators that takes A to B, UP TO SIGN: the product of its letters from left to right, times A, is B or -B, and the
+ * answer doesn't tell which; farey_signed_query does. a and b point to four numbers each. Letter j is generator j, -j its inverse. The word
+ * stands in out from the place `start` on. A word is found exactly when there is such a product, of whatever length; 10 says that there is
+ * none. Refused: 1 to 7, then 8, then 9, A before B under each, then 11 for work, then 10, then 11 for out, with the word's true length.
+ * Count: how many letters. */
 uint64_t farey_query(size_t v, const int64_t *t, size_t t_len, const int64_t *a, const int64_t *b, uint16_t *work, size_t work_len,
                      int16_t *out, size_t out_len, size_t start, size_t *place);
+
+/* The same word, number and count, WITH THE SIGN, for SL2(Z): where it returns 0 it writes 1 or -1 to *sign, and the product of the word's
+ * letters times A is that number times B, exactly, with the generators as farey_generators gives them. Whether a word exists is judged up
+ * to sign, as by farey_query: a word for B is one for -B, with the other sign. Where it refuses, *sign is as it was. */
+uint64_t farey_signed_query(size_t v, const int64_t *t, size_t t_len, const int64_t *a, const int64_t *b, uint16_t *work, size_t work_len,
+                            int16_t *out, size_t out_len, size_t start, int64_t *sign, size_t *place);
 
 /* Whether two symbols generate the same subgroup: yes precisely when every generator of each is, up to sign, a word in the other's generators and
  * inverses. So two symbols of one group are the same, whatever their vertices are, and symbols that differ in their free labels alone are. Refused:
@@ -143,16 +154,24 @@ uint64_t farey_named_symbol(uint64_t family, uint64_t n, uint16_t *work, size_t 
 uint64_t farey_named_symbol_wide(uint64_t family, uint64_t n, uint16_t *work, size_t work_len, int64_t *out, size_t out_len,
                                  size_t *place);
 
-/* A word that takes A to B, as by farey_query on the symbol of farey_named_symbol: the letters are those of its generators, and the word
- * stands in out from the place `start` on. Unless it is refused before 10, a word is found exactly when B A^-1 meets the condition.
- * Refused: 20, 21, then 8, then 9, A before B under each, then 11 for work, then 16, then 10, then 11 for out, with the word's true
- * length. Count: how many letters. */
+/* A word that takes A to B, up to sign, as by farey_query on the symbol of farey_named_symbol: the letters are those of its generators, and
+ * the word stands in out from the place `start` on. Unless it is refused before 10, a word is found exactly when B A^-1 meets the
+ * condition. Refused: 20, 21, then 8, then 9, A before B under each, then 11 for work, then 16, then 10, then 11 for out, with the word's
+ * true length. Count: how many letters. */
 uint64_t farey_named_query(uint64_t family, uint64_t n, const int64_t *a, const int64_t *b, uint16_t *work, size_t work_len,
                            int16_t *out, size_t out_len, size_t start, size_t *place);
 
 /* The same on the symbol of farey_named_symbol_wide. */
 uint64_t farey_named_query_wide(uint64_t family, uint64_t n, const int64_t *a, const int64_t *b, uint16_t *work, size_t work_len,
                                 int16_t *out, size_t out_len, size_t start, size_t *place);
+
+/* The word of farey_named_query with its sign: *sign as after farey_signed_query. */
+uint64_t farey_named_signed_query(uint64_t family, uint64_t n, const int64_t *a, const int64_t *b, uint16_t *work, size_t work_len,
+                                  int16_t *out, size_t out_len, size_t start, int64_t *sign, size_t *place);
+
+/* The word of farey_named_query_wide with its sign. */
+uint64_t farey_named_signed_query_wide(uint64_t family, uint64_t n, const int64_t *a, const int64_t *b, uint16_t *work, size_t work_len,
+                                       int16_t *out, size_t out_len, size_t start, int64_t *sign, size_t *place);
 
 #ifdef __cplusplus
 }

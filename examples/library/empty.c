@@ -15,12 +15,18 @@ static void say(const char *call, uint64_t number, size_t place)
     printf("%s: %" PRIu64 " %zu\n", call, number, place);
 }
 
+/* With what stands at the sign. */
+static void say_signed(const char *call, uint64_t number, size_t place, int64_t sign)
+{
+    printf("%s: %" PRIu64 " %zu, sign %" PRId64 "\n", call, number, place, sign);
+}
+
 int main(void)
 {
     static const int64_t t[7] = {0, 1, 1, 1, 1, -2, 1};
     static const uint32_t s[3] = {1, 0, 2}, r[3] = {2, 0, 1};
-    static const int64_t one[4] = {1, 0, 0, 1}, lower[4] = {1, 0, 2, 1};
-    int64_t generators[10], table[7];
+    static const int64_t one[4] = {1, 0, 0, 1}, lower[4] = {1, 0, 2, 1}, minus[4] = {-1, 0, 0, -1};
+    int64_t generators[10], table[7], sign = 77;
     uint32_t columns[3][3];
     uint64_t figures[8];
     size_t place = 99;
@@ -65,6 +71,12 @@ int main(void)
     say("named query without work", number, place);
     number = farey_named_query_wide(FAREY_GAMMA0, 2, one, one, NULL, 0, NULL, 0, 0, &place);
     say("wide named query without work", number, place);
+    number = farey_signed_query(2, t, 7, one, one, NULL, 0, NULL, 0, 0, &sign, &place);
+    say_signed("signed query without work", number, place, sign);
+    number = farey_named_signed_query(FAREY_GAMMA0, 2, one, one, NULL, 0, NULL, 0, 0, &sign, &place);
+    say_signed("named signed query without work", number, place, sign);
+    number = farey_named_signed_query_wide(FAREY_GAMMA0, 2, one, one, NULL, 0, NULL, 0, 0, &sign, &place);
+    say_signed("wide named signed query without work", number, place, sign);
 
     /* No result space: the length that is needed. */
     number = farey_generators(2, t, 7, work, FAREY_WORK, NULL, 0, &place);
@@ -91,6 +103,12 @@ int main(void)
     say("named query without room", number, place);
     number = farey_named_query_wide(FAREY_GAMMA0, 2, one, lower, work, FAREY_WORK, NULL, 0, 0, &place);
     say("wide named query without room", number, place);
+    number = farey_signed_query(2, t, 7, one, lower, work, FAREY_WORK, NULL, 0, 0, &sign, &place);
+    say_signed("signed query without room", number, place, sign);
+    number = farey_named_signed_query(FAREY_GAMMA0, 2, one, lower, work, FAREY_WORK, NULL, 0, 0, &sign, &place);
+    say_signed("named signed query without room", number, place, sign);
+    number = farey_named_signed_query_wide(FAREY_GAMMA0, 2, one, lower, work, FAREY_WORK, NULL, 0, 0, &sign, &place);
+    say_signed("wide named signed query without room", number, place, sign);
 
     /* The empty word needs none, from the place 0 on. */
     number = farey_query(2, t, 7, one, one, work, FAREY_WORK, NULL, 0, 0, &place);
@@ -101,5 +119,15 @@ int main(void)
     say("empty word by name", number, place);
     number = farey_named_query_wide(FAREY_GAMMA0, 2, one, one, work, FAREY_WORK, NULL, 0, 1, &place);
     say("empty word by name past the end", number, place);
+    number = farey_signed_query(2, t, 7, one, one, work, FAREY_WORK, NULL, 0, 1, &sign, &place);
+    say_signed("signed empty word past the end", number, place, sign);
+    number = farey_signed_query(2, t, 7, one, one, work, FAREY_WORK, NULL, 0, 0, &sign, &place);
+    say_signed("signed empty word", number, place, sign);
+    number = farey_signed_query(2, t, 7, one, minus, work, FAREY_WORK, NULL, 0, 0, &sign, &place);
+    say_signed("signed empty word to -1", number, place, sign);
+    number = farey_named_signed_query(FAREY_GAMMA0, 2, minus, minus, work, FAREY_WORK, NULL, 0, 0, &sign, &place);
+    say_signed("signed empty word by name", number, place, sign);
+    number = farey_named_signed_query_wide(FAREY_GAMMA0, 2, minus, one, work, FAREY_WORK, NULL, 0, 0, &sign, &place);
+    say_signed("wide signed empty word by name from -1", number, place, sign);
     return 0;
 }

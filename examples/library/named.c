@@ -48,9 +48,22 @@ static void letters(const char *name, uint64_t number, size_t place)
         printf("\n");
 }
 
+/* The same with the word's sign before the letters. */
+static void signed_letters(const char *name, uint64_t number, int64_t sign, size_t place)
+{
+    size_t count = counted(name, number, place);
+    if (number == 0)
+        printf(" %c", sign == 1 ? '+' : '-');
+    for (size_t i = 0; i < count; i++)
+        printf(" %d", word[i]);
+    if (number == 0)
+        printf("\n");
+}
+
 int main(void)
 {
-    static const int64_t one[4] = {1, 0, 0, 1}, lower[4] = {1, 0, 11, 1}, turn[4] = {0, -1, 1, 0};
+    static const int64_t one[4] = {1, 0, 0, 1}, lower[4] = {1, 0, 11, 1}, turn[4] = {0, -1, 1, 0}, negative[4] = {-1, 0, -11, -1};
+    int64_t sign = 0;
     size_t place;
     uint64_t number;
 
@@ -69,6 +82,11 @@ int main(void)
     letters("word", number, place);
     number = farey_named_query_wide(FAREY_GAMMA0, 11, one, lower, work, FAREY_WORK, word, 16, 0, &place);
     letters("wide word", number, place);
+    /* With the sign: the word's product is (1 0; 11 1) or its negative. */
+    number = farey_named_signed_query(FAREY_GAMMA0, 11, one, lower, work, FAREY_WORK, word, 16, 0, &sign, &place);
+    signed_letters("signed word", number, sign, place);
+    number = farey_named_signed_query_wide(FAREY_GAMMA0, 11, one, negative, work, FAREY_WORK, word, 16, 0, &sign, &place);
+    signed_letters("wide signed word to the negative", number, sign, place);
     number = farey_named_query(FAREY_GAMMA0, 11, one, turn, work, FAREY_WORK, word, 16, 0, &place);
     letters("no word", number, place);
     number = farey_named_query_wide(FAREY_GAMMA1, 11, one, lower, work, FAREY_WORK, word, 1, 0, &place);

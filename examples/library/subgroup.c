@@ -7,13 +7,14 @@
 #include <inttypes.h>
 #include <stdio.h>
 #include <stdlib.h>
+#include <string.h>
 #include "farey.h"
 
 static uint16_t work[FAREY_WORK];
 static int64_t table[FAREY_TABLE], leftmost[FAREY_TABLE];
 static int64_t generators[FAREY_GENERATORS];
 static uint32_t widths[FAREY_COSETS], s[FAREY_COSETS], r[FAREY_COSETS], t[FAREY_COSETS];
-static int16_t word[16];
+static int16_t word[16], unsigned_word[16];
 
 /* Ends the program where a call is refused. */
 static void expect(uint64_t number, const size_t *place)
@@ -32,17 +33,24 @@ static void line(const char *name, const uint32_t *numbers, size_t count)
     printf("\n");
 }
 
-/* The word that carries A to B, or that there is none. */
+/* The word that carries A to B, with the sign that tells whether it gives B or -B; or that there is none. The call without the sign gives the
+ * same word. */
 static void ask(size_t v, const int64_t *a, const int64_t *b)
 {
-    size_t place;
-    uint64_t number = farey_query(v, table, 3 * v + 1, a, b, work, FAREY_WORK, word, 16, 0, &place);
+    size_t place, letters;
+    int64_t sign;
+    uint64_t number = farey_signed_query(v, table, 3 * v + 1, a, b, work, FAREY_WORK, word, 16, 0, &sign, &place);
     if (number == 10) {
         printf("none\n");
         return;
     }
     expect(number, &place);
-    printf("word");
+    expect(farey_query(v, table, 3 * v + 1, a, b, work, FAREY_WORK, unsigned_word, 16, 0, &letters), &letters);
+    if (letters != place || memcmp(word, unsigned_word, sizeof word) != 0) {
+        printf("two words\n");
+        exit(1);
+    }
+    printf("word %c", sign == 1 ? '+' : '-');
     for (size_t i = 0; i < place; i++)
         printf(" %d", word[i]);
     printf("\n");

@@ -7,7 +7,7 @@
 //! The group has index 7, and no congruence describes it. The output is in
 //! subgroup.output.
 
-use farey::{Kind, Refusal, Symbol};
+use farey::{Kind, Refusal, Symbol, Word};
 
 /// Numbers with a space before each.
 fn spaced<T: ToString>(numbers: &[T]) -> String {
@@ -46,7 +46,11 @@ fn main() -> Result<(), Refusal> {
     );
     for to in [[1, 6, 0, 1], [-17, -12, -24, -17]] {
         match symbol.word([1, 0, 0, 1], to)? {
-            Some(word) => println!("word{}", spaced(&word)),
+            // The word times 1 is the matrix itself, or its negative.
+            Some(Word { sign, letters }) => {
+                let sign = if sign == 1 { '+' } else { '-' };
+                println!("word {sign}{}", spaced(&letters));
+            }
             None => println!("none"),
         }
     }

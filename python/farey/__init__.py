@@ -5,7 +5,7 @@ and gives the results names. The package itself is tested and not proved.
 
 | module     | what it holds                                                   |
 |------------|-----------------------------------------------------------------|
-| `symbol`   | `Symbol`: a symbol and all that can be asked of it              |
+| `symbol`   | `Symbol`: a symbol and all that can be asked of it; `Word`      |
 | `named`    | `named_tables`: S and R of Γ0(N), Γ1(N) and Γ(N)                |
 | `refusal`  | `Refusal`: the exception, with number, place and sentence       |
 | `evidence` | a check, without the engine, of the statement that no word is   |
@@ -30,7 +30,7 @@ without it.
 from . import cycles, evidence
 from .named import named_tables
 from .refusal import Refusal
-from .symbol import Evidence, Generator, Symbol
+from .symbol import Evidence, Generator, Symbol, Word
 from . import systems  # stands on Symbol
 
-__all__ = ["Evidence", "Generator", "Refusal", "Symbol", "cycles", "evidence", "named_tables", "systems"]
+__all__ = ["Evidence", "Generator", "Refusal", "Symbol", "Word", "cycles", "evidence", "named_tables", "systems"]

@@ -35,6 +35,7 @@ NAMED = 3066
 _SYMBOL = [c_size_t, POINTER(c_int64), c_size_t]
 _NAME = [c_uint64, c_uint64]
 _WORK = [POINTER(c_uint16), c_size_t]
+_SIGN = [POINTER(c_int64)]
 _PLACE = [POINTER(c_size_t)]
 
 
@@ -52,12 +53,15 @@ _PARAMETERS = {
     "farey_import": 2 * _space(c_uint32) + _WORK + _space(c_int64) + _PLACE,
     "farey_import_wide": 2 * _space(c_uint32) + _WORK + _space(c_int64) + _PLACE,
     "farey_query": _SYMBOL + 2 * [POINTER(c_int64)] + _WORK + _space(c_int16) + [c_size_t] + _PLACE,
+    "farey_signed_query": _SYMBOL + 2 * [POINTER(c_int64)] + _WORK + _space(c_int16) + [c_size_t] + _SIGN + _PLACE,
     "farey_same": 2 * _SYMBOL + _WORK + _PLACE,
     "farey_named_tables": _NAME + _WORK + 2 * _space(c_uint32) + _PLACE,
     "farey_named_symbol": _NAME + _WORK + _space(c_int64) + _PLACE,
     "farey_named_symbol_wide": _NAME + _WORK + _space(c_int64) + _PLACE,
     "farey_named_query": _NAME + 2 * [POINTER(c_int64)] + _WORK + _space(c_int16) + [c_size_t] + _PLACE,
     "farey_named_query_wide": _NAME + 2 * [POINTER(c_int64)] + _WORK + _space(c_int16) + [c_size_t] + _PLACE,
+    "farey_named_signed_query": _NAME + 2 * [POINTER(c_int64)] + _WORK + _space(c_int16) + [c_size_t] + _SIGN + _PLACE,
+    "farey_named_signed_query_wide": _NAME + 2 * [POINTER(c_int64)] + _WORK + _space(c_int16) + [c_size_t] + _SIGN + _PLACE,
 }
 
 _loaded: Optional[ctypes.CDLL] = None
@@ -141,7 +145,8 @@ def answer(name: str, *arguments: Any) -> Tuple[int, int]:
     """The number that a call returns, and the place or the count that it writes.
 
     An array stands for itself and its length, but for the four entries of a
-    matrix and the eight figures, whose lengths are fixed: these are `Fixed`.
+    matrix, the eight figures and the one sign, whose lengths are fixed: these
+    are `Fixed`.
     """
     place = c_size_t(0)
     passed: List[Any] = []

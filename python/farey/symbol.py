@@ -4,7 +4,7 @@ from __future__ import annotations
 
 import re
 from ctypes import c_int16, c_int64, c_uint32, c_uint64
-from typing import Any, Dict, List, NamedTuple, Optional, Sequence, Tuple
+from typing import Any, Dict, Iterable, List, NamedTuple, Optional, Sequence, Tuple
 
 from . import arguments, library
 from .arguments import Matrix, Vertex, clamped, integers, matrix, shown
@@ -25,6 +25,30 @@ class Generator(NamedTuple):
 
     kind: str
     matrix: Tuple[int, int, int, int]
+
+
+class Word(List[int]):
+    """A word that takes A to B: the list of its letters, and its sign.
+
+    The product of the letters from left to right, times A, is `sign` times B, and
+    `sign` is 1 or -1. In PSL2(Z), where a matrix and its negative are one, the
+    list is all there is to it, and so a word is equal to a list of the same
+    letters, and to another word of the same letters, whatever their signs are;
+    in SL2(Z) look at `sign` too. A part or a copy by `list` is a plain list.
+
+    >>> word = Word([2, 1], -1)
+    >>> word, word.sign, word == [2, 1]
+    ([2, 1], -1, True)
+    """
+
+    __slots__ = ("sign",)
+
+    #: 1 or -1.
+    sign: int
+
+    def __init__(self, letters: Iterable[int] = (), sign: int = 1) -> None:
+        super().__init__(letters)
+        self.sign = sign
 
 
 class Evidence(NamedTuple):
@@ -57,7 +81,8 @@ class Symbol:
     exactly two sides. What isn't a symbol raises a `Refusal`, 1 to 7.
 
     A matrix (a b; c d) is passed as a, b, c, d or as two rows, and counts up to
-    sign. A symbol never changes.
+    sign; the `sign` of a word is the one place where the sign is told. A symbol
+    never changes.
 
     >>> gamma0_2 = Symbol([0, 1], [1, -2, 1])
     >>> gamma0_2.index, gamma0_2.e2, gamma0_2.e3, gamma0_2.cusps, gamma0_2.genus
@@ -288,10 +313,11 @@ class Symbol:
         """For each right coset of H, its image under T = (1 1; 0 1): S and then R."""
         return self._tables()[2]
 
-    def word(self, A: Matrix, B: Matrix) -> Optional[List[int]]:
+    def word(self, A: Matrix, B: Matrix) -> Optional[Word]:
         """A word in the generators that takes A to B: the product of its letters
         from left to right, times A, is B or -B. Letter j is generator j, -j its
-        inverse, and the empty word is the identity.
+        inverse, and the empty word is the identity. It is a list with a `sign`,
+        1 or -1, which tells which of the two: the product is `sign` times B.
 
         None means that there is no such word: no product of generators and
         inverses, of any length, takes A to B up to sign. That the engine
@@ -304,20 +330,23 @@ class Symbol:
         [2, 1]
         >>> gamma0_2.word((1, 0, 0, 1), (-1, 0, 0, -1))
         []
+        >>> to_T, to_minus_T = (gamma0_2.word((1, 0, 0, 1), B) for B in [(1, 1, 0, 1), (-1, -1, 0, -1)])
+        >>> to_T, to_T.sign, to_minus_T, to_minus_T.sign
+        ([1], 1, [1], -1)
         >>> print(gamma0_2.word((1, 0, 0, 1), (0, -1, 1, 0)))
         None
         """
         a, b = matrix(A, "A"), matrix(B, "B")
-        out = (c_int16 * _LETTERS)()
-        number, place = self._query(a, b, out)
+        out, sign = (c_int16 * _LETTERS)(), (c_int64 * 1)()
+        number, place = self._query(a, b, out, sign)
         if number == 11:
             out = (c_int16 * place)()
-            number, place = self._query(a, b, out)
+            number, place = self._query(a, b, out, sign)
         if number == 10:
             return None
         if number != 0:
             raise Refusal(number, place)
-        return out[:place]
+        return Word(out[:place], sign[0])
 
     def why_none(self, A: Matrix, B: Matrix) -> Evidence:
         """Evidence that no word takes A to B, for `farey.evidence.check`: the
@@ -347,7 +376,7 @@ class Symbol:
         farey.refusal.Refusal: refused 9 0: the determinant of M isn't 1
         """
         # 11 is the answer of a word that is found and longer than no space at all
-        number, place = self._query(_IDENTITY, matrix(M, "M"), (c_int16 * 0)())
+        number, place = self._query(_IDENTITY, matrix(M, "M"), (c_int16 * 0)(), (c_int64 * 1)())
         if number == 8:
             raise Refusal(8, place - 4, "entry {place} of M is over 1,000,000 in size")
         if number == 9:
@@ -394,9 +423,9 @@ class Symbol:
             found[name] = ask()
         return found[name]
 
-    def _query(self, a: Tuple[int, ...], b: Tuple[int, ...], out: Any) -> Tuple[int, int]:
+    def _query(self, a: Tuple[int, ...], b: Tuple[int, ...], out: Any, sign: Any) -> Tuple[int, int]:
         spaces = [Fixed((c_int64 * 4)(*clamped(entries, _LOW, _HIGH, _HIGH))) for entries in (a, b)]
-        return library.answer("farey_query", self._v, self._space, *spaces, library.work(), out, 0)
+        return library.answer("farey_signed_query", self._v, self._space, *spaces, library.work(), out, 0, Fixed(sign))
 
     def _figures(self) -> Tuple[int, ...]:
         def ask() -> Tuple[int, ...]:

@@ -35,6 +35,10 @@ def negative(matrix):
     return tuple(-entry for entry in matrix)
 
 
+def times(number, matrix):
+    return tuple(number * entry for entry in matrix)
+
+
 def alike(left, right):
     """Whether two matrices are equal up to sign."""
     return tuple(left) in (tuple(right), negative(right))

@@ -46,9 +46,9 @@ class Recorder:
                 recorder.takes(("named tables", family, N))
                 return loaded.farey_named_tables(family, N, *rest)
 
-            def farey_query(self, v, t, t_len, a, b, *rest):
+            def farey_signed_query(self, v, t, t_len, a, b, *rest):
                 recorder.takes(("query", tuple(t[:t_len]), tuple(a), tuple(b)))
-                return loaded.farey_query(v, t, t_len, a, b, *rest)
+                return loaded.farey_signed_query(v, t, t_len, a, b, *rest)
 
             def farey_tables(self, v, t, t_len, *rest):
                 recorder.takes(("tables", tuple(t[:t_len])))

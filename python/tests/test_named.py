@@ -110,7 +110,7 @@ class Named(unittest.TestCase):
                     word = H.word(A, B)
                     self.assertEqual(word is not None, expected)
                     if word is not None:
-                        self.assertTrue(by_hand.alike(by_hand.product(by_hand.value(word, matrices), A), B))
+                        self.assertEqual(by_hand.product(by_hand.value(word, matrices), A), by_hand.times(word.sign, B))
                     met[expected] += 1
         self.assertGreater(min(met.values()), 100, met)
 

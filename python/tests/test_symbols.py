@@ -1,6 +1,7 @@
 """Symbols: figures, generators, tables, words, membership, sameness, texts."""
 
 import copy
+import json
 import math
 import pickle
 import subprocess
@@ -9,7 +10,7 @@ from fractions import Fraction
 from numbers import Rational
 from unittest import mock
 
-from farey import Generator, Refusal, Symbol
+from farey import Generator, Refusal, Symbol, Word
 
 from . import reckoning as by_hand
 
@@ -73,7 +74,7 @@ class StoredSymbols(unittest.TestCase):
                     word = H.word(A, B)
                     self.assertEqual(word is not None, expected)
                     if word is not None:
-                        self.assertTrue(by_hand.alike(by_hand.product(by_hand.value(word, matrices), A), B))
+                        self.assertEqual(by_hand.product(by_hand.value(word, matrices), A), by_hand.times(word.sign, B))
                     met[expected] += 1
         self.assertGreater(min(met.values()), 100)
 
@@ -110,7 +111,7 @@ class Permutations(unittest.TestCase):
                     word = H.word(by_hand.I, X)
                     self.assertEqual(word is not None, expected)
                     if word is not None:
-                        self.assertTrue(by_hand.alike(by_hand.value(word, matrices), X))
+                        self.assertEqual(by_hand.value(word, matrices), by_hand.times(word.sign, X))
                     met[expected] += 1
         self.assertGreater(min(met.values()), 100)
 
@@ -170,6 +171,69 @@ class Words(unittest.TestCase):
         self.assertEqual(H.word(by_hand.I, (-1, 0, 0, -1)), [])
         self.assertIsNone(H.word(by_hand.I, by_hand.S))
         self.assertEqual(Symbol([0], [-2, -3]).word(by_hand.I, by_hand.S), [1])
+
+    def test_signs(self):
+        """I to -T in Γ0(2) is the word 1 with a minus, I to -I the empty word with a minus."""
+        H = Symbol(*GAMMA0_2)
+        minus = by_hand.negative(by_hand.I)
+        for A, B, letters, sign in (
+            (by_hand.I, by_hand.T, [1], 1),
+            (by_hand.I, by_hand.negative(by_hand.T), [1], -1),
+            (minus, by_hand.T, [1], -1),
+            (minus, by_hand.negative(by_hand.T), [1], 1),
+            (by_hand.I, by_hand.I, [], 1),
+            (by_hand.I, minus, [], -1),
+            (by_hand.I, (1, 0, 2, 1), [2, 1], 1),
+            (by_hand.S, (1, -1, 1, 0), [1], 1),
+            # the square of an even generator is -1
+            (by_hand.I, (1, -1, 2, -1), [2], 1),
+            ((1, -1, 2, -1), by_hand.I, [2], -1),
+        ):
+            with self.subTest(A=A, B=B):
+                word = H.word(A, B)
+                self.assertEqual((word, word.sign), (letters, sign))
+                self.assertIs(type(word.sign), int)
+
+    def test_signs_of_all_small_matrices(self):
+        """Every pair of I with a matrix of small entries, in groups with each kind of last side: the product is the sign times B, in whole numbers."""
+        met = {1: 0, -1: 0}
+        for vertices, pairings in (
+            GAMMA0_2,
+            ([-1, 0], [1, -2, 1]),
+            ([-1, 0], [1, 1, -2]),
+            ([-1, 0], [1, 1, -3]),
+            ([-1, 0], [-3, -2, -2]),
+            ([0], [-2, -3]),
+            ([0], [-3, -2]),
+            ([0], [-3, -3]),
+            ([0, 1, 2], [1, 2, 2, 1]),
+            ([-2, -1, 0], [-3, 1, 1, -2]),
+        ):
+            H = Symbol(vertices, pairings)
+            matrices = [matrix for _, matrix in by_hand.generators_of(H.vertices, list(pairings))]
+            for B in by_hand.small_matrices(3):
+                word = H.word(by_hand.I, B)
+                if word is not None:
+                    self.assertEqual(by_hand.value(word, matrices), by_hand.times(word.sign, B), (vertices, pairings, B))
+                    other = H.word(by_hand.I, by_hand.negative(B))
+                    self.assertEqual((other, other.sign), (word, -word.sign))
+                    met[word.sign] += 1
+        self.assertEqual(met[1], met[-1])
+        self.assertGreater(met[1], 100)
+
+    def test_a_word_is_a_list(self):
+        """It compares, prints, grows, is copied and stored as one; copies keep the sign."""
+        word = Symbol(*GAMMA0_2).word(by_hand.I, (-1, 0, -2, -1))
+        self.assertIsInstance(word, list)
+        self.assertEqual((repr(word), str(word), len(word), word[0], word + [5]), ("[2, 1]", "[2, 1]", 2, 2, [2, 1, 5]))
+        self.assertEqual(json.loads(json.dumps(word)), [2, 1])
+        self.assertTrue(word == [2, 1] and [2, 1] == word and word != [1, 2])
+        self.assertEqual(word.sign, -1)
+        for made in (copy.copy(word), copy.deepcopy(word), *(pickle.loads(pickle.dumps(word, protocol)) for protocol in range(2, 6))):
+            self.assertEqual((type(made), made, made.sign), (Word, [2, 1], -1))
+        self.assertIs(type(word[:]), list)
+        with self.assertRaises(AttributeError):
+            word.signs = 1
 
     def test_long_words(self):
         """T^n has n letters in Γ0(2), more than a query is lent at first."""

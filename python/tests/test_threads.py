@@ -263,7 +263,7 @@ class Threads(unittest.TestCase):
                         (H.e2, H.e3, H.genus, sorted(H.widths)) == (e2, e3, genus, widths),
                         (word is not None) == expected,
                         (X in H) == expected,
-                        word is None or by_hand.alike(by_hand.value(word, matrices), X),
+                        word is None or by_hand.value(word, matrices) == by_hand.times(word.sign, X),
                         H == shared[place],
                     ]
                     if not all(right):

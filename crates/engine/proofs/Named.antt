@@ -1,4 +1,5 @@
--- What the exported calls on groups with names promise, from what their calls promise: `tables-say`, `symbol-says`, `query-named`.
+-- What the exported calls on groups with names promise, from what their calls promise: `tables-say`, `symbol-says`, `query-named`,
+-- `signed-query-named`.
 -- Assumes nothing.
 use mathlib.Core.Path.{_≡_, sym, ap, _∙_, subst}
 use mathlib.Core.List.{List}
@@ -17,10 +18,10 @@ use Rattle.word.specs.Answer.{queryRefusal, wordLeft}
 use Rattle.word.specs.declared.Queried.{Queried}
 use Rattle.named_groups.specs.Group.{familyOf, groupCheck}
 use Rattle.named_groups.specs.Answer.{namedTablesOf, NamedTables, NamedTablesMean, namedRule, namedSymbolBy, NamedSymbol, NamedSymbolMeans, ruledWord, namedQueryBy, namedQueryWork}
-use Rattle.named_groups.specs.Claim.{NamedClaim, NamedQuerySays}
-use Rattle.engine.specs.Exported.{filledPlace, queryPlace}
+use Rattle.named_groups.specs.Claim.{NamedClaim, NamedQuerySays, NamedSignSays}
+use Rattle.engine.specs.Exported.{filledPlace, queryPlace, signWritten}
 use Rattle.engine.proofs.Zero.{named-tables-above, named-symbol-above, zero-means}
-use Rattle.engine.proofs.Said.{named-says}
+use Rattle.engine.proofs.Said.{named-says, named-sign-says}
 
 module _ (k n : ℕ) (w s r w' s' r' : List ℕ) (a : Filled) (number place : ℕ) where
   abbrev tables : Filled
@@ -99,6 +100,35 @@ module _ (order : Order) (k n : ℕ) (a b : List ℤ) (w w' : List ℕ) (o : Lis
         (
           t ∙ ap (λ (x : Queried). wordLeft x (ruledWord (namedRule order k n) a b) o) e,
           (subst (λ (x : Queried). NamedClaim order k n a b w o start x o') e m, named-says m number place i j),
+        ),
+      ),
+    ),
+  )
+
+  pub signed-query-named : r ≡ answer → w' ≡ namedQueryWork k n a b w → o' ≡ wordLeft r (ruledWord (namedRule order k n) a b) o → NamedClaim order k n a b w o start r o'
+      → number ≡ queryRefusal r .number → place ≡ queryPlace r → (x y : ℤ) → x ≡ signWritten r y
+      → (number ≡ queryRefusal answer .number)
+      × ((place ≡ queryPlace answer)
+      × ((w' ≡ namedQueryWork k n a b w)
+      × ((o' ≡ wordLeft answer (ruledWord (namedRule order k n) a b) o)
+      × ((x ≡ signWritten answer y)
+      × (NamedClaim order k n a b w o start answer o'
+      × (NamedQuerySays order k n a b w start number place o' × NamedSignSays order k n a b start number place x o'))))))
+  signed-query-named e p t m i j x y f = (
+    i ∙ ap (λ (x : Queried). queryRefusal x .number) e,
+    (
+      j ∙ ap queryPlace e,
+      (
+        p,
+        (
+          t ∙ ap (λ (x : Queried). wordLeft x (ruledWord (namedRule order k n) a b) o) e,
+          (
+            f ∙ ap (λ (q : Queried). signWritten q y) e,
+            (
+              subst (λ (q : Queried). NamedClaim order k n a b w o start q o') e m,
+              (named-says m number place i j, named-sign-says m number place x y i j f),
+            ),
+          ),
         ),
       ),
     ),

@@ -5,12 +5,14 @@
 --
 --   filledPlace                     place, or how many things were made: generators, cosets, cusps, vertices
 --   queryPlace                      place, or how many letters the word has
+--   signWritten                     the sign of a word, 1 or -1, or what stood there where the call refuses
 --   samenessPlace                   place, or 1 for yes and 0 for no
 --   figureNumber, figureValue       one figure: 0 and its value, or its refusal's number and 0
 --   figuresLeft                     the eight numbers: index, e2, e3, cusps, then number and value of the genus, then of the level; or
 --                                   all as it was
 use mathlib.Core.List.{List, [], _∷_}
 use Prim.Native.Nat.{ℕ}
+use lib.IntN.{ℤ}
 use Rattle.refusal.specs.declared.Filled.{Filled}
 use Rattle.refusal.specs.declared.Filled.the-variants as filled
 use Rattle.sameness.specs.declared.Sameness.{Sameness}
@@ -19,6 +21,7 @@ use Rattle.figures.specs.declared.Figure.{Figure}
 use Rattle.figures.specs.declared.Figure.the-variants as figure
 use Rattle.coset.specs.declared.Figured.{Figured}
 use Rattle.coset.specs.declared.Figured.the-variants as figured
+use Rattle.word.specs.Answer.{signNumber}
 use Rattle.word.specs.declared.Queried.{Queried}
 use Rattle.word.specs.declared.Queried.the-variants as queried
 
@@ -27,8 +30,12 @@ filledPlace (filled.Made n) = n
 filledPlace (filled.Refused f) = f .place
 
 abbrev pub queryPlace : Queried → ℕ
-queryPlace (queried.Word start n) = n
+queryPlace (queried.Word start n sign) = n
 queryPlace (queried.Refused f) = f .place
+
+abbrev pub signWritten : Queried → ℤ → ℤ
+signWritten (queried.Word start n sign) before = signNumber sign
+signWritten (queried.Refused f) before = before
 
 abbrev pub samenessPlace : Sameness → ℕ
 samenessPlace sameness.Yes = 1

@@ -7,8 +7,8 @@ use word::Queried;
 ghost use mathlib.Core.Path.{_≡_};
 ghost use Rattle.refusal.specs.Refusal.{filledRefusal};
 ghost use Rattle.sameness.specs.Same.{samenessRefusal};
-ghost use Rattle.word.specs.Answer.{queryRefusal};
-ghost use Rattle.engine.specs.Exported.{filledPlace, queryPlace, samenessPlace, figureNumber, figureValue};
+ghost use Rattle.word.specs.Answer.{queryRefusal, signNumber};
+ghost use Rattle.engine.specs.Exported.{filledPlace, queryPlace, signWritten, samenessPlace, figureNumber, figureValue};
 
 // A refusal's number and place, or 0 and a count.
 pub(crate) struct Said {
@@ -56,8 +56,28 @@ pub(crate) fn of_query(answer: Queried) -> Said
     ensures { λ r. ⌜ (r .number ≡ queryRefusal answer .number) × (r .place ≡ queryPlace answer) ⌝ }
 {
     match answer {
-        Queried::Word(_, k) => counted(k),
+        Queried::Word(_, k, _) => counted(k),
         Queried::Refused(refusal) => refused(refusal),
+    }
+}
+
+// 1 for plus, -1 for minus.
+fn sign_number(sign: bool) -> i64
+    ensures { λ r. ⌜ r ≡ signNumber sign ⌝ }
+{
+    if sign {
+        return 1;
+    }
+    -1
+}
+
+// The sign of a word as a number, or the number that stood there.
+pub(crate) fn sign_written(answer: Queried, before: i64) -> i64
+    ensures { λ r. ⌜ r ≡ signWritten answer before ⌝ }
+{
+    match answer {
+        Queried::Word(_, _, sign) => sign_number(sign),
+        Queried::Refused(_) => before,
     }
 }
 

@@ -7,6 +7,7 @@ use answers::of_figure;
 use answers::of_filled;
 use answers::of_query;
 use answers::of_sameness;
+use answers::sign_written;
 use coset::Figured;
 use refusal::checked_refusal;
 ghost use mathlib.Core.Path.{_≡_};
@@ -24,14 +25,14 @@ ghost use Rattle.coset.specs.Answer.{tabledOf, columnLeft, widthsOf, widthedOf,
 ghost use Rattle.permutations.specs.Check as passport;
 ghost use Rattle.permutations.specs.Import as import;
 ghost use Rattle.word.specs.Answer.{queryOf, queryRefusal, foundWord, wordLeft, queryWork};
-ghost use Rattle.word.specs.Claim.{Claim, QuerySays};
+ghost use Rattle.word.specs.Claim.{Claim, QuerySays, SignSays};
 ghost use Rattle.congruence.specs.Cosets.{familyS, familyR};
 ghost use Rattle.import_rule.specs.Order.{leftmost, longestOpen};
 ghost use Rattle.import_table.specs.Answer.{ruledLeft};
 ghost use Rattle.named_groups.specs.Group.{familyOf, groupCheck};
 ghost use Rattle.named_groups.specs.Answer.{namedTablesOf, NamedTables, namedRule, namedSymbolBy, NamedSymbol, ruledWord, namedQueryBy, namedQueryWork};
-ghost use Rattle.named_groups.specs.Claim.{NamedClaim, NamedQuerySays};
-ghost use Rattle.engine.specs.Exported.{filledPlace, queryPlace, samenessPlace, figuresLeft};
+ghost use Rattle.named_groups.specs.Claim.{NamedClaim, NamedQuerySays, NamedSignSays};
+ghost use Rattle.engine.specs.Exported.{filledPlace, queryPlace, signWritten, samenessPlace, figuresLeft};
 
 mod answers;
 
@@ -219,6 +220,35 @@ pub extern "C" fn farey_query(
     said.number
 }
 
+// The same, with the sign of the word: 1 where the word times A is B, -1 where it is -B. A refusal leaves the number that stood there.
+#[no_mangle]
+pub extern "C" fn farey_signed_query(
+    v: usize,
+    t: &[i64],
+    a: &[i64; 4],
+    b: &[i64; 4],
+    w: &mut [u16],
+    out: &mut [i16],
+    start: usize,
+    sign: &mut i64,
+    place: &mut usize,
+) -> u64
+    ensures { λ n. ⌜ n ≡ queryRefusal (queryOf v (now (t .entry)) (now (a .entry)) (now (b .entry)) (length (now (w .entry))) (length (now (out .entry))) start) .number ⌝ }
+    ensures { λ n. ⌜ now (place .exit) ≡ queryPlace (queryOf v (now (t .entry)) (now (a .entry)) (now (b .entry)) (length (now (w .entry))) (length (now (out .entry))) start) ⌝ }
+    ensures { λ n. ⌜ now (w .exit) ≡ queryWork v (now (t .entry)) (now (a .entry)) (now (b .entry)) (now (w .entry)) ⌝ }
+    ensures { λ n. ⌜ now (out .exit) ≡ wordLeft (queryOf v (now (t .entry)) (now (a .entry)) (now (b .entry)) (length (now (w .entry))) (length (now (out .entry))) start) (foundWord v (now (t .entry)) (ofList (now (a .entry))) (ofList (now (b .entry)))) (now (out .entry)) ⌝ }
+    ensures { λ n. ⌜ now (sign .exit) ≡ signWritten (queryOf v (now (t .entry)) (now (a .entry)) (now (b .entry)) (length (now (w .entry))) (length (now (out .entry))) start) (now (sign .entry)) ⌝ }
+    ensures { λ n. ⌜ Claim v (now (t .entry)) (now (a .entry)) (now (b .entry)) (now (w .entry)) (now (out .entry)) start (queryOf v (now (t .entry)) (now (a .entry)) (now (b .entry)) (length (now (w .entry))) (length (now (out .entry))) start) (now (out .exit)) ⌝ }
+    ensures { λ n. ⌜ QuerySays v (now (t .entry)) (now (a .entry)) (now (b .entry)) (now (w .entry)) start n (now (place .exit)) (now (out .exit)) ⌝ }
+    ensures { λ n. ⌜ SignSays v (now (t .entry)) (now (a .entry)) (now (b .entry)) start n (now (place .exit)) (now (sign .exit)) (now (out .exit)) ⌝ }
+{
+    let answer = word::query(v, t, *a, *b, w, out, start);
+    *sign = sign_written(answer, *sign);
+    let said = of_query(answer);
+    *place = said.place;
+    said.number
+}
+
 // Whether two tables hold symbols of one subgroup: 1 for yes, 0 for no.
 #[no_mangle]
 pub extern "C" fn farey_same(
@@ -331,6 +361,37 @@ pub extern "C" fn farey_named_query(
     said.number
 }
 
+// The same, with the sign of the word; a refusal leaves the number that stood there.
+#[no_mangle]
+pub extern "C" fn farey_named_signed_query(
+    family: u64,
+    n: u64,
+    a: &[i64; 4],
+    b: &[i64; 4],
+    w: &mut [u16],
+    out: &mut [i16],
+    start: usize,
+    sign: &mut i64,
+    place: &mut usize,
+) -> u64
+    ensures { λ i. ⌜ i ≡ queryRefusal (namedQueryBy leftmost family n (now (a .entry)) (now (b .entry)) (length (now (w .entry))) (length (now (out .entry))) start) .number ⌝ }
+    ensures { λ i. ⌜ now (place .exit) ≡ queryPlace (namedQueryBy leftmost family n (now (a .entry)) (now (b .entry)) (length (now (w .entry))) (length (now (out .entry))) start) ⌝ }
+    ensures { λ i. ⌜ now (w .exit) ≡ namedQueryWork family n (now (a .entry)) (now (b .entry)) (now (w .entry)) ⌝ }
+    ensures { λ i. ⌜ now (out .exit) ≡ wordLeft (namedQueryBy leftmost family n (now (a .entry)) (now (b .entry)) (length (now (w .entry))) (length (now (out .entry))) start)
+        (ruledWord (namedRule leftmost family n) (now (a .entry)) (now (b .entry))) (now (out .entry)) ⌝ }
+    ensures { λ i. ⌜ now (sign .exit) ≡ signWritten (namedQueryBy leftmost family n (now (a .entry)) (now (b .entry)) (length (now (w .entry))) (length (now (out .entry))) start) (now (sign .entry)) ⌝ }
+    ensures { λ i. ⌜ NamedClaim leftmost family n (now (a .entry)) (now (b .entry)) (now (w .entry)) (now (out .entry)) start
+        (namedQueryBy leftmost family n (now (a .entry)) (now (b .entry)) (length (now (w .entry))) (length (now (out .entry))) start) (now (out .exit)) ⌝ }
+    ensures { λ i. ⌜ NamedQuerySays leftmost family n (now (a .entry)) (now (b .entry)) (now (w .entry)) start i (now (place .exit)) (now (out .exit)) ⌝ }
+    ensures { λ i. ⌜ NamedSignSays leftmost family n (now (a .entry)) (now (b .entry)) start i (now (place .exit)) (now (sign .exit)) (now (out .exit)) ⌝ }
+{
+    let answer = named_groups::named_query(family, n, *a, *b, w, out, start);
+    *sign = sign_written(answer, *sign);
+    let said = of_query(answer);
+    *place = said.place;
+    said.number
+}
+
 // The same on the symbol by the wide rule.
 #[no_mangle]
 pub extern "C" fn farey_named_query_wide(
@@ -353,6 +414,37 @@ pub extern "C" fn farey_named_query_wide(
     ensures { λ i. ⌜ NamedQuerySays longestOpen family n (now (a .entry)) (now (b .entry)) (now (w .entry)) start i (now (place .exit)) (now (out .exit)) ⌝ }
 {
     let said = of_query(named_groups::named_query_wide(family, n, *a, *b, w, out, start));
+    *place = said.place;
+    said.number
+}
+
+// The same on the symbol by the wide rule, with the sign of the word; a refusal leaves the number that stood there.
+#[no_mangle]
+pub extern "C" fn farey_named_signed_query_wide(
+    family: u64,
+    n: u64,
+    a: &[i64; 4],
+    b: &[i64; 4],
+    w: &mut [u16],
+    out: &mut [i16],
+    start: usize,
+    sign: &mut i64,
+    place: &mut usize,
+) -> u64
+    ensures { λ i. ⌜ i ≡ queryRefusal (namedQueryBy longestOpen family n (now (a .entry)) (now (b .entry)) (length (now (w .entry))) (length (now (out .entry))) start) .number ⌝ }
+    ensures { λ i. ⌜ now (place .exit) ≡ queryPlace (namedQueryBy longestOpen family n (now (a .entry)) (now (b .entry)) (length (now (w .entry))) (length (now (out .entry))) start) ⌝ }
+    ensures { λ i. ⌜ now (w .exit) ≡ namedQueryWork family n (now (a .entry)) (now (b .entry)) (now (w .entry)) ⌝ }
+    ensures { λ i. ⌜ now (out .exit) ≡ wordLeft (namedQueryBy longestOpen family n (now (a .entry)) (now (b .entry)) (length (now (w .entry))) (length (now (out .entry))) start)
+        (ruledWord (namedRule longestOpen family n) (now (a .entry)) (now (b .entry))) (now (out .entry)) ⌝ }
+    ensures { λ i. ⌜ now (sign .exit) ≡ signWritten (namedQueryBy longestOpen family n (now (a .entry)) (now (b .entry)) (length (now (w .entry))) (length (now (out .entry))) start) (now (sign .entry)) ⌝ }
+    ensures { λ i. ⌜ NamedClaim longestOpen family n (now (a .entry)) (now (b .entry)) (now (w .entry)) (now (out .entry)) start
+        (namedQueryBy longestOpen family n (now (a .entry)) (now (b .entry)) (length (now (w .entry))) (length (now (out .entry))) start) (now (out .exit)) ⌝ }
+    ensures { λ i. ⌜ NamedQuerySays longestOpen family n (now (a .entry)) (now (b .entry)) (now (w .entry)) start i (now (place .exit)) (now (out .exit)) ⌝ }
+    ensures { λ i. ⌜ NamedSignSays longestOpen family n (now (a .entry)) (now (b .entry)) start i (now (place .exit)) (now (sign .exit)) (now (out .exit)) ⌝ }
+{
+    let answer = named_groups::named_query_wide(family, n, *a, *b, w, out, start);
+    *sign = sign_written(answer, *sign);
+    let said = of_query(answer);
     *place = said.place;
     said.number
 }

@@ -26,14 +26,16 @@ use Rattle.numbering.specs.Table.{renamed}
 use Rattle.polygon.specs.Cut.{flipOf, underZero}
 use Rattle.polygon.specs.Step.{real, stepS, turnQ, written, startOf, originOf}
 use Rattle.polygon.specs.Walk.{followed}
+use Rattle.signs.specs.Sign.{matrixSign}
+use Rattle.signs.specs.Step.{leftToRight, frameSign, stepSign, querySign}
 use Rattle.coset.specs.Tables.{stepR, cosets, tableS, tableR, tableT}
 use Rattle.sameness.specs.Group.{sameTables}
-use Rattle.word.specs.Answer.{queryOf, queryRefusal, closes, foundWord}
+use Rattle.word.specs.Answer.{queryOf, queryRefusal, closes, foundWord, foundSign}
 use Rattle.instances.specs.Instances.{Answer, refuses, gives, answerTo, tables, Γ2, Γ0-2, I, S, lentTable, Instance, instances, instanceAt}
 use Rattle.instances.specs.Instances.{sameList, sameAnswer, holds, allHold, Holds}
 
 pub all-hold : allHold instances ≡ true
-unfolding _⊗_ adj det matS matQ at find add orderTo renamed flipOf underZero real stepS turnQ written startOf originOf followed stepR cosets tableS tableR tableT sameTables closes foundWord
+unfolding _⊗_ adj det matS matQ at find add orderTo renamed flipOf underZero real stepS turnQ written startOf originOf followed stepR cosets tableS tableR tableT sameTables closes foundWord foundSign querySign matrixSign stepSign frameSign leftToRight
 all-hold = refl
 
 -- ---- from the test to the instances
@@ -71,4 +73,4 @@ pub Γ2-tables : answerTo (tables 3 Γ2 workLength (lentTable 6) (lentTable 6) (
 Γ2-tables = each 8 (lit< tt)
 
 pub Γ0-2-none : queryRefusal (queryOf 2 Γ0-2 I S workLength 1 0) ≡ noWord
-Γ0-2-none = ap (λ (a : Answer). refusal (a .number) (a .place)) (each 12 (lit< tt))
+Γ0-2-none = ap (λ (a : Answer). refusal (a .number) (a .place)) (each 13 (lit< tt))

@@ -8,7 +8,7 @@
 --   says f rows            the refusal f, or none
 --   gives rows             no refusal
 --   indexIs n              no refusal, and the index n
---   word l                 no refusal, and the word l, which fills the lent space
+--   word sign l            no refusal, and the word l with its sign, which fills the lent space
 --   answerTo q             THE ANSWER TO q, by those definitions alone
 --   Instance, q answers a  what is asked, and what docs/CONVENTIONS.md says
 --   instances              THE TABLE, in the order of docs/CONVENTIONS.md, and behind it two that tell the rules of import apart; instanceAt i is
@@ -42,7 +42,8 @@ use Rattle.coset.specs.declared.Figured.the-variants as figured
 use Rattle.sameness.specs.Same.{samenessOf, samenessRefusal}
 use Rattle.sameness.specs.declared.Sameness.{Sameness}
 use Rattle.sameness.specs.declared.Sameness.the-variants as sameness
-use Rattle.word.specs.Answer.{queryOf, queryRefusal, foundWord, wordLeft, partOf}
+use Rattle.signs.specs.Sign.{plus, minus}
+use Rattle.word.specs.Answer.{queryOf, queryRefusal, foundWord, signNumber, wordLeft, partOf}
 use Rattle.word.specs.declared.Queried.{Queried}
 use Rattle.word.specs.declared.Queried.the-variants as queried
 use Rattle.permutations.specs.Import as passport
@@ -59,7 +60,7 @@ pub data Question : Type 0 where
   generators : (v : ℕ) (t : List ℤ) (work : ℕ) (out : List ℤ) → Question
   -- coset's `tables`
   tables : (v : ℕ) (t : List ℤ) (work : ℕ) (s r u : List ℕ) → Question
-  -- word's `query`, and `word_part` of what it answers
+  -- word's `query`: the sign, and `word_part` of what it answers
   query : (v : ℕ) (t a b : List ℤ) (work : ℕ) (out : List ℤ) (start : ℕ) → Question
   -- sameness's `same`
   same : (v : ℕ) (t : List ℤ) (v' : ℕ) (t' : List ℤ) (work : ℕ) → Question
@@ -82,8 +83,8 @@ gives l = refuses 0 0 l
 abbrev pub indexIs : ℕ → Answer
 indexIs n = gives ((pos n ∷ []) ∷ [])
 
-abbrev pub word : List ℤ → Answer
-word l = gives (l ∷ l ∷ [])
+abbrev pub word : Bool → List ℤ → Answer
+word sign l = gives ((signNumber sign ∷ []) ∷ l ∷ l ∷ [])
 
 -- the refusal f, or none
 abbrev pub says : Refusal → List (List ℤ) → Answer
@@ -95,8 +96,13 @@ indexSays (figured.Refused f) = says f []
 
 -- the word that an answer names, in the word space that the call leaves
 abbrev pub wordIn : Queried → List ℤ → List ℤ
-wordIn (queried.Word start n) out = partOf out start n
+wordIn (queried.Word start n sign) out = partOf out start n
 wordIn (queried.Refused f) out = []
+
+-- its sign
+abbrev pub signGiven : Queried → List ℤ
+signGiven (queried.Word start n sign) = signNumber sign ∷ []
+signGiven (queried.Refused f) = []
 
 -- the number of vertices
 abbrev pub verticesIn : Filled → List ℤ
@@ -121,7 +127,7 @@ answerTo (tables v t work s r u) =
 answerTo (query v t a b work out start) =
     let r = queryOf v t a b work (length out) start in
     let left = wordLeft r (foundWord v t (ofList a) (ofList b)) out in
-    says (queryRefusal r) (wordIn r left ∷ left ∷ [])
+    says (queryRefusal r) (signGiven r ∷ wordIn r left ∷ left ∷ [])
 answerTo (same v t v' t' work) = let a = samenessOf v t v' t' work in says (samenessRefusal a) (yesIn a ∷ [])
 answerTo (import s r work out) =
     let a = importOf s r work (length out) in
@@ -172,6 +178,9 @@ S = pos 0 ∷ negsuc 0 ∷ pos 1 ∷ pos 0 ∷ []
 abbrev pub T : List ℤ
 T = pos 1 ∷ pos 1 ∷ pos 0 ∷ pos 1 ∷ []
 
+abbrev pub -T : List ℤ
+-T = negsuc 0 ∷ negsuc 0 ∷ pos 0 ∷ negsuc 0 ∷ []
+
 -- S and R of twelve points
 abbrev pub twelveS : List ℕ
 twelveS = 7 ∷ 5 ∷ 4 ∷ 8 ∷ 2 ∷ 1 ∷ 9 ∷ 0 ∷ 3 ∷ 6 ∷ 11 ∷ 10 ∷ []
@@ -200,7 +209,7 @@ abbrev pub instances : List Instance
 instances =
     -- v = 1, 0/1, pairings -2 -3: index 1, and I to S: word 1
     (index 1 whole workLength answers indexIs 1)
-    ∷ (query 1 whole I S workLength (lent 1) 0 answers word (pos 1 ∷ []))
+    ∷ (query 1 whole I S workLength (lent 1) 0 answers word plus (pos 1 ∷ []))
     -- -3 -3: index 2, S 1 0, R 0 1 (and T, which is S and then R)
     ∷ (index 1 twoOdd workLength answers indexIs 2)
     ∷ (tables 1 twoOdd workLength (lentTable 2) (lentTable 2) (lentTable 2) answers gives (map pos (1 ∷ 0 ∷ []) ∷ map pos (0 ∷ 1 ∷ []) ∷ map pos (1 ∷ 0 ∷ []) ∷ []))
@@ -213,17 +222,19 @@ instances =
     -- S 1 0 4 5 2 3, R 2 3 5 4 1 0, T 3 2 1 0 5 4
     ∷ (tables 3 Γ2 workLength (lentTable 6) (lentTable 6) (lentTable 6) answers gives
     (map pos (1 ∷ 0 ∷ 4 ∷ 5 ∷ 2 ∷ 3 ∷ []) ∷ map pos (2 ∷ 3 ∷ 5 ∷ 4 ∷ 1 ∷ 0 ∷ []) ∷ map pos (3 ∷ 2 ∷ 1 ∷ 0 ∷ 5 ∷ 4 ∷ []) ∷ []))
-    -- in Γ0(2), I to T: word 1
-    ∷ (query 2 Γ0-2 I T workLength (lent 1) 0 answers word (pos 1 ∷ []))
+    -- in Γ0(2), I to T: word 1 (with plus, unless minus is said)
+    ∷ (query 2 Γ0-2 I T workLength (lent 1) 0 answers word plus (pos 1 ∷ []))
+    -- I to -T: word 1 with minus
+    ∷ (query 2 Γ0-2 I -T workLength (lent 1) 0 answers word minus (pos 1 ∷ []))
     -- I to (1 0; 2 1): 2 1
-    ∷ (query 2 Γ0-2 I (pos 1 ∷ pos 0 ∷ pos 2 ∷ pos 1 ∷ []) workLength (lent 2) 0 answers word (pos 2 ∷ pos 1 ∷ []))
+    ∷ (query 2 Γ0-2 I (pos 1 ∷ pos 0 ∷ pos 2 ∷ pos 1 ∷ []) workLength (lent 2) 0 answers word plus (pos 2 ∷ pos 1 ∷ []))
     -- S to (1 -1; 1 0): 1
-    ∷ (query 2 Γ0-2 S (pos 1 ∷ negsuc 0 ∷ pos 1 ∷ pos 0 ∷ []) workLength (lent 1) 0 answers word (pos 1 ∷ []))
+    ∷ (query 2 Γ0-2 S (pos 1 ∷ negsuc 0 ∷ pos 1 ∷ pos 0 ∷ []) workLength (lent 1) 0 answers word plus (pos 1 ∷ []))
     -- I to S: 10, and the lent space as it was
-    ∷ (query 2 Γ0-2 I S workLength (lent 1) 0 answers refuses 10 0 ([] ∷ lent 1 ∷ []))
-    -- I to I and to -I: the empty word, space 0 enough
-    ∷ (query 2 Γ0-2 I I workLength (lent 0) 0 answers word [])
-    ∷ (query 2 Γ0-2 I -I workLength (lent 0) 0 answers word [])
+    ∷ (query 2 Γ0-2 I S workLength (lent 1) 0 answers refuses 10 0 ([] ∷ [] ∷ lent 1 ∷ []))
+    -- I to I and to -I: the empty word, with minus for -I, space 0 enough
+    ∷ (query 2 Γ0-2 I I workLength (lent 0) 0 answers word plus [])
+    ∷ (query 2 Γ0-2 I -I workLength (lent 0) 0 answers word minus [])
     -- S 1 0 2, R 2 0 1 gives back the symbol above
     ∷ (import (1 ∷ 0 ∷ 2 ∷ []) (2 ∷ 0 ∷ 1 ∷ []) workLength (lent 7) answers gives ((pos 2 ∷ []) ∷ Γ0-2 ∷ []))
     -- -1/1, 0/1 with 1 -2 1 generates Γ0(2) too; Γ(2) is another group

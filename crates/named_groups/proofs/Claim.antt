@@ -32,7 +32,7 @@ use Rattle.congruence_tables.specs.Inner.Held.{Group}
 use Rattle.import_rule.specs.Order.{Order}
 use Rattle.import_rule.specs.Symbol.{Ruled, made, over, ruledBy}
 use Rattle.import_table.specs.Answer.{grownOf, ruledTable}
-use Rattle.word.specs.Answer.{queryRefusal, large, foundWord, foundOf, wordLeft}
+use Rattle.word.specs.Answer.{queryRefusal, large, foundWord, foundSign, foundOf, wordLeft}
 use Rattle.word.specs.Claim.{Joined, Found, Answered, ShortWork}
 use Rattle.word.specs.declared.Queried.{Queried}
 use Rattle.word.specs.declared.Queried.the-variants as queried
@@ -147,12 +147,12 @@ module _ (order : Order) (k n : ℕ) (a b : List ℤ) (w : List ℕ) (out : List
       symbol : NamedSymbol (familyOf k) n v t
       symbol = rule-symbol (familyOf k) n (group-of k n (q .group)) order v t g
 
-      walked : Answered v t A B (foundWord v t A B) out start r out'
+      walked : Answered v t A B (foundWord v t A B) (foundSign v t A B) out start r out'
       walked =
           let z : r ≡ foundOf v t a b start (length out) = rw g at (found-of e q) in
           let y : out' ≡ wordLeft r (foundWord v t A B) out = rw g at d in
-          subst (λ (o : List ℤ). Answered v t A B (foundWord v t A B) out start r o) (sym y)
-          (subst (λ (x : Queried). Answered v t A B (foundWord v t A B) out start x (wordLeft x (foundWord v t A B) out)) (sym z)
+          subst (λ (o : List ℤ). Answered v t A B (foundWord v t A B) (foundSign v t A B) out start r o) (sym y)
+          (subst (λ (x : Queried). Answered v t A B (foundWord v t A B) (foundSign v t A B) out start x (wordLeft x (foundWord v t A B) out)) (sym z)
           (answered (symbol .symbol) a b (q .unit-A) (q .unit-B) out start))
 
       joined-meets : Joined v t A B ↔ Meets (familyOf k) n (B ⊗ adj A)

@@ -9,6 +9,7 @@
 --                            for the work space; and there this is what it answers. Where the rule gives none, the answer is 16
 --   NamedQuerySays           by what the exported call returns, its number and the place or the word's length: 10 means that the query got past its checks and
 --                            B A⁻¹ doesn't meet the condition; 0 that it does, and that the letters from the start place on are a product that takes A to B
+--   NamedSignSays            what the exported call with a sign says of it where it returns 0: it is 1 or -1, and those letters times A are that times B
 use mathlib.Core.Path.{_≡_}
 use mathlib.Core.Logic.{_⊎_, _↔_}
 use mathlib.Core.List.{List}
@@ -26,8 +27,8 @@ use Rattle.congruence.specs.Congruence.{Meets}
 use Rattle.congruence.specs.declared.Family.{Family}
 use Rattle.import_rule.specs.Order.{Order}
 use Rattle.import_rule.specs.Symbol.{made, over}
-use Rattle.word.specs.Answer.{foundWord, partOf, queryRefusal}
-use Rattle.word.specs.Claim.{Found, Answered, ShortWork}
+use Rattle.word.specs.Answer.{foundWord, foundSign, partOf, queryRefusal}
+use Rattle.word.specs.Claim.{Found, Answered, ShortWork, SignSays}
 use Rattle.word.specs.declared.Queried.{Queried}
 use Rattle.named_groups.specs.Group.{familyOf, NamedGroup}
 use Rattle.named_groups.specs.Answer.{namedRule, NamedSymbol}
@@ -42,7 +43,7 @@ pub record NamedAsked (k n : ℕ) (a b : List ℤ) (w : List ℕ) : Type 0 where
 
 pub record NamedAnswered (f : Family) (n v : ℕ) (t : List ℤ) (A B : Mat) (out : List ℤ) (start : ℕ) (r : Queried) (out' : List ℤ) : Type 0 where
   pub symbol : NamedSymbol f n v t
-  pub claim : Answered v t A B (foundWord v t A B) out start r out'
+  pub claim : Answered v t A B (foundWord v t A B) (foundSign v t A B) out start r out'
   pub found : Found (foundWord v t A B) r ↔ Meets f n (B ⊗ adj A)
   pub none : (queryRefusal r ≡ noWord) ↔ (Meets f n (B ⊗ adj A) → ⊥)
 
@@ -65,3 +66,7 @@ pub record NamedQuerySays (order : Order) (k n : ℕ) (a b : List ℤ) (w : List
   pub some : number ≡ 0 → Meets (familyOf k) n (ofList b ⊗ adj (ofList a))
   pub letters : number ≡ 0 → (v : ℕ) (t : List ℤ) → namedRule order k n ≡ made v t → IsWord (length (generators v t)) (partOf out' start place)
   pub product : number ≡ 0 → (v : ℕ) (t : List ℤ) → namedRule order k n ≡ made v t → valueOf (generators v t) (partOf out' start place) ⊗ ofList a ≈ ofList b
+
+abbrev pub NamedSignSays : (order : Order) (k n : ℕ) (a b : List ℤ) (start number place : ℕ) (sign : ℤ) (out' : List ℤ) → Type 0
+NamedSignSays order k n a b start number place sign out' =
+    (v : ℕ) (t : List ℤ) → namedRule order k n ≡ made v t → SignSays v t a b start number place sign out'

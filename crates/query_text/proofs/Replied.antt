@@ -33,8 +33,8 @@ use Rattle.query_text.specs.Reply.{lettersLent, said, replied, lettersLe
 use Rattle.query_text.specs.Reply.{lettersTo, queryFormat, replyBy, replyWork, lettersBy, replyOf, queryAnswer, ReplyLeaves, Replied, ReplyMeans}
 
 -- an answer that is no word is its refusal
-pub said-other : (r : Queried) (l : List ℤ) → ((s n : ℕ) → r ≡ queried.Word s n → ⊥) → refusalLine (queryRefusal r) ≡ said r l
-said-other (queried.Word s n) l never = absurd (never s n refl)
+pub said-other : (r : Queried) (l : List ℤ) → ((s n : ℕ) (q : Bool) → r ≡ queried.Word s n q → ⊥) → refusalLine (queryRefusal r) ≡ said r l
+said-other (queried.Word s n q) l never = absurd (never s n q refl)
 said-other (queried.Refused f) l never = refl
 
 module _ (v : ℕ) (t a b : List ℤ) (r : Queried) (work room : ℕ) (g : work ≡ workLength) (h : room ≡ lettersLent) (e : r ≡ queryOf v t a b work room 0) where

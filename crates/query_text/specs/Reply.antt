@@ -1,8 +1,9 @@
 -- WHAT THE PROGRAM `query` WRITES, byte for byte (docs/CONVENTIONS.md, 10.6), and what the call leaves in the lent spaces.
 --
---   wordWord                        `word` as bytes
+--   signByte s                      the byte of a sign: + or -
+--   wordHead s                      `word`, a blank and the sign s, as bytes
 --   lettersLent                     the letters that the program lends
---   said r l                        the line for an answer r of a query whose walk writes the letters l: `word` and the letters, or
+--   said r l                        the line for an answer r of a query whose walk writes the letters l: `word`, the sign and the letters, or
 --                                   `refused`, the number and the place
 --   replied v t a b                 the line for the symbol in t and the pair A, B; the word starts at the place 0 of the lent space
 --   four ns i                       the four numbers of ns from the number i on: a matrix, row by row
@@ -15,10 +16,10 @@
 --   replyOf longer text             the bytes for a text, or for one with more than the 65,536 bytes that fit into the buffer
 --   ReplyLeaves ..                  what the call leaves in every lent space but that of the bytes
 --   Replied ns bytes ..             what the bytes mean where the numbers of the text are ns: they are the line of the query's answer, and of that
---                                   answer the claim holds, so that `refused 10 0` means that there is no such product, and the letters are one
+--                                   answer the claim holds, so that `refused 10 0` means that there is no such product, and the letters are one, with that sign
 --   ReplyMeans ..                   that holds for every text whose numbers are a symbol's and a pair's
 use mathlib.Core.Path.{_≡_}
-use mathlib.Core.Bool.{Bool}
+use mathlib.Core.Bool.{Bool, true, false}
 use mathlib.Core.List.{List, [], _∷_}
 use Prim.Native.Nat.{ℕ, _+_, _-_, _≤_}
 use lib.Dec.{ltb}
@@ -40,14 +41,18 @@ use Rattle.word.specs.Claim.{Claim}
 use Rattle.word.specs.declared.Queried.{Queried}
 use Rattle.word.specs.declared.Queried.the-variants as queried
 
-abbrev pub wordWord : List ℕ
-wordWord = 119 ∷ 111 ∷ 114 ∷ 100 ∷ []
+abbrev pub signByte : Bool → ℕ
+signByte true = 43
+signByte false = 45
+
+abbrev pub wordHead : Bool → List ℕ
+wordHead s = 119 ∷ 111 ∷ 114 ∷ 100 ∷ 32 ∷ signByte s ∷ []
 
 abbrev pub lettersLent : ℕ
 lettersLent = 16384
 
 abbrev pub said : Queried → List ℤ → List ℕ
-said (queried.Word start n) l = line wordWord l
+said (queried.Word start n sign) l = line (wordHead sign) l
 said (queried.Refused f) l = refusalLine f
 
 unfoldable pub replied : (v : ℕ) (t a b : List ℤ) → List ℕ

@@ -14,9 +14,9 @@ use word::word_part;
 ghost use mathlib.Core.Path.{_≡_};
 ghost use Prim.Native.Nat.{_+_, _≤_};
 ghost use lib.ListN.{length, take};
-ghost use Rattle.text_line.specs.Line.{Puts};
+ghost use Rattle.text_line.specs.Line.{line, Puts};
 ghost use Rattle.word.specs.Answer.{queryWork};
-ghost use Rattle.query_text.specs.Reply.{replied, lettersLeft, four, repliedTo, workTo, lettersTo, replyOf, ReplyLeaves, ReplyMeans};
+ghost use Rattle.query_text.specs.Reply.{wordHead, lettersLent, replied, lettersLeft, four, repliedTo, workTo, lettersTo, replyOf, ReplyLeaves, ReplyMeans};
 ghost use Rattle.query_text.specs.Inner.Spaces.{ReplySpaces};
 
 // The matrix in the four numbers from the number i on.
@@ -27,7 +27,18 @@ fn four_at(ns: &[i64], i: usize) -> [i64; 4]
     [ns[i], ns[i + 1], ns[i + 2], ns[i + 3]]
 }
 
-// The answer for the symbol in t and the pair: the word, or its refusal.
+// The line of a word with its sign.
+fn word_line(sign: bool, word: &[i16], out: &mut [u8]) -> usize
+    requires { ⌜ (length (now word) ≤ lettersLent) × (131072 ≤ length (now out)) ⌝ }
+    ensures { λ e. ⌜ Puts (line (wordHead sign) (now (word .entry))) 0 e (now (out .entry)) (now (out .exit)) ⌝ }
+{
+    if sign {
+        return line_of_letters(b"word +", word, out, 0);
+    }
+    line_of_letters(b"word -", word, out, 0)
+}
+
+// The answer for the symbol in t and the pair: the word with its sign, or its refusal.
 fn reply_pair(
     v: usize,
     t: &[i64],
@@ -43,12 +54,12 @@ fn reply_pair(
     ensures { λ e. ⌜ now (letters .exit) ≡ lettersLeft v (now (t .entry)) a b (now (letters .entry)) ⌝ }
 {
     let answer = query(v, t, a, b, w, letters, 0);
-    let Queried::Word(start, n) = answer else {
+    let Queried::Word(start, n, sign) = answer else {
         let refusal = query_refusal(answer);
         return refusal_line(refusal, out);
     };
     let word = word_part(letters, start, n);
-    line_of_letters(b"word", word, out, 0)
+    word_line(sign, word, out)
 }
 
 // The answer for the numbers of a text.

@@ -25,7 +25,8 @@ use Rattle.basics.proofs.Choice.{clash}
 use Rattle.polygon.specs.Step.{written}
 use Rattle.polygon.specs.Walk.{goes}
 use Rattle.polygon.specs.Inner.Tables.{lettersOf}
-use Rattle.walk.specs.Inner.Way.{stored, WayStepped}
+use Rattle.signs.specs.Sign.{_·_}
+use Rattle.walk.specs.Inner.Way.{stored, signAdded, WayStepped}
 use Rattle.walk.specs.declared.Way.{Way}
 use Rattle.walk.proofs.Stored.{stored-in, stored-out}
 
@@ -60,11 +61,13 @@ module _ (start limit n : ℕ) (z : ℤ) (out : List ℤ) where
 -- a step, from the letter that it writes and what `put` leaves
 pub stepped : {v : ℕ} {t : List ℤ} {start limit : ℕ} {x : Letter} {a b : Way} {out out' : List ℤ} (z : ℤ) → lettersOf z ≡ written v t x (a .at)
     → b .at ≡ goes v t x (a .at)
-    → (b .count ≡ a .count + length (lettersOf z)) × (out' ≡ stored start limit (a .count) (lettersOf z) out) → WayStepped v t start limit x a out b out'
-stepped {v} {t} {start} {limit} {x} {a} {b} {out} {out'} z e f k = record {
+    → (b .count ≡ a .count + length (lettersOf z)) × (out' ≡ stored start limit (a .count) (lettersOf z) out) → b .sign ≡ a .sign · signAdded v t x (a .at)
+    → WayStepped v t start limit x a out b out'
+stepped {v} {t} {start} {limit} {x} {a} {b} {out} {out'} z e f k g = record {
   at = f;
   count = k .0 ∙ ap (λ (l : List ℤ). a .count + length l) e;
   left = k .1 ∙ ap (λ (l : List ℤ). stored start limit (a .count) l out) e;
+  sign = g;
 }
 
 -- ---- sizes

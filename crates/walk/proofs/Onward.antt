@@ -5,7 +5,7 @@
 -- the whole walk (`walked`).
 -- Assumes nothing.
 use mathlib.Core.Path.{_≡_, refl, sym, _∙_, ap, subst}
-use mathlib.Core.Bool.{true, false}
+use mathlib.Core.Bool.{Bool, true, false}
 use mathlib.Core.List.{List, [], _∷_, _++_}
 use Prim.Native.Nat.{ℕ, zero, _+_, _-_, _^_, _≤_, _<_}
 use native.Mathlib.Omega.{arith}
@@ -21,9 +21,12 @@ use Rattle.basics.proofs.Choice.{pick-true, pick-false}
 use Rattle.polygon.specs.Step.{Real, written}
 use Rattle.polygon.specs.Walk.{goes, ends, writes}
 use Rattle.polygon.specs.Theorem.{Polygon}
-use Rattle.walk.specs.Inner.Way.{formOf, restOf, properOf, beginsWithQ, turnLetter, turnForm, stored, WayStepped, Onward, OneApart, Sound}
+use Rattle.walk.specs.Inner.Way.{formOf, restOf, properOf, beginsWithQ, turnLetter, turnForm, stored, signLeft, WayStepped, Onward, OneApart, Sound}
 use Rattle.walk.specs.Inner.Way.{Begun, Going, Ended, Walked}
 use Rattle.walk.specs.declared.Way.{Way}
+use Rattle.signs.specs.Sign.{columnSign}
+use Rattle.signs.proofs.Sign.{·-plus}
+use Rattle.walk.proofs.Told.{sign-step, sign-merged}
 use Rattle.walk.proofs.Stored.{stored-++, length-stored}
 use Rattle.walk.proofs.Forms.{properly, proper-yes, turn-apart, turn-less, tail-two, tail-one, tail-none, apart-of, proper-of, word-head, word-tail}
 
@@ -112,6 +115,12 @@ module _ {v : ℕ} {t : List ℤ} (g : Polygon v t) {start limit : ℕ} where
       pub block-less : total (formOf b) < total (formOf a)
       block-less = omega (arith, ap total form-is, turn-less (swap (formOf a)) (unimodular-swap (formOf a) (o .apart)) (swap-proper (formOf a) h))
 
+      rest-is : tailOf (total (formOf a)) (formOf a) ≡ S ∷ turnLetter (formOf c) ∷ tailOf (total (formOf b)) (formOf b)
+      rest-is =
+          tail-two (formOf a) (o .apart) (properly (formOf a) h)
+          ∙ ap (λ (f : Form). S ∷ turnLetter f ∷ tailOf (total (turnForm f)) (turnForm f)) (sym e)
+          ∙ ap (λ (f : Form). S ∷ turnLetter (formOf c) ∷ tailOf (total f) f) (sym e')
+
       pub block-going : Going v t start limit a out b out2
       unfolding restOf
       block-going = record {
@@ -120,28 +129,37 @@ module _ {v : ℕ} {t : List ℤ} (g : Polygon v t) {start limit : ℕ} where
           apart = subst OneApart (sym form-is) (turn-apart (swap (formOf a)) (unimodular-swap (formOf a) (o .apart)) (swap-proper (formOf a) h));
           few = omega (arith, stepped-few s, stepped-few s', o .few, block-less);
         };
-        onward = onward-from
-            (tail-two (formOf a) (o .apart) (properly (formOf a) h)
-            ∙ ap (λ (f : Form). S ∷ turnLetter f ∷ tailOf (total (turnForm f)) (turnForm f)) (sym e)
-            ∙ ap (λ (f : Form). S ∷ turnLetter (formOf c) ∷ tailOf (total f) f) (sym e'))
+        onward = onward-from rest-is
             (onward-trans (onward-step (turnLetter (formOf c) ∷ tailOf (total (formOf b)) (formOf b)) s) (onward-step (tailOf (total (formOf b)) (formOf b)) s'));
+        sign = sign-step (tailOf (total (formOf b)) (formOf b)) s' ∙ sign-step (turnLetter (formOf c) ∷ tailOf (total (formOf b)) (formOf b)) s
+            ∙ ap (signLeft v t (a .sign) (a .at)) (sym rest-is);
       }
 
   -- ---- the end
 
   pub ended-none : {a : Way} {out : List ℤ} → Sound v t (2 ^ 60) a → a .q + a .r ≡ 0 → Ended v t start limit a out a out
   unfolding restOf
-  ended-none {a} {out} o h = record { onward = onward-from (tail-none (formOf a) (o .apart) h) (onward-refl [] (a .at) (a .count) out) }
+  ended-none {a} {out} o h =
+      let e = tail-none (formOf a) (o .apart) h in
+      record {
+        onward = onward-from e (onward-refl [] (a .at) (a .count) out);
+        sign = sym (ap (signLeft v t (a .sign) (a .at)) e ∙ ·-plus (a .sign));
+      }
 
   pub ended-S : {a b : Way} {out out' : List ℤ} → Sound v t (2 ^ 60) a → 0 < a .q + a .r → a .p + a .s ≡ 0 → WayStepped v t start limit S a out b out'
       → Ended v t start limit a out b out'
   unfolding restOf
-  ended-S {a} o h k s = record { onward = onward-from (tail-one (formOf a) (o .apart) h k) (onward-step [] s) }
+  ended-S {a} {b} o h k s =
+      let e = tail-one (formOf a) (o .apart) h k in
+      record {
+        onward = onward-from e (onward-step [] s);
+        sign = sym (·-plus (b .sign)) ∙ sign-step [] s ∙ ap (signLeft v t (a .sign) (a .at)) (sym e);
+      }
 
   -- ---- the beginning
 
   module _ (m : Mat) (d : det m ≡ pos 1) (small : Small (2 ^ 50) m) {x : ℕ} (real : Real v t x) {a : Way} (e : formOf a ≡ sizes m) (at-x : a .at ≡ x)
-      (zero : a .count ≡ 0) where
+      (zero : a .count ≡ 0) (sign-is : a .sign ≡ columnSign m) where
     pub begun-tail : {out : List ℤ} → agree m ≡ false → Begun v t start limit m x out a out
     unfolding restOf
     begun-tail {out} h = record {
@@ -154,6 +172,8 @@ module _ {v : ℕ} {t : List ℤ} (g : Polygon v t) {start limit : ℕ} where
             ∙ ap (λ (y : ℕ). stored start limit 0 (writes v t y (tailOf (total (formOf a)) (formOf a))) out) at-x
             ∙ ap (λ (l : List Letter). stored start limit 0 (writes v t x l) out) word;
       };
+      sign = ap (λ (s : Bool). signLeft v t s (a .at) (tailOf (total (formOf a)) (formOf a))) sign-is
+          ∙ ap (λ (y : ℕ). signLeft v t (columnSign m) y (tailOf (total (formOf a)) (formOf a))) at-x ∙ ap (signLeft v t (columnSign m) x) word;
     }
       where
         word : tailOf (total (formOf a)) (formOf a) ≡ wordOf m
@@ -167,7 +187,7 @@ module _ {v : ℕ} {t : List ℤ} (g : Polygon v t) {start limit : ℕ} where
         let u = apart-of m d in
         let form-is : formOf b ≡ turnForm (sizes m) = e' ∙ ap turnForm e in
         let less = turn-less (sizes m) u k in
-        let o = whole-sound m d small real e at-x zero in
+        let o = whole-sound m d small real {a = a} e at-x zero in
         let word : wordOf m ≡ turnLetter (formOf a) ∷ tailOf (total (formOf b)) (formOf b) =
         word-head m d h ∙ ap (λ (f : Form). turnLetter f ∷ tailOf (total (turnForm f)) (turnForm f)) (sym e)
         ∙ ap (λ (f : Form). turnLetter (formOf a) ∷ tailOf (total f) f) (sym e') in
@@ -183,6 +203,8 @@ module _ {v : ℕ} {t : List ℤ} (g : Polygon v t) {start limit : ℕ} where
               (tailOf (total (formOf b)) (formOf b)) (b .at) (b .count) out') zero
               (subst (λ (y : ℕ). Onward v t start limit (turnLetter (formOf a) ∷ tailOf (total (formOf b)) (formOf b)) y (a .count) out
               (tailOf (total (formOf b)) (formOf b)) (b .at) (b .count) out') at-x one));
+          sign = sign-step (tailOf (total (formOf b)) (formOf b)) s ∙ ap (signLeft v t (a .sign) (a .at)) (sym word)
+              ∙ ap (λ (r : Bool). signLeft v t r (a .at) (wordOf m)) sign-is ∙ ap (λ (y : ℕ). signLeft v t (columnSign m) y (wordOf m)) at-x;
         }
 
 -- ---- a power of Q, by which row is the smaller one
@@ -209,15 +231,15 @@ powered-P {a} h s e =
 
 module _ {v : ℕ} {t : List ℤ} {start limit : ℕ} where
   pub going-none : {a : Way} {out : List ℤ} → Sound v t (2 ^ 60) a → Going v t start limit a out a out
-  going-none {a} {out} o = record { sound = o; onward = onward-refl (restOf a) (a .at) (a .count) out }
+  going-none {a} {out} o = record { sound = o; onward = onward-refl (restOf a) (a .at) (a .count) out; sign = refl }
 
   pub going-more : {a b c : Way} {out out1 out2 : List ℤ} → Going v t start limit a out b out1 → Going v t start limit b out1 c out2
       → Going v t start limit a out c out2
-  going-more g h = record { sound = h .sound; onward = onward-trans (g .onward) (h .onward) }
+  going-more g h = record { sound = h .sound; onward = onward-trans (g .onward) (h .onward); sign = h .sign ∙ g .sign }
 
   pub walked : {m : Mat} {x : ℕ} {a b c : Way} {out out1 out2 out3 : List ℤ} → Begun v t start limit m x out a out1 → Going v t start limit a out1 b out2
       → Ended v t start limit b out2 c out3
       → Walked v t start limit m x out c out3
-  walked b g e =
+  walked {m} {x} b g e =
       let o = onward-trans (b .onward) (onward-trans (g .onward) (e .onward)) in
-      record { at = o .ends-at; count = omega (arith, o .count); left = o .left }
+      record { at = o .ends-at; count = omega (arith, o .count); left = o .left; sign = e .sign ∙ g .sign ∙ b .sign ∙ sign-merged v t m x }

@@ -22,7 +22,8 @@ use Rattle.polygon.specs.Theorem.{Polygon}
 use Rattle.polygon.specs.Inner.Tables.{lettersOf}
 use Rattle.polygon.proofs.Flip.{Cutting, cutting, turn-face}
 use Rattle.polygon.proofs.Steps.{turn-in}
-use Rattle.walk.specs.Inner.Way.{formOf, properOf, turnLetter, turnForm, WayStepped, Sound, Going}
+use Rattle.signs.specs.Sign.{_·_}
+use Rattle.walk.specs.Inner.Way.{signAdded, formOf, properOf, turnLetter, turnForm, WayStepped, Sound, Going}
 use Rattle.walk.specs.declared.Way.{Way}
 use Rattle.walk.proofs.Onward.{block-going, block-less, stepped-long, powered-Q, powered-P}
 
@@ -65,7 +66,8 @@ module _ {v : ℕ} {t : List ℤ} (g : Polygon v t) (p : ℕ) (r : Real v t p) (
 
 -- the way after S, with n letters
 abbrev pub crossing : ℕ → List ℤ → Way → ℕ → Way
-crossing v t a n = record { p = a .r; q = a .s; r = a .p; s = a .q; at = stepS v t (a .at); count = n }
+crossing v t a n =
+    record { p = a .r; q = a .s; r = a .p; s = a .q; at = stepS v t (a .at); count = n; sign = a .sign · signAdded v t S (a .at) }
 
 -- what a stride leaves
 abbrev Strode : (v : ℕ) (t : List ℤ) (start limit : ℕ) → Way → List ℤ → Way → List ℤ → Type 0

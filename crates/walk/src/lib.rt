@@ -1,13 +1,15 @@
 // The walk of a matrix over the positions of a symbol, letter by letter, with the rest of the matrix as four naturals.
 //
 // It is made twice: the first time no letter has room, so that the letters are counted and nothing is stored; the second time the word
-// is known to fit. specs/Way.antt has the state and what each part leaves.
+// is known to fit. specs/Inner/Way.antt has the state and what each part leaves.
 use polygon::walking::letter_q;
 use polygon::walking::turn_q;
 use walk_steps::back;
 use walk_steps::forth;
 use walk_steps::letter;
 use walk_steps::next;
+use walk_steps::sign_of_s;
+use walk_steps::times;
 use walk_steps::turn_back;
 ghost use mathlib.Core.Path.{_≡_};
 ghost use mathlib.Core.Bool.{true, false};
@@ -20,9 +22,10 @@ ghost use Rattle.matrix.specs.Euclid.{total, swap, positive, agree, sizes};
 ghost use Rattle.matrix.specs.Bounds.{Small};
 ghost use Rattle.polygon.specs.Step.{Real};
 ghost use Rattle.polygon.specs.Inner.Tables.{lettersOf};
+ghost use Rattle.signs.specs.Sign.{entrySign, columnSign};
 ghost use Rattle.walk.specs.Inner.Way.{formOf, properOf, turnLetter, turnForm, stored, Setting, WayStepped, Sound, Begun, Going, Ended, Walked};
 
-// What is left of the matrix, (p q; r s) in size, the position, and how many letters are written so far.
+// What is left of the matrix, (p q; r s) in size, the position, how many letters are written so far, and the sign so far, plus for true.
 pub struct Way {
     pub p: u64,
     pub q: u64,
@@ -30,6 +33,7 @@ pub struct Way {
     pub s: u64,
     pub at: usize,
     pub count: usize,
+    pub sign: bool,
 }
 
 // One letter more, none for 0: it is stored where its number is below the limit. Returns how many letters there are then.
@@ -64,6 +68,7 @@ fn cross(
     let z = letter(t, v, w, at);
     let count = put(out, start, limit, way.count, z);
     let to = next(t, v, w, at);
+    let sign = times(way.sign, sign_of_s(t, v, w, at));
     Way {
         p: way.r,
         q: way.s,
@@ -71,6 +76,7 @@ fn cross(
         s: way.q,
         at: to,
         count,
+        sign: !sign,
     }
 }
 
@@ -99,6 +105,7 @@ fn power(
             s: way.q,
             at: to,
             count,
+            sign: way.sign,
         };
     }
     let z = letter_q(t, v, w, at, true);
@@ -111,6 +118,7 @@ fn power(
         s: way.q - way.s,
         at: to,
         count,
+        sign: !way.sign,
     }
 }
 
@@ -126,7 +134,7 @@ fn is_proper(way: Way) -> bool
 }
 
 // S and a power of Q: the rows change places and the smaller one is taken from the larger, so each row stays where it is; the tables lead over both at
-// once. A turn changes nothing of what it writes, so its letter is read where it has led to.
+// once. A turn changes nothing of what it writes, so its letter is read where it has led to. In an alternating word S and Q⁻¹ add a minus each.
 fn block(
     t: &[i64],
     v: usize,
@@ -141,6 +149,7 @@ fn block(
 {
     let at = way.at;
     let z = letter(t, v, w, at);
+    let sign = times(way.sign, sign_of_s(t, v, w, at));
     if way.r + way.s <= way.p + way.q {
         let to = forth(t, v, w, at);
         let y = letter_q(t, v, w, to, false);
@@ -153,6 +162,7 @@ fn block(
             s: way.s,
             at: to,
             count: more,
+            sign: !sign,
         };
     }
     let to = back(t, v, w, at);
@@ -166,6 +176,7 @@ fn block(
         s: way.s - way.q,
         at: to,
         count: more,
+        sign,
     }
 }
 
@@ -222,10 +233,31 @@ fn rows_agree(m: [i64; 4]) -> bool
     same_sign(m[1], m[3])
 }
 
+// The sign of x, and s where x is 0.
+fn sign_of_entry(x: i64, s: bool) -> bool
+    ensures { λ r. ⌜ r ≡ entrySign x s ⌝ }
+{
+    if 0 < x {
+        return true;
+    }
+    if x < 0 {
+        return false;
+    }
+    s
+}
+
+// The sign of the first column of m.
+fn sign_of_column(m: [i64; 4]) -> bool
+    ensures { λ r. ⌜ r ≡ columnSign (ofList m) ⌝ }
+{
+    let below = times(rows_agree(m), 0 < m[2]);
+    sign_of_entry(m[0], below)
+}
+
 // The state before the first letter.
 fn whole(m: [i64; 4], home: usize) -> Way
     requires { ⌜ Small (2 ^ 50) (ofList m) ⌝ }
-    ensures { λ r. ⌜ (formOf r ≡ sizes (ofList m)) × (r .at ≡ home) × (r .count ≡ 0) ⌝ }
+    ensures { λ r. ⌜ (formOf r ≡ sizes (ofList m)) × (r .at ≡ home) × (r .count ≡ 0) × (r .sign ≡ columnSign (ofList m)) ⌝ }
 {
     Way {
         p: magnitude(m[0]),
@@ -234,6 +266,7 @@ fn whole(m: [i64; 4], home: usize) -> Way
         s: magnitude(m[3]),
         at: home,
         count: 0,
+        sign: sign_of_column(m),
     }
 }
 
@@ -258,8 +291,8 @@ fn begin(
     way
 }
 
-// The walk that follows m from home: where it ends, and how many letters it writes. The first `limit` of them are stored in `out`, from
-// the place `start` on.
+// The walk that follows m from home: where it ends, how many letters it writes, and the sign of m against them. The first `limit` of them are stored in
+// `out`, from the place `start` on.
 pub fn walk(
     t: &[i64],
     v: usize,

@@ -1,22 +1,24 @@
 -- The tables of steps by S, and by S and then a turn.
 --
--- In order: which places are positions (`real-low`, `real-high`); codes of letters (`coded-…`, `decoded-fits`, `letter-most`); one step
--- noted (`prepared-none`, `prepared-skip`, `prepared-more`, `prepared-all`); where S leads is a position, and so it is after a turn
+-- In order: which places are positions (`real-low`, `real-high`); signs of frames (`frame-low`, `frame-high`, `edge-low`, `edge-high`, `crossing-none`,
+-- `crossing-some`); codes of letters (`coded-…`, `decoded-fits`, `letter-most`) and of signs (`code-plus`, `code-minus`); one step noted
+-- (`prepared-none`, `prepared-skip`, `prepared-more`, `prepared-all`); its sign (`sign-step`); where S leads is a position, and so it is after a turn
 -- (`step-low`, `forth-low`, `back-low`); Q twice on an outer face (`back-face`).
 -- Assumes nothing.
 use mathlib.Core.Path.{_≡_, refl, sym, _∙_, ap}
-use mathlib.Core.Bool.{Bool, true, false, _||_}
+use mathlib.Core.Bool.{Bool, true, false, not, _||_}
 use mathlib.Core.List.{List}
-use Prim.Native.Nat.{ℕ, zero, suc, _+_, _*_, _-_, _%_, _≤_, _<_}
+use Prim.Native.Nat.{ℕ, zero, suc, _+_, _*_, _-_, _/_, _%_, _≤_, _<_}
 use native.Mathlib.Omega.{arith}
-use lib.Dec.{ltb}
+use lib.Dec.{ltb, eqb, lit<}
 use lib.ListN.{length, getD, set, length-set}
 use lib.Seq.{getD-set-same, getD-set-other, getD-drop}
 use lib.IntN.{ℤ, pos, negsuc, natAbs, _+ℤ_, _-ℤ_, +ℤ-negℤ-cancel}
+use lib.Signed.{ltZ}
 use mir.Syntax.{w16}
 use mir.Val.{SFits, toZ, ofZ}
-use mir.Facts.{toZ-ofZ}
-use borrow.Author.Tests.{lt-ltb, le-ltb, ltb-true, ltb-false}
+use mir.Facts.{toZ-ofZ, toZ-pos}
+use borrow.Author.Tests.{lt-ltb, le-ltb, ltb-true, ltb-false, eq-eqb, ne-eqb}
 use borrow.Author.Count.{below-more}
 use Rattle.matrix.specs.Matrix.{nth}
 use Rattle.matrix.specs.Words.{S, Q, P}
@@ -24,14 +26,16 @@ use Rattle.symbol.specs.Table.{pairingEntry}
 use Rattle.symbol.specs.Symbol.{IsSymbol}
 use Rattle.pairing.specs.Generator.{generators, isLeader}
 use Rattle.pairing.specs.Subgroup.{IsWord}
-use Rattle.basics.proofs.Choice.{clash}
-use Rattle.polygon.specs.Cut.{corners, places}
+use Rattle.basics.proofs.Choice.{clash, pick-true, pick-false}
+use Rattle.polygon.specs.Cut.{corners, outer, places}
 use Rattle.polygon.specs.Step.{oddAt, real, Real, stepS, turnQ, written}
 use Rattle.polygon.specs.Inner.Tables.{PolygonTables, lettersOf}
 use Rattle.polygon.proofs.Flip.{real-in, turn-face}
 use Rattle.polygon.proofs.Polygon.{polygon}
 use Rattle.polygon.proofs.Partners.{tables-set}
 use Rattle.polygon.proofs.SymbolFacts.{length-generators, count-most}
+use Rattle.signs.specs.Sign.{_·_}
+use Rattle.signs.specs.Step.{leftToRight, frameSign, crossingSign, stepSign}
 use Rattle.walk_steps.specs.Inner.Steps.{NEXT, LETTER, FORTH, BACK, StepsReady}
 
 -- ---- which places are positions
@@ -48,6 +52,38 @@ module _ (v : ℕ) (t : List ℤ) (p : ℕ) where
   -- the entry that the code reads there
   pub face-entry : nth t (2 * v + (p - corners v)) ≡ pairingEntry v t (p - corners v)
   face-entry = sym (getD-drop (2 * v) t (p - corners v) (pos 0))
+
+-- ---- signs
+
+module _ (v p : ℕ) where
+  pub frame-low : p < corners v → not (eqb (p % 3) 2) ≡ frameSign v p
+  unfolding frameSign
+  frame-low h = sym (pick-true (ltb p (corners v)) _ _ (lt-ltb p (corners v) h))
+
+  pub frame-high : corners v ≤ p → not (eqb p (outer v v)) ≡ frameSign v p
+  unfolding frameSign
+  frame-high h = sym (pick-false (ltb p (corners v)) _ _ (le-ltb p (corners v) h))
+
+  pub edge-low : p < corners v → eqb (p % 3) 0 ≡ leftToRight v p
+  unfolding leftToRight
+  edge-low h = sym (pick-true (ltb p (corners v)) _ _ (lt-ltb p (corners v) h))
+
+  pub edge-high : corners v ≤ p → not (eqb p (outer v v)) ≡ leftToRight v p
+  unfolding leftToRight
+  edge-high h = sym (pick-false (ltb p (corners v)) _ _ (le-ltb p (corners v) h))
+
+-- the crossing's sign, by the letter as the code has it
+module _ {z : ℤ} (fit : SFits w16 z) (s : Bool) where
+  pub crossing-none : ofZ w16 z ≡ 0 → s ≡ crossingSign (lettersOf z) s
+  crossing-none e = sym (ap (λ (y : ℤ). crossingSign (lettersOf y) s) (sym (toZ-ofZ fit) ∙ ap (toZ w16) e ∙ toZ-pos w16 {n = 0} (lit< tt)))
+
+  pub crossing-some : (ofZ w16 z ≡ 0 → ⊥) → ltZ (pos 0) (toZ w16 (ofZ w16 z)) ≡ crossingSign (lettersOf z) s
+  crossing-some h = rw (toZ-ofZ fit) (own z (λ e. h (ap (ofZ w16) e)))
+    where
+      own : (y : ℤ) → (y ≡ pos 0 → ⊥) → ltZ (pos 0) y ≡ crossingSign (lettersOf y) s
+      own (pos zero) n = absurd (n refl)
+      own (pos (suc k)) n = lt-ltb 0 (suc k) (omega arith)
+      own (negsuc k) n = refl
 
 -- ---- codes
 
@@ -83,6 +119,13 @@ decoded-fits n h = go (ltb n 1024) refl
     go true e = rw e (record { sfits = omega arith })
     go false e = rw e (record { sfits = omega arith })
 
+-- twice a code, and one more for plus
+pub code-plus : (n : ℕ) → ((2 * n + 1) / 2 ≡ n) × (eqb ((2 * n + 1) % 2) 1 ≡ true)
+code-plus n = (omega arith, eq-eqb ((2 * n + 1) % 2) 1 (omega arith))
+
+pub code-minus : (n : ℕ) → ((2 * n) / 2 ≡ n) × (eqb ((2 * n) % 2) 1 ≡ false)
+code-minus n = (omega arith, ne-eqb ((2 * n) % 2) 1 (λ e. omega arith))
+
 -- ---- letters are at most 1,024 in size
 
 word-most : (n : ℕ) (z : ℤ) → IsWord n (lettersOf z) → natAbs z ≤ n
@@ -103,6 +146,7 @@ prepared-none g = record {
   steps = λ p h. absurd (omega arith);
   codes = λ p h. absurd (omega arith);
   letters = λ p h. absurd (omega arith);
+  signs = λ p h. absurd (omega arith);
   forths = λ p h. absurd (omega arith);
   backs = λ p h. absurd (omega arith);
 }
@@ -114,6 +158,7 @@ module _ {t : List ℤ} {v : ℕ} {w : List ℕ} {p : ℕ} (g : StepsReady t v w
     steps = below-more _ p (g .steps) (λ r. clash r e);
     codes = below-more _ p (g .codes) (λ r. clash r e);
     letters = below-more _ p (g .letters) (λ r. clash r e);
+    signs = below-more _ p (g .signs) (λ r. clash r e);
     forths = below-more _ p (g .forths) (λ r. clash r e);
     backs = below-more _ p (g .backs) (λ r. clash r e);
   }
@@ -141,9 +186,9 @@ module _ {t : List ℤ} {v : ℕ} {w : List ℕ} {p : ℕ} (g : StepsReady t v w
     pub noted-long : length noted ≡ length w
     noted-long = length-set w3 (BACK + p) b ∙ length-set w2 (FORTH + p) f ∙ length-set w1 (LETTER + p) code ∙ length-set w (NEXT + p) to
 
-    pub prepared-more : (z : ℤ) → to ≡ stepS v t p → code ≤ 2048 → pos code -ℤ pos 1024 ≡ z → lettersOf z ≡ written v t S p
-        → f ≡ turnQ v to → b ≡ turnQ v (turnQ v to) → StepsReady t v noted (p + 1)
-    prepared-more z e c k l y x =
+    pub prepared-more : (z : ℤ) → to ≡ stepS v t p → code / 2 ≤ 2048 → pos (code / 2) -ℤ pos 1024 ≡ z → lettersOf z ≡ written v t S p
+        → eqb (code % 2) 1 ≡ stepSign v t S p → f ≡ turnQ v to → b ≡ turnQ v (turnQ v to) → StepsReady t v noted (p + 1)
+    prepared-more z e c k l i y x =
         let most = g .tables .symbol .most in
         let long = g .tables .long in
         let long1 = length-set w (NEXT + p) to in
@@ -167,8 +212,10 @@ module _ {t : List ℤ} {v : ℕ} {w : List ℕ} {p : ℕ} (g : StepsReady t v w
               (λ j a r. other (NEXT + j) (λ n. omega arith) (λ n. omega arith) (λ n. omega arith) (λ n. omega arith) ∙ g .steps j a r)
               (λ r. step ∙ e);
           codes = below-more _ p (λ j a r. rw (letter j a) (g .codes j a r)) (λ r. rw here c);
-          letters = below-more _ p (λ j a r. ap (λ (n : ℕ). lettersOf (pos n -ℤ pos 1024)) (letter j a) ∙ g .letters j a r)
-              (λ r. ap (λ (n : ℕ). lettersOf (pos n -ℤ pos 1024)) here ∙ ap lettersOf k ∙ l);
+          letters = below-more _ p (λ j a r. ap (λ (n : ℕ). lettersOf (pos (n / 2) -ℤ pos 1024)) (letter j a) ∙ g .letters j a r)
+              (λ r. ap (λ (n : ℕ). lettersOf (pos (n / 2) -ℤ pos 1024)) here ∙ ap lettersOf k ∙ l);
+          signs = below-more _ p (λ j a r. ap (λ (n : ℕ). eqb (n % 2) 1) (letter j a) ∙ g .signs j a r)
+              (λ r. ap (λ (n : ℕ). eqb (n % 2) 1) here ∙ i);
           forths = below-more _ p
               (λ j a r. other (FORTH + j) (λ n. omega arith) (λ n. omega arith) (λ n. omega arith) (λ n. omega arith) ∙ g .forths j a r)
               (λ r. on ∙ y ∙ ap (turnQ v) e);
@@ -179,6 +226,12 @@ module _ {t : List ℤ} {v : ℕ} {w : List ℕ} {p : ℕ} (g : StepsReady t v w
 
 pub prepared-all : {t : List ℤ} {v : ℕ} {w : List ℕ} (p : ℕ) → StepsReady t v w p → p ≡ places v → StepsReady t v w (places v)
 prepared-all p g e = rw (sym e) g
+
+-- the sign of a step by its letter and where it leads
+pub sign-step : (v : ℕ) (t : List ℤ) (p to : ℕ) (z : ℤ) → to ≡ stepS v t p → lettersOf z ≡ written v t S p
+    → frameSign v p · frameSign v to · crossingSign (lettersOf z) (leftToRight v p) ≡ stepSign v t S p
+unfolding stepSign
+sign-step v t p to z e l = rw (e, l) refl
 
 -- where S leads is a position, and so are those that turns lead to from there
 module _ (v : ℕ) (t : List ℤ) (ok : IsSymbol v t) (p to : ℕ) (r : Real v t p) (e : to ≡ stepS v t p) where

@@ -1,10 +1,12 @@
-// The steps of a symbol's polygon by S, looked up: a table of where S leads, one of the letters that it writes, and two of where S and then a turn lead.
+// The steps of a symbol's polygon by S, looked up: a table of where S leads, one of the letters that it writes and of the steps' signs, and two of where S
+// and then a turn lead.
 use polygon::turning::next_corner;
 use polygon::walking::letter_s;
 use polygon::walking::step_s;
 use polygon::walking::turn_q;
 ghost use mathlib.Core.Path.{_≡_};
-ghost use Prim.Native.Nat.{_+_, _≤_, _<_};
+ghost use Prim.Native.Nat.{_+_, _/_, _%_, _≤_, _<_};
+ghost use lib.Dec.{eqb};
 ghost use lib.ListN.{length};
 ghost use lib.IntN.{pos, natAbs, _-ℤ_};
 ghost use Rattle.matrix.specs.Words.{S};
@@ -12,6 +14,8 @@ ghost use Rattle.symbol.specs.Symbol.{IsSymbol};
 ghost use Rattle.polygon.specs.Cut.{places};
 ghost use Rattle.polygon.specs.Step.{real, Real, stepS, turnQ, written};
 ghost use Rattle.polygon.specs.Inner.Tables.{PolygonTables, lettersOf};
+ghost use Rattle.signs.specs.Sign.{_·_};
+ghost use Rattle.signs.specs.Step.{leftToRight, frameSign, crossingSign, stepSign};
 ghost use Rattle.walk_steps.specs.Inner.Steps.{StepsReady};
 
 pub const NEXT: usize = 8192;
@@ -35,12 +39,81 @@ fn is_real(t: &[i64], v: usize, p: usize) -> bool
     x == -3
 }
 
+// The sign of the frame of p against the matrix of its edge.
+fn sign_of_frame(v: usize, p: usize) -> bool
+    requires { ⌜ (1 ≤ v) × (v ≤ 1023) ⌝ }
+    ensures { λ r. ⌜ r ≡ frameSign v p ⌝ }
+{
+    let b = 3 * (v - 1);
+    if p < b {
+        return p % 3 != 2;
+    }
+    let last = b + v;
+    p != last
+}
+
+// Whether the edge of p is read from left to right.
+fn is_left_to_right(v: usize, p: usize) -> bool
+    requires { ⌜ (1 ≤ v) × (v ≤ 1023) ⌝ }
+    ensures { λ r. ⌜ r ≡ leftToRight v p ⌝ }
+{
+    let b = 3 * (v - 1);
+    if p < b {
+        return p % 3 == 0;
+    }
+    p != b + v
+}
+
+// The sign of the letter that S writes at p, or by the way that the edge is read where it writes none.
+fn sign_of_crossing(v: usize, p: usize, letter: i16) -> bool
+    requires { ⌜ (1 ≤ v) × (v ≤ 1023) ⌝ }
+    ensures { λ r. ⌜ r ≡ crossingSign (lettersOf letter) (leftToRight v p) ⌝ }
+{
+    if letter == 0 {
+        return is_left_to_right(v, p);
+    }
+    0 < letter
+}
+
+// The product of two signs, plus for true.
+pub fn times(s: bool, r: bool) -> bool
+    ensures { λ x. ⌜ x ≡ s · r ⌝ }
+{
+    if s {
+        return r;
+    }
+    !r
+}
+
+// The sign of S from p to the place `to`, where it writes the letter, 0 for none.
+fn sign_of_step(v: usize, p: usize, to: usize, letter: i16) -> bool
+    requires { ⌜ (1 ≤ v) × (v ≤ 1023) ⌝ }
+    ensures { λ r. ⌜ r ≡ frameSign v p · frameSign v to · crossingSign (lettersOf letter) (leftToRight v p) ⌝ }
+{
+    let here = sign_of_frame(v, p);
+    let there = sign_of_frame(v, to);
+    let frames = times(here, there);
+    let crossing = sign_of_crossing(v, p, letter);
+    times(frames, crossing)
+}
+
 // A letter, 1024 higher, so that it is no negative number.
 fn coded(letter: i16) -> u16
     requires { ⌜ natAbs letter ≤ 1024 ⌝ }
     ensures { λ r. ⌜ (r ≤ 2048) × (pos r -ℤ pos 1024 ≡ letter) ⌝ }
 {
     (letter + 1024) as u16
+}
+
+// The code of a letter with that of a sign: twice the first, and one more for plus.
+fn with_sign(code: u16, sign: bool) -> u16
+    requires { ⌜ code ≤ 2048 ⌝ }
+    ensures { λ r. ⌜ (r / 2 ≡ code) × (eqb (r % 2) 1 ≡ sign) ⌝ }
+{
+    if sign {
+        return 2 * code + 1;
+    }
+    2 * code
 }
 
 // The step from the real position p is noted.
@@ -51,8 +124,10 @@ fn note_step(t: &[i64], v: usize, w: &mut [u16], p: usize)
     let to = step_s(t, v, w, p);
     let letter = letter_s(t, v, w, p);
     let code = coded(letter);
+    let sign = sign_of_step(v, p, to, letter);
+    let both = with_sign(code, sign);
     w[NEXT + p] = to as u16;
-    w[LETTER + p] = code;
+    w[LETTER + p] = both;
     let forth = turn_q(v, to);
     let back = turn_back(v, to);
     w[FORTH + p] = forth as u16;
@@ -104,7 +179,15 @@ pub fn letter(t: &[i64], v: usize, w: &[u16], p: usize) -> i16
     requires { ⌜ StepsReady (now t) v (now w) (places v) × Real v (now t) p ⌝ }
     ensures { λ r. ⌜ lettersOf r ≡ written v (now (t .entry)) S p ⌝ }
 {
-    decoded(w[LETTER + p])
+    decoded(w[LETTER + p] / 2)
+}
+
+// The sign of S there, plus for true: what it promises of the matrices of the step is `Signs.promise`.
+pub fn sign_of_s(t: &[i64], v: usize, w: &[u16], p: usize) -> bool
+    requires { ⌜ StepsReady (now t) v (now w) (places v) × Real v (now t) p ⌝ }
+    ensures { λ r. ⌜ r ≡ stepSign v (now (t .entry)) S p ⌝ }
+{
+    w[LETTER + p] % 2 == 1
 }
 
 // Q⁻¹ at p, which is Q twice.

@@ -1,6 +1,7 @@
--- THE CLAIM (specs/Claim.antt), from what the crate `polygon` promises of an accepted symbol: its steps, frames and start.
+-- THE CLAIM (specs/Claim.antt), from what the crates `polygon` and `signs` promise of an accepted symbol: its steps, frames
+-- and start, and the signs.
 --
--- In order: the walk comes home exactly where a word exists (`joined-home`, `home-product`), and where A and B lead to the same point
+-- In order: the walk comes home exactly where a word exists (`joined-home`, `home-product`, with its sign `home-exact`), and where A and B lead to the same point
 -- (`joined-same`, `same-joined`); the word's letters, its length (`letters-of`, `bound-of`, `sixteen-of`); the word in its place (`part-placed`);
 -- the three answers (`absent`, `fitting`, `too-short`); the claim (`answered`).
 --
@@ -30,12 +31,14 @@ use Rattle.polygon.specs.Step.{startOf}
 use Rattle.polygon.specs.Walk.{followed, walkEnds}
 use Rattle.polygon.specs.Theorem.{Polygon}
 use Rattle.polygon.proofs.SymbolFacts.{length-generators, count-most}
+use Rattle.signs.specs.Sign.{withSign}
+use Rattle.signs.proofs.Query.{signs}
 use Rattle.coset.specs.Tables.{tableS, tableR}
 use Rattle.coset.specs.Theorem.{leads}
 use Rattle.coset.proofs.Answer.{meaning}
 use Rattle.refusal.specs.Refusal.{noWord, tooShort}
 use Rattle.refusal.specs.declared.Refusal.{Refusal}
-use Rattle.word.specs.Answer.{placed, closes, foundWord, wordFits, wordOrShort, foundOf, wordLeft, partOf}
+use Rattle.word.specs.Answer.{placed, closes, foundWord, foundSign, wordFits, wordOrShort, foundOf, wordLeft, partOf}
 use Rattle.word.specs.Claim.{Joined, Fits, Answered}
 use Rattle.word.specs.declared.Queried.{Queried}
 use Rattle.word.specs.declared.Queried.the-variants as queried
@@ -72,6 +75,9 @@ module _ {v : ℕ} {t : List ℤ} (ok : IsSymbol v t) (A B : Mat) (d : det A ≡
   abbrev word : List ℤ
   word = foundWord v t A B
 
+  abbrev sign : Bool
+  sign = foundSign v t A B
+
   g : Polygon v t
   g = meaning ok .polygon
 
@@ -93,6 +99,11 @@ module _ {v : ℕ} {t : List ℤ} (ok : IsSymbol v t) (A B : Mat) (d : det A ≡
   home-product : closes v t A B ≡ true → valueOf (generators v t) word ⊗ A ≈ B
   unfolding closes foundWord
   home-product h = ≈-right A (≈-sym (g .found X X-unit (eqb-true (walkEnds v t X) (startOf v t) h))) ∙≈ inl X-times
+
+  -- with its sign
+  home-exact : closes v t A B ≡ true → valueOf (generators v t) word ⊗ A ≡ withSign sign B
+  unfolding closes foundWord foundSign
+  home-exact h = signs v t ok .pair A B d e (eqb-true (walkEnds v t X) (startOf v t) h)
 
   letters-of : IsWord (length (generators v t)) word
   unfolding foundWord
@@ -127,7 +138,7 @@ module _ {v : ℕ} {t : List ℤ} (ok : IsSymbol v t) (A B : Mat) (d : det A ≡
 
   module _ (out : List ℤ) (start : ℕ) where
     abbrev Here : Queried → List ℤ → Type 0
-    Here r out' = Answered v t A B word out start r out'
+    Here r out' = Answered v t A B word sign out start r out'
 
     fits-yes : wordFits start (length word) (length out) ≡ true → Fits start (length word) (length out)
     fits-yes h = record {
@@ -147,6 +158,7 @@ module _ {v : ℕ} {t : List ℤ} (ok : IsSymbol v t) (A B : Mat) (d : det A ≡
           points = ((λ f. elim f [ inl z ↦ absurd (omega (arith, same-number z)) | inr z ↦ absurd (omega (arith, same-number z)) ]), (λ e. absurd (no (same-joined e))));
           letters = λ f. letters-of;
           product = λ f. elim f [ inl z ↦ absurd (omega (arith, same-number z)) | inr z ↦ absurd (omega (arith, same-number z)) ];
+          exact = λ f. elim f [ inl z ↦ absurd (omega (arith, same-number z)) | inr z ↦ absurd (omega (arith, same-number z)) ];
           none = ((λ z. no), (λ z. refl));
           returned = ((λ z. absurd (omega (arith, same-number z))), (λ z. absurd (no (z .0))));
           short = ((λ z. absurd (omega (arith, same-number z))), (λ z. absurd (no (z .0))));
@@ -157,7 +169,7 @@ module _ {v : ℕ} {t : List ℤ} (ok : IsSymbol v t) (A B : Mat) (d : det A ≡
           sixteen = sixteen-of;
         }
 
-    fitting : closes v t A B ≡ true → wordFits start (length word) (length out) ≡ true → Here (queried.Word start (length word)) (placed start word out)
+    fitting : closes v t A B ≡ true → wordFits start (length word) (length out) ≡ true → Here (queried.Word start (length word) sign) (placed start word out)
     fitting h k =
         let j = home-joined h in
         let f = fits-yes k in
@@ -166,6 +178,7 @@ module _ {v : ℕ} {t : List ℤ} (ok : IsSymbol v t) (A B : Mat) (d : det A ≡
           points = ((λ z. joined-same j), (λ e. inl refl));
           letters = λ z. letters-of;
           product = λ z. home-product h;
+          exact = λ z. home-exact h;
           none = ((λ z. absurd (omega (arith, same-number z))), (λ n. absurd (n j)));
           returned = ((λ z. (j, f)), (λ z. refl));
           short = ((λ z. absurd (omega (arith, same-number z))), (λ z. absurd (z .1 f)));
@@ -184,6 +197,7 @@ module _ {v : ℕ} {t : List ℤ} (ok : IsSymbol v t) (A B : Mat) (d : det A ≡
           points = ((λ z. joined-same j), (λ e. inr refl));
           letters = λ z. letters-of;
           product = λ z. home-product h;
+          exact = λ z. home-exact h;
           none = ((λ z. absurd (omega (arith, same-number z))), (λ n. absurd (n j)));
           returned = ((λ z. absurd (omega (arith, same-number z))), (λ z. clash (yes-fits (z .1)) k));
           short = ((λ z. (j, λ f. clash (yes-fits f) k)), (λ z. refl));
@@ -199,8 +213,11 @@ module _ {v : ℕ} {t : List ℤ} (ok : IsSymbol v t) (a b : List ℤ) (d : det 
   abbrev l : List ℤ
   l = foundWord v t (ofList a) (ofList b)
 
+  abbrev q : Bool
+  q = foundSign v t (ofList a) (ofList b)
+
   abbrev Left : Queried → Type 0
-  Left r = Answered v t (ofList a) (ofList b) l out start r (wordLeft r l out)
+  Left r = Answered v t (ofList a) (ofList b) l q out start r (wordLeft r l out)
 
   abbrev Home : Bool → Type 0
   Home h = closes v t (ofList a) (ofList b) ≡ h
@@ -208,18 +225,18 @@ module _ {v : ℕ} {t : List ℤ} (ok : IsSymbol v t) (a b : List ℤ) (d : det 
   abbrev Room : Bool → Type 0
   Room k = wordFits start (length l) (length out) ≡ k
 
-  in-room : Home true → wordOrShort (length l) start (length out) ≡ foundOf v t a b start (length out)
-  in-room h = sym (pick-true (closes v t (ofList a) (ofList b)) (wordOrShort (length l) start (length out)) (queried.Refused noWord) h)
+  in-room : Home true → wordOrShort (length l) q start (length out) ≡ foundOf v t a b start (length out)
+  in-room h = sym (pick-true (closes v t (ofList a) (ofList b)) (wordOrShort (length l) q start (length out)) (queried.Refused noWord) h)
 
   answered-by : Home true ⊎ Home false → Room true ⊎ Room false → Left (foundOf v t a b start (length out))
   answered-by (inr h) k =
-      subst Left (sym (pick-false (closes v t (ofList a) (ofList b)) (wordOrShort (length l) start (length out)) (queried.Refused noWord) h))
+      subst Left (sym (pick-false (closes v t (ofList a) (ofList b)) (wordOrShort (length l) q start (length out)) (queried.Refused noWord) h))
       (absent ok (ofList a) (ofList b) d e out start h)
   answered-by (inl h) (inl k) =
-      subst Left (sym (pick-true (wordFits start (length l) (length out)) (queried.Word start (length l)) (queried.Refused (tooShort (length l))) k) ∙ in-room h)
+      subst Left (sym (pick-true (wordFits start (length l) (length out)) (queried.Word start (length l) q) (queried.Refused (tooShort (length l))) k) ∙ in-room h)
       (fitting ok (ofList a) (ofList b) d e out start h k)
   answered-by (inl h) (inr k) =
-      subst Left (sym (pick-false (wordFits start (length l) (length out)) (queried.Word start (length l)) (queried.Refused (tooShort (length l))) k) ∙ in-room h)
+      subst Left (sym (pick-false (wordFits start (length l) (length out)) (queried.Word start (length l) q) (queried.Refused (tooShort (length l))) k) ∙ in-room h)
       (too-short ok (ofList a) (ofList b) d e out start h k)
 
   pub answered : Left (foundOf v t a b start (length out))

@@ -22,14 +22,15 @@ use Rattle.polygon.specs.Cut.{places}
 use Rattle.polygon.specs.Step.{Real, startOf}
 use Rattle.polygon.specs.Walk.{followed, ends}
 use Rattle.polygon.proofs.Polygon.{polygon}
+use Rattle.signs.specs.Step.{querySign}
 use Rattle.walk_steps.specs.Inner.Steps.{StepsReady}
 use Rattle.walk.specs.Inner.Way.{stored, Setting, Walked}
 use Rattle.walk.specs.declared.Way.{Way}
 use Rattle.walk.proofs.Stored.{stored-none, stored-all}
 use Rattle.refusal.specs.Refusal.{noWord, tooShort}
-use Rattle.word.specs.Answer.{placed, closes, foundWord, wordFits, wordOrShort, foundOf}
+use Rattle.word.specs.Answer.{placed, closes, foundWord, foundSign, wordFits, wordOrShort, foundOf}
 use Rattle.word.specs.Claim.{Asked}
-use Rattle.word.specs.Inner.Ready.{lettersAlong, endOf, WalkReady}
+use Rattle.word.specs.Inner.Ready.{lettersAlong, signAlongWalk, endOf, WalkReady}
 use Rattle.word.specs.declared.Queried.the-variants as queried
 use Rattle.word.proofs.Turned.{followed-unit, followed-small}
 
@@ -61,7 +62,7 @@ module _ (v : ℕ) (t a b : List ℤ) {m : List ℤ} (m-is : m ≡ toList (follo
   along-found = ap (λ (l : List ℤ). lettersAlong v t (ofList l)) m-is
 
   pub end-found : (start room : ℕ) → endOf v t (ofList m) start room ≡ foundOf v t a b start room
-  unfolding lettersAlong closes foundWord action.at
+  unfolding lettersAlong signAlongWalk closes foundWord foundSign querySign action.at
   end-found start room = ap (λ (l : List ℤ). endOf v t (ofList l) start room) m-is
 
 -- ---- what a walk finds
@@ -70,6 +71,7 @@ pub record Result (v : ℕ) (t : List ℤ) (m : Mat) (start limit : ℕ) (out : 
   pub at : b .at ≡ ends v t (startOf v t) (wordOf m)
   pub count : b .count ≡ length (lettersAlong v t m)
   pub left : out' ≡ stored start limit 0 (lettersAlong v t m) out
+  pub sign : b .sign ≡ signAlongWalk v t m
 
 module _ {v : ℕ} {t m : List ℤ} {w : List ℕ} {x : ℕ} (q : WalkReady t v w m x) where
   pub setting : (start limit : ℕ) (out : List ℤ) → limit ≤ length out - start → Setting t v w out start limit × Real v t x × (det (ofList m) ≡ pos 1)
@@ -78,10 +80,10 @@ module _ {v : ℕ} {t m : List ℤ} {w : List ℕ} {x : ℕ} (q : WalkReady t v 
       (record { prepared = q .prepared; room = h }, subst (Real v t) (sym (q .start)) (polygon v t (q .prepared .tables .symbol) .start), q .unit, q .small)
 
   pub result : {start limit : ℕ} {out out' : List ℤ} {end : Way} → Walked v t start limit (ofList m) x out end out' → Result v t (ofList m) start limit out end out'
-  unfolding lettersAlong
+  unfolding lettersAlong signAlongWalk
   result {start} {limit} {out} {out'} {end} k =
       let k' = subst (λ (y : ℕ). Walked v t start limit (ofList m) y out end out') (q .start) k in
-      record { at = k' .at; count = k' .count; left = k' .left }
+      record { at = k' .at; count = k' .count; left = k' .left; sign = k' .sign }
 
 -- no letter had room, and then all had
 pub kept-out : {v : ℕ} {t : List ℤ} {m : Mat} {start : ℕ} {out out' : List ℤ} {end : Way} → Result v t m start 0 out end out' → out' ≡ out
@@ -100,27 +102,30 @@ module _ (v : ℕ) (t : List ℤ) (m : Mat) (start room : ℕ) where
   abbrev n : ℕ
   n = length (lettersAlong v t m)
 
+  abbrev q : Bool
+  q = signAlongWalk v t m
+
   abbrev last : ℕ
   last = ends v t (startOf v t) (wordOf m)
 
   pub not-home : (x : ℕ) → x ≡ last → (x ≡ startOf v t → ⊥) → (queried.Refused noWord) ≡ endOf v t m start room
-  not-home x e h = sym (pick-false (eqb last (startOf v t)) (wordOrShort n start room) (queried.Refused noWord) (ne-eqb last (startOf v t) (λ z. h (e ∙ z))))
+  not-home x e h = sym (pick-false (eqb last (startOf v t)) (wordOrShort n q start room) (queried.Refused noWord) (ne-eqb last (startOf v t) (λ z. h (e ∙ z))))
 
-  at-home : (x : ℕ) → x ≡ last → x ≡ startOf v t → wordOrShort n start room ≡ endOf v t m start room
-  at-home x e h = sym (pick-true (eqb last (startOf v t)) (wordOrShort n start room) (queried.Refused noWord) (eq-eqb last (startOf v t) (sym e ∙ h)))
+  at-home : (x : ℕ) → x ≡ last → x ≡ startOf v t → wordOrShort n q start room ≡ endOf v t m start room
+  at-home x e h = sym (pick-true (eqb last (startOf v t)) (wordOrShort n q start room) (queried.Refused noWord) (eq-eqb last (startOf v t) (sym e ∙ h)))
 
   module _ (x : ℕ) (e : x ≡ last) (h : x ≡ startOf v t) where
     pub too-far : room < start → queried.Refused (tooShort n) ≡ endOf v t m start room
     too-far k =
-        sym (pick-false (wordFits start n room) (queried.Word start n) (queried.Refused (tooShort n))
+        sym (pick-false (wordFits start n room) (queried.Word start n q) (queried.Refused (tooShort n))
         (ap (λ (c : Bool). c && leb n (room - start)) (lt-leb start room k))) ∙ at-home x e h
 
     fits-by : start ≤ room → wordFits start n room ≡ leb n (room - start)
     fits-by k = ap (λ (c : Bool). c && leb n (room - start)) (le-leb start room k)
 
     pub too-long : start ≤ room → room - start < n → queried.Refused (tooShort n) ≡ endOf v t m start room
-    too-long k l = sym (pick-false (wordFits start n room) (queried.Word start n) (queried.Refused (tooShort n)) (fits-by k ∙ lt-leb n (room - start) l))
+    too-long k l = sym (pick-false (wordFits start n room) (queried.Word start n q) (queried.Refused (tooShort n)) (fits-by k ∙ lt-leb n (room - start) l))
         ∙ at-home x e h
 
-    pub fitting : start ≤ room → n ≤ room - start → queried.Word start n ≡ endOf v t m start room
-    fitting k l = sym (pick-true (wordFits start n room) (queried.Word start n) (queried.Refused (tooShort n)) (fits-by k ∙ le-leb n (room - start) l)) ∙ at-home x e h
+    pub fitting : start ≤ room → n ≤ room - start → queried.Word start n q ≡ endOf v t m start room
+    fitting k l = sym (pick-true (wordFits start n room) (queried.Word start n q) (queried.Refused (tooShort n)) (fits-by k ∙ le-leb n (room - start) l)) ∙ at-home x e h

@@ -17,7 +17,7 @@ use Rattle.symbol.proofs.Accepted.{accepted, check-among}
 use Rattle.basics.proofs.Count.{first-clear, clear-first, first-le}
 use Rattle.refusal.specs.Refusal.{noWord, tooShort}
 use Rattle.refusal.proofs.Numbered.{Among}
-use Rattle.word.specs.Answer.{queryRefusal, large, foundWord, foundOf, queryOf, wordLeft}
+use Rattle.word.specs.Answer.{queryRefusal, large, foundWord, foundSign, foundOf, queryOf, wordLeft}
 use Rattle.word.specs.Claim.{Asked, ShortWork, Answered, Claim}
 use Rattle.word.specs.declared.Queried.{Queried}
 use Rattle.word.proofs.Pair.{small-clear, clear-small, unit-is, is-unit}
@@ -76,10 +76,11 @@ claim {v} {t} {a} {b} {w} {out} {start} {r} {out'} e f = record { asked = by-num
       | inr (inr s) ↦ absurd (omega (arith, s .1, z))
     ]
 
-    by-walk : Asked v t a b w → Answered v t (ofList a) (ofList b) (foundWord v t (ofList a) (ofList b)) out start r out'
+    by-walk : Asked v t a b w → Answered v t (ofList a) (ofList b) (foundWord v t (ofList a) (ofList b)) (foundSign v t (ofList a) (ofList b)) out start r out'
     by-walk q =
         let l = foundWord v t (ofList a) (ofList b) in
+        let s = foundSign v t (ofList a) (ofList b) in
         let z : r ≡ foundOf v t a b start (length out) = e ∙ sym (asked-found v t a b w (length out) start q) in
-        subst (λ (o : List ℤ). Answered v t (ofList a) (ofList b) l out start r o) (sym f)
-        (subst (λ (x : Queried). Answered v t (ofList a) (ofList b) l out start x (wordLeft x l out)) (sym z)
+        subst (λ (o : List ℤ). Answered v t (ofList a) (ofList b) l s out start r o) (sym f)
+        (subst (λ (x : Queried). Answered v t (ofList a) (ofList b) l s out start x (wordLeft x l out)) (sym z)
         (answered (q .symbol) a b (q .unit-A) (q .unit-B) out start))

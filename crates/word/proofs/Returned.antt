@@ -21,15 +21,15 @@ use Rattle.refusal.specs.declared.Checked.{Checked}
 use Rattle.refusal.specs.declared.Checked.the-variants.{Accepted, Refused}
 use Rattle.basics.proofs.Choice.{and-left, and-right}
 use Rattle.refusal.specs.Refusal.{matrixEntry, badDeterminant, noWord, tooShort}
-use Rattle.word.specs.Answer.{placed, large, unit, closes, foundWord, wordFits, wordOrShort, foundOf, queryByWork, byDeterminants, byEntries}
+use Rattle.word.specs.Answer.{placed, large, unit, closes, foundWord, foundSign, wordFits, wordOrShort, foundOf, queryByWork, byDeterminants, byEntries}
 use Rattle.word.specs.Answer.{byCheck, queryOf, partOf}
 use Rattle.word.specs.declared.Queried.{Queried}
 use Rattle.word.specs.declared.Queried.the-variants as queried
 use Rattle.word.proofs.Claim.{part-placed}
 
-module _ (s n : ℕ) where
+module _ (s n : ℕ) (sign : Bool) where
   abbrev Is : Queried → Type 0
-  Is r = queried.Word s n ≡ r
+  Is r = queried.Word s n sign ≡ r
 
   -- of two answers, the one that can be a word
   second : (b : Bool) (x y : Queried) → (Is x → ⊥) → Is (pick b x y) → Is y
@@ -56,23 +56,26 @@ module _ (s n : ℕ) where
   by-check (Refused f) r e = let z : _≡_ {A = ℕ} 0 1 = cc in absurd (omega arith)
   by-check Accepted r e = e
 
-  record Named (k start room : ℕ) : Type 0 where
+  record Named (k : ℕ) (q : Bool) (start room : ℕ) : Type 0 where
     pub place-is : s ≡ start
     pub length-is : n ≡ k
     pub fitting : wordFits start k room ≡ true
 
-  by-room : (k start room : ℕ) → Is (wordOrShort k start room) → Named k start room
-  by-room k start room e = go (wordFits start k room) refl
+  by-room : (k : ℕ) (q : Bool) (start room : ℕ) → Is (wordOrShort k q start room) → Named k q start room
+  by-room k q start room e = go (wordFits start k room) refl
     where
-      go : (b : Bool) → wordFits start k room ≡ b → Named k start room
-      go true h = let f : Is (queried.Word start k) = rw h at e in record { place-is = cc; length-is = cc; fitting = h }
+      go : (b : Bool) → wordFits start k room ≡ b → Named k q start room
+      go true h = let f : Is (queried.Word start k q) = rw h at e in record { place-is = cc; length-is = cc; fitting = h }
       go false h = let f : Is (queried.Refused (tooShort k)) = rw h at e in absurd (no-short k f)
 
   module _ (v : ℕ) (t a b : List ℤ) (work start : ℕ) (out : List ℤ) (e : Is (queryOf v t a b work (length out) start)) where
     abbrev word : List ℤ
     word = foundWord v t (ofList a) (ofList b)
 
-    names-word : Named (length word) start (length out)
+    abbrev q : Bool
+    q = foundSign v t (ofList a) (ofList b)
+
+    names-word : Named (length word) q start (length out)
     names-word =
         let found = foundOf v t a b start (length out) in
         let enough = queryByWork work found in
@@ -82,8 +85,8 @@ module _ (s n : ℕ) where
         let e3 = first-one (unit a) (pick (unit b) enough (queried.Refused (badDeterminant 1))) (queried.Refused (badDeterminant 0)) (no-determinant 0) e2 in
         let e4 = first-one (unit b) enough (queried.Refused (badDeterminant 1)) (no-determinant 1) e3 in
         let e5 = second (ltb work workLength) (queried.Refused (tooShort workLength)) found (no-short workLength) e4 in
-        let e6 = first-one (closes v t (ofList a) (ofList b)) (wordOrShort (length word) start (length out)) (queried.Refused noWord) no-absent e5 in
-        by-room (length word) start (length out) e6
+        let e6 = first-one (closes v t (ofList a) (ofList b)) (wordOrShort (length word) q start (length out)) (queried.Refused noWord) no-absent e5 in
+        by-room (length word) q start (length out) e6
 
     pub part-found : partOf (placed s word out) s n ≡ word
     part-found =

@@ -8,19 +8,21 @@
 --   passes a b                  whether the pair passes 8 and 9
 --   closes v t m n              whether the walk from m to n, which follows n m⁻¹, ends where it began
 --   foundWord v t m n           the word that it writes
+--   foundSign v t m n           the sign that it tells: the word times m is that sign times n, where the walk comes home
 --   wordFits start n room       whether n letters fit in a space of `room` letters from the place `start` on
---   wordOrShort, foundOf        the word, or 11 with its length; the same, or 10 where the walk doesn't come home
+--   signNumber s                the sign s as a number: 1 for plus, -1 for minus
+--   wordOrShort, foundOf        the word with its sign, or 11 with its length; the same, or 10 where the walk doesn't come home
 --   queryOf v t a b work room start     the refusals in the order of docs/CONVENTIONS.md, or the word
 --   queryWork v t a b w         what the call leaves in the work space: zeros where it got past the length check, else all as it was
 --   placed start l out          the letters l in place of those that stood from `start` on
 --   wordLeft r l out            what the call leaves in the word space: the letters l from the start place on, or all as it was
 --   partOf out start n          the part of n letters from `start` on, empty where it doesn't fit
-use mathlib.Core.Bool.{Bool, not, _&&_}
+use mathlib.Core.Bool.{Bool, true, false, not, _&&_}
 use mathlib.Core.List.{List, [], _++_}
 use Prim.Native.Nat.{ℕ, _+_, _-_}
 use lib.Dec.{leb, ltb, eqb}
 use lib.ListN.{length, take, drop}
-use lib.IntN.{ℤ, pos, natAbs}
+use lib.IntN.{ℤ, pos, negsuc, natAbs}
 use Rattle.matrix.specs.Matrix.{Mat, _⊗_, adj, det, nth, ofList}
 use Rattle.basics.specs.Choice.{pick}
 use Rattle.workspace.specs.Space.{workLength}
@@ -33,11 +35,12 @@ use Rattle.refusal.specs.declared.Checked.{Checked}
 use Rattle.refusal.specs.declared.Checked.the-variants.{Accepted, Refused}
 use Rattle.polygon.specs.Step.{startOf}
 use Rattle.polygon.specs.Walk.{walkEnds, walkWrites}
+use Rattle.signs.specs.Step.{querySign}
 use Rattle.word.specs.declared.Queried.{Queried}
 use Rattle.word.specs.declared.Queried.the-variants as queried
 
 abbrev pub queryRefusal : Queried → Refusal
-queryRefusal (queried.Word start n) = noRefusal
+queryRefusal (queried.Word start n sign) = noRefusal
 queryRefusal (queried.Refused f) = f
 
 -- ---- the pair
@@ -62,16 +65,26 @@ closes v t m n = eqb (walkEnds v t (n ⊗ adj m)) (startOf v t)
 unfoldable pub foundWord : ℕ → List ℤ → Mat → Mat → List ℤ
 foundWord v t m n = walkWrites v t (n ⊗ adj m)
 
+unfoldable pub foundSign : ℕ → List ℤ → Mat → Mat → Bool
+foundSign v t m n = querySign v t (n ⊗ adj m)
+
+abbrev pub signNumber : Bool → ℤ
+signNumber true = pos 1
+signNumber false = negsuc 0
+
 -- ---- the answer
 
 abbrev pub wordFits : (start n room : ℕ) → Bool
 wordFits start n room = leb start room && leb n (room - start)
 
-abbrev pub wordOrShort : (n start room : ℕ) → Queried
-wordOrShort n start room = pick (wordFits start n room) (queried.Word start n) (queried.Refused (tooShort n))
+abbrev pub wordOrShort : (n : ℕ) (sign : Bool) (start room : ℕ) → Queried
+wordOrShort n sign start room = pick (wordFits start n room) (queried.Word start n sign) (queried.Refused (tooShort n))
 
 abbrev pub foundOf : (v : ℕ) (t a b : List ℤ) (start room : ℕ) → Queried
-foundOf v t a b start room = pick (closes v t (ofList a) (ofList b)) (wordOrShort (length (foundWord v t (ofList a) (ofList b))) start room) (queried.Refused noWord)
+foundOf v t a b start room =
+    pick (closes v t (ofList a) (ofList b))
+    (wordOrShort (length (foundWord v t (ofList a) (ofList b))) (foundSign v t (ofList a) (ofList b)) start room)
+    (queried.Refused noWord)
 
 abbrev pub queryByWork : (work : ℕ) → Queried → Queried
 queryByWork work r = pick (ltb work workLength) (queried.Refused (tooShort workLength)) r
@@ -100,7 +113,7 @@ abbrev pub placed : ℕ → (l out : List ℤ) → List ℤ
 placed start l out = take start out ++ l ++ drop (start + length l) out
 
 abbrev pub wordLeft : Queried → (l out : List ℤ) → List ℤ
-wordLeft (queried.Word start n) l out = placed start l out
+wordLeft (queried.Word start n sign) l out = placed start l out
 wordLeft (queried.Refused f) l out = out
 
 abbrev pub partOf : List ℤ → (start n : ℕ) → List ℤ

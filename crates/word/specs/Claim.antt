@@ -1,6 +1,6 @@
 -- THE CLAIM: WHAT A PAIR QUERY ANSWERS, for every symbol, pair, space and start place. `query` promises it of its answer r and of the word
--- space out' that it leaves; the proof is `answered`, in proofs/Claim.antt. A and B are the two matrices, and `word` stands for
--- `foundWord v t A B`, which depends on the symbol, A and B alone. A word that is returned is no refusal,
+-- space out' that it leaves; the proof is `answered`, in proofs/Claim.antt. A and B are the two matrices, and `word` and `sign` stand for
+-- `foundWord v t A B` and `foundSign v t A B`, which depend on the symbol, A and B alone. A word that is returned is no refusal,
 -- 'none' is refusal 10, and a word that doesn't fit is refusal 11.
 --
 --   Asked v t a b w         the query gets to its walk: the symbol is accepted, the work space is long enough, whatever stands in it,
@@ -12,9 +12,11 @@
 --     found                 a word is found exactly when some product of generators and inverses times A is B up to sign
 --     points                and exactly when A and B lead from point 0 to the same point of the coset tables of S and R: the same right coset
 --     letters, product      the word found is such a product, with the letter j for generator j and -j for its inverse
+--     exact                 WITH ITS SIGN: the word times A is the sign times B, where plus stands for 1 and minus for -1; an equation of matrices
 --     none                  otherwise the answer is 10, place 0, and only then: 'none' means that there is no such product
 --     returned, short       the word found is returned exactly when it fits, and otherwise refused with 11 and its true length
---     names, stands         a word that is returned stands where the answer says, from the start place on, and all else is as before
+--     names, stands         a word that is returned stands where the answer says, from the start place on, and all else is as before; the answer
+--                           tells its sign
 --     untouched             any other answer leaves the word space as it was, whatever stood in it
 --     bound, sixteen        the word has at most two letters more than the alternating word of B A⁻¹, and each fits 16 signed bits
 --   ShortWork w r           the work space is too short, and the query is refused for it
@@ -22,13 +24,16 @@
 --                           where it gets there, this is what it answers
 --   QuerySays               the same by what the exported call returns, its number n and the place or the word's length: 10 means that the query
 --                           got to its walk and there is no such product; 0 that the letters from the start place on are such a product
+--   scaled z m              the matrix m with every entry multiplied by z
+--   SignSays                what the exported call with a sign says of it where it returns 0: it is 1 or -1, and those letters times A are that times B
 use mathlib.Core.Path.{_≡_}
+use mathlib.Core.Bool.{Bool}
 use mathlib.Core.Logic.{_⊎_, _↔_}
 use mathlib.Core.List.{List}
 use Prim.Native.Nat.{ℕ, _+_, _-_, _≤_, _<_}
 use lib.ListN.{length, getD}
-use lib.IntN.{ℤ, pos, natAbs}
-use Rattle.matrix.specs.Matrix.{Mat, _⊗_, adj, det, _≈_, ofList}
+use lib.IntN.{ℤ, pos, negsuc, natAbs, _*ℤ_}
+use Rattle.matrix.specs.Matrix.{Mat, mat, _⊗_, adj, det, _≈_, ofList}
 use Rattle.matrix.specs.Bounds.{Small}
 use Rattle.matrix.specs.Euclid as euclid
 use Rattle.refusal.specs.Refusal.{noRefusal, noWord, tooShort}
@@ -37,9 +42,10 @@ use Rattle.symbol.specs.Symbol.{IsSymbol}
 use Rattle.pairing.specs.Generator.{generators}
 use Rattle.pairing.specs.Subgroup.{IsWord, valueOf}
 use Rattle.polygon.specs.Theorem.{SameCoset}
+use Rattle.signs.specs.Sign.{withSign}
 use Rattle.coset.specs.Tables.{tableS, tableR}
 use Rattle.coset.specs.Theorem.{leads}
-use Rattle.word.specs.Answer.{placed, queryRefusal, foundWord, partOf}
+use Rattle.word.specs.Answer.{placed, queryRefusal, foundWord, foundSign, partOf}
 use Rattle.word.specs.declared.Queried.{Queried}
 use Rattle.word.specs.declared.Queried.the-variants as queried
 
@@ -61,15 +67,16 @@ pub record Fits (start n room : ℕ) : Type 0 where
 abbrev pub Found : List ℤ → Queried → Type 0
 Found word r = (queryRefusal r ≡ noRefusal) ⊎ (queryRefusal r ≡ tooShort (length word))
 
-pub record Answered (v : ℕ) (t : List ℤ) (A B : Mat) (word out : List ℤ) (start : ℕ) (r : Queried) (out' : List ℤ) : Type 0 where
+pub record Answered (v : ℕ) (t : List ℤ) (A B : Mat) (word : List ℤ) (sign : Bool) (out : List ℤ) (start : ℕ) (r : Queried) (out' : List ℤ) : Type 0 where
   pub found : Found word r ↔ Joined v t A B
   pub points : Found word r ↔ (leads (tableS v t) (tableR v t) A ≡ leads (tableS v t) (tableR v t) B)
   pub letters : Found word r → IsWord (length (generators v t)) word
   pub product : Found word r → valueOf (generators v t) word ⊗ A ≈ B
+  pub exact : Found word r → valueOf (generators v t) word ⊗ A ≡ withSign sign B
   pub none : (queryRefusal r ≡ noWord) ↔ (Joined v t A B → ⊥)
   pub returned : (queryRefusal r ≡ noRefusal) ↔ (Joined v t A B × Fits start (length word) (length out))
   pub short : (queryRefusal r ≡ tooShort (length word)) ↔ (Joined v t A B × (Fits start (length word) (length out) → ⊥))
-  pub names : queryRefusal r ≡ noRefusal → r ≡ queried.Word start (length word)
+  pub names : queryRefusal r ≡ noRefusal → r ≡ queried.Word start (length word) sign
   pub stands : queryRefusal r ≡ noRefusal → (out' ≡ placed start word out) × (partOf out' start (length word) ≡ word)
   pub untouched : (queryRefusal r ≡ noRefusal → ⊥) → out' ≡ out
   pub bound : length word ≤ length (euclid.wordOf (B ⊗ adj A)) + 2
@@ -81,10 +88,18 @@ ShortWork w r = (length w < workLength) × (queryRefusal r ≡ tooShort workLeng
 pub record Claim (v : ℕ) (t a b : List ℤ) (w : List ℕ) (out : List ℤ) (start : ℕ) (r : Queried) (out' : List ℤ) : Type 0 where
   pub asked : (queryRefusal r .number ≡ 0) ⊎ (queryRefusal r .number ≡ noWord .number) → Asked v t a b w
   pub short : (n : ℕ) → queryRefusal r .number ≡ tooShort n .number → Asked v t a b w ⊎ ShortWork w r
-  pub answered : Asked v t a b w → Answered v t (ofList a) (ofList b) (foundWord v t (ofList a) (ofList b)) out start r out'
+  pub answered : Asked v t a b w
+      → Answered v t (ofList a) (ofList b) (foundWord v t (ofList a) (ofList b)) (foundSign v t (ofList a) (ofList b)) out start r out'
 
 pub record QuerySays (v : ℕ) (t a b : List ℤ) (w : List ℕ) (start n place : ℕ) (out' : List ℤ) : Type 0 where
   pub none : n ≡ noWord .number → Asked v t a b w × (Joined v t (ofList a) (ofList b) → ⊥)
   pub asked : n ≡ 0 → Asked v t a b w
   pub letters : n ≡ 0 → IsWord (length (generators v t)) (partOf out' start place)
   pub product : n ≡ 0 → valueOf (generators v t) (partOf out' start place) ⊗ ofList a ≈ ofList b
+
+abbrev pub scaled : ℤ → Mat → Mat
+scaled z m = mat (z *ℤ m .a) (z *ℤ m .b) (z *ℤ m .c) (z *ℤ m .d)
+
+pub record SignSays (v : ℕ) (t a b : List ℤ) (start n place : ℕ) (sign : ℤ) (out' : List ℤ) : Type 0 where
+  pub unit : n ≡ 0 → (sign ≡ pos 1) ⊎ (sign ≡ negsuc 0)
+  pub exact : n ≡ 0 → valueOf (generators v t) (partOf out' start place) ⊗ ofList a ≡ scaled sign (ofList b)

@@ -1,4 +1,4 @@
-// Pair queries: whether some product of a symbol's generators and their inverses takes one matrix to another, up to sign, and which.
+// Pair queries: whether some product of a symbol's generators and their inverses takes one matrix to another, up to sign, which, and with which sign.
 //
 // specs/Answer.antt says what a query answers and leaves, specs/Claim.antt what that means.
 use matrix::determinant;
@@ -32,8 +32,8 @@ ghost use Rattle.word.specs.Inner.Ready.{judgedOf, lettersAlong, endOf, 
 
 // The answer of `query`.
 pub enum Queried {
-    // The word stands in the lent space: the place where it starts, and its length.
-    Word(usize, usize),
+    // The word stands in the lent space: the place where it starts, its length, and its sign, plus for true.
+    Word(usize, usize, bool),
     // The table is no symbol, the pair is no pair of matrices, a space is too short, or no word exists.
     Refused(Refusal),
 }
@@ -105,7 +105,9 @@ fn matrix_between(t: &[i64], v: usize, a: [i64; 4], b: [i64; 4]) -> [i64; 4]
 {
     let x = product(b, inverse(a));
     if is_turned(t, v) {
-        return product(inverse(matrix_s()), product(x, matrix_s()));
+        let s = matrix_s();
+        let back = inverse(s);
+        return product(back, product(x, s));
     }
     x
 }
@@ -146,7 +148,7 @@ fn find(
         });
     }
     walk(t, v, w, m, home, out, start, n);
-    Queried::Word(start, n)
+    Queried::Word(start, n, end.sign)
 }
 
 // The answer for an accepted symbol and pair; the work space is cleared after.
@@ -172,7 +174,7 @@ fn answer(
     found
 }
 
-// A word in the generators that takes A to B up to sign, from the start place on in `out`: checks 1 to 7, then 8 and 9, A before B
+// A word in the generators that takes A to B up to sign, with that sign, from the start place on in `out`: checks 1 to 7, then 8 and 9, A before B
 // under each, then the work space, then 10, then the word space.
 pub fn query(
     v: usize,
@@ -221,7 +223,7 @@ pub fn query_refusal(answer: Queried) -> Refusal
     ensures { λ r. ⌜ r ≡ queryRefusal answer ⌝ }
 {
     match answer {
-        Queried::Word(_, _) => Refusal {
+        Queried::Word(_, _, _) => Refusal {
             number: 0,
             place: 0,
         },

@@ -1,5 +1,6 @@
 //! Pair queries: the walk along B A^-1, one letter of its alternating word at a
-//! time.
+//! time. The walk itself knows no sign: that of a word which fits is read off
+//! its product with the first column of A, modulo 2^64.
 
 use crate::polygon::{Polygon, Step, Steps};
 use crate::symbol::Symbol;
@@ -12,9 +13,9 @@ const LENT: usize = 16_384;
 /// What the query program prints.
 pub fn plain_query(text: &[u8]) -> Vec<u8> {
     match try_query(text) {
-        Ok(word) => {
-            let mut out = Vec::with_capacity(8 + 6 * word.len());
-            out.extend_from_slice(b"word");
+        Ok((plus, word)) => {
+            let mut out = Vec::with_capacity(10 + 6 * word.len());
+            out.extend_from_slice(if plus { b"word +" } else { b"word -" });
             for letter in word {
                 put(&mut out, letter.into());
             }
@@ -25,7 +26,8 @@ pub fn plain_query(text: &[u8]) -> Vec<u8> {
     }
 }
 
-fn try_query(text: &[u8]) -> Result<Vec<i16>, Refusal> {
+/// Whether the word times A is B, and not -B; and the word.
+fn try_query(text: &[u8]) -> Result<(bool, Vec<i16>), Refusal> {
     let numbers = numbers(text, QUERY)?;
     if numbers.len() < 9 {
         return Err((1, 0));
@@ -49,7 +51,35 @@ fn try_query(text: &[u8]) -> Result<Vec<i16>, Refusal> {
     }
     // B A^-1 = (e f; g h) (d -b; -c a).
     let x = [e * d - f * c, f * a - e * b, g * d - h * c, h * a - g * b];
-    word(&Polygon::new(&symbol), x)
+    let word = word(&Polygon::new(&symbol), x)?;
+    Ok((takes(&symbol, &word, [a, c], [e, g]), word))
+}
+
+/// Whether the word's product takes the one column to the other. It takes it to
+/// that or to its negative, and the two differ modulo 2^64: the column isn't 0,
+/// and its entries are small.
+fn takes(symbol: &Symbol, word: &[i16], from: [i64; 2], to: [i64; 2]) -> bool {
+    if word.is_empty() {
+        return from == to;
+    }
+    let mut matrices = Vec::with_capacity(symbol.generators);
+    for side in 0..=symbol.v {
+        if symbol.generator[side] as usize > matrices.len() {
+            matrices.push(symbol.matrix(side));
+        }
+    }
+    let [mut x, mut y] = from;
+    for &letter in word.iter().rev() {
+        let [a, b, c, d] = matrices[letter.unsigned_abs() as usize - 1];
+        let [a, b, c, d] = if letter > 0 {
+            [a, b, c, d]
+        } else {
+            [d, -b, -c, a]
+        };
+        let dot = |p: i64, q: i64| p.wrapping_mul(x).wrapping_add(q.wrapping_mul(y));
+        (x, y) = (dot(a, b), dot(c, d));
+    }
+    [x, y] == to
 }
 
 /// A walk under way.

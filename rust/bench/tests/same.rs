@@ -170,10 +170,10 @@ fn measured_texts() {
         let expected = match input.name {
             "listing-short.txt" => "index 3\n",
             "listing-1023.txt" => "index ",
-            "query-short.txt" => "word 2 1\n",
+            "query-short.txt" => "word + 2 1\n",
             "query-long.txt" => "refused 11 1000000\n",
             "query-near.txt" => "refused 11 ",
-            "query-1023-word.txt" => "word ",
+            "query-1023-word.txt" => "word + ",
             "query-1023-none.txt" => "refused 10 0\n",
             "import-short.txt" => "2\n0 1 1 1\n1 -2 1\n",
             "import-3066.txt" => "876\n",

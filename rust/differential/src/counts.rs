@@ -15,6 +15,8 @@ pub struct Tally {
     pub met: BTreeMap<Reason, usize>,
     /// The largest count that was answered.
     pub largest: usize,
+    /// How many words came with a plus, and with a minus.
+    pub signs: [usize; 2],
 }
 
 impl Tally {
@@ -23,6 +25,9 @@ impl Tally {
         let reason = (outcome.number(), outcome.about);
         *self.met.entry(reason).or_default() += 1;
         self.largest = self.largest.max(outcome.expected.unwrap_or(0));
+        if let Some(sign) = outcome.sign {
+            self.signs[usize::from(sign < 0)] += 1;
+        }
     }
 
     /// How often this number was met, whatever it was about.
@@ -40,6 +45,10 @@ impl Display for Tally {
             self.met.iter().partition(|((number, _), _)| *number == 0);
         for ((_, about), count) in answers.iter().filter(|((_, about), _)| !about.is_empty()) {
             write!(f, ", {about}: {count}")?;
+        }
+        let [plus, minus] = self.signs;
+        if plus + minus > 0 {
+            write!(f, ", plus: {plus}, minus: {minus}")?;
         }
         write!(f, ", largest count {}; refused", self.largest)?;
         for (i, ((number, about), count)) in refusals.iter().enumerate() {

@@ -1,7 +1,8 @@
 //! Random calls of the proved engine, compared with the reference.
 //!
 //! A case makes each call once, through `farey::calls` and on spaces full of
-//! random numbers. The answer, and every number of every space afterwards, is
+//! random numbers; beside a query with a sign it makes the same one without, and
+//! the one from -A. The answer, and every number of every space afterwards, is
 //! compared with what the reference and the order of refusals give: nothing
 //! that is expected comes from the engine.
 //!
@@ -42,7 +43,7 @@ use reference::random::Rng;
 pub type Call = (&'static str, fn(&mut Rng) -> Outcome);
 
 /// All calls.
-pub const CALLS: [Call; 14] = [
+pub const CALLS: [Call; 17] = [
     ("check", check::case),
     ("generators", generators::case),
     ("figures", figures::case),
@@ -57,6 +58,9 @@ pub const CALLS: [Call; 14] = [
     ("named_symbol_wide", named::symbol_wide_case),
     ("named_query", named::query_case),
     ("named_query_wide", named::query_wide_case),
+    ("signed_query", query::signed_case),
+    ("named_signed_query", named::signed_query_case),
+    ("named_signed_query_wide", named::signed_query_wide_case),
 ];
 
 /// Makes every call once for each case: the counts of each, in the order of

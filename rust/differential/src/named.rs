@@ -1,7 +1,7 @@
-//! `named_tables`, `named_symbol`, `named_query` and the wide forms of the last
-//! two: groups by family and N. Refusals 20 and 21; for a query 8 and 9; 11 for
-//! the work space; but for the tables 16; for a query 10; 11 for the result
-//! spaces in their order.
+//! `named_tables`, `named_symbol`, `named_query`, `named_signed_query` and the
+//! wide forms of the last three: groups by family and N. Refusals 20 and 21; for
+//! a query 8 and 9; 11 for the work space; but for the tables 16; for a query 10;
+//! 11 for the result spaces in their order.
 
 use farey::calls;
 use reference::congruence::named;
@@ -10,11 +10,11 @@ use reference::random::matrices::{any_pair, congruent_pair, put_matrix_fault};
 use reference::random::pairs::Pair;
 use reference::random::Rng;
 use reference::symbol::Symbol;
-use reference::word::{check_matrices, pair_query};
+use reference::word::{check_matrices, pair_query, Found};
 use reference::Refusal;
 
 use crate::outcome::{Expected, Outcome};
-use crate::query::{fits, four, leads, start_place, word_space};
+use crate::query::{asked, Calls};
 use crate::spaces::{work, Space};
 
 /// A family's number and an N, mostly those of a group within the limits.
@@ -152,60 +152,50 @@ fn symbol_by(rule: Rule, rng: &mut Rng) -> Outcome {
 }
 
 pub fn query_case(rng: &mut Rng) -> Outcome {
-    query_by(Rule::Leftmost, rng)
+    query_by(Rule::Leftmost, false, rng)
 }
 
 pub fn query_wide_case(rng: &mut Rng) -> Outcome {
-    query_by(Rule::Wide, rng)
+    query_by(Rule::Wide, false, rng)
 }
 
-fn query_by(rule: Rule, rng: &mut Rng) -> Outcome {
+pub fn signed_query_case(rng: &mut Rng) -> Outcome {
+    query_by(Rule::Leftmost, true, rng)
+}
+
+pub fn signed_query_wide_case(rng: &mut Rng) -> Outcome {
+    query_by(Rule::Wide, true, rng)
+}
+
+fn query_by(rule: Rule, signed: bool, rng: &mut Rng) -> Outcome {
     let name = Name::any(rng);
-    let [a, b] = matrices(rng, &name);
-    let symbol = name.symbol(rule);
-    let judged = judged(&symbol, a, b);
-    let needed = match &judged {
-        Ok(Ok(word)) => word.len(),
-        _ => 20,
+    let Name { family, n } = name;
+    let pair = matrices(rng, &name);
+    let made = name.symbol(rule);
+    let judged = judged(&made, pair);
+    let symbol = match &made {
+        Ok(Ok(imported)) => Some(accepted(imported)),
+        _ => None,
     };
-    let (len, start) = word_space(rng, needed);
-    let (a_lent, b_lent) = (Space::holding(rng, &a), Space::holding(rng, &b));
-    let mut work = work(rng);
-    let mut out = Space::of_length(rng, len);
-    let expected = Expected::in_order(judged, &work, |found| {
-        let word = found?;
-        fits(word.len(), len, start)?;
-        Ok(word)
-    });
-    let call = match rule {
-        Rule::Leftmost => calls::named_query,
-        Rule::Wide => calls::named_query_wide,
+    let calls = match rule {
+        Rule::Leftmost => Calls {
+            plain: &|a, b, work, out, start| calls::named_query(family, n, a, b, work, out, start),
+            signed: &|a, b, work, out, start, sign| {
+                calls::named_signed_query(family, n, a, b, work, out, start, sign)
+            },
+        },
+        Rule::Wide => Calls {
+            plain: &|a, b, work, out, start| {
+                calls::named_query_wide(family, n, a, b, work, out, start)
+            },
+            signed: &|a, b, work, out, start, sign| {
+                calls::named_signed_query_wide(family, n, a, b, work, out, start, sign)
+            },
+        },
     };
-    let came = call(
-        name.family,
-        name.n,
-        four(&a_lent),
-        four(&b_lent),
-        work.write(),
-        out.write(),
-        start,
-    );
-    let mut outcome = Outcome::with_work(&expected, Vec::len, came, &work);
-    outcome.unchanged("a", &a_lent);
-    outcome.unchanged("b", &b_lent);
-    outcome.filled("out", &out, start, expected.part(Vec::as_slice));
-    if outcome.number() == 0 || outcome.about == "result" {
-        outcome.about = start_place(len, start);
-    }
-    if let (Ok(Ok(imported)), Ok(count)) = (symbol, came) {
-        if !leads(&accepted(&imported), out.read(), start, count, a, b) {
-            outcome.differences.push("the word's value".to_string());
-        }
-    }
-    outcome.on(|| {
-        let (name, work) = (name.told(), work.length());
-        format!("{name}, A {a:?}, B {b:?}, work {work}, out {len}, start {start}")
-    })
+    let outcome = asked(rng, judged, symbol.as_ref(), pair, calls, signed);
+    let told = outcome.input.clone();
+    outcome.on(|| format!("{}, {told}", name.told()))
 }
 
 fn accepted(imported: &Imported) -> Symbol {
@@ -213,12 +203,11 @@ fn accepted(imported: &Imported) -> Symbol {
 }
 
 /// A refusal that goes before the work space, or else what comes after it: the
-/// word, or that the rule makes no symbol, or that there is no word.
+/// word with its sign, or that the rule makes no symbol, or that there is no word.
 fn judged(
     symbol: &Result<Result<Imported, Refusal>, Refusal>,
-    a: [i64; 4],
-    b: [i64; 4],
-) -> Result<Result<Vec<i16>, Refusal>, Refusal> {
+    [a, b]: [[i64; 4]; 2],
+) -> Result<Result<Found, Refusal>, Refusal> {
     let made = symbol.as_ref().map_err(|&refusal| refusal)?;
     check_matrices(a, b)?;
     Ok(made

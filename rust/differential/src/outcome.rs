@@ -53,6 +53,8 @@ pub struct Outcome {
     pub came: Answer,
     /// What the expected answer is about, where its number leaves that open.
     pub about: &'static str,
+    /// The sign that is expected, of a call that gives one.
+    pub sign: Option<i64>,
     /// Everything that isn't as expected.
     pub differences: Vec<String>,
     /// What was lent, told only if there is a difference.
@@ -71,6 +73,7 @@ impl Outcome {
             expected,
             came,
             about: "",
+            sign: None,
             differences,
             input: String::new(),
         }

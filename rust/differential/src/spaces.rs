@@ -42,6 +42,7 @@ fn garbage<T: Number>(rng: &mut Rng, count: usize) -> Vec<T> {
 }
 
 /// A lent space between two margins that are not lent.
+#[derive(Clone)]
 pub struct Space<T> {
     /// What stood there before the call, margins and all.
     before: Vec<T>,
@@ -92,6 +93,11 @@ impl<T: Number> Space<T> {
     /// The lent part, for writing.
     pub fn write(&mut self) -> &mut [T] {
         &mut self.now[self.front..][..self.len]
+    }
+
+    /// Whether the same stands in both now, margins and all.
+    pub fn same(&self, other: &Space<T>) -> bool {
+        self.now == other.now
     }
 
     /// Refusal 11 if the space is shorter than that.

@@ -44,7 +44,7 @@ fn reachable(call: &str) -> BTreeSet<Reason> {
             [vec![(0, "")], symbol, spaces].concat()
         }
         "import" | "import_wide" => [vec![(0, "")], plain(12..=16), spaces].concat(),
-        "query" => [words(), plain(1..=10)].concat(),
+        "query" | "signed_query" => [words(), plain(1..=10)].concat(),
         "same" => {
             let second = (1..=7).map(|number| (number, "second")).collect();
             let answers = vec![(0, "yes"), (0, "no")];
@@ -57,8 +57,12 @@ fn reachable(call: &str) -> BTreeSet<Reason> {
         "named_symbol" => [vec![(0, "")], plain(20..=21), plain(16..=16), spaces].concat(),
         // The wide rule refuses no named group with 16.
         "named_symbol_wide" => [vec![(0, "")], plain(20..=21), spaces].concat(),
-        "named_query" => [words(), plain(20..=21), plain(8..=10), plain(16..=16)].concat(),
-        "named_query_wide" => [words(), plain(20..=21), plain(8..=10)].concat(),
+        "named_query" | "named_signed_query" => {
+            [words(), plain(20..=21), plain(8..=10), plain(16..=16)].concat()
+        }
+        "named_query_wide" | "named_signed_query_wide" => {
+            [words(), plain(20..=21), plain(8..=10)].concat()
+        }
         _ => panic!("no call {call}"),
     };
     reasons.into_iter().collect()
@@ -92,6 +96,7 @@ fn every_call_is_as_the_reference_has_it() {
     assert_eq!(calls["import_wide"].largest, 1_023);
     assert!(calls["widths"].largest >= 500);
     assert!(calls["query"].largest >= 30_000);
+    assert!(calls["signed_query"].largest >= 30_000);
     assert!(calls["named_tables"].largest >= 2_500);
     assert!(calls["named_symbol_wide"].largest >= 800);
     assert!(calls["named_query_wide"].largest >= 300);
@@ -102,4 +107,17 @@ fn every_call_is_as_the_reference_has_it() {
         assert!(count >= LEAST, "refusal {number} only {count} times");
     }
     assert!(calls["figures"].met[&(0, "level 17")] >= LEAST);
+    // Both signs, of words and of named groups.
+    let signed = [
+        "signed_query",
+        "named_signed_query",
+        "named_signed_query_wide",
+    ];
+    for name in signed {
+        let Tally { signs, .. } = calls[name];
+        assert!(signs.iter().all(|&count| count >= 500), "{name}: {signs:?}");
+    }
+    for (name, tally) in &calls {
+        assert!(signed.contains(name) || tally.signs == [0, 0], "{name}");
+    }
 }

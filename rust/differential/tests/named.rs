@@ -10,7 +10,7 @@ use reference::matrix::Matrix;
 use reference::random::matrices::{any_pair, congruent_pair};
 use reference::random::Rng;
 use reference::symbol::Symbol as Reference;
-use reference::word::takes;
+use reference::word::taken;
 
 const FIGURES: &str = include_str!("../../reference/data/symbols.txt");
 const ALL_FIGURES: &str = include_str!("../../reference/data/congruence.txt");
@@ -21,6 +21,17 @@ const OLD: u8 = 9;
 /// Either query by name of `calls`.
 type Query =
     fn(u64, u64, &[i64; 4], &[i64; 4], &mut [u16], &mut [i16], usize) -> Result<usize, Refusal>;
+/// Either query by name that gives the sign too.
+type SignedQuery = fn(
+    u64,
+    u64,
+    &[i64; 4],
+    &[i64; 4],
+    &mut [u16],
+    &mut [i16],
+    usize,
+    &mut i64,
+) -> Result<usize, Refusal>;
 /// Either symbol by name of `calls`.
 type Named = fn(u64, u64, &mut [u16], &mut [i64]) -> Result<usize, Refusal>;
 /// What a query is asked: the family's number, N, A, B, and the lengths of the
@@ -303,9 +314,17 @@ fn queries_are_refused_in_order() {
     let length = word(calls::named_query_wide, 0, 120, member).len();
     assert!(length > 0);
     let wide = [Err((10, 0)), Err((11, length)), Ok(0)];
-    for (call, behind) in [
-        (calls::named_query as Query, leftmost),
-        (calls::named_query_wide, wide),
+    for (call, signed, behind) in [
+        (
+            calls::named_query as Query,
+            calls::named_signed_query as SignedQuery,
+            leftmost,
+        ),
+        (
+            calls::named_query_wide,
+            calls::named_signed_query_wide,
+            wide,
+        ),
     ] {
         let answers = before.iter().chain(&behind);
         for ((family, n, a, b, work_len, out_len), expected) in rows.into_iter().zip(answers) {
@@ -320,6 +339,14 @@ fn queries_are_refused_in_order() {
                 true => assert!(is_old(&work), "{told}"),
                 false => assert!(is_zero(&work), "{told}"),
             }
+            // With the sign, which a refusal leaves as it was.
+            let mut work: Vec<u16> = old(work_len);
+            let mut sign = 77;
+            let lent = &mut out[..out_len];
+            let came = short(signed(family, n, &a, &b, &mut work, lent, 0, &mut sign));
+            assert_eq!(came, *expected, "{told}");
+            assert_eq!(sign, if came.is_ok() { 1 } else { 77 }, "{told}");
+            assert!(is_old(&out), "{told}");
         }
     }
 
@@ -348,6 +375,27 @@ fn a_word_from_its_start_place() {
             let came = short(call(0, 2, &ONE, &lower, &mut work, &mut out, start));
             assert_eq!(came, Err((11, 2)));
             assert!(is_old(&out));
+        }
+    }
+    // The same with the sign, from 1 and from -1 to it and to its negative.
+    let negative = |matrix: [i64; 4]| matrix.map(|entry| -entry);
+    for call in [calls::named_signed_query, calls::named_signed_query_wide] {
+        for (a, b, expected) in [
+            (ONE, lower, 1),
+            (ONE, negative(lower), -1),
+            (negative(ONE), lower, -1),
+            (negative(ONE), negative(lower), 1),
+        ] {
+            let (mut work, mut out, mut sign) = (old(calls::WORK), old(5), 77);
+            let came = short(call(0, 2, &a, &b, &mut work, &mut out, 2, &mut sign));
+            assert_eq!((came, sign), (Ok(2), expected));
+            assert_eq!(out, [9, 9, 2, 1, 9]);
+            for start in [4, 5, 6, usize::MAX] {
+                let (mut out, mut sign): (Vec<i16>, i64) = (old(5), 77);
+                let came = short(call(0, 2, &a, &b, &mut work, &mut out, start, &mut sign));
+                assert_eq!((came, sign), (Err((11, 2)), 77));
+                assert!(is_old(&out));
+            }
         }
     }
 }
@@ -418,10 +466,13 @@ struct Met {
     /// Refused with 16, by the rule alone.
     sixteen: usize,
     longest: usize,
+    /// Words with a plus, and with a minus.
+    signs: [usize; 2],
 }
 
 /// Matrices with entries up to 10^6: a word is found exactly when B A^-1 meets
-/// the condition, and multiplied out it takes A to B.
+/// the condition, and multiplied out it takes A to B, up to the sign that comes
+/// with it.
 #[test]
 fn queries_by_congruence() {
     let mut rng = Rng::new(94);
@@ -445,9 +496,17 @@ fn queries_by_congruence() {
             let member = reckoned.contains(n, b_matrix * a_matrix.inverse());
             let told = format!("{reckoned:?} {n}, A {a:?}, B {b:?}");
             for (wide, met) in met.iter_mut().enumerate() {
-                let (query, symbol): (Query, Named) = match wide {
-                    0 => (calls::named_query, calls::named_symbol),
-                    _ => (calls::named_query_wide, calls::named_symbol_wide),
+                let (query, signed, symbol): (Query, SignedQuery, Named) = match wide {
+                    0 => (
+                        calls::named_query,
+                        calls::named_signed_query,
+                        calls::named_symbol,
+                    ),
+                    _ => (
+                        calls::named_query_wide,
+                        calls::named_signed_query_wide,
+                        calls::named_symbol_wide,
+                    ),
                 };
                 let mut work = old(calls::WORK);
                 let level = n as u64;
@@ -474,7 +533,12 @@ fn queries_by_congruence() {
                 let made = symbol(family, level, &mut work, &mut table);
                 let v = made.expect("the query has a symbol");
                 let symbol = Reference::new(v as i64, &table[..3 * v + 1]).expect("a symbol");
-                assert!(takes(&symbol, &out, a_matrix, b_matrix), "{told}: {out:?}");
+                let (mut same, mut sign): (Vec<i16>, i64) = (old(length), 77);
+                let came = signed(family, level, &a, &b, &mut work, &mut same, 0, &mut sign);
+                assert_eq!((came, &same), (Ok(length), &out), "{told}");
+                let expected = taken(&symbol, &out, a_matrix, b_matrix);
+                assert_eq!(Some(sign), expected, "{told}: {out:?}");
+                met.signs[usize::from(sign < 0)] += 1;
                 met.words += 1;
                 met.longest = met.longest.max(length);
             }
@@ -490,6 +554,8 @@ fn queries_by_congruence() {
         );
         assert!(wide.longest >= 1_000, "{reckoned:?}: {wide:?}");
         assert_eq!(wide.sixteen, 0);
+        let signs = [leftmost.signs, wide.signs].concat();
+        assert!(signs.iter().all(|&count| count >= 20), "{signs:?}");
         println!("{reckoned:?}: by the rule {leftmost:?}, by the wide rule {wide:?}");
     }
 }

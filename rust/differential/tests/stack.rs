@@ -44,6 +44,18 @@ const NAMES: [(u64, u64); ROUNDS] = [
     (0, 0),
 ];
 
+/// Either named query with its sign.
+type SignedQuery = fn(
+    u64,
+    u64,
+    &[i64; 4],
+    &[i64; 4],
+    &mut [u16],
+    &mut [i16],
+    usize,
+    &mut i64,
+) -> Result<usize, farey::Refusal>;
+
 /// `pthread_attr_t` of x86-64 Linux has 56 bytes.
 #[repr(C)]
 struct Attributes([u64; 7]);
@@ -172,6 +184,11 @@ fn calls_stay_within_the_stack_that_the_header_names() {
         measure("farey_query", &mut || {
             let _ = black_box(calls::query(v, &t, &a, &b, &mut work, &mut word, 0));
         });
+        let mut sign = 0;
+        measure("farey_signed_query", &mut || {
+            let (work, word) = (&mut work, &mut word);
+            let _ = black_box(calls::signed_query(v, &t, &a, &b, work, word, 0, &mut sign));
+        });
         measure("farey_same", &mut || {
             let _ = black_box(calls::same(v, &t, v, &t, &mut work));
         });
@@ -210,9 +227,24 @@ fn calls_stay_within_the_stack_that_the_header_names() {
                 let asked = calls::named_query_wide(family, n, &a, &b, &mut work, &mut word, 0);
                 let _ = black_box(asked);
             });
+            for (call, ask) in [
+                (
+                    "farey_named_signed_query",
+                    calls::named_signed_query as SignedQuery,
+                ),
+                (
+                    "farey_named_signed_query_wide",
+                    calls::named_signed_query_wide,
+                ),
+            ] {
+                measure(call, &mut || {
+                    let (work, word) = (&mut work, &mut word);
+                    let _ = black_box(ask(family, n, &a, &b, work, word, 0, &mut sign));
+                });
+            }
         }
     }
-    assert_eq!(most.0.len(), 14);
+    assert_eq!(most.0.len(), 17);
     let promised = promised();
     println!("a thread by itself: {nothing}; FAREY_STACK: {promised}");
     for (call, bytes) in most.0 {

@@ -106,6 +106,20 @@ mod engine {
             start: usize,
             place: *mut usize,
         ) -> u64;
+        pub fn farey_signed_query(
+            v: usize,
+            t: *const i64,
+            t_len: usize,
+            a: *const i64,
+            b: *const i64,
+            work: *mut u16,
+            work_len: usize,
+            out: *mut i16,
+            out_len: usize,
+            start: usize,
+            sign: *mut i64,
+            place: *mut usize,
+        ) -> u64;
         pub fn farey_same(
             v: usize,
             t: *const i64,
@@ -168,6 +182,32 @@ mod engine {
             out: *mut i16,
             out_len: usize,
             start: usize,
+            place: *mut usize,
+        ) -> u64;
+        pub fn farey_named_signed_query(
+            family: u64,
+            n: u64,
+            a: *const i64,
+            b: *const i64,
+            work: *mut u16,
+            work_len: usize,
+            out: *mut i16,
+            out_len: usize,
+            start: usize,
+            sign: *mut i64,
+            place: *mut usize,
+        ) -> u64;
+        pub fn farey_named_signed_query_wide(
+            family: u64,
+            n: u64,
+            a: *const i64,
+            b: *const i64,
+            work: *mut u16,
+            work_len: usize,
+            out: *mut i16,
+            out_len: usize,
+            start: usize,
+            sign: *mut i64,
             place: *mut usize,
         ) -> u64;
     }
@@ -321,6 +361,7 @@ pub fn import_wide(
 }
 
 /// A word that takes a to b, up to sign, in out from `start` on: its letters.
+/// `signed_query` tells whether to b or to -b.
 pub fn query(
     v: usize,
     t: &[i64],
@@ -343,6 +384,39 @@ pub fn query(
             out.as_mut_ptr(),
             out.len(),
             start,
+            &mut place,
+        )
+    };
+    answer(number, place)
+}
+
+/// The word of `query`, and 1 or -1 at `sign`: the word's product times a is that
+/// times b. A refusal leaves `sign` as it was.
+#[allow(clippy::too_many_arguments)]
+pub fn signed_query(
+    v: usize,
+    t: &[i64],
+    a: &[i64; 4],
+    b: &[i64; 4],
+    work: &mut [u16],
+    out: &mut [i16],
+    start: usize,
+    sign: &mut i64,
+) -> Result<usize, Refusal> {
+    let mut place = UNWRITTEN;
+    let number = unsafe {
+        engine::farey_signed_query(
+            v,
+            t.as_ptr(),
+            t.len(),
+            a.as_ptr(),
+            b.as_ptr(),
+            work.as_mut_ptr(),
+            work.len(),
+            out.as_mut_ptr(),
+            out.len(),
+            start,
+            sign,
             &mut place,
         )
     };
@@ -490,6 +564,68 @@ pub fn named_query_wide(
             out.as_mut_ptr(),
             out.len(),
             start,
+            &mut place,
+        )
+    };
+    answer(number, place)
+}
+
+/// The word of `named_query`, and its sign at `sign`, as `signed_query` has it.
+#[allow(clippy::too_many_arguments)]
+pub fn named_signed_query(
+    family: u64,
+    n: u64,
+    a: &[i64; 4],
+    b: &[i64; 4],
+    work: &mut [u16],
+    out: &mut [i16],
+    start: usize,
+    sign: &mut i64,
+) -> Result<usize, Refusal> {
+    let mut place = UNWRITTEN;
+    let number = unsafe {
+        engine::farey_named_signed_query(
+            family,
+            n,
+            a.as_ptr(),
+            b.as_ptr(),
+            work.as_mut_ptr(),
+            work.len(),
+            out.as_mut_ptr(),
+            out.len(),
+            start,
+            sign,
+            &mut place,
+        )
+    };
+    answer(number, place)
+}
+
+/// The word of `named_query_wide`, and its sign at `sign`.
+#[allow(clippy::too_many_arguments)]
+pub fn named_signed_query_wide(
+    family: u64,
+    n: u64,
+    a: &[i64; 4],
+    b: &[i64; 4],
+    work: &mut [u16],
+    out: &mut [i16],
+    start: usize,
+    sign: &mut i64,
+) -> Result<usize, Refusal> {
+    let mut place = UNWRITTEN;
+    let number = unsafe {
+        engine::farey_named_signed_query_wide(
+            family,
+            n,
+            a.as_ptr(),
+            b.as_ptr(),
+            work.as_mut_ptr(),
+            work.len(),
+            out.as_mut_ptr(),
+            out.len(),
+            start,
+            sign,
             &mut place,
         )
     };

@@ -13,12 +13,12 @@
 //! | `symbol`  | symbols that own their tables, and what can be asked      |
 //!
 //! ```
-//! use farey::Symbol;
+//! use farey::{Symbol, Word};
 //!
 //! let gamma0_2 = Symbol::new(&[(0, 1), (1, 1)], &[1, -2, 1])?;
 //! assert_eq!(gamma0_2.figures().index, 3);
 //! let (one, t) = ([1, 0, 0, 1], [1, 1, 0, 1]);
-//! assert_eq!(gamma0_2.word(one, t)?, Some(vec![1]));
+//! assert_eq!(gamma0_2.word(one, t)?, Some(Word { sign: 1, letters: vec![1] }));
 //! # Ok::<(), farey::Refusal>(())
 //! ```
 
@@ -29,7 +29,7 @@ pub mod symbol;
 
 pub use family::Family;
 pub use refusal::Refusal;
-pub use symbol::{Figures, Generator, Kind, Symbol, Tables};
+pub use symbol::{Figures, Generator, Kind, Symbol, Tables, Word};
 
 /// The Rust examples of the handbook, which are tests of this crate.
 #[cfg(doctest)]

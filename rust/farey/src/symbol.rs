@@ -46,6 +46,20 @@ pub struct Tables {
     pub t: Vec<u32>,
 }
 
+/// A word in a symbol's generators that takes a matrix a to a matrix b: the
+/// product of its letters from left to right, times a, is `sign` times b.
+///
+/// In PSL2(Z), where a matrix and its negative are one, `letters` is all there is
+/// to it; in SL2(Z) `sign` tells whether the word gives b or -b. Words are equal
+/// where both are.
+#[derive(Clone, Debug, PartialEq, Eq)]
+pub struct Word {
+    /// 1 or -1.
+    pub sign: i64,
+    /// j for the j-th generator, counted from 1, and -j for its inverse.
+    pub letters: Vec<i16>,
+}
+
 /// Either import of `calls`: S, R, work space and result space lent.
 type Import = fn(&[u32], &[u32], &mut [u16], &mut [i64]) -> Result<usize, Refusal>;
 
@@ -248,23 +262,37 @@ impl Symbol {
         Tables { s, r, t }
     }
 
-    /// A word in the generators whose value times a is b, up to sign, or `None`:
-    /// then there is none, of whatever length. Refusals 8 and 9.
-    pub fn word(&self, a: [i64; 4], b: [i64; 4]) -> Result<Option<Vec<i16>>, Refusal> {
+    /// A word in the generators whose value times a is b or -b, with the sign that
+    /// tells which; or `None`: then there is no such word, of whatever length.
+    /// Whether there is one is judged up to sign: one for b is one for -b, with
+    /// the other sign. Refusals 8 and 9.
+    ///
+    /// ```
+    /// use farey::{Symbol, Word};
+    ///
+    /// let gamma0_2 = Symbol::new(&[(0, 1), (1, 1)], &[1, -2, 1])?;
+    /// let (one, minus_t) = ([1, 0, 0, 1], [-1, -1, 0, -1]);
+    /// assert_eq!(gamma0_2.word(one, minus_t)?, Some(Word { sign: -1, letters: vec![1] }));
+    /// assert_eq!(gamma0_2.word(one, [-1, 0, 0, -1])?, Some(Word { sign: -1, letters: vec![] }));
+    /// # Ok::<(), farey::Refusal>(())
+    /// ```
+    pub fn word(&self, a: [i64; 4], b: [i64; 4]) -> Result<Option<Word>, Refusal> {
+        let (mut work, mut sign) = (work(), 0);
+        let mut ask = |out: &mut [i16]| {
+            calls::signed_query(self.v, &self.table, &a, &b, &mut work, out, 0, &mut sign)
+        };
         // The first call asks for the length alone, the second for the word.
-        let mut work = work();
-        let mut ask =
-            |out: &mut [i16]| calls::query(self.v, &self.table, &a, &b, &mut work, out, 0);
-        match ask(&mut []) {
-            Ok(_) => Ok(Some(Vec::new())),
-            Err(Refusal { number: 10, .. }) => Ok(None),
+        let letters = match ask(&mut []) {
+            Ok(_) => Vec::new(),
+            Err(Refusal { number: 10, .. }) => return Ok(None),
             Err(Refusal { number: 11, place }) => {
                 let mut out = vec![0; place];
                 ask(&mut out)?;
-                Ok(Some(out))
+                out
             }
-            Err(refusal) => Err(refusal),
-        }
+            Err(refusal) => return Err(refusal),
+        };
+        Ok(Some(Word { sign, letters }))
     }
 
     /// Whether the two generate the same subgroup: every generator of each is, up

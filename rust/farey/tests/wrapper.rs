@@ -1,11 +1,21 @@
 //! The wrapper on the instances of the engine's paper on conventions: what is
 //! expected here is what the paper says, not what a run printed.
 
-use farey::{Family, Kind, Refusal, Symbol};
+use farey::{Family, Kind, Refusal, Symbol, Word};
 
 const ONE: [i64; 4] = [1, 0, 0, 1];
 const S: [i64; 4] = [0, -1, 1, 0];
 const T: [i64; 4] = [1, 1, 0, 1];
+
+/// A word that is found.
+fn word(sign: i64, letters: &[i16]) -> Result<Option<Word>, Refusal> {
+    let letters = letters.to_vec();
+    Ok(Some(Word { sign, letters }))
+}
+
+fn negative(matrix: [i64; 4]) -> [i64; 4] {
+    matrix.map(|entry| -entry)
+}
 
 fn gamma0_2() -> Symbol {
     Symbol::new(&[(0, 1), (1, 1)], &[1, -2, 1]).expect("a symbol")
@@ -15,7 +25,9 @@ fn gamma0_2() -> Symbol {
 fn one_vertex() {
     let whole = Symbol::new(&[(0, 1)], &[-2, -3]).expect("a symbol");
     assert_eq!(whole.figures().index, 1);
-    assert_eq!(whole.word(ONE, S), Ok(Some(vec![1])));
+    assert_eq!(whole.word(ONE, S), word(1, &[1]));
+    // S twice is -1, so that its inverse is the same letter with a minus.
+    assert_eq!(whole.word(S, ONE), word(-1, &[1]));
     let two = Symbol::new(&[(0, 1)], &[-3, -3]).expect("a symbol");
     assert_eq!(two.figures().index, 2);
     assert_eq!(two.tables().s, [1, 0]);
@@ -75,12 +87,16 @@ fn gamma0_2_whole() {
         (generators[1].kind, generators[1].matrix),
         (Kind::Even, [1, -1, 2, -1])
     );
-    assert_eq!(group.word(ONE, T), Ok(Some(vec![1])));
-    assert_eq!(group.word(ONE, [1, 0, 2, 1]), Ok(Some(vec![2, 1])));
-    assert_eq!(group.word(S, [1, -1, 1, 0]), Ok(Some(vec![1])));
+    assert_eq!(group.word(ONE, T), word(1, &[1]));
+    assert_eq!(group.word(ONE, negative(T)), word(-1, &[1]));
+    assert_eq!(group.word(negative(ONE), T), word(-1, &[1]));
+    assert_eq!(group.word(negative(ONE), negative(T)), word(1, &[1]));
+    assert_eq!(group.word(ONE, [1, 0, 2, 1]), word(1, &[2, 1]));
+    assert_eq!(group.word(S, [1, -1, 1, 0]), word(1, &[1]));
     assert_eq!(group.word(ONE, S), Ok(None));
-    assert_eq!(group.word(ONE, ONE), Ok(Some(vec![])));
-    assert_eq!(group.word(ONE, [-1, 0, 0, -1]), Ok(Some(vec![])));
+    assert_eq!(group.word(ONE, negative(S)), Ok(None));
+    assert_eq!(group.word(ONE, ONE), word(1, &[]));
+    assert_eq!(group.word(ONE, negative(ONE)), word(-1, &[]));
 }
 
 #[test]

@@ -9,7 +9,7 @@ use crate::refusal::Refusal;
 use crate::sameness::same_group;
 use crate::symbol::{Symbol, MAX_VERTICES};
 use crate::text::{numbers, two_symbols, Format, MAX_POINTS};
-use crate::word::pair_query;
+use crate::word::{pair_query, Found};
 
 /// The letters that the query program lends.
 pub const LENT_LETTERS: usize = 16_384;
@@ -66,16 +66,20 @@ fn try_listing(text: &[u8]) -> Result<String, Refusal> {
 /// What the query program prints.
 pub fn query(text: &[u8]) -> String {
     match try_query(text) {
-        Ok(word) => {
+        Ok(found) => {
             let mut out = String::new();
-            line(&mut out, "word", word);
+            let name = match found.sign {
+                1 => "word +",
+                _ => "word -",
+            };
+            line(&mut out, name, found.letters);
             out
         }
         Err(refusal) => format!("{refusal}\n"),
     }
 }
 
-fn try_query(text: &[u8]) -> Result<Vec<i16>, Refusal> {
+fn try_query(text: &[u8]) -> Result<Found, Refusal> {
     let numbers = numbers(text, Format::Query)?;
     // With v out of range the count is free, and refusal 1 comes first.
     let table_end = numbers.len().saturating_sub(8).max(1);

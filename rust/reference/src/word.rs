@@ -1,5 +1,5 @@
 //! Pair queries: is there a word w in the generators with w A = B up to sign,
-//! and which word does the walk write?
+//! which word does the walk write, and is w A then B or -B?
 //!
 //! Three roads lead to the answer here, and the tests hold them side by side:
 //!
@@ -7,6 +7,14 @@
 //! - `carried_word` notes the letters while B A^-1 itself is carried;
 //! - `walk` takes B A^-1 apart into S, Q and Q^-1 and follows these through
 //!   the copies of the polygon, one at a time.
+//!
+//! None of them knows a sign. That is reckoned from the finished word, and on
+//! two roads:
+//!
+//! - `exact_sign` takes the letters off B A^-1, first letter first, with every
+//!   number exact, and looks at whether the identity or its negative is left;
+//! - `taken` multiplies the word out onto A, modulo two numbers, and compares
+//!   with B and with -B.
 
 use std::collections::HashMap;
 
@@ -146,12 +154,14 @@ pub fn related(symbol: &Symbol, a: Matrix, b: Matrix) -> bool {
     kept_edge(symbol, a) == kept_edge(symbol, b)
 }
 
-/// Whether the word, multiplied out in the generators, takes A to B up to sign.
+/// The sign s, 1 or -1, for which the word, multiplied out in the generators,
+/// takes A to s B, or `None` where it takes A to neither.
 ///
 /// The product is formed twice, modulo 2^128 and modulo the prime 2^61 - 1:
 /// generators of deep symbols have entries of some 10^18, and although the true
-/// product is small, terms in the middle may not fit 128 bits.
-pub fn takes(symbol: &Symbol, word: &[i16], a: Matrix, b: Matrix) -> bool {
+/// product is small, terms in the middle may not fit 128 bits. B and -B differ
+/// modulo both.
+pub fn taken(symbol: &Symbol, word: &[i16], a: Matrix, b: Matrix) -> Option<i64> {
     const PRIME: i128 = (1 << 61) - 1;
     let wrapped = multiplied_out(symbol, word, a, |x, y, z, w| {
         x.wrapping_mul(y).wrapping_add(z.wrapping_mul(w))
@@ -160,9 +170,57 @@ pub fn takes(symbol: &Symbol, word: &[i16], a: Matrix, b: Matrix) -> bool {
     let residues = multiplied_out(symbol, word, a, |x, y, z, w| {
         modulo(modulo(x) * modulo(y) + modulo(z) * modulo(w))
     });
-    [b, b.negated()]
-        .iter()
-        .any(|target| wrapped == *target && residues.0.map(modulo) == target.0.map(modulo))
+    let is = |target: Matrix| wrapped == target && residues.0.map(modulo) == target.0.map(modulo);
+    sign_where(is(b), is(b.negated()))
+}
+
+/// 1 or -1 for the one of two statements that holds.
+fn sign_where(plus: bool, minus: bool) -> Option<i64> {
+    match (plus, minus) {
+        (true, false) => Some(1),
+        (false, true) => Some(-1),
+        _ => None,
+    }
+}
+
+/// The sign s for which the word's product is s x, or `None` where it is
+/// neither x nor -x. No number is reduced or rounded here.
+///
+/// The inverse of the first letter is applied to x, that of the second to what
+/// is left, and so on; in the end the inverse of the whole word times x is left,
+/// and that is s times the identity. A letter is applied as it is defined, N S
+/// M^-1 and the like, one factor after the other. For a word of the walk M is
+/// the frame of the side that the edge lies beyond, so each number on the way
+/// is one that `carry` meets too and fits 128 bits; where another word's
+/// wouldn't fit, this stops at the overflow.
+pub fn exact_sign(symbol: &Symbol, word: &[i16], x: Matrix) -> Option<i64> {
+    let factors = factors(symbol);
+    let left = word.iter().fold(x, |x, &letter| {
+        let [to, turn, from] = factors[usize::from(letter.unsigned_abs()) - 1];
+        if letter > 0 {
+            from * (turn.inverse() * (to.inverse() * x))
+        } else {
+            to * (turn * (from.inverse() * x))
+        }
+    });
+    sign_where(left == I, left == I.negated())
+}
+
+/// Each generator as [N, S, M], [M, S, M] or [M, Q, M]: it is the first times
+/// the second times the inverse of the third.
+fn factors(symbol: &Symbol) -> Vec<[Matrix; 3]> {
+    let mut factors = Vec::with_capacity(symbol.generators.len());
+    for side in &symbol.sides {
+        // The leftmost side of each generator alone.
+        if usize::from(side.generator.unsigned_abs()) == factors.len() + 1 {
+            factors.push(match side.pairing {
+                Pairing::Even => [side.frame, S, side.frame],
+                Pairing::Odd => [side.frame, Q, side.frame],
+                Pairing::Free(partner) => [symbol.sides[partner].frame, S, side.frame],
+            });
+        }
+    }
+    factors
 }
 
 /// word * a with every entry formed by `dot`(x, y, z, w) = x y + z w.
@@ -198,23 +256,33 @@ pub fn check_matrices(a: [i64; 4], b: [i64; 4]) -> Result<(), Refusal> {
     Ok(())
 }
 
+/// A word that was found: the product of its letters times A is `sign` times B.
+#[derive(Clone, Debug, PartialEq, Eq)]
+pub struct Found {
+    /// 1 or -1.
+    pub sign: i64,
+    pub letters: Vec<i16>,
+}
+
 /// A whole pair query with `space` letters lent and the word to begin at
-/// `start`. Returns the word, or refusal 8, 9, 10 or 11.
+/// `start`. Returns the word with its sign, or refusal 8, 9, 10 or 11.
 pub fn pair_query(
     symbol: &Symbol,
     a: [i64; 4],
     b: [i64; 4],
     space: usize,
     start: usize,
-) -> Result<Vec<i16>, Refusal> {
+) -> Result<Found, Refusal> {
     check_matrices(a, b)?;
     let (a, b) = (Matrix::from_entries(a), Matrix::from_entries(b));
     if !related(symbol, a, b) {
         return Err(Refusal::new(10, 0));
     }
-    let word = walk(symbol, b * a.inverse()).expect("related matrices have a closed walk");
-    if start > space || space - start < word.len() {
-        return Err(Refusal::new(11, word.len()));
+    let x = b * a.inverse();
+    let letters = walk(symbol, x).expect("related matrices have a closed walk");
+    if start > space || space - start < letters.len() {
+        return Err(Refusal::new(11, letters.len()));
     }
-    Ok(word)
+    let sign = exact_sign(symbol, &letters, x).expect("a closed walk writes a word for x");
+    Ok(Found { sign, letters })
 }

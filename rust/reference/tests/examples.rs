@@ -278,14 +278,15 @@ fn stated_outputs() {
         }
     }
     for (name, answer) in [
-        ("psl2z-s", "word 1\n"),
-        ("gamma0-2-t", "word 1\n"),
-        ("gamma0-2-two-letters", "word 2 1\n"),
-        ("gamma0-2-from-s", "word 1\n"),
+        ("psl2z-s", "word + 1\n"),
+        ("gamma0-2-t", "word + 1\n"),
+        ("gamma0-2-minus-t", "word - 1\n"),
+        ("gamma0-2-two-letters", "word + 2 1\n"),
+        ("gamma0-2-from-s", "word + 1\n"),
         ("gamma0-2-none", "refused 10 0\n"),
-        ("gamma0-2-identity", "word\n"),
-        ("gamma0-2-minus", "word\n"),
-        ("gamma0-2-largest-entry", "word 1\n"),
+        ("gamma0-2-identity", "word +\n"),
+        ("gamma0-2-minus", "word -\n"),
+        ("gamma0-2-largest-entry", "word + 1\n"),
         ("gamma0-2-entry-too-large", "refused 8 5\n"),
     ] {
         assert_eq!(QUERIES.expected(name), answer, "{name}");

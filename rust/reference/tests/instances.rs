@@ -1,13 +1,25 @@
 //! The instances that the scope names, word for word.
 
 use reference::symbol::Symbol;
-use reference::word::pair_query;
+use reference::word::{pair_query, Found};
 use reference::{listing, query, Refusal};
 
 const I: [i64; 4] = [1, 0, 0, 1];
 const S: [i64; 4] = [0, -1, 1, 0];
 
 const GAMMA0_2: &str = "2\n0 1 1 1\n1 -2 1\n";
+
+const MINUS: [i64; 4] = [-1, 0, 0, -1];
+
+fn plus(letters: &[i16]) -> Result<Found, Refusal> {
+    let (sign, letters) = (1, letters.to_vec());
+    Ok(Found { sign, letters })
+}
+
+fn minus(letters: &[i16]) -> Result<Found, Refusal> {
+    let (sign, letters) = (-1, letters.to_vec());
+    Ok(Found { sign, letters })
+}
 
 fn gamma0_2() -> Symbol {
     Symbol::new(2, &[0, 1, 1, 1, 1, -2, 1]).unwrap()
@@ -43,39 +55,47 @@ fn one_vertex() {
     assert!(out.ends_with("S 1 0\nR 0 1\nT 1 0\n"));
     assert_eq!(listing(b"1 0 1 -2 -2"), "refused 7 0\n");
     assert_eq!(listing(b"1 0 1 1 1"), "refused 7 0\n");
-    assert_eq!(query(b"1 0 1 -2 -3 1 0 0 1 0 -1 1 0"), "word 1\n");
+    assert_eq!(query(b"1 0 1 -2 -3 1 0 0 1 0 -1 1 0"), "word + 1\n");
     // With the odd side first the same step is generator 2.
-    assert_eq!(query(b"1 0 1 -3 -2 1 0 0 1 0 -1 1 0"), "word 2\n");
+    assert_eq!(query(b"1 0 1 -3 -2 1 0 0 1 0 -1 1 0"), "word + 2\n");
 }
 
 #[test]
 fn pairs_in_gamma0_2() {
     let ask = |a, b| pair_query(&gamma0_2(), a, b, 16_384, 0);
-    assert_eq!(ask(I, [1, 1, 0, 1]), Ok(vec![1]));
-    assert_eq!(ask(I, [1, 0, 2, 1]), Ok(vec![2, 1]));
-    assert_eq!(ask(S, [1, -1, 1, 0]), Ok(vec![1]));
+    assert_eq!(ask(I, [1, 1, 0, 1]), plus(&[1]));
+    assert_eq!(ask(I, [-1, -1, 0, -1]), minus(&[1]));
+    assert_eq!(ask(MINUS, [1, 1, 0, 1]), minus(&[1]));
+    assert_eq!(ask(MINUS, [-1, -1, 0, -1]), plus(&[1]));
+    assert_eq!(ask(I, [1, 0, 2, 1]), plus(&[2, 1]));
+    assert_eq!(ask(S, [1, -1, 1, 0]), plus(&[1]));
+    // An even generator is its own inverse up to sign, and its letter is never
+    // inverted: the inverse has the minus in front.
+    assert_eq!(ask(I, [1, -1, 2, -1]), plus(&[2]));
+    assert_eq!(ask([1, -1, 2, -1], I), minus(&[2]));
     assert_eq!(ask(I, S), Err(Refusal::new(10, 0)));
-    for b in [I, [-1, 0, 0, -1]] {
-        assert_eq!(pair_query(&gamma0_2(), I, b, 0, 0), Ok(vec![]));
-    }
+    assert_eq!(pair_query(&gamma0_2(), I, I, 0, 0), plus(&[]));
+    assert_eq!(pair_query(&gamma0_2(), I, MINUS, 0, 0), minus(&[]));
     let text = |pair: &str| query(format!("{GAMMA0_2}{pair}\n").as_bytes());
-    assert_eq!(text("1 0 0 1\n1 1 0 1"), "word 1\n");
-    assert_eq!(text("1 0 0 1\n1 0 2 1"), "word 2 1\n");
+    assert_eq!(text("1 0 0 1\n1 1 0 1"), "word + 1\n");
+    assert_eq!(text("1 0 0 1\n-1 -1 0 -1"), "word - 1\n");
+    assert_eq!(text("1 0 0 1\n1 0 2 1"), "word + 2 1\n");
     assert_eq!(text("1 0 0 1\n0 -1 1 0"), "refused 10 0\n");
-    assert_eq!(text("1 0 0 1\n-1 0 0 -1"), "word\n");
+    assert_eq!(text("1 0 0 1\n1 0 0 1"), "word +\n");
+    assert_eq!(text("1 0 0 1\n-1 0 0 -1"), "word -\n");
 }
 
 #[test]
 fn letters_and_their_space() {
     let symbol = gamma0_2();
     let ask = |space, start| pair_query(&symbol, I, [1, 0, 2, 1], space, start);
-    assert_eq!(ask(2, 0), Ok(vec![2, 1]));
-    assert_eq!(ask(7, 5), Ok(vec![2, 1]));
+    assert_eq!(ask(2, 0), plus(&[2, 1]));
+    assert_eq!(ask(7, 5), plus(&[2, 1]));
     for (space, start) in [(0, 0), (1, 0), (7, 6), (7, 7), (7, 8), (2, usize::MAX)] {
         assert_eq!(ask(space, start), Err(Refusal::new(11, 2)));
     }
     // The empty word needs a start place that isn't past the end.
-    assert_eq!(pair_query(&symbol, I, I, 3, 3), Ok(vec![]));
+    assert_eq!(pair_query(&symbol, I, I, 3, 3), plus(&[]));
     assert_eq!(pair_query(&symbol, I, I, 3, 4), Err(Refusal::new(11, 0)));
     // None goes before the space.
     assert_eq!(pair_query(&symbol, I, S, 0, 9), Err(Refusal::new(10, 0)));
@@ -83,7 +103,7 @@ fn letters_and_their_space() {
     let text = |pair: &str| query(format!("{GAMMA0_2}{pair}\n").as_bytes());
     assert_eq!(
         text("1 0 0 1 1 16384 0 1"),
-        format!("word{}\n", " 1".repeat(16_384))
+        format!("word +{}\n", " 1".repeat(16_384))
     );
     assert_eq!(text("1 0 0 1 1 16385 0 1"), "refused 11 16385\n");
     assert_eq!(text("1 0 0 1 1 1000000 0 1"), "refused 11 1000000\n");
@@ -118,7 +138,7 @@ fn matrices_and_their_refusals() {
         text("1000000 -999999 -999999 999998 1000000 -999999 -999999 999998"),
         "refused 9 0\n"
     );
-    assert_eq!(text("1000000 999999 1 1 1000000 999999 1 1"), "word\n");
+    assert_eq!(text("1000000 999999 1 1 1000000 999999 1 1"), "word +\n");
 }
 
 #[test]
@@ -144,11 +164,15 @@ fn zero_as_the_last_vertex() {
         let mut table = vec![-1, 1, 0, 1];
         table.extend(pairings);
         let symbol = Symbol::new(2, &table).unwrap();
-        assert_eq!(pair_query(&symbol, I, I, 0, 0), Ok(vec![]));
+        assert_eq!(pair_query(&symbol, I, I, 0, 0), plus(&[]));
+        assert_eq!(pair_query(&symbol, I, MINUS, 0, 0), minus(&[]));
         for (i, generator) in symbol.generators.iter().enumerate() {
-            let word = pair_query(&symbol, I, generator.matrix.entries().unwrap(), 9, 0);
+            let entries = generator.matrix.entries().unwrap();
             let j = i as i16 + 1;
-            assert_eq!(word, Ok(vec![j]), "generator {j} of {table:?}");
+            let word = pair_query(&symbol, I, entries, 9, 0);
+            assert_eq!(word, plus(&[j]), "generator {j} of {table:?}");
+            let word = pair_query(&symbol, I, entries.map(|entry| -entry), 9, 0);
+            assert_eq!(word, minus(&[j]), "minus generator {j} of {table:?}");
         }
     }
 }

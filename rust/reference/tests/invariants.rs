@@ -7,7 +7,7 @@ use reference::random::drafts::{draft, draft_of_size, many_cusps, Draft};
 use reference::random::matrices::{any_pair, found_pair, matrix};
 use reference::random::Rng;
 use reference::symbol::{Symbol, EVEN, ODD};
-use reference::word::{alternating_word, carried_word, related, takes, walk, Turn};
+use reference::word::{alternating_word, carried_word, exact_sign, related, taken, walk, Turn};
 
 fn sound(draft: &Draft) -> Symbol {
     Symbol::from_numbers(&draft.numbers()).unwrap_or_else(|r| panic!("{r} for {draft:?}"))
@@ -172,12 +172,20 @@ fn check_pair(symbol: &Symbol, a: Matrix, b: Matrix) -> bool {
     assert_eq!(walked.is_some(), related(symbol, a, b));
     if let Some(word) = &walked {
         assert!(word.len() <= turns.len() + 2);
-        assert!(takes(symbol, word, a, b), "{word:?} from {a:?} to {b:?}");
+        let sign = taken(symbol, word, a, b);
+        assert!(sign.is_some(), "{word:?} from {a:?} to {b:?}");
+        assert_eq!(exact_sign(symbol, word, x), sign);
+        // The negative of either matrix has the same word and the other sign.
+        assert_eq!(walk(symbol, x.negated()), walked);
+        let other = sign.map(|sign| -sign);
+        assert_eq!(exact_sign(symbol, word, x.negated()), other);
+        assert_eq!(taken(symbol, word, a.negated(), b), other);
+        assert_eq!(taken(symbol, word, a.negated(), b.negated()), sign);
         // One letter more is one too many, unless it is the identity.
         if word.len() < 100 {
             let longer = [&word[..], &[1]].concat();
             assert_eq!(
-                takes(symbol, &longer, a, b),
+                taken(symbol, &longer, a, b).is_some(),
                 symbol.letter(1).same_up_to_sign(I)
             );
         }

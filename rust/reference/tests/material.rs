@@ -118,7 +118,7 @@ fn answers(out: impl Iterator<Item = String>) -> BTreeMap<String, usize> {
         let mut words = text.split([' ', '\n']);
         let name = words.next().unwrap_or_default();
         let key = match name {
-            "refused" => format!("refused {}", words.next().unwrap_or_default()),
+            "refused" | "word" => format!("{name} {}", words.next().unwrap_or_default()),
             _ if text.contains("level refused 17 0\n") => "level refused 17".to_string(),
             _ => name.to_string(),
         };
@@ -151,7 +151,8 @@ fn cases_meet_every_answer() {
     println!("listing: {counts:?}");
     let counts = answers((0..2_000).map(|case| query(&query_case(seed, case))));
     for key in [
-        "word",
+        "word +",
+        "word -",
         "refused 1",
         "refused 3",
         "refused 4",

@@ -33,7 +33,7 @@ use reference::random::twins::{conjugate, imported, rename, same_group, second, 
 use reference::random::{import_case, listing_case, query_case, same_case, Rng};
 use reference::symbol::{Pairing, Symbol, MAX_ENTRY, MAX_VERTICES};
 use reference::text::{numbers, Format, MAX_TEXT};
-use reference::word::takes;
+use reference::word::{taken, Found};
 use reference::{import, import_wide, listing, named, query, same};
 
 const FIGURES: &str = include_str!("../data/symbols.txt");
@@ -100,6 +100,8 @@ impl Counts {
         let name = words.next().unwrap_or_default();
         let key = match name {
             "refused" => words.next().unwrap_or_default(),
+            // By its sign.
+            "word" => &answer[..answer.len().min("word +".len())],
             _ if name.bytes().all(|byte| byte.is_ascii_digit()) => "symbol",
             _ => name,
         };
@@ -451,33 +453,44 @@ fn question(text: &[u8]) -> Option<(Symbol, Matrix, Matrix)> {
     Some((symbol, matrix(&pair[..4]), matrix(&pair[4..])))
 }
 
-/// The letters of a printed word, if one was printed.
-fn letters(answer: &str) -> Option<Vec<i16>> {
-    let letters = answer.strip_prefix("word")?.strip_suffix('\n')?;
+/// The sign and the letters of a printed word, if one was printed.
+fn printed(answer: &str) -> Option<Found> {
+    let mut pieces = answer.strip_suffix('\n')?.split(' ');
+    if pieces.next() != Some("word") {
+        return None;
+    }
+    let sign = match pieces.next() {
+        Some("+") => 1,
+        Some("-") => -1,
+        other => panic!("no sign behind `word`: {other:?}"),
+    };
     let read = |piece: &str| piece.parse().expect("letters are 16-bit numbers");
-    Some(letters.split_whitespace().map(read).collect())
+    let letters = pieces.map(read).collect();
+    Some(Found { sign, letters })
 }
 
 /// Whether a word is found: printed, or refused for its space alone.
 fn found(answer: &str) -> bool {
-    answer.starts_with("word") || answer.starts_with("refused 11 ")
+    answer.starts_with("word ") || answer.starts_with("refused 11 ")
 }
 
-/// If the answer is a word, it must take A to B by the generators themselves.
+/// If the answer is a word, it must take A to B or to -B, as its sign says, by
+/// the generators themselves.
 fn check_word(text: &[u8], answer: &str) {
-    let Some(word) = letters(answer) else {
+    let Some(Found { sign, letters }) = printed(answer) else {
         return;
     };
     let (symbol, a, b) = question(text).expect("a word needs a symbol and two matrices");
     let range = 1..=symbol.generators.len() as u16;
     assert!(
-        word.iter().all(|l| range.contains(&l.unsigned_abs())),
+        letters.iter().all(|l| range.contains(&l.unsigned_abs())),
         "no such generator: {answer} on\n{}",
         shown(text)
     );
-    assert!(
-        takes(&symbol, &word, a, b),
-        "{} doesn't take A to B on\n{}",
+    assert_eq!(
+        taken(&symbol, &letters, a, b),
+        Some(sign),
+        "{} doesn't take A to B, with that sign, on\n{}",
         shown(answer.as_bytes()),
         shown(text)
     );
@@ -506,9 +519,9 @@ fn query_cases(program: &Program, cases: std::ops::Range<u64>) {
                 starts[usize::from(starts_turned(&symbol))][usize::from(none)] += 1;
             }
         }
-        longest = longest.max(letters(&expected).map_or(0, |word| word.len()));
+        longest = longest.max(printed(&expected).map_or(0, |found| found.letters.len()));
     }
-    counts.at_least(500, &["word", "10"]);
+    counts.at_least(300, &["word +", "word -", "10"]);
     counts.at_least(5, &["1", "3", "4", "5", "6", "7", "8", "9", "11", "19"]);
     assert!(starts.iter().flatten().all(|&count| count >= 100));
     assert!(longest >= 1_000, "the longest word has {longest} letters");
@@ -576,7 +589,8 @@ fn query_of_far_pairs() {
         let all = [numbers, a.to_vec(), b.to_vec()].concat();
         try_text(&String::from_utf8(typed(&mut rng, &all).bytes).expect("plain text"));
     }
-    counts.at_least(20, &["word", "11"]);
+    counts.at_least(10, &["word +", "word -"]);
+    counts.at_least(20, &["11"]);
     counts.at_least(10, &["10"]);
 }
 

@@ -1,5 +1,6 @@
 -- `reply_pair` meets its contract: a word has its line, and any other answer has its number and place. Assumes nothing.
 use mathlib.Core.Path.{_≡_, sym, ap, _∙_}
+use mathlib.Core.Bool.{Bool}
 use mathlib.Core.List.{List, [], _∷_}
 use Prim.Native.Nat.{ℕ, _≤_}
 use native.Mathlib.Omega.{arith}
@@ -16,15 +17,15 @@ use Rattle.word.specs.declared.Queried.{Queried}
 use Rattle.word.specs.declared.Queried.the-variants.{Word}
 use Rattle.word.proofs.Queried.{the-type}
 use Rattle.word.proofs.Returned.{part-found, word-most}
-use Rattle.query_text.specs.Reply.{wordWord, said}
+use Rattle.query_text.specs.Reply.{wordHead, said}
 use Rattle.query_text.proofs.Replied.{said-other, replied-as, letters-as}
 use borrow.Author.Needs.{needs}
 use Rattle.query_text.proofs.reply_pair.Statement.{statement}
 use Rattle.query_text.proofs.reply_pair.Tie as tie
 
 -- the branch of the other answers isn't taken for a word
-never-word : (r : Queried) → OneOf (1 ∷ []) (tagOf the-type r) → (s n : ℕ) → r ≡ Word s n → ⊥
-never-word r h s n e = miss (1 ∷ []) 0 tt (rw e at h)
+never-word : (r : Queried) → OneOf (1 ∷ []) (tagOf the-type r) → (s n : ℕ) (q : Bool) → r ≡ Word s n q → ⊥
+never-word r h s n q e = miss (1 ∷ []) 0 tt (rw e at h)
 
 -- the word that was found
 module _ (n : tie.After-word-part) where
@@ -49,21 +50,24 @@ module _ (n : tie.After-word-part) where
   abbrev count : ℕ
   count = told .answer .given .0 .1 .0
 
-  named : Word from count ≡ queryOf (start .args .v) (start .args .t .now) (start .args .a) (start .args .b) (length (start .args .w .now)) (length letters) 0
+  abbrev sign : Bool
+  sign = told .answer .given .0 .1 .1 .0
+
+  named : Word from count sign ≡ queryOf (start .args .v) (start .args .t .now) (start .args .a) (start .args .b) (length (start .args .w .now)) (length letters) 0
   named = sym (told .answer .given .1) ∙ asked .query .ensures .0
 
   part-is : n .word-part .result .now ≡ word
   part-is =
       n .word-part .ensures
       ∙ ap (λ (x : List ℤ). partOf x from count) (asked .query .ensures .1 .1 .0 ∙ ap (λ (x : Queried). wordLeft x word letters) (told .answer .given .1))
-      ∙ part-found from count (start .args .v) (start .args .t .now) (start .args .a) (start .args .b) (length (start .args .w .now)) 0 letters named
+      ∙ part-found from count sign (start .args .v) (start .args .t .now) (start .args .a) (start .args .b) (length (start .args .w .now)) 0 letters named
 
   part-most : length (n .word-part .result .now) ≤ 16384
   part-most = omega (
     arith,
     ap length part-is,
     start .pre .lent,
-    word-most from count (start .args .v) (start .args .t .now) (start .args .a) (start .args .b)
+    word-most from count sign (start .args .v) (start .args .t .now) (start .args .a) (start .args .b)
         (length (start .args .w .now)) 0 letters named,
   )
 
@@ -116,15 +120,10 @@ returns c =
 word-part-requires : tie.Need-word-part-requires
 word-part-requires c κs = search needs
 
-slice-aggregate-line-of-letters : tie.Need-slice-aggregate-line-of-letters
-slice-aggregate-line-of-letters c = search needs
-
-line-of-letters-requires : tie.Need-line-of-letters-requires
-line-of-letters-requires c κs = omega (
-  arith,
-  part-most
-      (c .before .before),
-  (c .before .before .before .before .before .before .before .before .before .before .before .before .before .before .before) .pre .out-long,
+word-line-requires : tie.Need-word-line-requires
+word-line-requires c κs = (
+  part-most (c .before),
+  (c .before .before .before .before .before .before .before .before .before .before .before .before .before .before) .pre .out-long,
 )
 
 same-length-4 : tie.Need-same-length-4
@@ -138,19 +137,19 @@ same-length-6 c = search needs
 
 returns-2 : tie.Need-returns-2
 returns-2 c =
-    let n = c .before .before .before .before .before in
-    let q = c .before .before .before .before .before .before .before .before .before .before .before .before .before in
-    let s = c .before .before .before .before .before .before .before .before .before .before .before .before .before .before .before .before .before .before in
+    let n = c .before .before .before .before in
+    let q = c .before .before .before .before .before .before .before .before .before .before .before .before in
+    let s = c .before .before .before .before .before .before .before .before .before .before .before .before .before .before .before .before .before in
     let r = q .query .result in
     let v = s .args .v in
     let t = s .args .t .now in
     let a = s .args .a in
     let b = s .args .b in
     let same =
-    ap (line wordWord) (part-is n)
+    ap (line (wordHead (sign n))) (part-is n)
     ∙ ap (λ (x : Queried). said x (word n)) (sym (told n .answer .given .1))
     ∙ replied-as v t a b r (length (s .args .w .now)) (length (s .args .letters .now)) (s .pre .work) (s .pre .lent) (q .query .ensures .0) in (
-      puts-as same ((c .before .before) .line-of-letters .ensures .0),
+      puts-as same ((c .before .before) .word-line .ensures),
       (
         q .query .ensures .1 .0,
         q .query .ensures .1 .1 .0
@@ -173,8 +172,7 @@ reply-pair-spec =
     same-length-3
     returns
     word-part-requires
-    slice-aggregate-line-of-letters
-    line-of-letters-requires
+    word-line-requires
     same-length-4
     same-length-5
     same-length-6

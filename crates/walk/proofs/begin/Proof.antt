@@ -37,7 +37,7 @@ returns c =
     let e = c .before .before .before .before .before .whole .ensures in
     let f = c .before .power .ensures in
     let m = ofList (s .args .m) in (
-      begun-head g m (s .pre .2) (s .pre .3) (s .pre .1) (e .0) (e .1) (e .2)
+      begun-head g m (s .pre .2) (s .pre .3) (s .pre .1) (e .0) (e .1) (e .2) (e .3)
           (sym (c .before .before .before .before .rows-agree .ensures) ∙ c .before .before .before .if1 .taken) (f .0) (f .1),
       stepped-long g (f .0),
     )
@@ -48,7 +48,7 @@ returns-2 c =
     let g = polygon (s .args .v) (s .args .t .now) (s .pre .0 .prepared .tables .symbol) in
     let e = c .before .before .whole .ensures in
     let m = ofList (s .args .m) in
-    (begun-tail g m (s .pre .2) (s .pre .3) (s .pre .1) (e .0) (e .1) (e .2) (sym (c .before .rows-agree .ensures) ∙ c .if1 .left), refl)
+    (begun-tail g m (s .pre .2) (s .pre .3) (s .pre .1) (e .0) (e .1) (e .2) (e .3) (sym (c .before .rows-agree .ensures) ∙ c .if1 .left), refl)
 
 pub begin-spec : {M : Type 1} → statement M
 begin-spec =

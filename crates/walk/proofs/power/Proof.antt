@@ -6,6 +6,7 @@ use mir.Syntax.{w16}
 use mir.Val.{toZ, ofZ}
 use Rattle.polygon.specs.Inner.Tables.{lettersOf}
 use Rattle.walk.specs.Inner.Way.{formOf}
+use Rattle.walk.proofs.Told.{sign-Q, sign-P}
 use Rattle.walk.proofs.Letters.{stepped}
 use Rattle.walk.proofs.Forms.{properly, rows-Q, rows-P}
 use Rattle.walk.proofs.Onward.{powered-Q, powered-P}
@@ -45,11 +46,12 @@ same-length c = search needs
 
 returns : tie.Need-returns
 returns c =
+    let s = c .before .before .before .before .before .before .before .before .before .before .before in
     let l = c .before .before .before .before .before .before in
     let k = toZ-ofZ {w = w16} {z = l .letter-q .result} (record { sfits = l .letter-q .ok }) in
     powered-Q (c .before .before .before .before .before .before .before .if1 .taken)
     (stepped (toZ w16 (ofZ w16 (l .letter-q .result))) (ap lettersOf k ∙ l .letter-q .ensures) (c .before .before .turn-q .ensures)
-    (c .before .before .before .before .put .ensures)) refl
+    (c .before .before .before .before .put .ensures) (sign-Q (s .args .v) (s .args .t .now) (s .args .way .sign) (s .args .way .at))) refl
 
 letter-q-requires-2 : tie.Need-letter-q-requires-2
 letter-q-requires-2 c κs = search needs
@@ -77,11 +79,12 @@ same-length-2 c = search needs
 
 returns-2 : tie.Need-returns-2
 returns-2 c =
-    let l = c .before .before .before .before .before .before in
+    let s = c .before .before .before .before .before .before .before .before .before .before .before .before in
+    let l = c .before .before .before .before .before .before .before in
     let k = toZ-ofZ {w = w16} {z = l .letter-q2 .result} (record { sfits = l .letter-q2 .ok }) in
-    powered-P (c .before .before .before .before .before .before .before .if1 .left)
-    (stepped (toZ w16 (ofZ w16 (l .letter-q2 .result))) (ap lettersOf k ∙ l .letter-q2 .ensures) (c .before .before .turn-back .ensures)
-    (c .before .before .before .before .put2 .ensures)) refl
+    powered-P (c .before .before .before .before .before .before .before .before .if1 .left)
+    (stepped (toZ w16 (ofZ w16 (l .letter-q2 .result))) (ap lettersOf k ∙ l .letter-q2 .ensures) (c .before .before .before .turn-back .ensures)
+    (c .before .before .before .before .before .put2 .ensures) (sign-P (s .args .v) (s .args .t .now) (s .args .way .sign) (s .args .way .at))) refl
 
 pub power-spec : {M : Type 1} → statement M
 power-spec =

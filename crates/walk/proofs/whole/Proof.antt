@@ -1,4 +1,4 @@
--- `whole` is the state before any letter: the sizes of the four entries, the home position, no letters. Assumes nothing.
+-- `whole` is the state before any letter: the sizes of the four entries, the home position, no letters, the sign of the first column. Assumes nothing.
 use native.Mathlib.Omega.{arith}
 use mathlib.Core.Path.{refl, _∙_, ap}
 use lib.IntN.{natAbs}
@@ -41,16 +41,20 @@ magnitude-requires-4 c κs =
     let s = c .before .before .before .before .before .before .before in
     rw (kept (nth (s .args .t1) 3) (c .magnitude-arg4 .given)) (omega (arith, s .pre .in-d))
 
+sign-of-column-requires : tie.Need-sign-of-column-requires
+sign-of-column-requires c κs = search needs
+
 returns : tie.Need-returns
 returns c =
-    let m = c .before .before .before .before .before .before .before .before .args .t1 in (
-      form-eq (c .before .before .before .before .before .before .magnitude .ensures
-          ∙ ap natAbs (kept (nth m 0) (c .before .before .before .before .before .before .before .magnitude-arg .given)))
-          (c .before .before .before .before .magnitude2 .ensures ∙ ap natAbs (kept (nth m 1) (c .before .before .before .before .before .magnitude-arg2 .given)))
-          (c .before .before .magnitude3 .ensures ∙ ap natAbs (kept (nth m 2) (c .before .before .before .magnitude-arg3 .given)))
-          (c .magnitude4 .ensures ∙ ap natAbs (kept (nth m 3) (c .before .magnitude-arg4 .given))),
+    let m = c .before .before .before .before .before .before .before .before .before .args .t1 in (
+      form-eq (c .before .before .before .before .before .before .before .magnitude .ensures
+          ∙ ap natAbs (kept (nth m 0) (c .before .before .before .before .before .before .before .before .magnitude-arg .given)))
+          (c .before .before .before .before .before .magnitude2 .ensures ∙ ap natAbs (kept (nth m 1) (c .before .before .before .before .before .before .magnitude-arg2 .given)))
+          (c .before .before .before .magnitude3 .ensures ∙ ap natAbs (kept (nth m 2) (c .before .before .before .before .magnitude-arg3 .given)))
+          (c .before .magnitude4 .ensures ∙ ap natAbs (kept (nth m 3) (c .before .before .magnitude-arg4 .given))),
       refl,
       refl,
+      c .sign-of-column .ensures,
     )
 
 pub whole-spec : {M : Type 1} → statement M
@@ -65,4 +69,5 @@ whole-spec =
     magnitude-requires-3
     array-copy-out-magnitude-4
     magnitude-requires-4
+    sign-of-column-requires
     returns)

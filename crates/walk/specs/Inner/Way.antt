@@ -1,6 +1,6 @@
 -- The walk as the code makes it: the rest of the matrix as four naturals, the position, and the letters counted and stored.
 --
---   Way                     the state of a walk: the form p q r s of what is left of the matrix, the position, the letters so far
+--   Way                     the state of a walk: the form p q r s of what is left of the matrix, the position, the letters so far, the sign so far
 --   formOf a                its form
 --   restOf a                the alternating word that is left, where it doesn't begin with a power of Q
 --   properOf f              whether the form f is neither that of the identity nor that of S
@@ -8,13 +8,15 @@
 --   stored start limit n l out   the letters l, of which the first is number n of the word, stored from the place start on in `out`,
 --                           each where its number is below the limit
 --   putFrom start l out     the letters l in place of those that stood from `start` on
+--   signAdded v t x p       what the letter x at p adds to the sign: its own in an alternating word, times that of the step
+--   signLeft v t s p l      the sign s times what the letters of l add to it from p on
 --   Setting                 the tables of steps are there, and `limit` letters fit from the start place on
---   WayStepped x a out b out'  the letter x leads from the state a to b, and what it writes is counted, and stored
+--   WayStepped x a out b out'  the letter x leads from the state a to b, what it writes is counted, and stored, and what it adds to the sign is told
 --   Onward                  from l at x with n letters it is the same way as from m at y with k letters
 --   OneApart f              p s and q r are one apart
 --   Sound v t most a        the position is real, the form is one apart, and what is written and left has at most so many letters
 --   Begun, Going, Ended     what the parts of the walk leave: its beginning, a turn, the end
---   Walked                  the walk of the whole word of m: where it ends, how many letters it writes, and these stored
+--   Walked                  the walk of the whole word of m: where it ends, how many letters it writes, these stored, and the sign of m against them
 use mathlib.Core.Path.{_≡_}
 use mathlib.Core.Logic.{_⊎_}
 use mathlib.Core.Bool.{Bool, not, _&&_}
@@ -28,8 +30,10 @@ use Rattle.matrix.specs.Words.{Letter, Q, P}
 use Rattle.matrix.specs.Euclid.{Form, form, total, tailOf, wordOf}
 use Rattle.basics.specs.Choice.{pick}
 use Rattle.polygon.specs.Cut.{places}
-use Rattle.polygon.specs.Step.{Real, written}
+use Rattle.polygon.specs.Step.{Real, stepS, turnQ, written}
 use Rattle.polygon.specs.Walk.{goes, ends, writes}
+use Rattle.signs.specs.Sign.{_·_, letterSign, columnSign, matrixSign}
+use Rattle.signs.specs.Step.{stepSign, signAlong, walkSign}
 use Rattle.walk_steps.specs.Inner.Steps.{StepsReady}
 use Rattle.walk.specs.declared.Way.{Way}
 
@@ -58,6 +62,12 @@ stored start limit n (z ∷ l) out = stored start limit (suc n) l (pick (ltb n l
 abbrev pub putFrom : ℕ → (l out : List ℤ) → List ℤ
 putFrom start l out = take start out ++ l ++ drop (start + length l) out
 
+abbrev pub signAdded : ℕ → List ℤ → Letter → ℕ → Bool
+signAdded v t x p = letterSign x · stepSign v t x p
+
+abbrev pub signLeft : ℕ → List ℤ → Bool → ℕ → List Letter → Bool
+signLeft v t s p l = s · signAlong (stepS v t) (turnQ v) (signAdded v t) p l
+
 pub record Setting (t : List ℤ) (v : ℕ) (w : List ℕ) (out : List ℤ) (start limit : ℕ) : Type 0 where
   pub prepared : StepsReady t v w (places v)
   pub room : limit ≤ length out - start
@@ -66,6 +76,7 @@ pub record WayStepped (v : ℕ) (t : List ℤ) (start limit : ℕ) (x : Letter) 
   pub at : b .at ≡ goes v t x (a .at)
   pub count : b .count ≡ a .count + length (written v t x (a .at))
   pub left : out' ≡ stored start limit (a .count) (written v t x (a .at)) out
+  pub sign : b .sign ≡ a .sign · signAdded v t x (a .at)
 
 pub record Onward (v : ℕ) (t : List ℤ) (start limit : ℕ) (l : List Letter) (x n : ℕ) (out : List ℤ) (m : List Letter) (y k : ℕ) (out' : List ℤ) : Type 0 where
   pub ends-at : ends v t y m ≡ ends v t x l
@@ -83,15 +94,19 @@ pub record Sound (v : ℕ) (t : List ℤ) (most : ℕ) (a : Way) : Type 0 where
 pub record Begun (v : ℕ) (t : List ℤ) (start limit : ℕ) (m : Mat) (x : ℕ) (out : List ℤ) (b : Way) (out' : List ℤ) : Type 0 where
   pub sound : Sound v t (2 ^ 60) b
   pub onward : Onward v t start limit (wordOf m) x 0 out (restOf b) (b .at) (b .count) out'
+  pub sign : signLeft v t (b .sign) (b .at) (restOf b) ≡ signLeft v t (columnSign m) x (wordOf m)
 
 pub record Going (v : ℕ) (t : List ℤ) (start limit : ℕ) (a : Way) (out : List ℤ) (b : Way) (out' : List ℤ) : Type 0 where
   pub sound : Sound v t (2 ^ 60) b
   pub onward : Onward v t start limit (restOf a) (a .at) (a .count) out (restOf b) (b .at) (b .count) out'
+  pub sign : signLeft v t (b .sign) (b .at) (restOf b) ≡ signLeft v t (a .sign) (a .at) (restOf a)
 
 pub record Ended (v : ℕ) (t : List ℤ) (start limit : ℕ) (a : Way) (out : List ℤ) (b : Way) (out' : List ℤ) : Type 0 where
   pub onward : Onward v t start limit (restOf a) (a .at) (a .count) out [] (b .at) (b .count) out'
+  pub sign : b .sign ≡ signLeft v t (a .sign) (a .at) (restOf a)
 
 pub record Walked (v : ℕ) (t : List ℤ) (start limit : ℕ) (m : Mat) (x : ℕ) (out : List ℤ) (b : Way) (out' : List ℤ) : Type 0 where
   pub at : b .at ≡ ends v t x (wordOf m)
   pub count : b .count ≡ length (writes v t x (wordOf m))
   pub left : out' ≡ stored start limit 0 (writes v t x (wordOf m)) out
+  pub sign : b .sign ≡ matrixSign m · walkSign v t x (wordOf m)

@@ -1,11 +1,17 @@
--- `note_step` stores where S leads from p, what it writes, and where a turn leads then; what is noted below p stays, so now it is noted
--- below p + 1 (`prepared-more`). All four numbers fit 16 bits (`step-low`, `letter-most`, `forth-low`, `back-low`). Assumes nothing.
+-- `note_step` stores where S leads from p, what it writes with the sign of the step (`sign-step`), and where a turn leads then; what is noted below p
+-- stays, so now it is noted below p + 1 (`prepared-more`). All four numbers fit 16 bits (`step-low`, `letter-most`, `forth-low`, `back-low`). Assumes
+-- nothing.
 use native.Mathlib.Omega.{arith}
-use mathlib.Core.Path.{_∙_}
+use mathlib.Core.Path.{_∙_, ap}
+use Prim.Native.Nat.{ℕ}
+use lib.IntN.{ℤ, pos, _-ℤ_}
 use lib.ListN.{length-set}
 use mir.Facts.{toZ-ofZ}
 use mir.Syntax.{w16}
-use Rattle.walk_steps.proofs.Noted.{letter-most, step-low, forth-low, back-low, noted-long, prepared-more}
+use Rattle.polygon.specs.Inner.Tables.{lettersOf}
+use Rattle.signs.specs.Sign.{_·_}
+use Rattle.signs.specs.Step.{leftToRight, frameSign, crossingSign}
+use Rattle.walk_steps.proofs.Noted.{letter-most, sign-step, step-low, forth-low, back-low, noted-long, prepared-more}
 use borrow.Author.Needs.{needs}
 use Rattle.walk_steps.proofs.note_step.Statement.{statement}
 use Rattle.walk_steps.proofs.note_step.Tie as tie
@@ -22,13 +28,19 @@ coded-requires c κs =
     let e = toZ-ofZ {w = w16} {z = c .letter-s .result} (record { sfits = c .letter-s .ok }) in
     rw e (letter-most (s .args .v) (s .args .t .now) (s .pre .0 .tables .symbol) (s .args .p) (c .letter-s .result) (s .pre .2) (c .letter-s .ensures))
 
+sign-of-step-requires : tie.Need-sign-of-step-requires
+sign-of-step-requires c κs = search needs
+
+with-sign-requires : tie.Need-with-sign-requires
+with-sign-requires c κs = search needs
+
 cast-w : tie.Need-cast-w
 cast-w c =
-    let s = c .before .before .before .before .before .before in
+    let s = c .before .before .before .before .before .before .before .before in
     omega (
       arith,
-      step-low (s .args .v) (s .args .t .now) (s .pre .0 .tables .symbol) (s .args .p) (c .before .before .before .step-s .result) (s .pre .2)
-          (c .before .before .before .step-s .ensures),
+      step-low (s .args .v) (s .args .t .now) (s .pre .0 .tables .symbol) (s .args .p) (c .before .before .before .before .before .step-s .result) (s .pre .2)
+          (c .before .before .before .before .before .step-s .ensures),
       s .pre .0 .tables .symbol .most,
     )
 
@@ -49,7 +61,7 @@ mul-w-2 c = search needs
 
 slice-write-w-2 : tie.Need-slice-write-w-2
 slice-write-w-2 c =
-    let s = c .before .before .before .before .before .before in
+    let s = c .before .before .before .before .before .before .before .before in
     simp length-set (omega (arith, s .pre .1, s .pre .0 .tables .symbol .most, s .pre .0 .tables .long))
 
 turn-q-requires : tie.Need-turn-q-requires
@@ -60,8 +72,8 @@ turn-back-requires c κs = search needs
 
 cast-w-2 : tie.Need-cast-w-2
 cast-w-2 c =
-    let s = c .before .before .before .before .before .before .before .before in
-    let to = c .before .before .before .before .before .step-s in
+    let s = c .before .before .before .before .before .before .before .before .before .before in
+    let to = c .before .before .before .before .before .before .before .step-s in
     omega (
       arith,
       forth-low (s .args .v) (s .args .t .now) (s .pre .0 .tables .symbol) (s .args .p) (to .result) (s .pre .2) (to .ensures)
@@ -77,13 +89,13 @@ mul-w-3 c = search needs
 
 slice-write-w-3 : tie.Need-slice-write-w-3
 slice-write-w-3 c =
-    let s = c .before .before .before .before .before .before .before .before in
+    let s = c .before .before .before .before .before .before .before .before .before .before in
     simp length-set (omega (arith, s .pre .1, s .pre .0 .tables .symbol .most, s .pre .0 .tables .long))
 
 cast-w-3 : tie.Need-cast-w-3
 cast-w-3 c =
-    let s = c .before .before .before .before .before .before .before .before in
-    let to = c .before .before .before .before .before .step-s in
+    let s = c .before .before .before .before .before .before .before .before .before .before in
+    let to = c .before .before .before .before .before .before .before .step-s in
     omega (
       arith,
       back-low (s .args .v) (s .args .t .now) (s .pre .0 .tables .symbol) (s .args .p) (to .result) (s .pre .2) (to .ensures)
@@ -99,7 +111,7 @@ mul-w-4 c = search needs
 
 slice-write-w-4 : tie.Need-slice-write-w-4
 slice-write-w-4 c =
-    let s = c .before .before .before .before .before .before .before .before in
+    let s = c .before .before .before .before .before .before .before .before .before .before in
     simp length-set (omega (arith, s .pre .1, s .pre .0 .tables .symbol .most, s .pre .0 .tables .long))
 
 same-length : tie.Need-same-length
@@ -107,15 +119,22 @@ same-length c = search needs
 
 returns : tie.Need-returns
 returns c =
-    let s = c .before .before .before .before .before .before .before .before in
-    let to = c .before .before .before .before .before .step-s in
-    let l = c .before .before .before .letter-s in
-    let k = c .before .before .coded in
+    let s = c .before .before .before .before .before .before .before .before .before .before in
+    let to = c .before .before .before .before .before .before .before .step-s in
+    let l = c .before .before .before .before .before .letter-s in
+    let k = c .before .before .before .before .coded in
     let f = c .before .turn-q in
-    let b = c .turn-back in (
-      prepared-more (s .pre .0) (s .pre .1) (to .result) (k .result) (f .result) (b .result) (l .result) (to .ensures) (k .ensures .0)
-          (k .ensures .1 ∙ toZ-ofZ {w = w16} {z = l .result} (record { sfits = l .ok })) (l .ensures) (f .ensures) (b .ensures),
-      noted-long (s .pre .0) (s .pre .1) (to .result) (k .result) (f .result) (b .result),
+    let b = c .turn-back in
+    let y = c .before .before .with-sign in
+    let x = c .before .before .before .sign-of-step in
+    let e = toZ-ofZ {w = w16} {z = l .result} (record { sfits = l .ok }) in
+    let told = ap (λ (z : ℤ). frameSign (s .args .v) (s .args .p) · frameSign (s .args .v) (to .result)
+    · crossingSign (lettersOf z) (leftToRight (s .args .v) (s .args .p))) e in (
+      prepared-more (s .pre .0) (s .pre .1) (to .result) (y .result) (f .result) (b .result) (l .result) (to .ensures) (omega (arith, y .ensures .0, k .ensures .0))
+          (ap (λ (n : ℕ). pos n -ℤ pos 1024) (y .ensures .0) ∙ k .ensures .1 ∙ e) (l .ensures)
+          (y .ensures .1 ∙ x .ensures ∙ told ∙ sign-step (s .args .v) (s .args .t .now) (s .args .p) (to .result) (l .result) (to .ensures) (l .ensures))
+          (f .ensures) (b .ensures),
+      noted-long (s .pre .0) (s .pre .1) (to .result) (y .result) (f .result) (b .result),
     )
 
 pub note-step-spec : {M : Type 1} → statement M
@@ -125,6 +144,8 @@ note-step-spec =
     step-s-requires
     letter-s-requires
     coded-requires
+    sign-of-step-requires
+    with-sign-requires
     cast-w
     add-w
     mul-w

@@ -1,17 +1,23 @@
--- The steps by S, once for each position, in the work space: where S leads, the letter that it writes, and where S and then a turn lead.
+-- The steps by S, once for each position, in the work space: where S leads, the letter that it writes with the sign of the step, and where S and then a
+-- turn lead.
 --
 --   NEXT, LETTER       where the tables of S lie
 --   FORTH, BACK        where those of S and then Q, of S and then Q⁻¹, which is Q twice
---   letterIn w p       the letter that w holds for p, 0 for none: it is stored 1024 higher
---   StepsReady t v w n  w holds the polygon's tables, and the steps from the real positions below n
+--   letterIn w p       the letter that w holds for p, 0 for none: half of what is stored there, 1024 lower
+--   signIn w p         the sign that w holds for p: plus where what is stored there is odd
+--   StepsReady t v w n  w holds the polygon's tables, and the steps from the real positions below n. What the signs promise of matrices is
+--                      `Signs.promise` (signs/specs/Theorem.antt)
 use mathlib.Core.Path.{_≡_}
+use mathlib.Core.Bool.{Bool}
 use mathlib.Core.List.{List}
-use Prim.Native.Nat.{ℕ, _+_, _≤_, _<_}
+use Prim.Native.Nat.{ℕ, _+_, _/_, _%_, _≤_, _<_}
+use lib.Dec.{eqb}
 use lib.ListN.{getD}
 use lib.IntN.{ℤ, pos, _-ℤ_}
 use Rattle.matrix.specs.Words.{S}
 use Rattle.polygon.specs.Step.{Real, stepS, turnQ, written}
 use Rattle.polygon.specs.Inner.Tables.{PolygonTables, lettersOf}
+use Rattle.signs.specs.Step.{stepSign}
 
 abbrev pub NEXT : ℕ
 NEXT = 8192
@@ -26,12 +32,16 @@ abbrev pub BACK : ℕ
 BACK = 20480
 
 abbrev pub letterIn : List ℕ → ℕ → ℤ
-letterIn w p = pos (getD w (LETTER + p) 0) -ℤ pos 1024
+letterIn w p = pos (getD w (LETTER + p) 0 / 2) -ℤ pos 1024
+
+abbrev pub signIn : List ℕ → ℕ → Bool
+signIn w p = eqb (getD w (LETTER + p) 0 % 2) 1
 
 pub record StepsReady (t : List ℤ) (v : ℕ) (w : List ℕ) (n : ℕ) : Type 0 where
   pub tables : PolygonTables t v w
   pub steps : (p : ℕ) → p < n → Real v t p → getD w (NEXT + p) 0 ≡ stepS v t p
-  pub codes : (p : ℕ) → p < n → Real v t p → getD w (LETTER + p) 0 ≤ 2048
+  pub codes : (p : ℕ) → p < n → Real v t p → getD w (LETTER + p) 0 / 2 ≤ 2048
   pub letters : (p : ℕ) → p < n → Real v t p → lettersOf (letterIn w p) ≡ written v t S p
+  pub signs : (p : ℕ) → p < n → Real v t p → signIn w p ≡ stepSign v t S p
   pub forths : (p : ℕ) → p < n → Real v t p → getD w (FORTH + p) 0 ≡ turnQ v (stepS v t p)
   pub backs : (p : ℕ) → p < n → Real v t p → getD w (BACK + p) 0 ≡ turnQ v (turnQ v (stepS v t p))

@@ -6,6 +6,7 @@ use Prim.Native.Nat.{ℕ}
 use lib.ListN.{length}
 use Rattle.matrix.specs.Matrix.{ofList}
 use Rattle.refusal.specs.Refusal.{tooShort}
+use Rattle.word.specs.Inner.Ready.{lettersAlong}
 use Rattle.word.specs.declared.Queried.the-variants as queried
 use Rattle.word.proofs.Finding.{setting, result, kept-out, placed-out, not-home, too-far, too-long, fitting}
 use borrow.Author.Needs.{needs}
@@ -104,7 +105,8 @@ returns-4 c =
     let e = kept-out r in
     let in-room = c .before .before .before .before .if2 .left in
     let enough = c .before .before .before .if3 .left in (
-      ap (queried.Word start) (r .count) ∙ fitting v t m start room (end .at) (r .at) (c .before .before .before .before .before .if1 .left ∙ q .start)
+      ap (λ (i : ℕ). queried.Word start i (end .sign)) (r .count) ∙ ap (queried.Word start (length (lettersAlong v t m))) (r .sign)
+          ∙ fitting v t m start room (end .at) (r .at) (c .before .before .before .before .before .if1 .left ∙ q .start)
           (omega (arith, ap length e, in-room)) (omega (arith, ap length e, enough, r .count)),
       placed-out e (r .count) (omega (arith, ap length e, in-room)) (omega (arith, ap length e, enough)) (result q (c .before .walk2 .ensures)),
     )

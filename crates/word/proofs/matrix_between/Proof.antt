@@ -40,11 +40,10 @@ turned-is : (c : tie.After-inverse2) → ofList (c .inverse2 .result) ≡ adj ma
 turned-is c = ap ofList (c .inverse2 .ensures ∙ ap (λ (l : List ℤ). toList (adj (ofList l))) (c .before .matrix-s .ensures))
 
 -- b a⁻¹ S
-right-is : (c : tie.After-product2) → ofList (c .product2 .result) ≡ x (c .before .before .before .before .before .before) ⊗ matS
+right-is : (c : tie.After-product2) → ofList (c .product2 .result) ≡ x (c .before .before .before .before .before) ⊗ matS
 right-is c =
-    ap ofList (c .product2 .ensures ∙ ap (λ (l : List ℤ). toList (ofList (c .before .before .before .before .before .before .product .result) ⊗ ofList l))
-    (c .before .matrix-s2 .ensures))
-    ∙ ap (λ (m : Mat). m ⊗ matS) (x-is (c .before .before .before .before .before .before))
+    ap ofList (c .product2 .ensures ∙ ap (λ (l : List ℤ). toList (ofList (c .before .before .before .before .before .product .result) ⊗ ofList l)) (c .before .before .matrix-s .ensures))
+    ∙ ap (λ (m : Mat). m ⊗ matS) (x-is (c .before .before .before .before .before))
 
 is-turned-requires : tie.Need-is-turned-requires
 is-turned-requires c κs = search needs
@@ -56,31 +55,28 @@ inverse-requires-2 : tie.Need-inverse-requires-2
 inverse-requires-2 c κs =
     subst (λ (l : List ℤ). Small (2 ^ 63 - 1) (ofList l)) (sym (c .matrix-s .ensures)) (small-more 1 (2 ^ 63 - 1) matS (lit≤ tt) S-small)
 
-matrix-s-requires-2 : tie.Need-matrix-s-requires-2
-matrix-s-requires-2 c κs = search needs
-
 product-requires-2 : tie.Need-product-requires-2
 product-requires-2 c κs =
-    let x = x-is (c .before .before .before .before .before) in
-    subst (λ (l : List ℤ). ProductFits (ofList (c .before .before .before .before .before .product .result)) (ofList l)) (sym (c .matrix-s2 .ensures))
-    (subst (λ (m : Mat). ProductFits m matS) (sym x) (room (2 * (1000000 * 1000000)) 1 _ matS (lit< tt) (x-small (c .before .before .before .before .before)) S-small))
+    let x = x-is (c .before .before .before .before) in
+    subst (λ (l : List ℤ). ProductFits (ofList (c .before .before .before .before .product .result)) (ofList l)) (sym (c .before .matrix-s .ensures))
+    (subst (λ (m : Mat). ProductFits m matS) (sym x) (room (2 * (1000000 * 1000000)) 1 _ matS (lit< tt) (x-small (c .before .before .before .before)) S-small))
 
 product-requires-3 : tie.Need-product-requires-3
 product-requires-3 c κs =
-    let p = c .before .before .before .before .before .before in
-    subst (λ (m : Mat). ProductFits m (ofList (c .product2 .result))) (sym (turned-is (c .before .before)))
+    let p = c .before .before .before .before .before in
+    subst (λ (m : Mat). ProductFits m (ofList (c .product2 .result))) (sym (turned-is (c .before)))
     (subst (λ (m : Mat). ProductFits (adj matS) m) (sym (right-is c))
     (room 1 (2 * (2 * (1000000 * 1000000) * 1)) (adj matS) _ (lit< tt) (small-adj 1 matS S-small)
     (small-⊗ (2 * (1000000 * 1000000)) 1 _ matS (x-small p) S-small)))
 
 returns : tie.Need-returns
 returns c =
-    let s = c .before .before .before .before .before .before .before .before .before in
+    let s = c .before .before .before .before .before .before .before .before in
     c .product3 .ensures
-    ∙ ap (λ (m : Mat). toList (m ⊗ ofList (c .before .product2 .result))) (turned-is (c .before .before .before))
+    ∙ ap (λ (m : Mat). toList (m ⊗ ofList (c .before .product2 .result))) (turned-is (c .before .before))
     ∙ ap (λ (m : Mat). toList (adj matS ⊗ m)) (right-is (c .before))
     ∙ ap toList (followed-turned (s .args .v) (s .args .t .now) (ofList (s .args .b) ⊗ adj (ofList (s .args .a)))
-    (sym (c .before .before .before .before .before .before .is-turned .ensures) ∙ c .before .before .before .before .before .if1 .taken))
+    (sym (c .before .before .before .before .before .is-turned .ensures) ∙ c .before .before .before .before .if1 .taken))
 
 returns-2 : tie.Need-returns-2
 returns-2 c =
@@ -98,7 +94,6 @@ matrix-between-spec =
     is-turned-requires
     matrix-s-requires
     inverse-requires-2
-    matrix-s-requires-2
     product-requires-2
     product-requires-3
     returns

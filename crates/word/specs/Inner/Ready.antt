@@ -3,9 +3,11 @@
 --   judgedOf a b            refusals 8 and 9 as one number: the first entry that is large, from 0 to 7; 8 where the determinant of A isn't 1,
 --                           9 where that of B isn't; 10 where the pair passes
 --   lettersAlong v t m      what the walk along the matrix m writes, from the start of the symbol
+--   signAlongWalk v t m     the sign of m against that: its own against its alternating word, times that of the walk
 --   endOf v t m start room  the answer by that walk: 10, 11 or the word
 --   WalkReady t v w m x     the tables are in the work space, x is the start, and the matrix m can be followed
 use mathlib.Core.Path.{_≡_}
+use mathlib.Core.Bool.{Bool}
 use mathlib.Core.List.{List}
 use Prim.Native.Nat.{ℕ, _^_}
 use lib.Dec.{ltb, eqb}
@@ -19,6 +21,8 @@ use Rattle.basics.specs.Count.{first}
 use Rattle.polygon.specs.Cut.{places}
 use Rattle.polygon.specs.Step.{startOf}
 use Rattle.polygon.specs.Walk.{ends, writes}
+use Rattle.signs.specs.Sign.{_·_, matrixSign}
+use Rattle.signs.specs.Step.{walkSign}
 use Rattle.walk_steps.specs.Inner.Steps.{StepsReady}
 use Rattle.refusal.specs.Refusal.{noWord}
 use Rattle.word.specs.Answer.{large, unit, wordOrShort}
@@ -31,8 +35,13 @@ judgedOf a b = let i = first (large a b) 8 in pick (ltb i 8) i (pick (unit a) (p
 unfoldable pub lettersAlong : ℕ → List ℤ → Mat → List ℤ
 lettersAlong v t m = writes v t (startOf v t) (wordOf m)
 
+unfoldable pub signAlongWalk : ℕ → List ℤ → Mat → Bool
+signAlongWalk v t m = matrixSign m · walkSign v t (startOf v t) (wordOf m)
+
 abbrev pub endOf : ℕ → List ℤ → Mat → (start room : ℕ) → Queried
-endOf v t m start room = pick (eqb (ends v t (startOf v t) (wordOf m)) (startOf v t)) (wordOrShort (length (lettersAlong v t m)) start room) (queried.Refused noWord)
+endOf v t m start room =
+    pick (eqb (ends v t (startOf v t) (wordOf m)) (startOf v t)) (wordOrShort (length (lettersAlong v t m)) (signAlongWalk v t m) start room)
+    (queried.Refused noWord)
 
 pub record WalkReady (t : List ℤ) (v : ℕ) (w : List ℕ) (m : List ℤ) (x : ℕ) : Type 0 where
   pub prepared : StepsReady t v w (places v)

@@ -1,5 +1,5 @@
-//! The reference's query program: a symbol and two matrices in, a word or
-//! a refusal out.
+//! The reference's query program: a symbol and two matrices in, a word with its
+//! sign or a refusal out.
 
 #![forbid(unsafe_code)]
 
