@@ -71,7 +71,7 @@ extern "C" {
 #define FAREY_STACK 98304
 /* The length of the work space. */
 #define FAREY_WORK 32768
-/* Lengths that are enough for every symbol: of a symbol's table, of the generators, of a table of cosets or widths. */
+/* Lengths that are enough for every symbol: of a symbol's table, of the generators, of a table of cosets (images, cusps, steps) or widths. */
 #define FAREY_TABLE 3070
 #define FAREY_GENERATORS 5120
 #define FAREY_COSETS 4090
@@ -106,6 +106,12 @@ uint64_t farey_widths(size_t v, const int64_t *t, size_t t_len, uint16_t *work, 
  * coset. Refused: 1 to 7, then 11 for work, then 11 for s, r, u. Count: the index, which is how many entries are written to each. */
 uint64_t farey_tables(size_t v, const int64_t *t, size_t t_len, uint16_t *work, size_t work_len, uint32_t *s, size_t s_len, uint32_t *r,
                       size_t r_len, uint32_t *u, size_t u_len, size_t *place);
+
+/* The cusp of each right coset, and where it stands there: cusps has the number of its cusp, from 0, in the order of farey_widths, and steps how many
+ * steps of T, the table u of farey_tables, lead to it from the cusp's smallest coset; no fewer do. So T keeps the cusp and adds one step, back to 0 after
+ * the width. Refused: 1 to 7, then 11 for work, then 11 for cusps, then for steps. Count: the index, which is how many entries are written to each. */
+uint64_t farey_cusps(size_t v, const int64_t *t, size_t t_len, uint16_t *work, size_t work_len, uint32_t *cusps, size_t cusps_len,
+                     uint32_t *steps, size_t steps_len, size_t *place);
 
 /* A symbol from the permutations S and R: it generates precisely the matrices, up to sign, that fix point 0. out: its table, from the
  * front. It has at most (number of points)/3 + 1 vertices. Refused: 12 to 15, then 11 for work, then 16, then 11 for out. Count: v, the

@@ -53,6 +53,8 @@ int main(void)
     say("widths without work", number, place);
     number = farey_tables(2, t, 7, NULL, 0, columns[0], 3, columns[1], 3, columns[2], 3, &place);
     say("tables without work", number, place);
+    number = farey_cusps(2, t, 7, NULL, 0, columns[0], 3, columns[1], 3, &place);
+    say("cusps without work", number, place);
     number = farey_import(s, 3, r, 3, NULL, 0, table, 7, &place);
     say("import without work", number, place);
     number = farey_import_wide(s, 3, r, 3, NULL, 0, table, 7, &place);
@@ -85,6 +87,10 @@ int main(void)
     say("widths without room", number, place);
     number = farey_tables(2, t, 7, work, FAREY_WORK, NULL, 0, NULL, 0, NULL, 0, &place);
     say("tables without room", number, place);
+    number = farey_cusps(2, t, 7, work, FAREY_WORK, NULL, 0, columns[1], 3, &place);
+    say("cusps without room for cusps", number, place);
+    number = farey_cusps(2, t, 7, work, FAREY_WORK, columns[0], 3, NULL, 0, &place);
+    say("cusps without room for steps", number, place);
     number = farey_import(s, 3, r, 3, work, FAREY_WORK, NULL, 0, &place);
     say("import without room", number, place);
     number = farey_import_wide(s, 3, r, 3, work, FAREY_WORK, NULL, 0, &place);

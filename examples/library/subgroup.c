@@ -87,6 +87,9 @@ int main(void)
     line("S", s, count);
     line("R", r, count);
     line("T", t, count);
+    expect(farey_cusps(v, table, length, work, FAREY_WORK, s, FAREY_COSETS, r, FAREY_COSETS, &count), &count);
+    line("cusps", s, count);
+    line("steps", r, count);
 
     static const int64_t one[4] = {1, 0, 0, 1};
     static const int64_t six[4] = {1, 6, 0, 1};

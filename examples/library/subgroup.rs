@@ -44,6 +44,12 @@ fn main() -> Result<(), Refusal> {
         spaced(&tables.r),
         spaced(&tables.t)
     );
+    let found = symbol.coset_cusps();
+    println!(
+        "cusps{}\nsteps{}",
+        spaced(&found.cusps),
+        spaced(&found.steps)
+    );
     for to in [[1, 6, 0, 1], [-17, -12, -24, -17]] {
         match symbol.word([1, 0, 0, 1], to)? {
             // The word times 1 is the matrix itself, or its negative.

@@ -30,7 +30,7 @@ without it.
 from . import cycles, evidence
 from .named import named_tables
 from .refusal import Refusal
-from .symbol import Evidence, Generator, Symbol, Word
+from .symbol import Cusp, Evidence, Generator, Symbol, Word
 from . import systems  # stands on Symbol
 
-__all__ = ["Evidence", "Generator", "Refusal", "Symbol", "Word", "cycles", "evidence", "named_tables", "systems"]
+__all__ = ["Cusp", "Evidence", "Generator", "Refusal", "Symbol", "Word", "cycles", "evidence", "named_tables", "systems"]

@@ -50,6 +50,7 @@ _PARAMETERS = {
     "farey_figures": _SYMBOL + _WORK + [POINTER(c_uint64)] + _PLACE,
     "farey_widths": _SYMBOL + _WORK + _space(c_uint32) + _PLACE,
     "farey_tables": _SYMBOL + _WORK + 3 * _space(c_uint32) + _PLACE,
+    "farey_cusps": _SYMBOL + _WORK + 2 * _space(c_uint32) + _PLACE,
     "farey_import": 2 * _space(c_uint32) + _WORK + _space(c_int64) + _PLACE,
     "farey_import_wide": 2 * _space(c_uint32) + _WORK + _space(c_int64) + _PLACE,
     "farey_query": _SYMBOL + 2 * [POINTER(c_int64)] + _WORK + _space(c_int16) + [c_size_t] + _PLACE,

@@ -27,6 +27,13 @@ class Generator(NamedTuple):
     matrix: Tuple[int, int, int, int]
 
 
+class Cusp(NamedTuple):
+    """A cusp: its number, from 0, in the order of `widths`, and its width."""
+
+    number: int
+    width: int
+
+
 class Word(List[int]):
     """A word that takes A to B: the list of its letters, and its sign.
 
@@ -313,6 +320,52 @@ class Symbol:
         """For each right coset of H, its image under T = (1 1; 0 1): S and then R."""
         return self._tables()[2]
 
+    @property
+    def coset_cusps(self) -> Tuple[int, ...]:
+        """For each right coset of H, the number of its cusp, from 0, in the order of `widths`."""
+        return self._record()[0]
+
+    @property
+    def coset_steps(self) -> Tuple[int, ...]:
+        """For each right coset of H, how many steps of T lead to it from the smallest coset of
+        its cusp. T keeps the cusp and adds one step, back to 0 after the width.
+
+        >>> H = Symbol.gamma0(6)
+        >>> all(H.coset_steps[H.T[x]] == (H.coset_steps[x] + 1) % H.widths[H.coset_cusps[x]] for x in range(H.index))
+        True
+        """
+        return self._record()[1]
+
+    def coset_of(self, A: Matrix) -> int:
+        """The number of the right coset H A. The engine gives the tables, and this method
+        follows A in them, as T^q S T^q' S .. by continued fractions. Refusals 8 and 9, as `in`.
+
+        >>> H = Symbol([0, 1], [1, -2, 1])
+        >>> H.coset_of((1, 0, 0, 1)), H.coset_of((0, -1, 1, 0)), H.coset_of((1, 0, 1, 1))
+        (0, 1, 2)
+        """
+        a, b, c, d = _unit(matrix(A, "A"))
+        point = 0
+        while c:
+            q = a // c
+            point = self.S[self._onward(point, q)]
+            a, b, c, d = c, d, q * c - a, q * d - b
+        return self._onward(point, a * b)
+
+    def cusp_of(self, A: Matrix) -> Cusp:
+        """The cusp of H to which A = (a b; c d) sends infinity, the class of a/c under H, with
+        its width. Two matrices have the same cusp precisely when some element of H takes
+        the one's fraction a/c to the other's. Refusals 8 and 9, as `in`.
+
+        >>> H = Symbol.gamma0(11)
+        >>> H.cusp_of((1, 0, 0, 1)), H.cusp_of((0, -1, 1, 0))
+        (Cusp(number=0, width=1), Cusp(number=1, width=11))
+        >>> H.cusp_of((5, -1, 11, -2)), H.cusp_of((1, 0, 7, 1))
+        (Cusp(number=0, width=1), Cusp(number=1, width=11))
+        """
+        number = self.coset_cusps[self.coset_of(A)]
+        return Cusp(number, self.widths[number])
+
     def word(self, A: Matrix, B: Matrix) -> Optional[Word]:
         """A word in the generators that takes A to B: the product of its letters
         from left to right, times A, is B or -B. Letter j is generator j, -j its
@@ -449,6 +502,34 @@ class Symbol:
             return tuple(tuple(space[:index]) for space in spaces)
 
         return self._once("tables", ask)
+
+    def _record(self) -> Tuple[Tuple[int, ...], ...]:
+        def ask() -> Tuple[Tuple[int, ...], ...]:
+            spaces = [(c_uint32 * library.COSETS)() for _ in range(2)]
+            index = library.call("farey_cusps", self._v, self._space, library.work(), *spaces)
+            return tuple(tuple(space[:index]) for space in spaces)
+
+        return self._once("record", ask)
+
+    def _onward(self, point: int, n: int) -> int:
+        """T^n from a coset: its cusp's coset at the remainder of its steps and n by the width."""
+
+        def ask() -> Dict[Tuple[int, int], int]:
+            return {place: point for point, place in enumerate(zip(*self._record()))}
+
+        cusp, steps = self.coset_cusps[point], self.coset_steps[point]
+        return self._once("cosets", ask)[cusp, (steps + n) % self.widths[cusp]]
+
+
+def _unit(entries: Tuple[int, ...]) -> Tuple[int, ...]:
+    """The matrix A, if its entries are in range and its determinant is 1; else 8 or 9 as the engine has them."""
+    for place, entry in enumerate(entries):
+        if abs(entry) > 1000000:
+            raise Refusal(8, place, "entry {place} of A is over 1,000,000 in size")
+    a, b, c, d = entries
+    if a * d - b * c != 1:
+        raise Refusal(9, 0, "the determinant of A isn't 1")
+    return entries
 
 
 def _numbers_of(text: bytes) -> List[int]:

@@ -1,5 +1,5 @@
 -- WHAT A NUMBER 0 TELLS: the call was not refused, so what its answer means holds. In order: no answer is refused with the number 0
--- (`generated-above`, `tabled-above`, `widthed-above`, `import-above`, `figured-above`); what a call that made something means (`zero-means`).
+-- (`generated-above`, `tabled-above`, `widthed-above`, `cusped-above`, `import-above`, `figured-above`); what a call that made something means (`zero-means`).
 -- Assumes nothing.
 use mathlib.Core.Path.{_≡_, refl, sym, ap, subst, _∙_}
 use mathlib.Core.Logic.{_⊎_, inl, inr}
@@ -30,6 +30,7 @@ use Rattle.coset.specs.Tables.{indexOf}
 use Rattle.coset.specs.declared.Figured.{Figured}
 use Rattle.coset.specs.declared.Figured.the-variants as figured
 use Rattle.coset.specs.Answer.{roomFor, tabledOf, roomOne, widthsOf, widthedOf, figuresOf, figuredBy, figuredOf}
+use Rattle.cusp_record.specs.Answer.{roomForBoth, cuspedOf}
 use Rattle.import_rule.specs.Order.{Order}
 use Rattle.import_rule.specs.Symbol as rule
 use Rattle.import_table.specs.Answer.{grownOf}
@@ -77,6 +78,13 @@ module _ (v : ℕ) (t : List ℤ) (work : ℕ) where
   widthed-above a =
       let n = length (widthsOf v t) in
       above-asked (roomOne n a) (above-pick (ltb a n) (filled.Refused (tooShort n)) (filled.Made n) (omega arith) tt)
+
+  pub cusped-above : (a b : ℕ) → AboveIn (cuspedOf v t work a b)
+  cusped-above a b =
+      let n = indexOf v t in
+      let short = filled.Refused (tooShort n) in
+      let second = pick (ltb b n) short (filled.Made n) in
+      above-asked (roomForBoth n a b) (above-pick (ltb a n) short second (omega arith) (above-pick (ltb b n) short (filled.Made n) (omega arith) tt))
 
   pub figured-above : AboveFigured (figuredOf v t work)
   figured-above = go (symbolCheck v t) (check-among v t)

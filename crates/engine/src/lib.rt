@@ -22,6 +22,7 @@ ghost use Rattle.sameness.specs.Same.{samenessOf, samenessRefusal, workAfterBot
 ghost use Rattle.symbol.specs.Symbol.{IsSymbol};
 ghost use Rattle.coset.specs.Tables.{tableS, tableR, tableT};
 ghost use Rattle.coset.specs.Answer.{tabledOf, columnLeft, widthsOf, widthedOf, figuredOf, figuredRefusal, Meaning};
+ghost use Rattle.cusp_record.specs.Answer.{cuspedOf, cuspColumn, stepColumn, CuspMeaning};
 ghost use Rattle.permutations.specs.Check as passport;
 ghost use Rattle.permutations.specs.Import as import;
 ghost use Rattle.word.specs.Answer.{queryOf, queryRefusal, foundWord, wordLeft, queryWork};
@@ -108,6 +109,28 @@ pub extern "C" fn farey_widths(
     ensures { λ n. ⌜ (n ≡ 0 → Meaning v (now (t .entry))) ⌝ }
 {
     let said = of_filled(coset::widths(v, t, w, out));
+    *place = said.place;
+    said.number
+}
+
+// The cusp of each coset and its steps of T from the cusp's smallest point, each from the front of its space.
+#[no_mangle]
+pub extern "C" fn farey_cusps(
+    v: usize,
+    t: &[i64],
+    w: &mut [u16],
+    cusps: &mut [u32],
+    steps: &mut [u32],
+    place: &mut usize,
+) -> u64
+    ensures { λ n. ⌜ n ≡ filledRefusal (cuspedOf v (now (t .entry)) (length (now (w .entry))) (length (now (cusps .entry))) (length (now (steps .entry)))) .number ⌝ }
+    ensures { λ n. ⌜ now (place .exit) ≡ filledPlace (cuspedOf v (now (t .entry)) (length (now (w .entry))) (length (now (cusps .entry))) (length (now (steps .entry)))) ⌝ }
+    ensures { λ n. ⌜ now (w .exit) ≡ workAfter (symbolCheck v (now (t .entry))) (now (w .entry)) ⌝ }
+    ensures { λ n. ⌜ now (cusps .exit) ≡ columnLeft (cuspedOf v (now (t .entry)) (length (now (w .entry))) (length (now (cusps .entry))) (length (now (steps .entry)))) (cuspColumn v (now (t .entry))) (now (cusps .entry)) ⌝ }
+    ensures { λ n. ⌜ now (steps .exit) ≡ columnLeft (cuspedOf v (now (t .entry)) (length (now (w .entry))) (length (now (cusps .entry))) (length (now (steps .entry)))) (stepColumn v (now (t .entry))) (now (steps .entry)) ⌝ }
+    ensures { λ n. ⌜ (n ≡ 0 → CuspMeaning v (now (t .entry))) ⌝ }
+{
+    let said = of_filled(cusp_record::cusps(v, t, w, cusps, steps));
     *place = said.place;
     said.number
 }

@@ -48,7 +48,7 @@ unfolding cycles
 cycles-last t [] x = append-nil (cycle t x)
 cycles-last t (y ∷ l) x = ap (λ (m : List ℕ). cycle t y ++ m) (cycles-last t l x) ∙ sym (append-assoc (cycle t y) (cycles t l) (cycle t x))
 
-cycles-length : (t l : List ℕ) → length (cycles t l) ≡ sum (map (width t) l)
+pub cycles-length : (t l : List ℕ) → length (cycles t l) ≡ sum (map (width t) l)
 unfolding cycles sum
 cycles-length t [] = refl
 cycles-length t (x ∷ l) = length-append (cycle t x) (cycles t l) ∙ omega (arith, cycle-length t x, cycles-length t l)
@@ -123,16 +123,19 @@ module _ {t : List ℕ} (p : Permutes t) where
   cusp-old {i} h = begun-old h (begun i (omega arith))
 
   -- ---- the theorem
-  abbrev points : List ℕ
+  abbrev pub points : List ℕ
   points = cycles t (cusps t)
 
   all-begun : Begun t (length t) points
   all-begun = begun (length t) (omega arith)
 
-  points-low : (x : ℕ) → x ∈ points → x < length t
+  pub points-once : Once points
+  points-once = all-begun .once
+
+  pub points-low : (x : ℕ) → x ∈ points → x < length t
   points-low x h = let o = all-begun .from x h in cycle-low p (o .low) (o .has)
 
-  points-all : (x : ℕ) → x < length t → x ∈ points
+  pub points-all : (x : ℕ) → x < length t → x ∈ points
   points-all x h = all-begun .all x x h (cycle-self p h) h
 
   pub cusps-are : Cusps t
@@ -148,7 +151,7 @@ module _ {t : List ℕ} (p : Permutes t) where
         rw (getD-map (width t) (cusps t) j k) (width-is p (those-low (smallest t) (length t) _ (getD-in (cusps t) j k)) .some);
     total = sym (cycles-length t (cusps t)) ∙ omega (
       arith,
-      once-below points (length t) (all-begun .once) points-low,
+      once-below points (length t) points-once points-low,
       once-below-all points (length t) points-all,
     );
   }

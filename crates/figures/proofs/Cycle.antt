@@ -93,7 +93,7 @@ module _ {t : List ℕ} (p : Permutes t) where
   times-low zero x h = h
   times-low (suc k) x h = times-low k (imageAt t x) (p .low x h)
 
-  times-one : (k x y : ℕ) → x < length t → y < length t → times t k x ≡ times t k y → x ≡ y
+  pub times-one : (k x y : ℕ) → x < length t → y < length t → times t k x ≡ times t k y → x ≡ y
   unfolding times
   times-one zero x y a b e = e
   times-one (suc k) x y a b e = p .one x y a b (times-one k (imageAt t x) (imageAt t y) (p .low x a) (p .low y b) e)
@@ -155,7 +155,7 @@ module _ {t : List ℕ} (p : Permutes t) where
         ])
 
     -- a point of the cycle is reached in as many steps as its place says
-    cycle-reached : {y : ℕ} → y ∈ cycle t x → times t (find (cycle t x) y) x ≡ y
+    pub cycle-reached : {y : ℕ} → y ∈ cycle t x → times t (find (cycle t x) y) x ≡ y
     cycle-reached {y} i = sym (cycle-at t x (find (cycle t x) y) (omega (arith, cycle-length t x))) ∙ getD-find (cycle t x) y i
 
     cycle-has : (j : ℕ) → j < width t x → times t j x ∈ cycle t x
@@ -179,7 +179,7 @@ module _ {t : List ℕ} (p : Permutes t) where
               rw b cycle-self
         ]
 
-    cycle-times : (k y : ℕ) → y ∈ cycle t x → times t k y ∈ cycle t x
+    pub cycle-times : (k y : ℕ) → y ∈ cycle t x → times t k y ∈ cycle t x
     unfolding times
     cycle-times zero y i = i
     cycle-times (suc k) y i = cycle-times k (imageAt t y) (cycle-step y i)

@@ -31,7 +31,7 @@ use Rattle.numbering.proofs.Find.{none-below, test, getD-find, getD-in, find-ri
 use Rattle.numbering.proofs.Table.{map-last}
 use Rattle.figures.proofs.Cycle.{times-last, times-low, run-length, run-at, run-more, cycle-length, cycle-at, cycle-once, cycle-self, width-is}
 use Rattle.numbering.proofs.Those.{those-yes, those-no, those-few, those-le}
-use Rattle.figures.proofs.Cusps.{cycles-last, cusp-new, cusp-old}
+use Rattle.figures.proofs.Cusps.{cycles-last, cycles-length, cusp-new, cusp-old, cusps-are}
 use Rattle.figures.proofs.LevelOf.{lcm-some, lcm-from-le, fitting-yes, fitting-no, value-fits, refused-over}
 use Rattle.numbering.proofs.Space.{entries-length, entries-at, entries-push, entries-set, within-refl, within-trans, within-entries}
 use Rattle.numbering.proofs.Marks.{listed-length, sparse-set}
@@ -291,10 +291,22 @@ module _ {n c k i : ℕ} {w₀ w : List ℕ} (s : Scanning n w₀ w c k i) where
       let t = heldT n w₀ in
       let e : i ≡ length t = omega (arith, s .done, T-long n w₀ (s .permuted .room) (s .permuted .long)) in
       let a = rw e at (s .scan .count) in
+      let l = rw e at (s .scan .list) in
+      -- the widths add up to the number of points, so all are listed
+      let all : c ≡ n = omega (
+        arith,
+        listed-length (s .scan .sparse),
+        ap length l,
+        cycles-length t (cusps t),
+        cusps-are (s .permuted .permutes) .total,
+        T-long n w₀ (s .permuted .room) (s .permuted .long),
+      ) in
       record {
         count = a ∙ sym (length-map (cusps t) (width t));
         few = omega (arith, s .scan .count, those-few (smallest t) i, s .done);
         table = rw e at (s .scan .table);
+        marks = rw all at (s .scan .sparse);
+        list = rw all at l;
         frame = s .frame;
       }
 

@@ -20,6 +20,7 @@
 
 pub mod check;
 pub mod counts;
+pub mod cusps;
 pub mod figures;
 pub mod generators;
 pub mod import;
@@ -43,12 +44,13 @@ use reference::random::Rng;
 pub type Call = (&'static str, fn(&mut Rng) -> Outcome);
 
 /// All calls.
-pub const CALLS: [Call; 17] = [
+pub const CALLS: [Call; 18] = [
     ("check", check::case),
     ("generators", generators::case),
     ("figures", figures::case),
     ("widths", widths::case),
     ("tables", tables::case),
+    ("cusps", cusps::case),
     ("import", import::case),
     ("import_wide", import::wide_case),
     ("query", query::case),

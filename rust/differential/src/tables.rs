@@ -45,8 +45,9 @@ pub fn case(rng: &mut Rng) -> Outcome {
     })
 }
 
-/// A space for one table: all three must be long enough, so most of them are.
-fn table(rng: &mut Rng, needed: usize) -> Space<u32> {
+/// A space for one table of several: all must be long enough, so most of them
+/// are.
+pub fn table(rng: &mut Rng, needed: usize) -> Space<u32> {
     if rng.chance(50) {
         Space::of_length(rng, needed)
     } else {

@@ -43,6 +43,10 @@ fn reachable(call: &str) -> BTreeSet<Reason> {
             let spaces = vec![(11, "work"), (11, "s"), (11, "r"), (11, "u")];
             [vec![(0, "")], symbol, spaces].concat()
         }
+        "cusps" => {
+            let spaces = vec![(11, "work"), (11, "cusps"), (11, "steps")];
+            [vec![(0, "")], symbol, spaces].concat()
+        }
         "import" | "import_wide" => [vec![(0, "")], plain(12..=16), spaces].concat(),
         "query" | "signed_query" => [words(), plain(1..=10)].concat(),
         "same" => {
@@ -92,6 +96,7 @@ fn every_call_is_as_the_reference_has_it() {
     // The largest symbols that there are, and long words.
     assert_eq!(calls["generators"].largest, 1_024);
     assert_eq!(calls["tables"].largest, 4_090);
+    assert_eq!(calls["cusps"].largest, 4_090);
     assert_eq!(calls["import"].largest, 1_023);
     assert_eq!(calls["import_wide"].largest, 1_023);
     assert!(calls["widths"].largest >= 500);

@@ -176,6 +176,9 @@ fn calls_stay_within_the_stack_that_the_header_names() {
         measure("farey_tables", &mut || {
             let _ = black_box(calls::tables(v, &t, &mut work, s, r, u));
         });
+        measure("farey_cusps", &mut || {
+            let _ = black_box(calls::cusps(v, &t, &mut work, s, r));
+        });
         let one = [1, 0, 0, 1];
         let (a, b) = match round % 2 {
             0 => (one, far(&mut rng).0.map(|entry| entry as i64)),
@@ -244,7 +247,7 @@ fn calls_stay_within_the_stack_that_the_header_names() {
             }
         }
     }
-    assert_eq!(most.0.len(), 17);
+    assert_eq!(most.0.len(), 18);
     let promised = promised();
     println!("a thread by itself: {nothing}; FAREY_STACK: {promised}");
     for (call, bytes) in most.0 {

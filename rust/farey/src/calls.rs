@@ -15,7 +15,8 @@ pub const WORK: usize = 32_768;
 pub const TABLE: usize = 3_070;
 /// Enough for every symbol's generators.
 pub const GENERATORS: usize = 5_120;
-/// Enough for every symbol's widths, and for each table of its cosets.
+/// Enough for every symbol's widths, and for each table of its cosets: images,
+/// cusps and steps.
 pub const COSETS: usize = 4_090;
 /// Enough for the table of S, and of R, of every named group.
 pub const NAMED: usize = 3_066;
@@ -69,6 +70,18 @@ mod engine {
             r_len: usize,
             u: *mut u32,
             u_len: usize,
+            place: *mut usize,
+        ) -> u64;
+        pub fn farey_cusps(
+            v: usize,
+            t: *const i64,
+            t_len: usize,
+            work: *mut u16,
+            work_len: usize,
+            cusps: *mut u32,
+            cusps_len: usize,
+            steps: *mut u32,
+            steps_len: usize,
             place: *mut usize,
         ) -> u64;
         pub fn farey_import(
@@ -309,6 +322,33 @@ pub fn tables(
             r.len(),
             u.as_mut_ptr(),
             u.len(),
+            &mut place,
+        )
+    };
+    answer(number, place)
+}
+
+/// The cusps of the cosets, and their steps of T from the cusp's smallest coset,
+/// to the fronts of cusps and steps: the index.
+pub fn cusps(
+    v: usize,
+    t: &[i64],
+    work: &mut [u16],
+    cusps: &mut [u32],
+    steps: &mut [u32],
+) -> Result<usize, Refusal> {
+    let mut place = UNWRITTEN;
+    let number = unsafe {
+        engine::farey_cusps(
+            v,
+            t.as_ptr(),
+            t.len(),
+            work.as_mut_ptr(),
+            work.len(),
+            cusps.as_mut_ptr(),
+            cusps.len(),
+            steps.as_mut_ptr(),
+            steps.len(),
             &mut place,
         )
     };

@@ -60,6 +60,15 @@ pub struct Word {
     pub letters: Vec<i16>,
 }
 
+/// For each coset the number of its cusp, from 0, in the order of `widths`, and
+/// its steps of T from the cusp's smallest coset: so many lead from there to it.
+/// T keeps the cusp and adds one step, back to 0 after the width.
+#[derive(Clone, Debug, PartialEq, Eq)]
+pub struct CosetCusps {
+    pub cusps: Vec<u32>,
+    pub steps: Vec<u32>,
+}
+
 /// Either import of `calls`: S, R, work space and result space lent.
 type Import = fn(&[u32], &[u32], &mut [u16], &mut [i64]) -> Result<usize, Refusal>;
 
@@ -260,6 +269,26 @@ impl Symbol {
             table.truncate(index);
         }
         Tables { s, r, t }
+    }
+
+    /// The cusp of each coset, and its place there.
+    ///
+    /// ```
+    /// use farey::Symbol;
+    ///
+    /// let gamma0_2 = Symbol::new(&[(0, 1), (1, 1)], &[1, -2, 1])?;
+    /// let found = gamma0_2.coset_cusps();
+    /// assert_eq!(gamma0_2.tables().t, [0, 2, 1]);
+    /// assert_eq!((found.cusps, found.steps), (vec![0, 1, 1], vec![0, 0, 1]));
+    /// # Ok::<(), farey::Refusal>(())
+    /// ```
+    pub fn coset_cusps(&self) -> CosetCusps {
+        let (mut cusps, mut steps) = (vec![0; COSETS], vec![0; COSETS]);
+        let made = calls::cusps(self.v, &self.table, &mut work(), &mut cusps, &mut steps);
+        let index = certain(made);
+        cusps.truncate(index);
+        steps.truncate(index);
+        CosetCusps { cusps, steps }
     }
 
     /// A word in the generators whose value times a is b or -b, with the sign that

@@ -66,6 +66,9 @@ fn gamma_2() {
     assert_eq!(tables.s, [1, 0, 4, 5, 2, 3]);
     assert_eq!(tables.r, [2, 3, 5, 4, 1, 0]);
     assert_eq!(tables.t, [3, 2, 1, 0, 5, 4]);
+    let found = group.coset_cusps();
+    assert_eq!(found.cusps, [0, 1, 1, 0, 2, 2]);
+    assert_eq!(found.steps, [0, 0, 1, 1, 0, 1]);
 }
 
 #[test]

@@ -96,6 +96,23 @@ impl Cosets {
         widths
     }
 
+    /// For each coset the number of its cusp, by the cusps' smallest points, and
+    /// how many steps of T lead to it from the smallest point of its cusp.
+    pub fn cusps(&self) -> Vec<(u32, u32)> {
+        let mut found = vec![None; self.t.len()];
+        let mut cusps = 0;
+        for start in 0..self.t.len() {
+            let (mut point, mut steps) = (start, 0);
+            while found[point].is_none() {
+                found[point] = Some((cusps, steps));
+                point = self.t[point] as usize;
+                steps += 1;
+            }
+            cusps += u32::from(steps > 0);
+        }
+        found.into_iter().flatten().collect()
+    }
+
     /// The genus, or refusal 18.
     pub fn genus(&self) -> Result<u64, Refusal> {
         genus(self.index(), self.e2(), self.e3(), self.widths().len())

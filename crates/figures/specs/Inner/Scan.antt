@@ -7,7 +7,8 @@
 --     NewCycle n x c w           x is a point, and no point of its cycle is listed
 --     CycleDue n i c k w         Scan, at a point i
 --     CycleTaken n i w w' c k    Scan, at i + 1
---     CuspWidths n w w' k        WIDTHS holds the widths of the k cusps of T-TABLE
+--     CuspWidths n w w' k        WIDTHS holds the widths of the k cusps of T-TABLE; ORDER lists all points cusp by cusp, each cusp from its smallest
+--                                point in the order of T, and NUMBER has the place of each point in that list
 --     FiguresOf n w w' f         f has the figures of the tables of S, R and T, and WIDTHS holds the widths
 --     PositiveTable off n w      the work space holds a table of n entries at off, none of them 0
 use mathlib.Core.Path.{_≡_}
@@ -16,7 +17,7 @@ use Prim.Native.Nat.{ℕ, _+_, _≤_, _<_}
 use lib.ListN.{length, getD}
 use Rattle.numbering.specs.Find.{_∈_, _∉_}
 use Rattle.numbering.specs.Table.{Permutes}
-use Rattle.figures.specs.Cusps.{width, cycle, cuspsTo, widths, cycles}
+use Rattle.figures.specs.Cusps.{width, cycle, cuspsTo, cusps, widths, cycles}
 use Rattle.figures.specs.LevelOf.{Positive}
 use Rattle.figures.specs.FiguresOf.{figuresIn}
 use Rattle.figures.specs.declared.FigureRecord.{FigureRecord}
@@ -67,6 +68,8 @@ pub record CuspWidths (n : ℕ) (w w' : List ℕ) (k : ℕ) : Type 0 where
   pub count : k ≡ length (widths (heldT n w))
   pub few : k ≤ n
   pub table : entries WIDTHS k w' ≡ widths (heldT n w)
+  pub marks : Sparse n n w'
+  pub list : listed n w' ≡ cycles (heldT n w) (cusps (heldT n w))
   pub frame : CuspFrame k w w'
 
 pub record FiguresOf (n : ℕ) (w w' : List ℕ) (f : FigureRecord) : Type 0 where

@@ -1,0 +1,2 @@
+-- Why every builder keeps the standing rule.
+pub mod Builders

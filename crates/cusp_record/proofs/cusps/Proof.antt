@@ -1,0 +1,87 @@
+-- `cusps` meets its contract: a call that is not admitted leaves everything as it was; for one that is, the table is a symbol (`admitted`), the answer is
+-- that of `make_cusps`, and the columns keep the standing rule (`cusp-meaning`). Assumes nothing.
+use mathlib.Core.Path.{_≡_, refl, sym, _∙_}
+use lib.ListN.{length}
+use Rattle.refusal.specs.declared.Checked.the-variants.{Accepted, Refused}
+use Rattle.pairing.specs.Inner.Admitted.{admittedOf}
+use Rattle.pairing.proofs.Admitted.{admitted, filled-by, work-by}
+use Rattle.coset.specs.Tables.{indexOf}
+use Rattle.cusp_record.specs.Answer.{roomForBoth}
+use Rattle.cusp_record.proofs.Answer.{cusp-meaning, cusps-mean-refused}
+use borrow.Author.Needs.{needs}
+use Rattle.cusp_record.proofs.cusps.Statement.{statement}
+use Rattle.cusp_record.proofs.cusps.Tie as tie
+
+admit-requires : tie.Need-admit-requires
+admit-requires c κs = search needs
+
+enum-known-admitted : tie.Need-enum-known-admitted
+enum-known-admitted c = search needs
+
+enum-told : tie.Need-enum-told
+enum-told c = search needs
+
+-- the call was admitted
+module _ (e : tie.After-enum-told) where
+  abbrev st : tie.Start
+  st = e .before .before .before .before .before .before
+
+  ok : Accepted ≡ admittedOf (st .args .v) (st .args .t .now) (length (st .args .w .now))
+  ok = sym (e .enum-told .given .1) ∙ e .before .before .admit .ensures
+
+make-cusps-requires : tie.Need-make-cusps-requires
+make-cusps-requires c κs =
+    let e = c .before .before .before in
+    let s = st e in
+    admitted (s .args .v) (s .args .t .now) (length (s .args .w .now)) (ok e)
+
+returns : tie.Need-returns
+returns c =
+    let k = c .before .admitted .given in
+    let a = c .before .before .before in
+    let s = a .before .before .before .before in
+    let v = s .args .v in
+    let t = s .args .t .now in
+    let w = s .args .w .now in
+    let r = Refused (k .0 .0) in
+    let no = sym (k .1) ∙ a .admit .ensures in (
+      filled-by v t w r no (roomForBoth (indexOf v t) (length (s .args .cusps .now)) (length (s .args .steps .now))),
+      (work-by v t w r no, (refl, (refl, cusps-mean-refused (k .0 .0)))),
+    )
+
+same-length : tie.Need-same-length
+same-length c = search needs
+
+same-length-2 : tie.Need-same-length-2
+same-length-2 c = search needs
+
+same-length-3 : tie.Need-same-length-3
+same-length-3 c = search needs
+
+returns-2 : tie.Need-returns-2
+returns-2 c =
+    let m = c .before .before .before .before .before .before in
+    let e = m .before .before .before .before in
+    let s = st e in
+    let v = s .args .v in
+    let t = s .args .t .now in
+    let w = s .args .w .now in
+    let made = m .make-cusps .ensures in
+    let answer = made .0 ∙ filled-by v t w Accepted (ok e) (roomForBoth (indexOf v t) (length (s .args .cusps .now)) (length (s .args .steps .now))) in (
+      answer,
+      (made .1 .0 ∙ work-by v t w Accepted (ok e), (made .1 .1 .0, (made .1 .1 .1, λ n z. cusp-meaning (admitted v t (length w) (ok e) .0)))),
+    )
+
+pub cusps-spec : {M : Type 1} → statement M
+cusps-spec =
+    tie.close
+    (tie.spec
+    admit-requires
+    enum-known-admitted
+    enum-told
+    make-cusps-requires
+    returns
+    same-length
+    same-length-2
+    same-length-3
+    returns-2)

@@ -1,0 +1,41 @@
+-- The answer of `cusps`, and what the call leaves.
+--
+--   roomForBoth n a b         n cosets, or 11 with that length: spaces of length a and b are tested in this order
+--   cuspedOf v t work a b     the refusals 1 to 7, then the work space, then the result spaces for cusps and for steps, or the number of cosets
+--   cuspColumn, stepColumn v t     the cusps and the steps of the symbol's cosets
+--   CuspMeaning v t           the symbol means what its tables mean, and its columns of cusps and of steps keep the standing rule
+--   CuspsMean                 an answer that is no refusal means this
+use mathlib.Core.Path.{_≡_}
+use mathlib.Core.List.{List}
+use Prim.Native.Nat.{ℕ}
+use lib.Dec.{ltb}
+use lib.IntN.{ℤ}
+use Rattle.basics.specs.Choice.{pick}
+use Rattle.refusal.specs.Refusal.{tooShort}
+use Rattle.refusal.specs.declared.Filled.{Filled}
+use Rattle.refusal.specs.declared.Filled.the-variants as filled
+use Rattle.symbol.specs.Check.{symbolCheck}
+use Rattle.coset.specs.Tables.{indexOf, tableS, tableR, tableT}
+use Rattle.coset.specs.Answer.{tabledBy, Meaning}
+use Rattle.cusp_record.specs.Record.{cuspTable, stepTable, CosetRecord}
+
+abbrev pub roomForBoth : (n a b : ℕ) → Filled
+roomForBoth n a b =
+    let short = filled.Refused (tooShort n) in
+    pick (ltb a n) short (pick (ltb b n) short (filled.Made n))
+
+abbrev pub cuspedOf : (v : ℕ) → List ℤ → (work a b : ℕ) → Filled
+cuspedOf v t work a b = tabledBy (symbolCheck v t) work (roomForBoth (indexOf v t) a b)
+
+abbrev pub cuspColumn : ℕ → List ℤ → List ℕ
+cuspColumn v t = cuspTable (tableT v t)
+
+abbrev pub stepColumn : ℕ → List ℤ → List ℕ
+stepColumn v t = stepTable (tableT v t)
+
+pub record CuspMeaning (v : ℕ) (t : List ℤ) : Type 0 where
+  pub tables : Meaning v t
+  pub rule : CosetRecord (tableS v t) (tableR v t) (tableT v t) (cuspColumn v t) (stepColumn v t)
+
+abbrev pub CuspsMean : ℕ → List ℤ → Filled → Type 0
+CuspsMean v t r = (n : ℕ) → r ≡ filled.Made n → CuspMeaning v t

@@ -1,0 +1,139 @@
+// Every coset knows its cusp: the number of its cusp, and its steps of T from the cusp's smallest point. specs/Record.antt says what these are and how T
+// moves them, specs/Answer.antt what `cusps` answers and leaves.
+use coset::arrange::arrange;
+use figures::cusp_widths;
+use numbering::ORDER;
+use numbering::WIDTHS;
+use numbering::copy_out;
+use pairing::admit::admit;
+use refusal::Checked;
+use refusal::Filled;
+use refusal::Refusal;
+use refusal::TOO_SHORT;
+ghost use mathlib.Core.Path.{_≡_};
+ghost use Prim.Native.Nat.{_≤_, _<_};
+ghost use lib.ListN.{length};
+ghost use Rattle.workspace.specs.Space.{workLength, zeros, entries};
+ghost use Rattle.symbol.specs.Check.{symbolCheck};
+ghost use Rattle.symbol.specs.Symbol.{IsSymbol};
+ghost use Rattle.pairing.specs.Generator.{workAfter};
+ghost use Rattle.figures.specs.Inner.Scan.{heldT};
+ghost use Rattle.coset.specs.Tables.{indexOf};
+ghost use Rattle.coset.specs.Answer.{columnLeft};
+ghost use Rattle.cusp_record.specs.Answer.{roomForBoth, cuspedOf, cuspColumn, stepColumn, CuspsMean};
+ghost use Rattle.cusp_record.specs.Inner.Fill.{CUSPS, STEPS, ByCusps, AtCusp, OnCusp, RecordFilled, SymbolRecord};
+
+// The tables of cusps and of steps in the work space.
+pub const CUSPS: usize = 12288;
+
+pub const STEPS: usize = 24576;
+
+// A cusp: its number, the place where it begins in the list of points by cusps, and its width.
+struct Cusp {
+    number: usize,
+    first: usize,
+    wide: usize,
+}
+
+// The cusp of the place y, where c is that of the place before.
+fn advance(w: &[u16], n: usize, k: usize, c: Cusp, y: usize) -> Cusp
+    requires { ⌜ ByCusps (heldT n (now w)) n k (now w) × AtCusp (heldT n (now w)) c y × (y < n) ⌝ }
+    ensures { λ r. ⌜ OnCusp (heldT n (now (w .entry))) r y ⌝ }
+{
+    if y < c.first + c.wide {
+        return c;
+    }
+    let number = c.number + 1;
+    let wide = workspace::index(w[WIDTHS + number]);
+    Cusp {
+        number,
+        first: y,
+        wide,
+    }
+}
+
+// The cusp and the steps of each point, in one pass over the points by cusps.
+fn enter_cusps(w: &mut [u16], n: usize, k: usize)
+    requires { ⌜ ByCusps (heldT n (now w)) n k (now w) ⌝ }
+    ensures { λ _. ⌜ RecordFilled (heldT n (now (w .entry))) n k (now (w .entry)) (now (w .exit)) ⌝ }
+{
+    let wide = workspace::index(w[WIDTHS]);
+    let mut c = Cusp {
+        number: 0,
+        first: 0,
+        wide,
+    };
+    let mut y: usize = 0;
+    while y < n {
+        c = advance(w, n, k, c, y);
+        let x = workspace::index(w[ORDER + y]);
+        w[CUSPS + x] = c.number as u16;
+        w[STEPS + x] = (y - c.first) as u16;
+        y += 1;
+    }
+}
+
+// The coset record of an accepted symbol in the work space, how many cosets there are: the tables of S and T, the cusps and the steps, and the points by cusps.
+pub fn arrange_record(v: usize, t: &[i64], w: &mut [u16]) -> usize
+    requires { ⌜ IsSymbol v (now t) × (workLength ≤ length (now w)) ⌝ }
+    ensures { λ n. ⌜ SymbolRecord v (now (t .entry)) (now (w .entry)) (now (w .exit)) n ⌝ }
+{
+    let n = arrange(v, t, w);
+    let k = cusp_widths(w, n);
+    enter_cusps(w, n, k);
+    n
+}
+
+// Copies the cusps and the steps of n cosets, where there is room for both.
+fn copy_columns(w: &[u16], n: usize, cusps: &mut [u32], steps: &mut [u32]) -> Filled
+    requires { ⌜ (n ≤ 4096) × (workLength ≤ length (now w)) ⌝ }
+    ensures { λ a. ⌜ a ≡ roomForBoth n (length (now (cusps .entry))) (length (now (steps .entry))) ⌝ }
+    ensures { λ a. ⌜ now (cusps .exit) ≡ columnLeft a (entries CUSPS n (now (w .entry))) (now (cusps .entry)) ⌝ }
+    ensures { λ a. ⌜ now (steps .exit) ≡ columnLeft a (entries STEPS n (now (w .entry))) (now (steps .entry)) ⌝ }
+{
+    if cusps.len() < n {
+        return Filled::Refused(Refusal {
+            number: TOO_SHORT,
+            place: n,
+        });
+    }
+    if steps.len() < n {
+        return Filled::Refused(Refusal {
+            number: TOO_SHORT,
+            place: n,
+        });
+    }
+    copy_out(w, CUSPS, n, cusps);
+    copy_out(w, STEPS, n, steps);
+    Filled::Made(n)
+}
+
+// The same from an accepted symbol; the work space is cleared after.
+fn make_cusps(v: usize, t: &[i64], w: &mut [u16], cusps: &mut [u32], steps: &mut [u32]) -> Filled
+    requires { ⌜ IsSymbol v (now t) × (workLength ≤ length (now w)) ⌝ }
+    ensures { λ a. ⌜ a ≡ roomForBoth (indexOf v (now (t .entry))) (length (now (cusps .entry))) (length (now (steps .entry))) ⌝ }
+    ensures { λ a. ⌜ now (w .exit) ≡ zeros (length (now (w .entry))) ⌝ }
+    ensures { λ a. ⌜ now (cusps .exit) ≡ columnLeft a (cuspColumn v (now (t .entry))) (now (cusps .entry)) ⌝ }
+    ensures { λ a. ⌜ now (steps .exit) ≡ columnLeft a (stepColumn v (now (t .entry))) (now (steps .entry)) ⌝ }
+{
+    let n = arrange_record(v, t, w);
+    let made = copy_columns(w, n, cusps, steps);
+    workspace::clear(w);
+    made
+}
+
+// The cusp of each coset of the symbol in t and its steps of T from the cusp's smallest point, each at the front of its space: checks 1 to 7, then the work
+// space, then the result spaces for cusps and for steps.
+pub fn cusps(v: usize, t: &[i64], w: &mut [u16], cusps: &mut [u32], steps: &mut [u32]) -> Filled
+    ensures { λ a. ⌜ a ≡ cuspedOf v (now (t .entry)) (length (now (w .entry))) (length (now (cusps .entry))) (length (now (steps .entry))) ⌝ }
+    ensures { λ a. ⌜ now (w .exit) ≡ workAfter (symbolCheck v (now (t .entry))) (now (w .entry)) ⌝ }
+    ensures { λ a. ⌜ now (cusps .exit) ≡ columnLeft a (cuspColumn v (now (t .entry))) (now (cusps .entry)) ⌝ }
+    ensures { λ a. ⌜ now (steps .exit) ≡ columnLeft a (stepColumn v (now (t .entry))) (now (steps .entry)) ⌝ }
+    ensures { λ a. ⌜ CuspsMean v (now (t .entry)) a ⌝ }
+{
+    let admitted = admit(v, t, w.len());
+    match admitted {
+        Checked::Refused(refusal) => Filled::Refused(refusal),
+        Checked::Accepted => make_cusps(v, t, w, cusps, steps),
+    }
+}
