@@ -46,6 +46,7 @@
  *   18  the genus formula gives no whole number from 0                                      (its own figure only)
  *   20  N isn't from 1 to 1,000, or the family isn't one of the three below                 0
  *   21  the index of the named group is over 3,066                                          0
+ *   22  a vertex entry over 33,554,432 in size, too large for a drawing                      the entry's index
  * 19 is for the programs, which read text.
  *
  * NAMED GROUPS are given by a family and an N from 1 to 1,000. A matrix (a b; c d) is in the group where it meets, modulo N, the condition
@@ -75,6 +76,8 @@ extern "C" {
 #define FAREY_TABLE 3070
 #define FAREY_GENERATORS 5120
 #define FAREY_COSETS 4090
+/* Floats that are enough for the sides of every symbol, four for each side. */
+#define FAREY_DRAWING 4096
 /* A length that is enough for the table of S, and of R, of every named group. */
 #define FAREY_NAMED 3066
 
@@ -144,6 +147,15 @@ uint64_t farey_signed_query(size_t v, const int64_t *t, size_t t_len, const int6
  * 1 to 7 for the first, then for the second, then 11 for work. Count: 1 for yes, 0 for no. */
 uint64_t farey_same(size_t v, const int64_t *t, size_t t_len, size_t m, const int64_t *u, size_t u_len, uint16_t *work, size_t work_len,
                     size_t *place);
+
+/* The sides of the symbol's polygon as they are drawn in the upper half plane, in order, four floats each, from the front of out: 0, place, 0 for a
+ * vertical line, or 1, centre, radius for an arc; then 1, 2 or 3 for a free, an even or an odd side. A line's place is its finite vertex. For any other
+ * side from a/b to c/d the centre is the quotient of ad + cb by 2bd and the radius that of 1 by 2bd, each one division of doubles: it differs from
+ * the exact one by at most the exact one's size divided by 2^53. bounds points to four doubles, the box that holds every arc's ends and every
+ * line's place and no more: left, right, bottom, top. An arc's ends are centre - radius and centre + radius, each rounded once; the bottom is 0, the top
+ * the largest radius, or 0 without arcs. All these doubles are finite. Refused: 1 to 7, then 22, then 11 for out, which is counted in sides, whole ones
+ * of four floats, with the number of sides for the place. Count: the number of sides, v + 1. */
+uint64_t farey_drawing(size_t v, const int64_t *t, size_t t_len, double *out, size_t out_len, double *bounds, size_t *place);
 
 /* The right cosets of a named group, numbered as those of farey_tables: for each, its image under multiplication on the right by S and
  * by R, each table from the front of its space. A matrix fixes point 0 precisely when it meets the condition of its family. Refused: 20,

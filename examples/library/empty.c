@@ -29,6 +29,7 @@ int main(void)
     int64_t generators[10], table[7], sign = 77;
     uint32_t columns[3][3];
     uint64_t figures[8];
+    double bounds[4];
     size_t place = 99;
     uint64_t number;
 
@@ -83,6 +84,8 @@ int main(void)
     /* No result space: the length that is needed. */
     number = farey_generators(2, t, 7, work, FAREY_WORK, NULL, 0, &place);
     say("generators without room", number, place);
+    number = farey_drawing(2, t, 7, NULL, 0, bounds, &place);
+    say("drawing without room", number, place);
     number = farey_widths(2, t, 7, work, FAREY_WORK, NULL, 0, &place);
     say("widths without room", number, place);
     number = farey_tables(2, t, 7, work, FAREY_WORK, NULL, 0, NULL, 0, NULL, 0, &place);

@@ -15,6 +15,7 @@ static int64_t table[FAREY_TABLE], leftmost[FAREY_TABLE];
 static int64_t generators[FAREY_GENERATORS];
 static uint32_t widths[FAREY_COSETS], s[FAREY_COSETS], r[FAREY_COSETS], t[FAREY_COSETS];
 static int16_t word[16], unsigned_word[16];
+static double sides[FAREY_DRAWING], bounds[4];
 
 /* Ends the program where a call is refused. */
 static void expect(uint64_t number, const size_t *place)
@@ -106,5 +107,17 @@ int main(void)
     expect(farey_import(given_s, 7, given_r, 7, work, FAREY_WORK, leftmost, FAREY_TABLE, &count), &count);
     expect(farey_same(v, table, length, count, leftmost, 3 * count + 1, work, FAREY_WORK, &place), &place);
     printf("same from the left %s\n", place == 1 ? "yes" : "no");
+
+    /* The sides for a drawing, and the box that holds them. */
+    expect(farey_drawing(v, table, length, sides, FAREY_DRAWING, bounds, &count), &count);
+    for (size_t i = 0; i < count; i++) {
+        const double *side = sides + 4 * i;
+        const char *kind = kinds[(int)side[3]];
+        if (side[0] == 0)
+            printf("line %.3f %s\n", side[1], kind);
+        else
+            printf("arc %.3f %.3f %s\n", side[1], side[2], kind);
+    }
+    printf("box %.3f %.3f %.3f %.3f\n", bounds[0], bounds[1], bounds[2], bounds[3]);
     return 0;
 }

@@ -7,7 +7,7 @@
 //! The group has index 7, and no congruence describes it. The output is in
 //! subgroup.output.
 
-use farey::{Kind, Refusal, Symbol, Word};
+use farey::{Kind, Refusal, Shape, Symbol, Word};
 
 /// Numbers with a space before each.
 fn spaced<T: ToString>(numbers: &[T]) -> String {
@@ -23,6 +23,14 @@ fn yes_or_no(yes: bool) -> &'static str {
     }
 }
 
+fn name(kind: Kind) -> &'static str {
+    match kind {
+        Kind::Free => "free",
+        Kind::Even => "even",
+        Kind::Odd => "odd",
+    }
+}
+
 fn main() -> Result<(), Refusal> {
     let (s, r) = ([1, 0, 4, 6, 2, 5, 3], [2, 3, 5, 6, 4, 0, 1]);
     let symbol = Symbol::from_permutations_wide(&s, &r)?;
@@ -30,11 +38,7 @@ fn main() -> Result<(), Refusal> {
     println!("index {}", symbol.figures().index);
     println!("widths{}", spaced(&symbol.widths()));
     for (i, generator) in symbol.generators().iter().enumerate() {
-        let kind = match generator.kind {
-            Kind::Free => "free",
-            Kind::Even => "even",
-            Kind::Odd => "odd",
-        };
+        let kind = name(generator.kind);
         println!("{} {kind}{}", i + 1, spaced(&generator.matrix));
     }
     let tables = symbol.tables();
@@ -68,6 +72,19 @@ fn main() -> Result<(), Refusal> {
     println!(
         "same from the left {}",
         yes_or_no(symbol.is_same(&leftmost))
+    );
+    let drawing = symbol.drawing()?;
+    for side in &drawing.sides {
+        let kind = name(side.kind);
+        match side.shape {
+            Shape::Line(place) => println!("line {place:.3} {kind}"),
+            Shape::Arc(centre, radius) => println!("arc {centre:.3} {radius:.3} {kind}"),
+        }
+    }
+    let held = drawing.bounds;
+    println!(
+        "box {:.3} {:.3} {:.3} {:.3}",
+        held.left, held.right, held.bottom, held.top
     );
     Ok(())
 }

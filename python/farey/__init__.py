@@ -9,6 +9,7 @@ and gives the results names. The package itself is tested and not proved.
 | `named`    | `named_tables`: S and R of Γ0(N), Γ1(N) and Γ(N)                |
 | `refusal`  | `Refusal`: the exception, with number, place and sentence       |
 | `evidence` | a check, without the engine, of the statement that no word is   |
+| `picture`  | the polygon in the upper half plane, as SVG                     |
 | `cycles`   | permutations as Sage, GAP and Magma write them, points from 1   |
 | `systems`  | from PARI's polygons, to Magma                                  |
 
@@ -30,7 +31,7 @@ without it.
 from . import cycles, evidence
 from .named import named_tables
 from .refusal import Refusal
-from .symbol import Cusp, Evidence, Generator, Symbol, Word
+from .symbol import Box, Cusp, Evidence, Generator, Side, Symbol, Word
 from . import systems  # stands on Symbol
 
-__all__ = ["Cusp", "Evidence", "Generator", "Refusal", "Symbol", "Word", "cycles", "evidence", "named_tables", "systems"]
+__all__ = ["Box", "Cusp", "Evidence", "Generator", "Refusal", "Side", "Symbol", "Word", "cycles", "evidence", "named_tables", "systems"]

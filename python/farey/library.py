@@ -13,7 +13,7 @@ from __future__ import annotations
 import ctypes
 import os
 import threading
-from ctypes import POINTER, c_int16, c_int64, c_size_t, c_uint16, c_uint32, c_uint64
+from ctypes import POINTER, c_double, c_int16, c_int64, c_size_t, c_uint16, c_uint32, c_uint64
 from pathlib import Path
 from typing import Any, List, Optional, Tuple
 
@@ -29,6 +29,7 @@ WORK = 32768
 TABLE = 3070
 GENERATORS = 5120
 COSETS = 4090
+DRAWING = 4096
 #: A length that is enough for the tables of S and R of every named group.
 NAMED = 3066
 
@@ -56,6 +57,7 @@ _PARAMETERS = {
     "farey_query": _SYMBOL + 2 * [POINTER(c_int64)] + _WORK + _space(c_int16) + [c_size_t] + _PLACE,
     "farey_signed_query": _SYMBOL + 2 * [POINTER(c_int64)] + _WORK + _space(c_int16) + [c_size_t] + _SIGN + _PLACE,
     "farey_same": 2 * _SYMBOL + _WORK + _PLACE,
+    "farey_drawing": _SYMBOL + _space(c_double) + [POINTER(c_double)] + _PLACE,
     "farey_named_tables": _NAME + _WORK + 2 * _space(c_uint32) + _PLACE,
     "farey_named_symbol": _NAME + _WORK + _space(c_int64) + _PLACE,
     "farey_named_symbol_wide": _NAME + _WORK + _space(c_int64) + _PLACE,
@@ -146,8 +148,8 @@ def answer(name: str, *arguments: Any) -> Tuple[int, int]:
     """The number that a call returns, and the place or the count that it writes.
 
     An array stands for itself and its length, but for the four entries of a
-    matrix, the eight figures and the one sign, whose lengths are fixed: these
-    are `Fixed`.
+    matrix, the eight figures, the four borders of a box and the one sign, whose
+    lengths are fixed: these are `Fixed`.
     """
     place = c_size_t(0)
     passed: List[Any] = []

@@ -28,6 +28,7 @@ SENTENCES: Dict[int, str] = {
     19: "at byte {place} the text gets too long, has a piece that is no number of 64 signed bits, has a number too many or ends too early",
     20: "N isn't from 1 to 1,000, or the family isn't Γ0, Γ1 or Γ",
     21: "the index of this group is over 3,066",
+    22: "vertex entry {place} is over 33,554,432 in size, which is too large for a drawing",
 }
 
 

@@ -3,7 +3,7 @@
 from __future__ import annotations
 
 import re
-from ctypes import c_int16, c_int64, c_uint32, c_uint64
+from ctypes import c_double, c_int16, c_int64, c_uint32, c_uint64
 from typing import Any, Dict, Iterable, List, NamedTuple, Optional, Sequence, Tuple
 
 from . import arguments, library
@@ -25,6 +25,26 @@ class Generator(NamedTuple):
 
     kind: str
     matrix: Tuple[int, int, int, int]
+
+
+class Side(NamedTuple):
+    """A side of the polygon as it is drawn in the upper half plane: its kind, 'free',
+    'even' or 'odd', and the place of a vertical line, or the centre and the radius of
+    an arc. What the other has is None."""
+
+    kind: str
+    place: Optional[float]
+    centre: Optional[float]
+    radius: Optional[float]
+
+
+class Box(NamedTuple):
+    """The box of a drawing: it holds every arc's ends and every line's place, and no more."""
+
+    left: float
+    right: float
+    bottom: float
+    top: float
 
 
 class Cusp(NamedTuple):
@@ -66,6 +86,12 @@ class Evidence(NamedTuple):
     R: Tuple[int, ...]
     A: Tuple[int, int, int, int]
     B: Tuple[int, int, int, int]
+
+
+def _side(arc: float, first: float, second: float, kind: float) -> Side:
+    """A side from its four floats."""
+    name = _KINDS[int(kind)]
+    return Side(name, None, first, second) if arc else Side(name, first, None, None)
 
 
 class _Made(NamedTuple):
@@ -366,6 +392,43 @@ class Symbol:
         number = self.coset_cusps[self.coset_of(A)]
         return Cusp(number, self.widths[number])
 
+    def sides(self) -> Tuple[Side, ...]:
+        """The sides of the polygon from left to right, for a drawing. A line's place is
+        its finite vertex; for any other side from a/b to c/d the centre is
+        (ad + cb) / 2bd and the radius 1 / 2bd, each by one division of floats.
+        Refusal 22 where a vertex entry is over 33,554,432 in size.
+
+        >>> for side in Symbol([0, 1], [1, -2, 1]).sides():
+        ...     print(*side)
+        free 0.0 None None
+        even None 0.5 0.5
+        free 1.0 None None
+        """
+        return self._drawing()[0]
+
+    def box(self) -> Box:
+        """The box that holds these sides: left, right, a bottom of 0, and as top the
+        largest radius, or 0 without arcs. Refusal 22, as `sides`.
+
+        >>> Symbol([0, 1], [1, -2, 1]).box()
+        Box(left=0.0, right=1.0, bottom=0.0, top=0.5)
+        """
+        return self._drawing()[1]
+
+    def svg(self, width: float = 960.0) -> str:
+        """A picture of the polygon, at most that many pixels wide, as the text of an SVG
+        file: `farey.picture` says what it shows. Refusal 22, as `sides`.
+
+        >>> picture = Symbol([0, 1], [1, -2, 1]).svg()
+        >>> picture.count('class="side'), picture.count('class="coset"')
+        (3, 3)
+        """
+        from . import picture
+
+        if isinstance(width, bool) or not isinstance(width, (int, float)) or not 200 <= width <= 100000:
+            raise ValueError(f"width is {shown(width)}, and a number of pixels from 200 to 100,000 is wanted")
+        return picture.svg(self, float(width))
+
     def word(self, A: Matrix, B: Matrix) -> Optional[Word]:
         """A word in the generators that takes A to B: the product of its letters
         from left to right, times A, is B or -B. Letter j is generator j, -j its
@@ -487,6 +550,15 @@ class Symbol:
             return tuple(out)
 
         return self._once("figures", ask)
+
+    def _drawing(self) -> Tuple[Tuple[Side, ...], Box]:
+        def ask() -> Tuple[Tuple[Side, ...], Box]:
+            out, bounds = (c_double * library.DRAWING)(), (c_double * 4)()
+            count = library.call("farey_drawing", self._v, self._space, out, Fixed(bounds))
+            rows = [out[4 * i : 4 * i + 4] for i in range(count)]
+            return tuple(_side(*row) for row in rows), Box(*bounds)
+
+        return self._once("drawing", ask)
 
     def _figure(self, place: int) -> int:
         """Genus or level: its own refusal, or its value."""

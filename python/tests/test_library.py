@@ -110,6 +110,7 @@ class Header(unittest.TestCase):
     def test_functions(self):
         header = (by_hand.REPOSITORY / "include/farey.h").read_text("utf-8")
         names = {
+            "double": library.c_double,
             "size_t": library.c_size_t,
             "int16_t": library.c_int16,
             "int64_t": library.c_int64,
@@ -125,7 +126,7 @@ class Header(unittest.TestCase):
                 kinds.append(library.POINTER(kind) if "*" in parameter else kind)
             declared[name] = kinds
         self.assertEqual(library._PARAMETERS, declared)
-        self.assertGreaterEqual(len(declared), 14)
+        self.assertGreaterEqual(len(declared), 15)
 
     def test_as_they_are_called(self):
         """What is loaded takes these parameters and gives 64 bits, as each line of the header begins."""
@@ -138,7 +139,7 @@ class Header(unittest.TestCase):
     def test_lengths(self):
         header = (by_hand.REPOSITORY / "include/farey.h").read_text("utf-8")
         lengths = {name: int(number) for name, number in re.findall(r"^#define FAREY_(\w+) (\d+)$", header, re.M)}
-        for name in ("WORK", "TABLE", "GENERATORS", "COSETS", "NAMED"):
+        for name in ("WORK", "TABLE", "GENERATORS", "COSETS", "DRAWING", "NAMED"):
             self.assertEqual(getattr(library, name), lengths[name])
         self.assertEqual(named.FAMILIES, {name.lower(): lengths[name] for name in ("GAMMA0", "GAMMA1", "GAMMA")})
 
@@ -161,7 +162,7 @@ class Form(unittest.TestCase):
                     self.assertTrue(hinted, f"{file.name}: {function.name} has no type hints")
 
     def test_standard_library_only(self):
-        standard = {"__future__", "ctypes", "itertools", "numbers", "operator", "os", "pathlib", "re", "threading", "typing"}
+        standard = {"__future__", "ctypes", "itertools", "numbers", "operator", "os", "pathlib", "re", "sys", "threading", "typing"}
         for file in self.files():
             for node in ast.walk(ast.parse(file.read_text("utf-8"))):
                 if isinstance(node, ast.Import):

@@ -3,3 +3,4 @@ pub mod Zero
 pub mod Said
 pub mod Imported
 pub mod Named
+pub mod Drawn

@@ -1,7 +1,7 @@
 -- What the exported functions return and write, from the answers of the calls beneath them.
 --
 -- Each returns a number: 0, or that of the answer's refusal (`checkedRefusal`, `filledRefusal`, `figuredRefusal`, `queryRefusal`,
--- `samenessRefusal`). Through `place` it writes the refusal's place or, where it returns 0, a count.
+-- `samenessRefusal`, `drawingRefusal`). Through `place` it writes the refusal's place or, where it returns 0, a count.
 --
 --   filledPlace                     place, or how many things were made: generators, cosets, cusps, vertices
 --   queryPlace                      place, or how many letters the word has
@@ -10,8 +10,11 @@
 --   figureNumber, figureValue       one figure: 0 and its value, or its refusal's number and 0
 --   figuresLeft                     the eight numbers: index, e2, e3, cusps, then number and value of the genus, then of the level; or
 --                                   all as it was
+--   drawingPlace v                  place, or the number of sides
+--   boxLeft                         the four floats of the box: left, right, bottom, top; or all as it was
 use mathlib.Core.List.{List, [], _∷_}
-use Prim.Native.Nat.{ℕ}
+use Prim.Native.Nat.{ℕ, _+_}
+use lib.Ieee.{Float}
 use lib.IntN.{ℤ}
 use Rattle.refusal.specs.declared.Filled.{Filled}
 use Rattle.refusal.specs.declared.Filled.the-variants as filled
@@ -22,6 +25,8 @@ use Rattle.figures.specs.declared.Figure.the-variants as figure
 use Rattle.coset.specs.declared.Figured.{Figured}
 use Rattle.coset.specs.declared.Figured.the-variants as figured
 use Rattle.word.specs.Answer.{signNumber}
+use Rattle.drawing.specs.declared.Drawing.{Drawing}
+use Rattle.drawing.specs.declared.Drawing.the-variants as drawing
 use Rattle.word.specs.declared.Queried.{Queried}
 use Rattle.word.specs.declared.Queried.the-variants as queried
 
@@ -58,3 +63,13 @@ figuresLeft (figured.Made f) out =
     let level = f .level in
     f .index ∷ f .e2 ∷ f .e3 ∷ f .cusps ∷ figureNumber genus ∷ figureValue genus ∷ figureNumber level ∷ figureValue level ∷ []
 figuresLeft (figured.Refused f) out = out
+
+-- ---- drawings
+
+abbrev pub drawingPlace : ℕ → Drawing → ℕ
+drawingPlace v (drawing.Made b) = v + 1
+drawingPlace v (drawing.Refused f) = f .place
+
+abbrev pub boxLeft : Drawing → List Float → List Float
+boxLeft (drawing.Made b) out = b .left ∷ b .right ∷ b .bottom ∷ b .top ∷ []
+boxLeft (drawing.Refused f) out = out

@@ -9,6 +9,7 @@ use answers::of_query;
 use answers::of_sameness;
 use answers::sign_written;
 use coset::Figured;
+use drawing::Drawing;
 use refusal::checked_refusal;
 ghost use mathlib.Core.Path.{_≡_};
 ghost use mathlib.Core.Logic.{_↔_};
@@ -27,13 +28,14 @@ ghost use Rattle.permutations.specs.Check as passport;
 ghost use Rattle.permutations.specs.Import as import;
 ghost use Rattle.word.specs.Answer.{queryOf, queryRefusal, foundWord, wordLeft, queryWork};
 ghost use Rattle.word.specs.Claim.{Claim, QuerySays, SignSays};
+ghost use Rattle.drawing.specs.Answer.{drawnRows, drawingOf, drawingRefusal, drawingLeft, Picture};
 ghost use Rattle.congruence.specs.Cosets.{familyS, familyR};
 ghost use Rattle.import_rule.specs.Order.{leftmost, longestOpen};
 ghost use Rattle.import_table.specs.Answer.{ruledLeft};
 ghost use Rattle.named_groups.specs.Group.{familyOf, groupCheck};
 ghost use Rattle.named_groups.specs.Answer.{namedTablesOf, NamedTables, namedRule, namedSymbolBy, NamedSymbol, ruledWord, namedQueryBy, namedQueryWork};
 ghost use Rattle.named_groups.specs.Claim.{NamedClaim, NamedQuerySays, NamedSignSays};
-ghost use Rattle.engine.specs.Exported.{filledPlace, queryPlace, signWritten, samenessPlace, figuresLeft};
+ghost use Rattle.engine.specs.Exported.{filledPlace, queryPlace, signWritten, samenessPlace, figuresLeft, drawingPlace, boxLeft};
 
 mod answers;
 
@@ -290,6 +292,35 @@ pub extern "C" fn farey_same(
     let said = of_sameness(sameness::same(v, t, m, u, w));
     *place = said.place;
     said.number
+}
+
+// The sides for a drawing, four floats each, from the front of out, and the box that holds them: left, right, bottom, top.
+#[no_mangle]
+pub extern "C" fn farey_drawing(
+    v: usize,
+    t: &[i64],
+    out: &mut [f64],
+    bounds: &mut [f64; 4],
+    place: &mut usize,
+) -> u64
+    ensures { λ n. ⌜ n ≡ drawingRefusal (drawingOf v (now (t .entry)) (length (now (out .entry)))) .number ⌝ }
+    ensures { λ n. ⌜ now (place .exit) ≡ drawingPlace v (drawingOf v (now (t .entry)) (length (now (out .entry)))) ⌝ }
+    ensures { λ n. ⌜ now (out .exit) ≡ drawingLeft (drawingOf v (now (t .entry)) (length (now (out .entry)))) (drawnRows v (now (t .entry)) (v + 1)) (now (out .entry)) ⌝ }
+    ensures { λ n. ⌜ now (bounds .exit) ≡ boxLeft (drawingOf v (now (t .entry)) (length (now (out .entry)))) (now (bounds .entry)) ⌝ }
+    ensures { λ n. ⌜ (n ≡ 0 → Picture v (now (t .entry))) ⌝ }
+{
+    let answer = drawing::draw_symbol(v, t, out);
+    match answer {
+        Drawing::Refused(refusal) => {
+            *place = refusal.place;
+            refusal.number
+        }
+        Drawing::Made(b) => {
+            *place = v + 1;
+            *bounds = [b.left, b.right, b.bottom, b.top];
+            0
+        }
+    }
 }
 
 // The tables of S and R of a congruence group by its family's number and N, each from the front of its space.

@@ -58,7 +58,7 @@ pub fn pair_sides(v: usize, p: &[i64], w: &mut [u16])
 }
 
 // The kind of side i: 1 free, 2 even, 3 odd.
-pub(crate) fn kind_at(v: usize, p: &[i64], i: usize) -> i64
+pub fn kind_at(v: usize, p: &[i64], i: usize) -> i64
     requires { ⌜ (v ≤ 1023) × (i < length (now p)) ⌝ }
     ensures { λ r. ⌜ r ≡ pos (kindOf (pairingOf v (nth (now (p .entry)) i))) ⌝ }
 {

@@ -4,7 +4,7 @@
 --   Refusal            a number and a place
 --   noRefusal          none: the number 0, and the place 0
 --   refusal n p        the refusal with the number n at the place p
---   badVertexCount .. largeIndex  the refusals 1 to 21 by name, each at its place
+--   badVertexCount .. tooLargeToDraw  the refusals 1 to 22 by name, each at its place
 --   Checked            the answer of checks: accepted, or refused
 --   c orElse d         the first refusal of the two
 --   checkedRefusal     the refusal that an answer of checks is
@@ -121,6 +121,12 @@ badLevel = refusal 20 0
 -- the index is over 3,066
 abbrev pub largeIndex : Refusal
 largeIndex = refusal 21 0
+
+-- ---- whoever asks for a drawing
+
+-- a vertex entry over 33,554,432 in size: its index
+abbrev pub tooLargeToDraw : ℕ → Refusal
+tooLargeToDraw i = refusal 22 i
 
 -- ---- the answers of checks
 

@@ -65,6 +65,8 @@ pub const BAD_TEXT: u64 = 19;
 pub const BAD_LEVEL: u64 = 20;
 
 pub const LARGE_INDEX: u64 = 21;
+// Whoever asks for a drawing.
+pub const TOO_LARGE_TO_DRAW: u64 = 22;
 
 // The refusal that an answer of checks is.
 pub fn checked_refusal(answer: Checked) -> Refusal

@@ -21,6 +21,7 @@
 pub mod check;
 pub mod counts;
 pub mod cusps;
+pub mod drawing;
 pub mod figures;
 pub mod generators;
 pub mod import;
@@ -44,7 +45,7 @@ use reference::random::Rng;
 pub type Call = (&'static str, fn(&mut Rng) -> Outcome);
 
 /// All calls.
-pub const CALLS: [Call; 18] = [
+pub const CALLS: [Call; 19] = [
     ("check", check::case),
     ("generators", generators::case),
     ("figures", figures::case),
@@ -55,6 +56,7 @@ pub const CALLS: [Call; 18] = [
     ("import_wide", import::wide_case),
     ("query", query::case),
     ("same", same::case),
+    ("drawing", drawing::case),
     ("named_tables", named::tables_case),
     ("named_symbol", named::symbol_case),
     ("named_symbol_wide", named::symbol_wide_case),

@@ -1,7 +1,7 @@
 //! Spaces as they are lent: random numbers in them and around them before the
 //! call, and every one of these looked at after it.
 
-use std::fmt::Debug;
+use std::fmt::{self, Debug, Formatter};
 
 use reference::random::Rng;
 use reference::Refusal;
@@ -29,6 +29,30 @@ macro_rules! numbers {
 }
 
 numbers!(i16 u16 u32 i64 u64);
+
+/// A float that is compared by its bits, so that no two that differ pass for
+/// equal, and none that isn't a number differs from itself.
+#[derive(Clone, Copy)]
+#[repr(transparent)]
+pub struct Float(pub f64);
+
+impl PartialEq for Float {
+    fn eq(&self, other: &Float) -> bool {
+        self.0.to_bits() == other.0.to_bits()
+    }
+}
+
+impl Debug for Float {
+    fn fmt(&self, f: &mut Formatter<'_>) -> fmt::Result {
+        write!(f, "{:e} ({:#018x})", self.0, self.0.to_bits())
+    }
+}
+
+impl Number for Float {
+    fn from_bits(bits: u64) -> Float {
+        Float(f64::from_bits(bits))
+    }
+}
 
 /// Random numbers of one of several kinds; small ones could pass for points or
 /// marks that an earlier call left behind.

@@ -54,6 +54,7 @@ fn reachable(call: &str) -> BTreeSet<Reason> {
             let answers = vec![(0, "yes"), (0, "no")];
             [answers, symbol, second, vec![(11, "work")]].concat()
         }
+        "drawing" => [vec![(0, ""), (11, "")], symbol, plain(22..=22)].concat(),
         "named_tables" => {
             let spaces = vec![(11, "work"), (11, "s"), (11, "r")];
             [vec![(0, "")], plain(20..=21), spaces].concat()
@@ -99,6 +100,7 @@ fn every_call_is_as_the_reference_has_it() {
     assert_eq!(calls["cusps"].largest, 4_090);
     assert_eq!(calls["import"].largest, 1_023);
     assert_eq!(calls["import_wide"].largest, 1_023);
+    assert_eq!(calls["drawing"].largest, 1_024);
     assert!(calls["widths"].largest >= 500);
     assert!(calls["query"].largest >= 30_000);
     assert!(calls["signed_query"].largest >= 30_000);
@@ -107,7 +109,7 @@ fn every_call_is_as_the_reference_has_it() {
     assert!(calls["named_query_wide"].largest >= 300);
     // Over all calls each number but 19; 17 is met by a figure alone, and 18
     // isn't known to happen.
-    for number in (1..=16).chain(20..=21) {
+    for number in (1..=16).chain(20..=22) {
         let count: usize = tallies.iter().map(|tally| tally.number(number)).sum();
         assert!(count >= LEAST, "refusal {number} only {count} times");
     }

@@ -145,6 +145,7 @@ fn calls_stay_within_the_stack_that_the_header_names() {
     let mut table = vec![0; calls::TABLE];
     let mut columns = [(); 3].map(|()| vec![0; calls::COSETS]);
     let mut word = vec![0; 20_000];
+    let mut floats = vec![0.0; calls::DRAWING];
     for (round, &(family, n)) in NAMES.iter().enumerate() {
         let draft = match round {
             0..=5 => draft_of_size(&mut rng, 1_023),
@@ -194,6 +195,9 @@ fn calls_stay_within_the_stack_that_the_header_names() {
         });
         measure("farey_same", &mut || {
             let _ = black_box(calls::same(v, &t, v, &t, &mut work));
+        });
+        measure("farey_drawing", &mut || {
+            let _ = black_box(calls::drawing(v, &t, &mut floats, &mut [0.0; 4]));
         });
         let pair = match round {
             0..=5 => shallow_pair(&mut rng, 1_023),
@@ -247,7 +251,7 @@ fn calls_stay_within_the_stack_that_the_header_names() {
             }
         }
     }
-    assert_eq!(most.0.len(), 18);
+    assert_eq!(most.0.len(), 19);
     let promised = promised();
     println!("a thread by itself: {nothing}; FAREY_STACK: {promised}");
     for (call, bytes) in most.0 {

@@ -18,6 +18,8 @@ pub const GENERATORS: usize = 5_120;
 /// Enough for every symbol's widths, and for each table of its cosets: images,
 /// cusps and steps.
 pub const COSETS: usize = 4_090;
+/// Enough for the sides of every symbol, four floats each.
+pub const DRAWING: usize = 4_096;
 /// Enough for the table of S, and of R, of every named group.
 pub const NAMED: usize = 3_066;
 
@@ -142,6 +144,15 @@ mod engine {
             u_len: usize,
             work: *mut u16,
             work_len: usize,
+            place: *mut usize,
+        ) -> u64;
+        pub fn farey_drawing(
+            v: usize,
+            t: *const i64,
+            t_len: usize,
+            out: *mut f64,
+            out_len: usize,
+            bounds: *mut f64,
             place: *mut usize,
         ) -> u64;
         pub fn farey_named_tables(
@@ -480,6 +491,29 @@ pub fn same(v: usize, t: &[i64], m: usize, u: &[i64], work: &mut [u16]) -> Resul
         )
     };
     answer(number, place).map(|yes| yes == 1)
+}
+
+/// The sides for a drawing to the front of out, four floats each, and the box
+/// that holds them, left, right, bottom and top, to bounds: the number of sides.
+pub fn drawing(
+    v: usize,
+    t: &[i64],
+    out: &mut [f64],
+    bounds: &mut [f64; 4],
+) -> Result<usize, Refusal> {
+    let mut place = UNWRITTEN;
+    let number = unsafe {
+        engine::farey_drawing(
+            v,
+            t.as_ptr(),
+            t.len(),
+            out.as_mut_ptr(),
+            out.len(),
+            bounds.as_mut_ptr(),
+            &mut place,
+        )
+    };
+    answer(number, place)
 }
 
 /// The tables of S and R of a named group to the fronts of s and r: the index.

@@ -29,7 +29,9 @@ pub mod symbol;
 
 pub use family::Family;
 pub use refusal::Refusal;
-pub use symbol::{CosetCusps, Figures, Generator, Kind, Symbol, Tables, Word};
+pub use symbol::{
+    Bounds, CosetCusps, Drawing, Figures, Generator, Kind, Shape, Side, Symbol, Tables, Word,
+};
 
 /// The Rust examples of the handbook, which are tests of this crate.
 #[cfg(doctest)]

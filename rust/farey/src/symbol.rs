@@ -1,6 +1,6 @@
 //! Symbols that own their tables, and what can be asked of them.
 
-use crate::calls::{self, COSETS, GENERATORS, TABLE, WORK};
+use crate::calls::{self, COSETS, DRAWING, GENERATORS, TABLE, WORK};
 use crate::family::Family;
 use crate::refusal::Refusal;
 
@@ -67,6 +67,48 @@ pub struct Word {
 pub struct CosetCusps {
     pub cusps: Vec<u32>,
     pub steps: Vec<u32>,
+}
+
+/// A side of the polygon as it is drawn in the upper half plane.
+#[derive(Clone, Copy, Debug, PartialEq)]
+pub enum Shape {
+    /// A vertical line at this place.
+    Line(f64),
+    /// Half a circle with this centre and this radius.
+    Arc(f64, f64),
+}
+
+/// A drawn side and what it is paired as.
+#[derive(Clone, Copy, Debug, PartialEq)]
+pub struct Side {
+    pub shape: Shape,
+    pub kind: Kind,
+}
+
+/// The box of a drawing: it holds every arc's ends and every line's place, and
+/// no more.
+#[derive(Clone, Copy, Debug, PartialEq)]
+pub struct Bounds {
+    pub left: f64,
+    pub right: f64,
+    pub bottom: f64,
+    pub top: f64,
+}
+
+/// The sides from left to right, and their box.
+#[derive(Clone, Debug, PartialEq)]
+pub struct Drawing {
+    pub sides: Vec<Side>,
+    pub bounds: Bounds,
+}
+
+/// The kind of a side or a generator by its number.
+fn kind(number: i64) -> Kind {
+    match number {
+        1 => Kind::Free,
+        2 => Kind::Even,
+        _ => Kind::Odd,
+    }
 }
 
 /// Either import of `calls`: S, R, work space and result space lent.
@@ -228,11 +270,7 @@ impl Symbol {
         ));
         let rows = out[..5 * count].chunks_exact(5);
         rows.map(|row| Generator {
-            kind: match row[0] {
-                1 => Kind::Free,
-                2 => Kind::Even,
-                _ => Kind::Odd,
-            },
+            kind: kind(row[0]),
             matrix: [row[1], row[2], row[3], row[4]],
         })
         .collect()
@@ -289,6 +327,42 @@ impl Symbol {
         cusps.truncate(index);
         steps.truncate(index);
         CosetCusps { cusps, steps }
+    }
+
+    /// The sides of the polygon for a drawing, and their box; refusal 22 where a
+    /// vertex entry is over 33,554,432 in size.
+    ///
+    /// ```
+    /// use farey::{Shape, Symbol};
+    ///
+    /// let drawing = Symbol::gamma0(2)?.drawing()?;
+    /// let shapes: Vec<Shape> = drawing.sides.iter().map(|side| side.shape).collect();
+    /// assert_eq!(shapes, [Shape::Line(0.0), Shape::Arc(0.5, 0.5), Shape::Line(1.0)]);
+    /// assert_eq!(drawing.bounds.top, 0.5);
+    /// # Ok::<(), farey::Refusal>(())
+    /// ```
+    pub fn drawing(&self) -> Result<Drawing, Refusal> {
+        let mut out = vec![0.0; DRAWING];
+        let mut bounds = [0.0; 4];
+        let count = calls::drawing(self.v, &self.table, &mut out, &mut bounds)?;
+        let rows = out[..4 * count].chunks_exact(4);
+        let sides = rows.map(|row| Side {
+            shape: match row[0] == 0.0 {
+                true => Shape::Line(row[1]),
+                false => Shape::Arc(row[1], row[2]),
+            },
+            kind: kind(row[3] as i64),
+        });
+        let [left, right, bottom, top] = bounds;
+        Ok(Drawing {
+            sides: sides.collect(),
+            bounds: Bounds {
+                left,
+                right,
+                bottom,
+                top,
+            },
+        })
     }
 
     /// A word in the generators whose value times a is b or -b, with the sign that

@@ -1,7 +1,7 @@
 //! The wrapper on the instances of the engine's paper on conventions: what is
 //! expected here is what the paper says, not what a run printed.
 
-use farey::{Family, Kind, Refusal, Symbol, Word};
+use farey::{Family, Kind, Refusal, Shape, Symbol, Word};
 
 const ONE: [i64; 4] = [1, 0, 0, 1];
 const S: [i64; 4] = [0, -1, 1, 0];
@@ -218,6 +218,25 @@ fn sameness() {
 }
 
 /// PSL2(Z) by each of its names, and Γ0(2).
+/// A line, an arc from 0/1 to 1/1, a line; free, even, free.
+#[test]
+fn drawings() {
+    let drawing = gamma0_2().drawing().expect("small entries");
+    let shapes: Vec<Shape> = drawing.sides.iter().map(|side| side.shape).collect();
+    let arc = Shape::Arc(0.5, 0.5);
+    assert_eq!(shapes, [Shape::Line(0.0), arc, Shape::Line(1.0)]);
+    let kinds: Vec<Kind> = drawing.sides.iter().map(|side| side.kind).collect();
+    assert_eq!(kinds, [Kind::Free, Kind::Even, Kind::Free]);
+    let held = drawing.bounds;
+    let borders = [held.left, held.right, held.bottom, held.top];
+    assert_eq!(borders, [0.0, 1.0, 0.0, 0.5]);
+    // Two lines at one place, and no arc.
+    let whole = Symbol::new(&[(0, 1)], &[-2, -3]).expect("a symbol");
+    let drawing = whole.drawing().expect("small entries");
+    assert_eq!(drawing.sides.len(), 2);
+    assert_eq!((drawing.bounds.top, drawing.bounds.right), (0.0, 0.0));
+}
+
 #[test]
 fn small_named_groups() {
     let whole = Symbol::new(&[(0, 1)], &[-2, -3]).expect("a symbol");

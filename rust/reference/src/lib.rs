@@ -17,6 +17,7 @@
 //! | `polygon`      | carrying an edge back into the polygon, with the letters used   |
 //! | `coset`        | tables of S, R, T and the figures drawn from them               |
 //! | `sameness`     | whether two symbols generate the same subgroup                  |
+//! | `drawing`      | sides and box of a drawing, rounded by hand; 22                 |
 //! | `word`         | pair queries: membership, the walk, a word's product and sign   |
 //! | `permutations` | checks 12 to 16, from two permutations to a symbol, two rules   |
 //! | `congruence`   | Γ0(N), Γ1(N), Γ(N): condition, index, permutations; 20 and 21   |
@@ -27,6 +28,7 @@
 
 pub mod congruence;
 pub mod coset;
+pub mod drawing;
 pub mod matrix;
 pub mod permutations;
 pub mod polygon;

@@ -208,7 +208,7 @@ fn commands_print_what_is_shown() {
 
 /// The lines of README.md that begin with `./farey`; what they do stands behind
 /// some of them. `./farey library` answers nothing: the gate runs it, and the
-/// Python tests run what follows it on the page.
+/// Python tests run what follows it on the page, and `./farey draw`.
 #[test]
 fn commands_of_the_first_page() {
     let readme = page("README.md");
@@ -216,7 +216,7 @@ fn commands_of_the_first_page() {
     let commands: Vec<&str> = lines
         .filter(|line| line.starts_with("./farey"))
         .map(|line| line.split("  ").next().expect("there is a command"))
-        .filter(|command| *command != "./farey library")
+        .filter(|command| *command != "./farey library" && !command.starts_with("./farey draw"))
         .collect();
     for command in &commands {
         let [reference, by_programs, by_script] = run(command);
@@ -257,6 +257,10 @@ fn refusals_are_met() {
             continue;
         }
         let (_, kind) = row.example.rsplit_once('.').expect("a file's name");
+        // `./farey draw` is run by the Python tests.
+        if kind == "drawing" {
+            continue;
+        }
         let program = match kind {
             "txt" => "listing",
             "query" => "query",
