@@ -14,6 +14,11 @@
  *   - FAREY_STACK bytes of stack are free at the call.
  * There is no state between calls. A function allocates nothing, reads and writes no other memory, and always returns.
  *
+ * THREADS AND PROCESSES. Calls may be made at the same time, by threads that lend each call spaces of its own to write in, by many processes,
+ * and by the jobs of a cluster; and pairs in any number may be split into sheets (farey_sheet) that are answered wherever there is room, in any
+ * order. Nothing is shared between calls, which is why that is safe: each answer is what it would be alone. What is lent for reading may be lent
+ * to several calls at once.
+ *
  * THE SYMBOL is lent as v and a table t of t_len numbers: for each of the v finite vertices its numerator and its denominator, from
  * left to right, then the v + 1 pairings, 3v + 1 numbers in all. A pairing is -2 (even), -3 (odd) or a free label from 1 to v + 1 that
  * stands on exactly two sides.
@@ -37,6 +42,7 @@
  *    9  a determinant other than 1                                                          0 for A, 1 for B
  *   10  none: no product of generators and inverses takes A to B                            0
  *   11  a space is too short                                                                the length that it needs
+ *       in farey_sheet also: entries that are no pairs, or over 2,048                       2,048
  *   12  an index not from 1 to 3,066, or tables unequal in length                           0
  *   13  an entry outside its table, or equal to an earlier one                              its index, S before R
  *   14  S twice or R three times moves a point                                              the first such point, S before R
@@ -78,6 +84,10 @@ extern "C" {
 #define FAREY_COSETS 4090
 /* Floats that are enough for the sides of every symbol, four for each side. */
 #define FAREY_DRAWING 4096
+/* The most that a sheet has: pairs, entries of these, and numbers of their lines. */
+#define FAREY_SHEET 256
+#define FAREY_SHEET_ENTRIES 2048
+#define FAREY_SHEET_LINES 1024
 /* A length that is enough for the table of S, and of R, of every named group. */
 #define FAREY_NAMED 3066
 
@@ -141,6 +151,16 @@ uint64_t farey_query(size_t v, const int64_t *t, size_t t_len, const int64_t *a,
  * to sign, as by farey_query: a word for B is one for -B, with the other sign. Where it refuses, *sign is as it was. */
 uint64_t farey_signed_query(size_t v, const int64_t *t, size_t t_len, const int64_t *a, const int64_t *b, uint16_t *work, size_t work_len,
                             int16_t *out, size_t out_len, size_t start, int64_t *sign, size_t *place);
+
+/* A sheet of pairs against one symbol, which is checked once and whose tables are built once. p has the pairs one after another, eight entries
+ * each: the four of A, then the four of B. Line by line the answers are those of farey_signed_query in the same word space out, for the first
+ * pair from start 0, for each next from where the last word ended; a pair that is refused uses no word space. lines: for each pair four
+ * numbers, from the front: 0, the word's start, its length, and 1 or -1 for its sign; or the refusal (8, 9, 10, or 11 for out, with the word's
+ * true length), its place, 0 and 0. Every word still stands in out, where its line says, when the call returns. The whole sheet is refused: 11
+ * with place 2,048 for a number of entries that isn't a multiple of 8 or is over 2,048, then 1 to 7, then 11 for work, then 11 for lines,
+ * which are counted in whole lines of four, with the number of pairs for the place. Count: how many pairs; none is a sheet too. */
+uint64_t farey_sheet(size_t v, const int64_t *t, size_t t_len, const int64_t *p, size_t p_len, uint16_t *work, size_t work_len,
+                     int64_t *lines, size_t lines_len, int16_t *out, size_t out_len, size_t *place);
 
 /* Whether two symbols generate the same subgroup: yes precisely when every generator of each is, up to sign, a word in the other's generators and
  * inverses. So two symbols of one group are the same, whatever their vertices are, and symbols that differ in their free labels alone are. Refused:

@@ -25,8 +25,9 @@ int main(void)
 {
     static const int64_t t[7] = {0, 1, 1, 1, 1, -2, 1};
     static const uint32_t s[3] = {1, 0, 2}, r[3] = {2, 0, 1};
+    static const int64_t pair[8] = {1, 0, 0, 1, 1, 0, 2, 1};
     static const int64_t one[4] = {1, 0, 0, 1}, lower[4] = {1, 0, 2, 1}, minus[4] = {-1, 0, 0, -1};
-    int64_t generators[10], table[7], sign = 77;
+    int64_t generators[10], table[7], line[4], sign = 77;
     uint32_t columns[3][3];
     uint64_t figures[8];
     double bounds[4];
@@ -62,6 +63,8 @@ int main(void)
     say("wide import without work", number, place);
     number = farey_query(2, t, 7, one, one, NULL, 0, NULL, 0, 0, &place);
     say("query without work", number, place);
+    number = farey_sheet(2, t, 7, NULL, 0, NULL, 0, NULL, 0, NULL, 0, &place);
+    say("sheet without work", number, place);
     number = farey_same(2, t, 7, 2, t, 7, NULL, 0, &place);
     say("same without work", number, place);
     number = farey_named_tables(FAREY_GAMMA0, 2, NULL, 0, NULL, 0, NULL, 0, &place);
@@ -100,6 +103,8 @@ int main(void)
     say("wide import without room", number, place);
     number = farey_query(2, t, 7, one, lower, work, FAREY_WORK, NULL, 0, 0, &place);
     say("query without room", number, place);
+    number = farey_sheet(2, t, 7, pair, 8, work, FAREY_WORK, NULL, 0, NULL, 0, &place);
+    say("sheet without room for its line", number, place);
     number = farey_named_tables(FAREY_GAMMA0, 2, work, FAREY_WORK, NULL, 0, columns[1], 3, &place);
     say("named tables without room for S", number, place);
     number = farey_named_tables(FAREY_GAMMA0, 2, work, FAREY_WORK, columns[0], 3, NULL, 0, &place);
@@ -118,6 +123,13 @@ int main(void)
     say_signed("named signed query without room", number, place, sign);
     number = farey_named_signed_query_wide(FAREY_GAMMA0, 2, one, lower, work, FAREY_WORK, NULL, 0, 0, &sign, &place);
     say_signed("wide named signed query without room", number, place, sign);
+
+    /* A sheet without pairs, and one whose word has no room: that is told in its line. */
+    number = farey_sheet(2, t, 7, NULL, 0, work, FAREY_WORK, NULL, 0, NULL, 0, &place);
+    say("sheet of nothing", number, place);
+    number = farey_sheet(2, t, 7, pair, 8, work, FAREY_WORK, line, 4, NULL, 0, &place);
+    say("sheet without room for its word", number, place);
+    printf("its line: %" PRId64 " %" PRId64 " %" PRId64 " %" PRId64 "\n", line[0], line[1], line[2], line[3]);
 
     /* The empty word needs none, from the place 0 on. */
     number = farey_query(2, t, 7, one, one, work, FAREY_WORK, NULL, 0, 0, &place);

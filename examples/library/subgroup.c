@@ -98,6 +98,23 @@ int main(void)
     ask(v, one, six);
     ask(v, one, other);
 
+    /* The same two as a sheet, and a matrix of determinant 2. */
+    static const int64_t pairs[24] = {1, 0, 0, 1, 1, 6, 0, 1, 1, 0, 0, 1, -17, -12, -24, -17, 1, 0, 0, 1, 2, 0, 0, 1};
+    static int64_t lines[FAREY_SHEET_LINES];
+    static int16_t letters[100];
+    expect(farey_sheet(v, table, length, pairs, 24, work, FAREY_WORK, lines, FAREY_SHEET_LINES, letters, 100, &count), &count);
+    for (size_t i = 0; i < count; i++) {
+        const int64_t *answer = lines + 4 * i;
+        if (answer[0] != 0) {
+            printf("refused %" PRId64 " %" PRId64 "\n", answer[0], answer[1]);
+            continue;
+        }
+        printf("word %c", answer[3] == 1 ? '+' : '-');
+        for (int64_t j = 0; j < answer[2]; j++)
+            printf(" %d", letters[answer[1] + j]);
+        printf("\n");
+    }
+
     /* The same symbol with another label. */
     static const int64_t relabelled[10] = {-1, 1, 0, 1, 1, 1, -2, -3, 4, 4};
     expect(farey_same(v, table, length, 3, relabelled, 10, work, FAREY_WORK, &place), &place);

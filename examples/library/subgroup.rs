@@ -54,14 +54,22 @@ fn main() -> Result<(), Refusal> {
         spaced(&found.cusps),
         spaced(&found.steps)
     );
-    for to in [[1, 6, 0, 1], [-17, -12, -24, -17]] {
-        match symbol.word([1, 0, 0, 1], to)? {
-            // The word times 1 is the matrix itself, or its negative.
-            Some(Word { sign, letters }) => {
-                let sign = if sign == 1 { '+' } else { '-' };
-                println!("word {sign}{}", spaced(&letters));
-            }
-            None => println!("none"),
+    // The word times 1 is the matrix itself, or its negative.
+    let told = |Word { sign, letters }: Word| {
+        let sign = if sign == 1 { '+' } else { '-' };
+        format!("word {sign}{}", spaced(&letters))
+    };
+    let (one, six, other) = ([1, 0, 0, 1], [1, 6, 0, 1], [-17, -12, -24, -17]);
+    for to in [six, other] {
+        let answer = symbol.word(one, to)?;
+        println!("{}", answer.map_or("none".to_string(), told));
+    }
+    // The same two as a sheet, and a matrix of determinant 2.
+    for answer in symbol.words(&[(one, six), (one, other), (one, [2, 0, 0, 1])]) {
+        match answer {
+            Ok(Some(word)) => println!("{}", told(word)),
+            Ok(None) => println!("refused 10 0"),
+            Err(refusal) => println!("refused {} {}", refusal.number, refusal.place),
         }
     }
     let relabelled = Symbol::new(&[(-1, 1), (0, 1), (1, 1)], &[-2, -3, 4, 4])?;

@@ -17,6 +17,8 @@ from typing import Any, Iterable, List, Sequence, Tuple, Union
 Vertex = Union[int, Rational, Tuple[int, int], Sequence[int]]
 #: A matrix (a b; c d): its four entries row by row, or its two rows.
 Matrix = Union[Sequence[int], Sequence[Sequence[int]]]
+#: A pair of matrices, A and B.
+Pair = Tuple[Matrix, Matrix]
 
 #: More numbers than any list of the engine has; what is longer isn't read on.
 MOST = 1_000_000
@@ -112,6 +114,17 @@ def matrix(thing: Any, what: str) -> Tuple[int, int, int, int]:
         raise ValueError(f"{what} has {len(entries)} numbers, and a matrix has four: a, b, c, d")
     a, b, c, d = entries
     return a, b, c, d
+
+
+def pairs(thing: Any, what: str) -> List[Tuple[int, ...]]:
+    """The eight entries of each pair of matrices."""
+    read = []
+    for i, each in enumerate(items(thing, what)):
+        pair = items(each, f"{what}[{i}]")
+        if len(pair) != 2:
+            raise ValueError(f"{what}[{i}] has {len(pair)} members, and a pair has two matrices, A and B")
+        read.append(matrix(pair[0], f"A of {what}[{i}]") + matrix(pair[1], f"B of {what}[{i}]"))
+    return read
 
 
 def clamped(numbers: Iterable[int], low: int, high: int, other: int) -> List[int]:

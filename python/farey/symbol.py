@@ -4,10 +4,10 @@ from __future__ import annotations
 
 import re
 from ctypes import c_double, c_int16, c_int64, c_uint32, c_uint64
-from typing import Any, Dict, Iterable, List, NamedTuple, Optional, Sequence, Tuple
+from typing import Any, Dict, Iterable, List, NamedTuple, Optional, Sequence, Tuple, Union
 
 from . import arguments, library
-from .arguments import Matrix, Vertex, clamped, integers, matrix, shown
+from .arguments import Matrix, Pair, Vertex, clamped, integers, matrix, shown
 from .library import Fixed
 from .named import FAMILIES, level
 from .refusal import Refusal
@@ -17,6 +17,8 @@ _LOW, _HIGH = -(2**63), 2**63 - 1
 _NO_POINT = 2**32 - 1
 #: How many letters a query is lent at first; a longer word is asked for again.
 _LETTERS = 1024
+#: The same for a sheet of pairs.
+_SHEET_LETTERS = 16384
 _IDENTITY = (1, 0, 0, 1)
 
 
@@ -92,6 +94,14 @@ def _side(arc: float, first: float, second: float, kind: float) -> Side:
     """A side from its four floats."""
     name = _KINDS[int(kind)]
     return Side(name, None, first, second) if arc else Side(name, first, None, None)
+
+
+def _told(row: Sequence[int], out: Any) -> Union[Word, None, Refusal]:
+    """The answer that a line of a sheet tells, from its four numbers and the word space."""
+    number, place, length, sign = row
+    if number == 0:
+        return Word(out[place : place + length], sign)
+    return None if number == 10 else Refusal(number, place)
 
 
 class _Made(NamedTuple):
@@ -464,6 +474,22 @@ class Symbol:
             raise Refusal(number, place)
         return Word(out[:place], sign[0])
 
+    def words(self, pairs: Iterable[Pair]) -> List[Union[Word, None, Refusal]]:
+        """The answers of `word` for many pairs (A, B), in their order: for each its
+        word, None where there is none, or the `Refusal`, 8 or 9, that `word` would
+        raise. The pairs, up to a million at once, go to the engine in sheets of up to
+        256, for each of which the symbol is checked and its tables are built once.
+
+        >>> gamma0_2, one = Symbol([0, 1], [1, -2, 1]), (1, 0, 0, 1)
+        >>> gamma0_2.words([(one, (1, 0, 2, 1)), (one, (0, -1, 1, 0)), (one, (2, 0, 0, 1)), (one, (-1, -1, 0, -1))])
+        [[2, 1], None, Refusal(9, 1), [1]]
+        """
+        entries = arguments.pairs(pairs, "pairs")
+        answers: List[Union[Word, None, Refusal]] = []
+        for start in range(0, len(entries), library.SHEET):
+            answers += self._sheet(entries[start : start + library.SHEET])
+        return answers
+
     def why_none(self, A: Matrix, B: Matrix) -> Evidence:
         """Evidence that no word takes A to B, for `farey.evidence.check`: the
         generators, the tables of S and R, A and B. A ValueError where there is a word.
@@ -542,6 +568,20 @@ class Symbol:
     def _query(self, a: Tuple[int, ...], b: Tuple[int, ...], out: Any, sign: Any) -> Tuple[int, int]:
         spaces = [Fixed((c_int64 * 4)(*clamped(entries, _LOW, _HIGH, _HIGH))) for entries in (a, b)]
         return library.answer("farey_signed_query", self._v, self._space, *spaces, library.work(), out, 0, Fixed(sign))
+
+    def _sheet(self, pairs: List[Tuple[int, ...]]) -> List[Union[Word, None, Refusal]]:
+        """The answers for a sheet. Where its words have no room, they are asked for
+        again in a space that is long enough for all of them."""
+        numbers = clamped((entry for pair in pairs for entry in pair), _LOW, _HIGH, _HIGH)
+        entries, lines = (c_int64 * len(numbers))(*numbers), (c_int64 * (4 * len(pairs)))()
+        letters = _SHEET_LETTERS
+        while True:
+            out = (c_int16 * letters)()
+            library.call("farey_sheet", self._v, self._space, entries, library.work(), lines, out)
+            rows = [lines[i : i + 4] for i in range(0, len(lines), 4)]
+            if all(row[0] != 11 for row in rows):
+                return [_told(row, out) for row in rows]
+            letters = sum(row[2] if row[0] == 0 else row[1] for row in rows if row[0] in (0, 11))
 
     def _figures(self) -> Tuple[int, ...]:
         def ask() -> Tuple[int, ...]:

@@ -69,7 +69,7 @@ class Sessions(unittest.TestCase):
             self.assertGreater(attempted[name], 1, name)
 
     def test_public_names_have_examples(self):
-        for name in ("from_permutations", "gamma0", "gamma1", "gamma", "parse", "generators", "word", "why_none", "__contains__", "__eq__"):
+        for name in ("from_permutations", "gamma0", "gamma1", "gamma", "parse", "generators", "word", "words", "why_none", "__contains__", "__eq__"):
             self.assertIn(">>>", getattr(Symbol, name).__doc__, name)
 
 

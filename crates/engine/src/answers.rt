@@ -4,10 +4,11 @@ use refusal::Filled;
 use refusal::Refusal;
 use sameness::Sameness;
 use word::Queried;
+use word::sign_number;
 ghost use mathlib.Core.Path.{_≡_};
 ghost use Rattle.refusal.specs.Refusal.{filledRefusal};
 ghost use Rattle.sameness.specs.Same.{samenessRefusal};
-ghost use Rattle.word.specs.Answer.{queryRefusal, signNumber};
+ghost use Rattle.word.specs.Answer.{queryRefusal};
 ghost use Rattle.engine.specs.Exported.{filledPlace, queryPlace, signWritten, samenessPlace, figureNumber, figureValue};
 
 // A refusal's number and place, or 0 and a count.
@@ -59,16 +60,6 @@ pub(crate) fn of_query(answer: Queried) -> Said
         Queried::Word(_, k, _) => counted(k),
         Queried::Refused(refusal) => refused(refusal),
     }
-}
-
-// 1 for plus, -1 for minus.
-fn sign_number(sign: bool) -> i64
-    ensures { λ r. ⌜ r ≡ signNumber sign ⌝ }
-{
-    if sign {
-        return 1;
-    }
-    -1
 }
 
 // The sign of a word as a number, or the number that stood there.

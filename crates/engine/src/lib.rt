@@ -29,6 +29,8 @@ ghost use Rattle.permutations.specs.Import as import;
 ghost use Rattle.word.specs.Answer.{queryOf, queryRefusal, foundWord, wordLeft, queryWork};
 ghost use Rattle.word.specs.Claim.{Claim, QuerySays, SignSays};
 ghost use Rattle.drawing.specs.Answer.{drawnRows, drawingOf, drawingRefusal, drawingLeft, Picture};
+ghost use Rattle.sheets.specs.Sheet.{pairsIn, sheetCheck, spaceAt, linesTo, sheetOf, linesLeft, lettersAfter};
+ghost use Rattle.sheets.specs.Meaning.{SheetMeans};
 ghost use Rattle.congruence.specs.Cosets.{familyS, familyR};
 ghost use Rattle.import_rule.specs.Order.{leftmost, longestOpen};
 ghost use Rattle.import_table.specs.Answer.{ruledLeft};
@@ -270,6 +272,32 @@ pub extern "C" fn farey_signed_query(
     let answer = word::query(v, t, *a, *b, w, out, start);
     *sign = sign_written(answer, *sign);
     let said = of_query(answer);
+    *place = said.place;
+    said.number
+}
+
+// The lines of all pairs in p, four numbers each, from the front of lines, and their words in out, one behind another.
+#[no_mangle]
+pub extern "C" fn farey_sheet(
+    v: usize,
+    t: &[i64],
+    p: &[i64],
+    w: &mut [u16],
+    lines: &mut [i64],
+    out: &mut [i16],
+    place: &mut usize,
+) -> u64
+    ensures { λ n. ⌜ n ≡ filledRefusal (sheetOf v (now (t .entry)) (length (now (p .entry))) (length (now (w .entry))) (length (now (lines .entry)))) .number ⌝ }
+    ensures { λ n. ⌜ now (place .exit) ≡ filledPlace (sheetOf v (now (t .entry)) (length (now (p .entry))) (length (now (w .entry))) (length (now (lines .entry)))) ⌝ }
+    ensures { λ n. ⌜ now (w .exit) ≡ workAfter (sheetCheck v (now (t .entry)) (length (now (p .entry)))) (now (w .entry)) ⌝ }
+    ensures { λ n. ⌜ now (lines .exit) ≡ linesLeft (sheetOf v (now (t .entry)) (length (now (p .entry))) (length (now (w .entry))) (length (now (lines .entry))))
+        (linesTo v (now (t .entry)) (now (p .entry)) (length (now (w .entry))) (now (out .entry)) (pairsIn (now (p .entry)))) (now (lines .entry)) ⌝ }
+    ensures { λ n. ⌜ now (out .exit) ≡ lettersAfter (sheetOf v (now (t .entry)) (length (now (p .entry))) (length (now (w .entry))) (length (now (lines .entry))))
+        (spaceAt v (now (t .entry)) (now (p .entry)) (length (now (w .entry))) (now (out .entry)) (pairsIn (now (p .entry))) .letters) (now (out .entry)) ⌝ }
+    ensures { λ n. ⌜ SheetMeans v (now (t .entry)) (now (p .entry)) (now (w .entry)) (now (out .entry))
+        (sheetOf v (now (t .entry)) (length (now (p .entry))) (length (now (w .entry))) (length (now (lines .entry)))) (now (out .exit)) ⌝ }
+{
+    let said = of_filled(sheets::sheet(v, t, p, w, lines, out));
     *place = said.place;
     said.number
 }

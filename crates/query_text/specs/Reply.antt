@@ -6,7 +6,6 @@
 --   said r l                        the line for an answer r of a query whose walk writes the letters l: `word`, the sign and the letters, or
 --                                   `refused`, the number and the place
 --   replied v t a b                 the line for the symbol in t and the pair A, B; the word starts at the place 0 of the lent space
---   four ns i                       the four numbers of ns from the number i on: a matrix, row by row
 --   countIn, symbolIn, firstIn, secondIn    v, the symbol's table, A and B in the numbers ns of a text, of which A and B are the last eight
 --   repliedTo ns                    the line for the numbers ns of a text. Where v is out of range a text hands on v alone (refusal 1);
 --                                   else there are 3v + 10 numbers
@@ -21,7 +20,7 @@
 use mathlib.Core.Path.{_≡_}
 use mathlib.Core.Bool.{Bool, true, false}
 use mathlib.Core.List.{List, [], _∷_}
-use Prim.Native.Nat.{ℕ, _+_, _-_, _≤_}
+use Prim.Native.Nat.{ℕ, _-_, _≤_}
 use lib.Dec.{ltb}
 use lib.IntN.{ℤ}
 use lib.ListN.{length, take, drop}
@@ -36,7 +35,7 @@ use Rattle.text.specs.declared.Format.{Format}
 use Rattle.text.specs.declared.Reading.{Reading}
 use Rattle.text.specs.declared.Reading.the-variants.{Numbers, Refused}
 use Rattle.text_line.specs.Line.{line, refusalLine}
-use Rattle.word.specs.Answer.{foundWord, queryOf, queryWork, wordLeft}
+use Rattle.word.specs.Answer.{four, foundWord, queryOf, queryWork, wordLeft}
 use Rattle.word.specs.Claim.{Claim}
 use Rattle.word.specs.declared.Queried.{Queried}
 use Rattle.word.specs.declared.Queried.the-variants as queried
@@ -62,9 +61,6 @@ abbrev pub lettersLeft : (v : ℕ) (t a b : List ℤ) → List ℤ → List ℤ
 lettersLeft v t a b letters = wordLeft (queryOf v t a b workLength lettersLent 0) (foundWord v t (ofList a) (ofList b)) letters
 
 -- ---- the numbers of a text
-
-unfoldable pub four : List ℤ → ℕ → List ℤ
-four ns i = nth ns i ∷ nth ns (i + 1) ∷ nth ns (i + 2) ∷ nth ns (i + 3) ∷ []
 
 abbrev pub countIn : List ℤ → ℕ
 countIn ns = reading.vertexCount (nth ns 0)

@@ -8,24 +8,17 @@ use text::vertex_count;
 use text_line::line_of_letters;
 use text_line::refusal_line;
 use word::Queried;
+use word::four_at;
 use word::query;
 use word::query_refusal;
 use word::word_part;
 ghost use mathlib.Core.Path.{_≡_};
-ghost use Prim.Native.Nat.{_+_, _≤_};
+ghost use Prim.Native.Nat.{_≤_};
 ghost use lib.ListN.{length, take};
 ghost use Rattle.text_line.specs.Line.{line, Puts};
 ghost use Rattle.word.specs.Answer.{queryWork};
-ghost use Rattle.query_text.specs.Reply.{wordHead, lettersLent, replied, lettersLeft, four, repliedTo, workTo, lettersTo, replyOf, ReplyLeaves, ReplyMeans};
+ghost use Rattle.query_text.specs.Reply.{wordHead, lettersLent, replied, lettersLeft, repliedTo, workTo, lettersTo, replyOf, ReplyLeaves, ReplyMeans};
 ghost use Rattle.query_text.specs.Inner.Spaces.{ReplySpaces};
-
-// The matrix in the four numbers from the number i on.
-fn four_at(ns: &[i64], i: usize) -> [i64; 4]
-    requires { ⌜ i + 4 ≤ length (now ns) ⌝ }
-    ensures { λ r. ⌜ r ≡ four (now (ns .entry)) i ⌝ }
-{
-    [ns[i], ns[i + 1], ns[i + 2], ns[i + 3]]
-}
 
 // The line of a word with its sign.
 fn word_line(sign: bool, word: &[i16], out: &mut [u8]) -> usize

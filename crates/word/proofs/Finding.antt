@@ -1,4 +1,4 @@
--- Laws for the functions that walk: the matrix that is followed, within its bounds (`between-room`, `between-small`, `ready`), and what its walk
+-- Laws for the functions that walk: the matrix that is followed, within its bounds (`between-room`, `between-small`, `ready`, `pair-ready`), and what its walk
 -- is (`along-found`, `end-found`); what a walk finds (`Result`, `setting`, `result`) and leaves (`kept-out`, `placed-out`); the answers by
 -- it (`not-home`, `too-far`, `too-long`, `fitting`).
 -- Assumes nothing.
@@ -30,7 +30,7 @@ use Rattle.walk.proofs.Stored.{stored-none, stored-all}
 use Rattle.refusal.specs.Refusal.{noWord, tooShort}
 use Rattle.word.specs.Answer.{placed, closes, foundWord, foundSign, wordFits, wordOrShort, foundOf}
 use Rattle.word.specs.Claim.{Asked}
-use Rattle.word.specs.Inner.Ready.{lettersAlong, signAlongWalk, endOf, WalkReady}
+use Rattle.word.specs.Inner.Ready.{lettersAlong, signAlongWalk, endOf, WalkReady, PairReady}
 use Rattle.word.specs.declared.Queried.the-variants as queried
 use Rattle.word.proofs.Turned.{followed-unit, followed-small}
 
@@ -44,17 +44,22 @@ module _ (A B : Mat) (s : Small 1000000 A) (u : Small 1000000 B) where
   between-small = small-⊗ 1000000 1000000 B (adj A) u (small-adj 1000000 A s)
 
 -- what the answer asks for, and what it is, by the list m of the matrix that is followed
-module _ {v : ℕ} {t a b m : List ℤ} {w₀ w : List ℕ} {x : ℕ} (q : Asked v t a b w₀) (m-is : m ≡ toList (followed v t (ofList b ⊗ adj (ofList a)))) where
-  pub ready : StepsReady t v w (places v) → x ≡ startOf v t → WalkReady t v w m x
-  ready prepared e =
+module _ {v : ℕ} {t a b m : List ℤ} {w : List ℕ} {x : ℕ} (q : PairReady t v w a b x) (m-is : m ≡ toList (followed v t (ofList b ⊗ adj (ofList a)))) where
+  pub ready : WalkReady t v w m x
+  ready =
       let A = ofList a in
       let B = ofList b in
       record {
-        prepared = prepared;
-        start = e;
+        prepared = q .prepared;
+        start = q .start;
         unit = subst (λ (l : List ℤ). det (ofList l) ≡ pos 1) (sym m-is) (followed-unit v t (B ⊗ adj A) (det-one B (adj A) (q .unit-B) (det-adj A ∙ q .unit-A)));
         small = subst (λ (l : List ℤ). Small (2 ^ 50) (ofList l)) (sym m-is) (followed-small v t (B ⊗ adj A) (between-small A B (q .entries-A) (q .entries-B)));
       }
+
+-- a pair that is asked for, once the tables are there
+pub pair-ready : {v : ℕ} {t a b : List ℤ} {w₀ w : List ℕ} {x : ℕ} → Asked v t a b w₀ → StepsReady t v w (places v) → x ≡ startOf v t → PairReady t v w a b x
+pair-ready q prepared e =
+    record { prepared = prepared; start = e; entries-A = q .entries-A; entries-B = q .entries-B; unit-A = q .unit-A; unit-B = q .unit-B }
 
 module _ (v : ℕ) (t a b : List ℤ) {m : List ℤ} (m-is : m ≡ toList (followed v t (ofList b ⊗ adj (ofList a)))) where
   pub along-found : lettersAlong v t (ofList m) ≡ foundWord v t (ofList a) (ofList b)

@@ -2,6 +2,7 @@
 --
 --   Queried                     the answer of `query`
 --   queryRefusal                the refusal that the answer is, noRefusal for a word
+--   four ns i                   the four numbers of ns from the number i on: a matrix, row by row
 --   entryAt a b i               the entry i of the pair: 0 to 3 in A, 4 to 7 in B
 --   large a b i                 whether it is beyond 1,000,000 in size
 --   unit m                      whether the determinant of m is 1
@@ -18,7 +19,7 @@
 --   wordLeft r l out            what the call leaves in the word space: the letters l from the start place on, or all as it was
 --   partOf out start n          the part of n letters from `start` on, empty where it doesn't fit
 use mathlib.Core.Bool.{Bool, true, false, not, _&&_}
-use mathlib.Core.List.{List, [], _++_}
+use mathlib.Core.List.{List, [], _∷_, _++_}
 use Prim.Native.Nat.{ℕ, _+_, _-_}
 use lib.Dec.{leb, ltb, eqb}
 use lib.ListN.{length, take, drop}
@@ -44,6 +45,9 @@ queryRefusal (queried.Word start n sign) = noRefusal
 queryRefusal (queried.Refused f) = f
 
 -- ---- the pair
+
+unfoldable pub four : List ℤ → ℕ → List ℤ
+four ns i = nth ns i ∷ nth ns (i + 1) ∷ nth ns (i + 2) ∷ nth ns (i + 3) ∷ []
 
 abbrev pub entryAt : (a b : List ℤ) → ℕ → ℤ
 entryAt a b i = pick (ltb i 4) (nth a i) (nth b (i - 4))

@@ -16,7 +16,7 @@ use symbol::check;
 use walk::walk;
 use walk_steps::prepare;
 ghost use mathlib.Core.Path.{_≡_};
-ghost use Prim.Native.Nat.{_+_, _-_, _<_};
+ghost use Prim.Native.Nat.{_+_, _-_, _≤_, _<_};
 ghost use lib.Dec.{leb};
 ghost use lib.ListN.{length};
 ghost use lib.IntN.{natAbs};
@@ -26,9 +26,9 @@ ghost use Rattle.workspace.specs.Space.{zeros};
 ghost use Rattle.basics.specs.Count.{first};
 ghost use Rattle.symbol.specs.Symbol.{IsSymbol};
 ghost use Rattle.polygon.specs.Walk.{followed};
-ghost use Rattle.word.specs.Answer.{queryRefusal, entryAt, large, unit, foundWord, foundOf, queryOf, queryWork, wordLeft, partOf};
+ghost use Rattle.word.specs.Answer.{queryRefusal, signNumber, four, entryAt, large, unit, foundWord, foundOf, queryOf, queryWork, wordLeft, partOf};
 ghost use Rattle.word.specs.Claim.{Asked, Claim};
-ghost use Rattle.word.specs.Inner.Ready.{judgedOf, lettersAlong, endOf, WalkReady};
+ghost use Rattle.word.specs.Inner.Ready.{judgedOf, lettersAlong, endOf, WalkReady, PairReady};
 
 // The answer of `query`.
 pub enum Queried {
@@ -36,6 +36,14 @@ pub enum Queried {
     Word(usize, usize, bool),
     // The table is no symbol, the pair is no pair of matrices, a space is too short, or no word exists.
     Refused(Refusal),
+}
+
+// The matrix in the four numbers from the number i on.
+pub fn four_at(ns: &[i64], i: usize) -> [i64; 4]
+    requires { ⌜ i + 4 ≤ length (now ns) ⌝ }
+    ensures { λ r. ⌜ r ≡ four (now (ns .entry)) i ⌝ }
+{
+    [ns[i], ns[i + 1], ns[i + 2], ns[i + 3]]
 }
 
 // Whether x is at most 1,000,000 in size.
@@ -151,6 +159,25 @@ fn find(
     Queried::Word(start, n, end.sign)
 }
 
+// The answer for a pair that passed 8 and 9, by the tables in the work space and the start of the symbol.
+pub fn answer_ready(
+    t: &[i64],
+    v: usize,
+    w: &[u16],
+    home: usize,
+    a: [i64; 4],
+    b: [i64; 4],
+    out: &mut [i16],
+    start: usize,
+) -> Queried
+    requires { ⌜ PairReady (now t) v (now w) a b home ⌝ }
+    ensures { λ r. ⌜ r ≡ foundOf v (now (t .entry)) a b start (length (now (out .entry))) ⌝ }
+    ensures { λ r. ⌜ now (out .exit) ≡ wordLeft r (foundWord v (now (t .entry)) (ofList a) (ofList b)) (now (out .entry)) ⌝ }
+{
+    let m = matrix_between(t, v, a, b);
+    find(t, v, w, m, home, out, start)
+}
+
 // The answer for an accepted symbol and pair; the work space is cleared after.
 fn answer(
     v: usize,
@@ -168,8 +195,7 @@ fn answer(
 {
     let home = polygon::build(t, v, w);
     prepare(t, v, w);
-    let m = matrix_between(t, v, a, b);
-    let found = find(t, v, w, m, home, out, start);
+    let found = answer_ready(t, v, w, home, a, b, out, start);
     workspace::clear(w);
     found
 }
@@ -229,6 +255,16 @@ pub fn query_refusal(answer: Queried) -> Refusal
         },
         Queried::Refused(refusal) => refusal,
     }
+}
+
+// The number of a sign: 1 for plus, -1 for minus.
+pub fn sign_number(sign: bool) -> i64
+    ensures { λ r. ⌜ r ≡ signNumber sign ⌝ }
+{
+    if sign {
+        return 1;
+    }
+    -1
 }
 
 // The part of the lent space that an answer names: `length` letters from the place `start` on, and the empty part where they don't

@@ -1,5 +1,5 @@
-//! A yardstick: five of the engine's programs, and sameness as a function, once
-//! more in plain Rust, written for speed and without any proof. Whoever wants to
+//! A yardstick: five of the engine's programs, and sameness and sheets of pairs as
+//! functions, once more in plain Rust, written for speed and without any proof. Whoever wants to
 //! know what the engine's proofs cost in time compares with these.
 //!
 //! | module    | what it holds                                                    |
@@ -12,6 +12,7 @@
 //! | `import`  | two permutations in, a symbol out, by either rule                |
 //! | `named`   | a family and N in, a symbol out                                  |
 //! | `same`    | whether two symbols generate the same subgroup, as a function    |
+//! | `sheet`   | many pairs against one symbol, whose tables are built once       |
 //! | `inputs`  | texts to measure with                                            |
 //! | `timing`  | wall times of two programs, run by turns                         |
 //!
@@ -27,6 +28,7 @@ pub mod named;
 pub mod polygon;
 pub mod query;
 pub mod same;
+pub mod sheet;
 pub mod symbol;
 pub mod text;
 pub mod timing;

@@ -34,40 +34,73 @@ fn try_query(text: &[u8]) -> Result<(bool, Vec<i16>), Refusal> {
     }
     let (table, pair) = numbers.split_at(numbers.len() - 8);
     let symbol = Symbol::new(table[0], &table[1..])?;
-    if let Some(place) = pair
-        .iter()
-        .position(|entry| entry.unsigned_abs() > 1_000_000)
-    {
-        return Err((8, place));
-    }
-    let &[a, b, c, d, e, f, g, h] = pair else {
-        unreachable!("eight entries were split off");
+    let pair = Pair::new(pair)?;
+    let mut word = Vec::with_capacity(LENT);
+    walk(&Polygon::new(&symbol), pair.quotient(), LENT, &mut word)?;
+    let plus = match word.is_empty() {
+        true => pair.is_equal(),
+        false => pair.is_taken(&matrices(&symbol), &word),
     };
-    if a * d - b * c != 1 {
-        return Err((9, 0));
-    }
-    if e * h - f * g != 1 {
-        return Err((9, 1));
-    }
-    // B A^-1 = (e f; g h) (d -b; -c a).
-    let x = [e * d - f * c, f * a - e * b, g * d - h * c, h * a - g * b];
-    let word = word(&Polygon::new(&symbol), x)?;
-    Ok((takes(&symbol, &word, [a, c], [e, g]), word))
+    Ok((plus, word))
 }
 
-/// Whether the word's product takes the one column to the other. It takes it to
-/// that or to its negative, and the two differ modulo 2^64: the column isn't 0,
-/// and its entries are small.
-fn takes(symbol: &Symbol, word: &[i16], from: [i64; 2], to: [i64; 2]) -> bool {
-    if word.is_empty() {
-        return from == to;
+/// A and B.
+pub struct Pair([i64; 8]);
+
+impl Pair {
+    /// Eight entries; refusals 8 and 9.
+    pub fn new(entries: &[i64]) -> Result<Pair, Refusal> {
+        if let Some(place) = entries
+            .iter()
+            .position(|entry| entry.unsigned_abs() > 1_000_000)
+        {
+            return Err((8, place));
+        }
+        let &[a, b, c, d, e, f, g, h] = entries else {
+            unreachable!("a pair has eight entries");
+        };
+        if a * d - b * c != 1 {
+            return Err((9, 0));
+        }
+        if e * h - f * g != 1 {
+            return Err((9, 1));
+        }
+        Ok(Pair([a, b, c, d, e, f, g, h]))
     }
+
+    /// B A^-1 = (e f; g h) (d -b; -c a).
+    pub fn quotient(&self) -> [i64; 4] {
+        let Pair([a, b, c, d, e, f, g, h]) = self;
+        [e * d - f * c, f * a - e * b, g * d - h * c, h * a - g * b]
+    }
+
+    /// Whether the first columns are equal.
+    pub fn is_equal(&self) -> bool {
+        (self.0[0], self.0[2]) == (self.0[4], self.0[6])
+    }
+
+    /// Whether the word takes A to B and not to -B.
+    pub fn is_taken(&self, matrices: &[[i64; 4]], word: &[i16]) -> bool {
+        let Pair([a, _, c, _, e, _, g, _]) = *self;
+        takes(matrices, word, [a, c], [e, g])
+    }
+}
+
+/// The generators' matrices.
+pub fn matrices(symbol: &Symbol) -> Vec<[i64; 4]> {
     let mut matrices = Vec::with_capacity(symbol.generators);
     for side in 0..=symbol.v {
         if symbol.generator[side] as usize > matrices.len() {
             matrices.push(symbol.matrix(side));
         }
     }
+    matrices
+}
+
+/// Whether the word's product takes the one column to the other. It takes it to
+/// that or to its negative, and the two differ modulo 2^64: the column isn't 0,
+/// and its entries are small.
+fn takes(matrices: &[[i64; 4]], word: &[i16], from: [i64; 2], to: [i64; 2]) -> bool {
     let [mut x, mut y] = from;
     for &letter in word.iter().rev() {
         let [a, b, c, d] = matrices[letter.unsigned_abs() as usize - 1];
@@ -86,7 +119,9 @@ fn takes(symbol: &Symbol, word: &[i16], from: [i64; 2], to: [i64; 2]) -> bool {
 struct Walk<'a> {
     steps: &'a [Steps],
     position: u16,
-    letters: Vec<i16>,
+    /// The letters that are kept, and how many there may be.
+    letters: &'a mut Vec<i16>,
+    room: usize,
     /// How many letters there are, kept or not.
     written: usize,
 }
@@ -97,7 +132,7 @@ impl Walk<'_> {
         let Step { to, letter } = choose(&self.steps[self.position as usize]);
         self.position = to;
         if letter != 0 {
-            if self.written < LENT {
+            if self.written < self.room {
                 self.letters.push(letter);
             }
             self.written += 1;
@@ -105,12 +140,19 @@ impl Walk<'_> {
     }
 }
 
-/// The word that the walk along x writes.
-fn word(polygon: &Polygon, x: [i64; 4]) -> Result<Vec<i16>, Refusal> {
+/// Puts the word that the walk along x writes to `letters`, which are empty, where
+/// it has no more than `room` of them.
+pub fn walk(
+    polygon: &Polygon,
+    x: [i64; 4],
+    room: usize,
+    letters: &mut Vec<i16>,
+) -> Result<(), Refusal> {
     let mut walk = Walk {
         steps: &polygon.steps,
         position: polygon.start,
-        letters: Vec::with_capacity(LENT),
+        letters,
+        room,
         written: 0,
     };
     let [mut a, mut b, mut c, mut d] = x;
@@ -151,8 +193,8 @@ fn word(polygon: &Polygon, x: [i64; 4]) -> Result<Vec<i16>, Refusal> {
     if walk.position != polygon.start {
         return Err((10, 0));
     }
-    if walk.written > LENT {
+    if walk.written > room {
         return Err((11, walk.written));
     }
-    Ok(walk.letters)
+    Ok(())
 }

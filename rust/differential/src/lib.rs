@@ -30,6 +30,7 @@ pub mod named;
 pub mod outcome;
 pub mod query;
 pub mod same;
+pub mod sheet;
 pub mod spaces;
 pub mod symbols;
 pub mod tables;
@@ -45,7 +46,7 @@ use reference::random::Rng;
 pub type Call = (&'static str, fn(&mut Rng) -> Outcome);
 
 /// All calls.
-pub const CALLS: [Call; 19] = [
+pub const CALLS: [Call; 20] = [
     ("check", check::case),
     ("generators", generators::case),
     ("figures", figures::case),
@@ -65,6 +66,7 @@ pub const CALLS: [Call; 19] = [
     ("signed_query", query::signed_case),
     ("named_signed_query", named::signed_query_case),
     ("named_signed_query_wide", named::signed_query_wide_case),
+    ("sheet", sheet::case),
 ];
 
 /// Makes every call once for each case: the counts of each, in the order of

@@ -2,6 +2,8 @@
 //! 8, 9, 11 for the work space, 10, 11 for the word's space from its start place
 //! on.
 
+use std::cell::OnceCell;
+
 use farey::calls;
 use reference::coset::Cosets;
 use reference::matrix::Matrix;
@@ -27,7 +29,7 @@ pub fn signed_case(rng: &mut Rng) -> Outcome {
 fn by(signed: bool, rng: &mut Rng) -> Outcome {
     let lent = symbol(rng);
     let symbol = lent.symbol();
-    let pair = matrices(rng, symbol.as_ref().ok());
+    let pair = matrices(rng, symbol.as_ref().ok(), &OnceCell::new());
     let (v, table) = (lent.v, lent.table.read());
     let calls = Calls {
         plain: &|a, b, work, out, start| calls::query(v, table, a, b, work, out, start),
@@ -171,7 +173,7 @@ fn judged(
 
 /// Small symbols most of the time: with a large index a pair that wasn't made
 /// for it hardly ever has a word.
-fn symbol(rng: &mut Rng) -> Lent {
+pub fn symbol(rng: &mut Rng) -> Lent {
     let v = match rng.below(10) {
         0..=5 => 1 + rng.below(6),
         6..=8 => size(rng).min(40),
@@ -181,10 +183,17 @@ fn symbol(rng: &mut Rng) -> Lent {
     Lent::of(rng, &draft)
 }
 
-/// A and B, now and then with one fault or two.
-fn matrices(rng: &mut Rng, symbol: Option<&Symbol>) -> [[i64; 4]; 2] {
+/// A and B, now and then with one fault or two. The symbol's cosets are made where
+/// they are needed and aren't there yet.
+pub fn matrices(
+    rng: &mut Rng,
+    symbol: Option<&Symbol>,
+    cosets: &OnceCell<Cosets>,
+) -> [[i64; 4]; 2] {
     let (a, b) = match (rng.below(100), symbol) {
-        (0..=64, Some(symbol)) => found_pair(rng, symbol, &Cosets::new(symbol)),
+        (0..=64, Some(symbol)) => {
+            found_pair(rng, symbol, cosets.get_or_init(|| Cosets::new(symbol)))
+        }
         (65..=69, _) => {
             // The empty word.
             let (a, _) = any_pair(rng, false);

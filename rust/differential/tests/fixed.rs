@@ -54,6 +54,11 @@ fn reachable(call: &str) -> BTreeSet<Reason> {
             let answers = vec![(0, "yes"), (0, "no")];
             [answers, symbol, second, vec![(11, "work")]].concat()
         }
+        "sheet" => {
+            let answers = vec![(0, ""), (0, "a word without room")];
+            let spaces = vec![(11, "entries"), (11, "work"), (11, "lines")];
+            [answers, symbol, spaces].concat()
+        }
         "drawing" => [vec![(0, ""), (11, "")], symbol, plain(22..=22)].concat(),
         "named_tables" => {
             let spaces = vec![(11, "work"), (11, "s"), (11, "r")];
@@ -101,6 +106,7 @@ fn every_call_is_as_the_reference_has_it() {
     assert_eq!(calls["import"].largest, 1_023);
     assert_eq!(calls["import_wide"].largest, 1_023);
     assert_eq!(calls["drawing"].largest, 1_024);
+    assert_eq!(calls["sheet"].largest, 256);
     assert!(calls["widths"].largest >= 500);
     assert!(calls["query"].largest >= 30_000);
     assert!(calls["signed_query"].largest >= 30_000);

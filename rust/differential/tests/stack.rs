@@ -145,6 +145,7 @@ fn calls_stay_within_the_stack_that_the_header_names() {
     let mut table = vec![0; calls::TABLE];
     let mut columns = [(); 3].map(|()| vec![0; calls::COSETS]);
     let mut word = vec![0; 20_000];
+    let mut lines = vec![0; 4 * calls::SHEET];
     let mut floats = vec![0.0; calls::DRAWING];
     for (round, &(family, n)) in NAMES.iter().enumerate() {
         let draft = match round {
@@ -192,6 +193,12 @@ fn calls_stay_within_the_stack_that_the_header_names() {
         measure("farey_signed_query", &mut || {
             let (work, word) = (&mut work, &mut word);
             let _ = black_box(calls::signed_query(v, &t, &a, &b, work, word, 0, &mut sign));
+        });
+        // The same pair again and again, in lines and letters for all of them.
+        let pairs: Vec<i64> = [a, b].concat().repeat(calls::SHEET);
+        measure("farey_sheet", &mut || {
+            let (work, lines) = (&mut work, &mut lines);
+            let _ = black_box(calls::sheet(v, &t, &pairs, work, lines, &mut word));
         });
         measure("farey_same", &mut || {
             let _ = black_box(calls::same(v, &t, v, &t, &mut work));
@@ -251,7 +258,7 @@ fn calls_stay_within_the_stack_that_the_header_names() {
             }
         }
     }
-    assert_eq!(most.0.len(), 19);
+    assert_eq!(most.0.len(), 20);
     let promised = promised();
     println!("a thread by itself: {nothing}; FAREY_STACK: {promised}");
     for (call, bytes) in most.0 {

@@ -20,6 +20,8 @@ pub const GENERATORS: usize = 5_120;
 pub const COSETS: usize = 4_090;
 /// Enough for the sides of every symbol, four floats each.
 pub const DRAWING: usize = 4_096;
+/// The pairs of a sheet, at most: eight entries and four numbers of lines each.
+pub const SHEET: usize = 256;
 /// Enough for the table of S, and of R, of every named group.
 pub const NAMED: usize = 3_066;
 
@@ -133,6 +135,20 @@ mod engine {
             out_len: usize,
             start: usize,
             sign: *mut i64,
+            place: *mut usize,
+        ) -> u64;
+        pub fn farey_sheet(
+            v: usize,
+            t: *const i64,
+            t_len: usize,
+            p: *const i64,
+            p_len: usize,
+            work: *mut u16,
+            work_len: usize,
+            lines: *mut i64,
+            lines_len: usize,
+            out: *mut i16,
+            out_len: usize,
             place: *mut usize,
         ) -> u64;
         pub fn farey_same(
@@ -468,6 +484,37 @@ pub fn signed_query(
             out.len(),
             start,
             sign,
+            &mut place,
+        )
+    };
+    answer(number, place)
+}
+
+/// The answers for the pairs in p, eight entries each: four numbers a pair to the
+/// front of lines, and the words one behind another to the front of out. Answers
+/// with the number of pairs.
+pub fn sheet(
+    v: usize,
+    t: &[i64],
+    p: &[i64],
+    work: &mut [u16],
+    lines: &mut [i64],
+    out: &mut [i16],
+) -> Result<usize, Refusal> {
+    let mut place = UNWRITTEN;
+    let number = unsafe {
+        engine::farey_sheet(
+            v,
+            t.as_ptr(),
+            t.len(),
+            p.as_ptr(),
+            p.len(),
+            work.as_mut_ptr(),
+            work.len(),
+            lines.as_mut_ptr(),
+            lines.len(),
+            out.as_mut_ptr(),
+            out.len(),
             &mut place,
         )
     };

@@ -10,6 +10,7 @@
 //! | `calls`   | one safe function for each exported one, on lent slices   |
 //! | `family`  | the families Γ0, Γ1 and Γ, and their tables by name       |
 //! | `refusal` | the error: number, place and a sentence                   |
+//! | `sheet`   | the words of many pairs                                   |
 //! | `symbol`  | symbols that own their tables, and what can be asked      |
 //!
 //! ```
@@ -25,10 +26,12 @@
 pub mod calls;
 pub mod family;
 pub mod refusal;
+pub mod sheet;
 pub mod symbol;
 
 pub use family::Family;
 pub use refusal::Refusal;
+pub use sheet::Answer;
 pub use symbol::{
     Bounds, CosetCusps, Drawing, Figures, Generator, Kind, Shape, Side, Symbol, Tables, Word,
 };

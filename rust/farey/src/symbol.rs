@@ -118,7 +118,7 @@ type Import = fn(&[u32], &[u32], &mut [u16], &mut [i64]) -> Result<usize, Refusa
 type Named = fn(u64, u64, &mut [u16], &mut [i64]) -> Result<usize, Refusal>;
 
 /// A fresh work space.
-fn work() -> Vec<u16> {
+pub(crate) fn work() -> Vec<u16> {
     vec![0; WORK]
 }
 
@@ -132,7 +132,7 @@ fn figure(number: u64, value: u64) -> Result<u64, Refusal> {
 
 /// An answer that can't be a refusal: the symbol is accepted, and the spaces are
 /// long enough for every symbol.
-fn certain<T>(answer: Result<T, Refusal>) -> T {
+pub(crate) fn certain<T>(answer: Result<T, Refusal>) -> T {
     answer.unwrap_or_else(|refusal| unreachable!("{refusal}"))
 }
 

@@ -217,7 +217,30 @@ fn sameness() {
     assert!(!gamma0_2().is_same(&gamma_2) && !gamma_2.is_same(&gamma0_2()));
 }
 
-/// PSL2(Z) by each of its names, and Γ0(2).
+/// Many pairs: each answer is that of `word`, over several sheets and with words
+/// that are longer than what is lent at first.
+#[test]
+fn many_pairs() {
+    let group = gamma0_2();
+    assert_eq!(group.words(&[]), []);
+    let mut pairs = vec![(ONE, T), (ONE, S), (ONE, [0; 4]), ([1_000_001, 0, 0, 1], T)];
+    pairs.extend((0..600).map(|n| (ONE, [1, n, 0, 1])));
+    pairs.extend([(S, [1, -1, 1, 0]), (ONE, [-1, -30_000, 0, -1]), (ONE, T)]);
+    let answers = group.words(&pairs);
+    let expected: Vec<_> = pairs.iter().map(|&(a, b)| group.word(a, b)).collect();
+    assert_eq!(answers, expected);
+    assert_eq!(answers[1], Ok(None));
+    let place = |place| place_of(&answers[place]);
+    assert_eq!([place(2), place(3)], [(9, 1), (8, 0)]);
+    assert_eq!(answers[605], word(-1, &[1; 30_000]));
+}
+
+/// Number and place of a refusal.
+fn place_of(answer: &Result<Option<Word>, Refusal>) -> (u64, usize) {
+    let refusal = answer.as_ref().expect_err("a refusal");
+    (refusal.number, refusal.place)
+}
+
 /// A line, an arc from 0/1 to 1/1, a line; free, even, free.
 #[test]
 fn drawings() {
@@ -237,6 +260,7 @@ fn drawings() {
     assert_eq!((drawing.bounds.top, drawing.bounds.right), (0.0, 0.0));
 }
 
+/// PSL2(Z) by each of its names, and Γ0(2).
 #[test]
 fn small_named_groups() {
     let whole = Symbol::new(&[(0, 1)], &[-2, -3]).expect("a symbol");

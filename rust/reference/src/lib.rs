@@ -19,6 +19,7 @@
 //! | `sameness`     | whether two symbols generate the same subgroup                  |
 //! | `drawing`      | sides and box of a drawing, rounded by hand; 22                 |
 //! | `word`         | pair queries: membership, the walk, a word's product and sign   |
+//! | `sheet`        | a sheet of pairs: single queries in one word space              |
 //! | `permutations` | checks 12 to 16, from two permutations to a symbol, two rules   |
 //! | `congruence`   | Γ0(N), Γ1(N), Γ(N): condition, index, permutations; 20 and 21   |
 //! | `report`       | the whole output of the six programs                            |
@@ -36,6 +37,7 @@ pub mod random;
 pub mod refusal;
 pub mod report;
 pub mod sameness;
+pub mod sheet;
 pub mod symbol;
 pub mod text;
 pub mod word;

@@ -11,7 +11,8 @@ use Rattle.matrix.specs.Matrix.{nth}
 use Rattle.text.specs.Reading.{vertexCount}
 use Rattle.word.specs.Answer.{queryWork}
 use Rattle.text_line.proofs.Placing.{puts-as}
-use Rattle.query_text.specs.Reply.{replied, lettersLeft, four}
+use Rattle.query_text.specs.Reply.{replied, lettersLeft}
+use Rattle.word.specs.Answer.{four}
 use Rattle.query_text.proofs.Replied.{asked-as, few-line, few-work, few-letters, enough-line, enough-work, enough-letters}
 use borrow.Author.Needs.{needs}
 use Rattle.query_text.proofs.reply_numbers.Statement.{statement}

@@ -6,6 +6,7 @@
 --   signAlongWalk v t m     the sign of m against that: its own against its alternating word, times that of the walk
 --   endOf v t m start room  the answer by that walk: 10, 11 or the word
 --   WalkReady t v w m x     the tables are in the work space, x is the start, and the matrix m can be followed
+--   PairReady t v w a b x   the tables are in the work space, x is the start, and the pair passes 8 and 9
 use mathlib.Core.Path.{_≡_}
 use mathlib.Core.Bool.{Bool}
 use mathlib.Core.List.{List}
@@ -48,3 +49,11 @@ pub record WalkReady (t : List ℤ) (v : ℕ) (w : List ℕ) (m : List ℤ) (x :
   pub start : x ≡ startOf v t
   pub unit : det (ofList m) ≡ pos 1
   pub small : Small (2 ^ 50) (ofList m)
+
+pub record PairReady (t : List ℤ) (v : ℕ) (w : List ℕ) (a b : List ℤ) (x : ℕ) : Type 0 where
+  pub prepared : StepsReady t v w (places v)
+  pub start : x ≡ startOf v t
+  pub entries-A : Small 1000000 (ofList a)
+  pub entries-B : Small 1000000 (ofList b)
+  pub unit-A : det (ofList a) ≡ pos 1
+  pub unit-B : det (ofList b) ≡ pos 1

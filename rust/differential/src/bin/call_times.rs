@@ -1,6 +1,6 @@
-//! Times of the calls by name, and of sameness, beside the plain functions of
-//! `bench`, without any process: one after the other by turns, and the medians in
-//! microseconds.
+//! Times of the calls by name, of sameness and of a sheet of pairs, beside the plain
+//! functions of `bench`, without any process: one after the other by turns, and the
+//! medians in microseconds. The sheet stands beside as many single queries too.
 //!
 //!     call-times [RUNS]
 
@@ -10,9 +10,14 @@ use std::time::{Duration, Instant};
 
 use bench::named::{named_symbol_wide, named_tables};
 use bench::same::{same, same_by_tables};
+use bench::sheet::sheet;
 use farey::calls;
+use reference::coset::Cosets;
+use reference::random::matrices::{any_pair, found_pair};
 use reference::random::pairs::{shallow_pair, Pair};
 use reference::random::Rng;
+use reference::sheet::pairs;
+use reference::symbol::Symbol;
 
 fn timed(job: &mut dyn FnMut()) -> Duration {
     let begin = Instant::now();
@@ -76,6 +81,70 @@ fn main() {
             &mut plain,
         );
     }
+    sheet_rows(runs, &mut work, &mut out);
+}
+
+/// A full sheet on Γ0(990), of index 2,592, beside plain Rust that builds once and
+/// beside single queries.
+fn sheet_rows(runs: usize, work: &mut [u16], table: &mut [i64]) {
+    let v = calls::named_symbol_wide(0, 990, work, table).expect("a group");
+    let table = &table[..3 * v + 1];
+    let symbol = Symbol::new(v as i64, table).expect("a symbol");
+    let (cosets, mut rng) = (Cosets::new(&symbol), Rng::new(6));
+    println!(
+        "\n| pairs | letters | sheet | beside it | its time | ratio |\n|---|---|---|---|---|---|"
+    );
+    for (name, part) in [("with words", 100), ("one in two with a word", 50)] {
+        let mut entries = Vec::new();
+        while entries.len() < 8 * calls::SHEET {
+            let (a, b) = match rng.chance(part) {
+                true => found_pair(&mut rng, &symbol, &cosets),
+                false => any_pair(&mut rng, false),
+            };
+            entries.extend([a, b].concat());
+        }
+        let mut lines = vec![0; 4 * calls::SHEET];
+        let letters = {
+            let mut ask = |out: &mut [i16]| {
+                calls::sheet(v, table, &entries, work, &mut lines, out).expect("a sheet");
+                let rows = lines.chunks_exact(4);
+                rows.map(|row| match row[0] {
+                    0 => row[2],
+                    11 => row[1],
+                    _ => 0,
+                })
+                .sum::<i64>()
+            };
+            ask(&mut [])
+        };
+        let (mut out, mut other) = (vec![0; letters as usize], vec![0; letters as usize]);
+        let mut other_work = vec![0; calls::WORK];
+        let mut plain = || {
+            let came = sheet(v as i64, table, &entries, &mut other);
+            black_box(came.expect("a sheet"));
+        };
+        let mut whole = || {
+            let came = calls::sheet(v, table, &entries, work, &mut lines, &mut out);
+            black_box(came.expect("a sheet"));
+        };
+        let [engine, beside] = medians(runs, &mut whole, &mut plain);
+        let ratio = engine / beside;
+        println!("| {name} | {letters} | {engine:.1} | plain Rust | {beside:.1} | {ratio:.2} |");
+        let mut singles = || {
+            let (mut next, mut sign) = (0, 0);
+            for (a, b) in pairs(&entries) {
+                let work = &mut other_work;
+                let came = calls::signed_query(v, table, &a, &b, work, &mut other, next, &mut sign);
+                next += black_box(came.unwrap_or(0));
+            }
+        };
+        let [engine, beside] = medians(runs, &mut whole, &mut singles);
+        let ratio = engine / beside;
+        println!(
+            "| {name} | {letters} | {engine:.1} | single queries | {beside:.1} | {ratio:.3} |"
+        );
+        assert_eq!(out, other);
+    }
 }
 
 /// Two symbols of one group, by `import` and by `import_wide`; and one of them with
@@ -121,6 +190,15 @@ fn pairs_of_symbols(work: &mut [u16]) -> Vec<(String, Vec<i64>, Vec<i64>)> {
 
 /// A row of the table.
 fn row(name: &str, job: &str, runs: usize, engine: &mut dyn FnMut(), plain: &mut dyn FnMut()) {
+    let [engine, plain] = medians(runs, engine, plain);
+    println!(
+        "| {name} | {job} | {engine:.1} | {plain:.1} | {:.2} |",
+        engine / plain
+    );
+}
+
+/// The medians of two jobs that are done by turns.
+fn medians(runs: usize, engine: &mut dyn FnMut(), plain: &mut dyn FnMut()) -> [f64; 2] {
     let mut times = [Vec::new(), Vec::new()];
     for round in 0..runs.max(1) {
         // Neither of the two always comes behind the other.
@@ -132,9 +210,5 @@ fn row(name: &str, job: &str, runs: usize, engine: &mut dyn FnMut(), plain: &mut
             times[0].push(timed(engine));
         }
     }
-    let [engine, plain] = times.map(median);
-    println!(
-        "| {name} | {job} | {engine:.1} | {plain:.1} | {:.2} |",
-        engine / plain
-    );
+    times.map(median)
 }

@@ -1,8 +1,8 @@
 -- `sign_number` is 1 for plus and -1 for minus. Assumes nothing.
 use mathlib.Core.Path.{sym, ap}
 use Rattle.word.specs.Answer.{signNumber}
-use Rattle.engine.proofs.answers.sign_number.Statement.{statement}
-use Rattle.engine.proofs.answers.sign_number.Tie as tie
+use Rattle.word.proofs.sign_number.Statement.{statement}
+use Rattle.word.proofs.sign_number.Tie as tie
 
 returns : tie.Need-returns
 returns c = ap signNumber (sym (c .if1 .taken))

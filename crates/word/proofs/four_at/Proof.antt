@@ -3,10 +3,10 @@ use mathlib.Core.Path.{refl}
 use Prim.Native.Nat.{_+_}
 use Rattle.matrix.specs.Matrix.{nth}
 use Rattle.matrix.proofs.Bounds.{kept}
-use Rattle.query_text.specs.Reply.{four}
+use Rattle.word.specs.Answer.{four}
 use borrow.Author.Needs.{needs}
-use Rattle.query_text.proofs.four_at.Statement.{statement}
-use Rattle.query_text.proofs.four_at.Tie as tie
+use Rattle.word.proofs.four_at.Statement.{statement}
+use Rattle.word.proofs.four_at.Tie as tie
 
 mul-t3 : tie.Need-mul-t3
 mul-t3 c = search needs

@@ -1,0 +1,6 @@
+-- Why a sheet answers what it does, in reading order: how long a word can be, one pair, the word space from pair to pair, the lines, the whole sheet.
+pub mod Long
+pub mod Single
+pub mod Spaces
+pub mod Lines
+pub mod Whole

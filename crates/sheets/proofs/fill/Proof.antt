@@ -1,0 +1,86 @@
+-- `fill` has two ways out: a line table that is too short, and the answers for all pairs. Assumes nothing.
+use mathlib.Core.Path.{refl, _∙_, ap}
+use Prim.Native.Nat.{ℕ, _*_, _/_}
+use native.Mathlib.Omega.{arith}
+use mathlib.Core.List.{_++_}
+use lib.ListN.{length, drop}
+use Rattle.workspace.specs.Space.{zeros}
+use Rattle.coset.proofs.Answer.{one-short, one-room}
+use Rattle.sheets.specs.Sheet.{pairsIn, spaceAt, linesTo}
+use borrow.Author.Needs.{needs}
+use Rattle.sheets.proofs.fill.Statement.{statement}
+use Rattle.sheets.proofs.fill.Tie as tie
+
+clear-requires : tie.Need-clear-requires
+clear-requires c κs = search needs
+
+same-length : tie.Need-same-length
+same-length c = search needs
+
+returns : tie.Need-returns
+returns c =
+    let s = c .before .before .before .before .before .before in
+    (one-short (pairsIn (s .args .p .now)) (length (s .args .lines .now) / 4) (c .before .before .before .before .if1 .taken), (c .before .before .clear .ensures, (refl, refl)))
+
+build-requires : tie.Need-build-requires
+build-requires c κs = search needs
+
+prepare-requires : tie.Need-prepare-requires
+prepare-requires c κs = search needs
+
+answer-pairs-requires : tie.Need-answer-pairs-requires
+answer-pairs-requires c κs =
+    let q = c .before .before .before .before .before in
+    let b = q .before .before .before .before in
+    let s = b .before .before .before .before in (
+      record { prepared = q .prepare .ensures .0; start = b .build .ensures .0 .start },
+      record { symbol = s .pre .symbol; count = s .pre .count; work = q .prepare .ensures .0 .tables .long },
+      omega (arith, b .before .before .if1 .left),
+    )
+
+clear-requires-2 : tie.Need-clear-requires-2
+clear-requires-2 c κs = search needs
+
+same-length-2 : tie.Need-same-length-2
+same-length-2 c = search needs
+
+same-length-3 : tie.Need-same-length-3
+same-length-3 c = search needs
+
+same-length-4 : tie.Need-same-length-4
+same-length-4 c = search needs
+
+returns-2 : tie.Need-returns-2
+returns-2 c =
+    let a = c .before .before .before .before .before .before in
+    let q = a .before .before .before .before .before .before in
+    let b = q .before .before .before .before in
+    let s = b .before .before .before .before in
+    let g = s .args in
+    let n = pairsIn (g .p .now) in
+    let kept = q .prepare .ensures .1 ∙ b .build .ensures .1 in (
+      one-room n (length (g .lines .now) / 4) (b .before .before .if1 .left),
+      (
+        c .before .before .clear2 .ensures ∙ ap zeros kept,
+        (
+          a .answer-pairs .ensures .0 ∙ ap (λ (k : ℕ). linesTo (g .v) (g .t .now) (g .p .now) k (g .out .now) n ++ drop (4 * n) (g .lines .now)) kept,
+          a .answer-pairs .ensures .1 ∙ ap (λ (k : ℕ). spaceAt (g .v) (g .t .now) (g .p .now) k (g .out .now) n .letters) kept,
+        ),
+      ),
+    )
+
+pub fill-spec : {M : Type 1} → statement M
+fill-spec =
+    tie.close
+    (tie.spec
+    clear-requires
+    same-length
+    returns
+    build-requires
+    prepare-requires
+    answer-pairs-requires
+    clear-requires-2
+    same-length-2
+    same-length-3
+    same-length-4
+    returns-2)

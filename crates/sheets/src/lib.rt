@@ -1,0 +1,218 @@
+// A sheet of pairs against one symbol: its tables are built once, and line by line the answers are those of single queries in the same word space.
+//
+// specs/Sheet.antt says what a sheet answers and leaves, specs/Meaning.antt what that means.
+use refusal::BAD_DETERMINANT;
+use refusal::Checked;
+use refusal::Filled;
+use refusal::MATRIX_ENTRY;
+use refusal::Refusal;
+use refusal::TOO_SHORT;
+use symbol::check;
+use walk_steps::prepare;
+use word::Queried;
+use word::answer_ready;
+use word::four_at;
+use word::judge;
+use word::sign_number;
+ghost use mathlib.Core.Path.{_≡_};
+ghost use mathlib.Core.List.{[], _∷_, _++_};
+ghost use Prim.Native.Nat.{_+_, _*_, _/_, _^_, _≤_, _<_};
+ghost use lib.ListN.{length, drop};
+ghost use lib.IntN.{pos};
+ghost use Rattle.matrix.specs.Matrix.{ofList};
+ghost use Rattle.workspace.specs.Space.{zeros};
+ghost use Rattle.coset.specs.Answer.{roomOne};
+ghost use Rattle.pairing.specs.Generator.{workAfter};
+ghost use Rattle.word.specs.Answer.{four, foundWord, wordLeft};
+ghost use Rattle.sheets.specs.Sheet.{pairsIn, badCount, sheetCheck, wordEnd, spaceAt, lineOf, linesTo, sheetOf, linesLeft, lettersAfter};
+ghost use Rattle.sheets.specs.Meaning.{SheetMeans};
+ghost use Rattle.sheets.specs.Inner.Pairs.{TablesReady, pairOf, SheetReady, lineAt, Fitting};
+
+// The entries of a sheet, at most.
+pub const ENTRIES: usize = 2048;
+
+// Whether n entries are no sheet.
+fn is_bad_count(n: usize) -> bool
+    ensures { λ r. ⌜ r ≡ badCount n ⌝ }
+{
+    if n % 8 != 0 {
+        return true;
+    }
+    ENTRIES < n
+}
+
+// Where the next word starts.
+fn word_end(answer: Queried, next: usize) -> usize
+    requires { ⌜ Fitting answer ⌝ }
+    ensures { λ r. ⌜ r ≡ wordEnd answer next ⌝ }
+{
+    match answer {
+        Queried::Word(start, n, _) => start + n,
+        Queried::Refused(_) => next,
+    }
+}
+
+// The four numbers of a line at the place i of the table.
+fn put_line(lines: &mut [i64], i: usize, a: i64, b: i64, c: i64, d: i64)
+    requires { ⌜ 4 * i + 4 ≤ length (now lines) ⌝ }
+    ensures { λ _. ⌜ now (lines .exit) ≡ lineAt i (a ∷ b ∷ c ∷ d ∷ []) (now (lines .entry)) ⌝ }
+{
+    lines[4 * i] = a;
+    lines[4 * i + 1] = b;
+    lines[4 * i + 2] = c;
+    lines[4 * i + 3] = d;
+}
+
+// A number among the signed ones.
+fn signed(n: u64) -> i64
+    requires { ⌜ n < 2 ^ 63 ⌝ }
+    ensures { λ r. ⌜ r ≡ pos n ⌝ }
+{
+    n as i64
+}
+
+// The line of an answer at the place i of the table.
+fn write_line(lines: &mut [i64], i: usize, answer: Queried)
+    requires { ⌜ (4 * i + 4 ≤ length (now lines)) × Fitting answer ⌝ }
+    ensures { λ _. ⌜ now (lines .exit) ≡ lineAt i (lineOf answer) (now (lines .entry)) ⌝ }
+{
+    match answer {
+        Queried::Word(start, n, sign) => {
+            put_line(
+                lines,
+                i,
+                0,
+                signed(start as u64),
+                signed(n as u64),
+                sign_number(sign),
+            );
+        }
+        Queried::Refused(refusal) => {
+            put_line(
+                lines,
+                i,
+                signed(refusal.number),
+                signed(refusal.place as u64),
+                0,
+                0,
+            );
+        }
+    }
+}
+
+// The answer for the pair in eight entries, by the tables in the work space.
+fn answer_pair(
+    t: &[i64],
+    v: usize,
+    w: &[u16],
+    home: usize,
+    pair: &[i64],
+    out: &mut [i16],
+    start: usize,
+) -> Queried
+    requires { ⌜ TablesReady (now t) v (now w) home × (length (now pair) ≡ 8) ⌝ }
+    ensures { λ r. ⌜ r ≡ pairOf v (now (t .entry)) (four (now (pair .entry)) 0) (four (now (pair .entry)) 4) (length (now (out .entry))) start ⌝ }
+    ensures { λ r. ⌜ now (out .exit) ≡ wordLeft r (foundWord v (now (t .entry)) (ofList (four (now (pair .entry)) 0)) (ofList (four (now (pair .entry)) 4))) (now (out .entry)) ⌝ }
+{
+    let a = four_at(pair, 0);
+    let b = four_at(pair, 4);
+    let judged = judge(a, b);
+    if judged < 8 {
+        return Queried::Refused(Refusal {
+            number: MATRIX_ENTRY,
+            place: judged,
+        });
+    }
+    if judged < 10 {
+        return Queried::Refused(Refusal {
+            number: BAD_DETERMINANT,
+            place: judged - 8,
+        });
+    }
+    answer_ready(t, v, w, home, a, b, out, start)
+}
+
+// The answers for all pairs, each in its own line.
+fn answer_pairs(
+    t: &[i64],
+    v: usize,
+    w: &[u16],
+    home: usize,
+    p: &[i64],
+    lines: &mut [i64],
+    out: &mut [i16],
+)
+    requires { ⌜ TablesReady (now t) v (now w) home × SheetReady v (now t) (now p) (now w) × (4 * pairsIn (now p) ≤ length (now lines)) ⌝ }
+    ensures { λ _. ⌜ now (lines .exit) ≡ linesTo v (now (t .entry)) (now (p .entry)) (length (now (w .entry))) (now (out .entry)) (pairsIn (now (p .entry))) ++ drop (4 * pairsIn (now (p .entry))) (now (lines .entry)) ⌝ }
+    ensures { λ _. ⌜ now (out .exit) ≡ spaceAt v (now (t .entry)) (now (p .entry)) (length (now (w .entry))) (now (out .entry)) (pairsIn (now (p .entry))) .letters ⌝ }
+{
+    let n = p.len() / 8;
+    let mut next: usize = 0;
+    let mut i: usize = 0;
+    while i < n {
+        let answer = answer_pair(t, v, w, home, &p[8 * i..8 * i + 8], out, next);
+        write_line(lines, i, answer);
+        next = word_end(answer, next);
+        i += 1;
+    }
+}
+
+// The answer where the sheet passes its checks and the work space is long enough, which is cleared after.
+fn fill(v: usize, t: &[i64], p: &[i64], w: &mut [u16], lines: &mut [i64], out: &mut [i16]) -> Filled
+    requires { ⌜ SheetReady v (now t) (now p) (now w) ⌝ }
+    ensures { λ r. ⌜ r ≡ roomOne (pairsIn (now (p .entry))) (length (now (lines .entry)) / 4) ⌝ }
+    ensures { λ r. ⌜ now (w .exit) ≡ zeros (length (now (w .entry))) ⌝ }
+    ensures { λ r. ⌜ now (lines .exit) ≡ linesLeft r (linesTo v (now (t .entry)) (now (p .entry)) (length (now (w .entry))) (now (out .entry)) (pairsIn (now (p .entry)))) (now (lines .entry)) ⌝ }
+    ensures { λ r. ⌜ now (out .exit) ≡ lettersAfter r (spaceAt v (now (t .entry)) (now (p .entry)) (length (now (w .entry))) (now (out .entry)) (pairsIn (now (p .entry))) .letters) (now (out .entry)) ⌝ }
+{
+    let n = p.len() / 8;
+    if lines.len() / 4 < n {
+        workspace::clear(w);
+        return Filled::Refused(Refusal {
+            number: TOO_SHORT,
+            place: n,
+        });
+    }
+    let home = polygon::build(t, v, w);
+    prepare(t, v, w);
+    answer_pairs(t, v, w, home, p, lines, out);
+    workspace::clear(w);
+    Filled::Made(n)
+}
+
+// The lines of all pairs in p, from the front of `lines`, and their words in `out`: 11 for a number of entries that is no sheet, then checks 1 to 7,
+// then the work space, then the line table, counted in whole lines.
+pub fn sheet(
+    v: usize,
+    t: &[i64],
+    p: &[i64],
+    w: &mut [u16],
+    lines: &mut [i64],
+    out: &mut [i16],
+) -> Filled
+    ensures { λ r. ⌜ r ≡ sheetOf v (now (t .entry)) (length (now (p .entry))) (length (now (w .entry))) (length (now (lines .entry))) ⌝ }
+    ensures { λ r. ⌜ now (w .exit) ≡ workAfter (sheetCheck v (now (t .entry)) (length (now (p .entry)))) (now (w .entry)) ⌝ }
+    ensures { λ r. ⌜ now (lines .exit) ≡ linesLeft r (linesTo v (now (t .entry)) (now (p .entry)) (length (now (w .entry))) (now (out .entry)) (pairsIn (now (p .entry)))) (now (lines .entry)) ⌝ }
+    ensures { λ r. ⌜ now (out .exit) ≡ lettersAfter r (spaceAt v (now (t .entry)) (now (p .entry)) (length (now (w .entry))) (now (out .entry)) (pairsIn (now (p .entry))) .letters) (now (out .entry)) ⌝ }
+    ensures { λ r. ⌜ SheetMeans v (now (t .entry)) (now (p .entry)) (now (w .entry)) (now (out .entry)) r (now (out .exit)) ⌝ }
+{
+    if is_bad_count(p.len()) {
+        return Filled::Refused(Refusal {
+            number: TOO_SHORT,
+            place: ENTRIES,
+        });
+    }
+    let checked = check(v, t);
+    match checked {
+        Checked::Refused(refusal) => Filled::Refused(refusal),
+        Checked::Accepted => {
+            if w.len() < workspace::WORK {
+                return Filled::Refused(Refusal {
+                    number: TOO_SHORT,
+                    place: workspace::WORK,
+                });
+            }
+            fill(v, t, p, w, lines, out)
+        }
+    }
+}
