@@ -391,7 +391,9 @@ class Symbol:
     def cusp_of(self, A: Matrix) -> Cusp:
         """The cusp of H to which A = (a b; c d) sends infinity, the class of a/c under H, with
         its width. Two matrices have the same cusp precisely when some element of H takes
-        the one's fraction a/c to the other's. Refusals 8 and 9, as `in`.
+        the one's fraction a/c to the other's. The tables are proved; what is said here of
+        fractions, and the lines that follow A in the tables, are tested. Refusals 8 and 9,
+        as `in`.
 
         >>> H = Symbol.gamma0(11)
         >>> H.cusp_of((1, 0, 0, 1)), H.cusp_of((0, -1, 1, 0))

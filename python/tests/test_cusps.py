@@ -30,21 +30,41 @@ class Record(unittest.TestCase):
                 self.assertEqual(smallest, sorted(smallest))
 
 
+def representatives(H):
+    """A matrix for each coset, by the tables of S and R."""
+    found = {0: by_hand.I}
+    for x in range(H.index):
+        for image, M in (H.S[x], (0, -1, 1, 0)), (H.R[x], (0, -1, 1, 1)):
+            found.setdefault(image, by_hand.product(found[x], M))
+    return [found[x] for x in range(H.index)]
+
+
 class Fractions(unittest.TestCase):
     """Which cusp a matrix sends infinity to."""
 
     def test_widths_of_gamma0(self):
-        """The cusp a/c of Γ0(N) has the width N / gcd(c², N)."""
+        """The cusp a/c of Γ0(N) has the width N / gcd(c², N), and every cusp is met."""
         for N in [1, 2, 4, 6, 9, 11, 12, 25, 30, 36, 60]:
             H = Symbol.gamma0(N)
             met = set()
-            for A in by_hand.small_matrices(4):
+            for A in representatives(H):
                 cusp = H.cusp_of(A)
                 self.assertEqual(cusp.width, N // math.gcd(A[2] ** 2, N), (N, A))
                 met.add(cusp)
-            for d in range(1, N + 1):
-                met.add(H.cusp_of((1, 0, d, 1)))
-            self.assertTrue(met <= {Cusp(number, width) for number, width in enumerate(H.widths)})
+            self.assertEqual(met, {Cusp(number, width) for number, width in enumerate(H.widths)})
+
+    def test_classes_of_gamma0(self):
+        """a/c and a'/c' are one cusp of Γ0(N) exactly when s c' and s' c agree modulo gcd(c c', N), where s and s' are inverse to a
+        modulo c and to a' modulo c'. In 25 and 36 cusps of one width, and even of one denominator, lie apart."""
+        rng = by_hand.seeded("classes")
+        for N in [4, 6, 9, 12, 16, 25, 36, 49, 60]:
+            H = Symbol.gamma0(N)
+            matrices = representatives(H)
+            pairs = [(A, B) for A in matrices for B in matrices]
+            for A, B in rng.sample(pairs, min(len(pairs), 600)):
+                # d is inverse to a modulo c, for the determinant is 1
+                same = (A[3] * B[2] - B[3] * A[2]) % math.gcd(A[2] * B[2], N) == 0
+                self.assertEqual(H.cusp_of(A) == H.cusp_of(B), same, (N, A, B))
 
     def test_cosets(self):
         """Two matrices have one coset exactly when B A⁻¹ is in the group."""

@@ -3,16 +3,15 @@
 -- Assumes nothing.
 use mathlib.Core.Path.{_≡_, refl, sym, _∙_}
 use mathlib.Core.List.{List}
-use Prim.Native.Nat.{ℕ, _<_}
-use native.Mathlib.Omega.{arith}
+use Prim.Native.Nat.{ℕ}
 use lib.IntN.{ℤ}
 use lib.ListN.{length}
 use Rattle.refusal.specs.declared.Filled.the-variants.{Made}
 use Rattle.matrix.specs.Matrix.{Mat}
 use Rattle.symbol.specs.Symbol.{IsSymbol}
 use Rattle.symbol.proofs.Accepted as symbols
-use Rattle.numbering.specs.Table.{imageAt, _thenTable_, Permutes}
-use Rattle.coset.specs.Tables.{tableS, tableR, tableT}
+use Rattle.numbering.specs.Table.{Permutes}
+use Rattle.coset.specs.Tables.{tableS, tableR}
 use Rattle.congruence.specs.Cosets.{CosetsOf}
 use Rattle.congruence.proofs.Theorem.{tables}
 use Rattle.import_rule.specs.Order.{Order, leftmost, longestOpen}
@@ -51,7 +50,13 @@ imported {s} {r} {v} {t} g =
     let c = cusp-meaning (g .precisely .symbol) .tables .cosets in
     let p = c .permutations in
     let both : Recorded (tableS v t) (tableR v t) = recorded (p .S) (p .R) (c .size-R ∙ sym (c .size-S)) in
-    record { symbol = symbol-recorded (g .precisely .symbol); renumbered = rw (← g .S-table, ← g .R-table) both }
+    record {
+      accepted = g .precisely .symbol;
+      S-table = g .S-table;
+      R-table = g .R-table;
+      symbol = symbol-recorded (g .precisely .symbol);
+      renumbered = rw (← g .S-table, ← g .R-table) both;
+    }
 
 by-order : (order : Order) (s r : List ℕ) (work room v : ℕ) → importBy order s r work room ≡ Made v → Imported s r v (ruledTable (ruledBy order s r))
 by-order order s r work room v e = imported (made-means order s r work room v e)
@@ -65,5 +70,5 @@ builders = record {
   pairs = λ s r e. passport-recorded s r (pairs.accepted s r .0 e);
   imports = by-order leftmost;
   wide = by-order longestOpen;
-  families = λ f n h. cosets-recorded (tables f n h);
+  families = λ f n h. record { cosets = tables f n h; rule = cosets-recorded (tables f n h) };
 }

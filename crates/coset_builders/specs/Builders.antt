@@ -4,13 +4,15 @@
 --
 --   Recorded s r       the rule for tables s and r of S and R, with their product as the table of T
 --   SymbolRecorded v t the rule for the coset tables of a symbol
---   Imported s r v t   for a symbol that an import of the tables s and r gave: the rule for its coset tables, and for the given ones renumbered, which
---                      are the same tables
+--   Imported s r v t   of what an import of the tables s and r gives: it is a symbol, its coset tables are the given ones renumbered, and the rule holds
+--                      for these
+--   FamilyRecorded f n the tables of the family f for n are those of its cosets, and the rule holds for them
 --   Builders           the theorem, in these parts:
 --     symbols          for each symbol that the checks 1 to 7 accept
 --     pairs            for each pair of tables that the checks 12 to 15 accept, as given
 --     imports, wide    for each symbol that an import gives, by the rule and by the wide rule
---     families         for the tables of Γ0(n), Γ1(n) and Γ(n); a symbol for one of these is among the imports
+--     families         for the tables of Γ0(n), Γ1(n) and Γ(n), which are those of its cosets, as many as its index; whichever symbol is made for one of
+--                      these groups is among the symbols
 use mathlib.Core.Path.{_≡_}
 use mathlib.Core.List.{List}
 use Prim.Native.Nat.{ℕ, _<_}
@@ -18,9 +20,12 @@ use lib.IntN.{ℤ}
 use Rattle.refusal.specs.declared.Checked.the-variants.{Accepted}
 use Rattle.refusal.specs.declared.Filled.the-variants.{Made}
 use Rattle.symbol.specs.Check.{symbolCheck}
+use Rattle.symbol.specs.Symbol.{IsSymbol}
 use Rattle.numbering.specs.Table.{_thenTable_, renamed}
 use Rattle.coset.specs.Tables.{tableS, tableR, tableT}
-use Rattle.congruence.specs.Cosets.{familyS, familyR}
+use Rattle.congruence.specs.Congruence.{Meets}
+use Rattle.congruence.specs.Index.{familyIndex}
+use Rattle.congruence.specs.Cosets.{familyS, familyR, CosetsOf}
 use Rattle.congruence.specs.declared.Family.{Family}
 use Rattle.import_rule.specs.Fixed.{image}
 use Rattle.import_table.specs.Answer.{ruledTable}
@@ -36,12 +41,19 @@ abbrev pub SymbolRecorded : ℕ → List ℤ → Type 0
 SymbolRecorded v t = CosetRecord (tableS v t) (tableR v t) (tableT v t) (cuspColumn v t) (stepColumn v t)
 
 pub record Imported (s r : List ℕ) (v : ℕ) (t : List ℤ) : Type 0 where
+  pub accepted : IsSymbol v t
+  pub S-table : tableS v t ≡ renamed (numbering s r) (image s)
+  pub R-table : tableR v t ≡ renamed (numbering s r) (image r)
   pub symbol : SymbolRecorded v t
   pub renumbered : Recorded (renamed (numbering s r) (image s)) (renamed (numbering s r) (image r))
+
+pub record FamilyRecorded (f : Family) (n : ℕ) : Type 0 where
+  pub cosets : CosetsOf (Meets f n) (familyIndex f n) (familyS f n) (familyR f n)
+  pub rule : Recorded (familyS f n) (familyR f n)
 
 pub record Builders : Type 0 where
   pub symbols : (v : ℕ) (t : List ℤ) → symbolCheck v t ≡ Accepted → SymbolRecorded v t
   pub pairs : (s r : List ℕ) → pairCheck s r ≡ Accepted → Recorded s r
   pub imports : (s r : List ℕ) (work room v : ℕ) → importOf s r work room ≡ Made v → Imported s r v (ruledTable (ruleFor s r))
   pub wide : (s r : List ℕ) (work room v : ℕ) → importWideOf s r work room ≡ Made v → Imported s r v (ruledTable (wideRuleFor s r))
-  pub families : (f : Family) (n : ℕ) → 0 < n → Recorded (familyS f n) (familyR f n)
+  pub families : (f : Family) (n : ℕ) → 0 < n → FamilyRecorded f n

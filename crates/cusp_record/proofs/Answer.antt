@@ -3,29 +3,30 @@
 -- Assumes nothing.
 use mathlib.Core.Path.{_≡_, refl, sym, _∙_, ap}
 use mathlib.Core.List.{List}
-use Prim.Native.Nat.{ℕ, _≤_, _<_}
+use Prim.Native.Nat.{ℕ, zero, suc, _+_, _-_, _≤_, _<_}
 use native.Mathlib.Omega.{arith}
 use lib.ListN.{length}
-use lib.IntN.{ℤ}
+use lib.IntN.{ℤ, pos}
 use borrow.Author.Tests.{lt-ltb, le-ltb}
-use Rattle.workspace.specs.Space.{entries}
 use Rattle.symbol.specs.Symbol.{IsSymbol}
 use Rattle.refusal.specs.Refusal.{tooShort}
 use Rattle.refusal.specs.declared.Refusal.{Refusal}
 use Rattle.refusal.specs.declared.Filled.the-variants as filled
-use Rattle.matrix.specs.Matrix.{𝟙}
-use Rattle.matrix.proofs.Matrix.{det-𝟙}
+use Rattle.matrix.specs.Matrix.{Mat, _⊗_, 𝟙, det, matT}
+use Rattle.matrix.proofs.Matrix.{det-𝟙, det-one}
+use Rattle.numbering.specs.Table.{Permutes}
 use Rattle.numbering.proofs.Space.{entries-same}
-use Rattle.numbering.specs.Inner.Space.{S-TABLE, T-TABLE}
-use Rattle.figures.specs.Cusps.{cusps}
+use Rattle.numbering.specs.Inner.Space.{S-TABLE, R-TABLE, T-TABLE}
+use Rattle.figures.specs.Cusps.{times, cusps}
 use Rattle.figures.specs.Inner.Scan.{heldT, CuspWidths}
-use Rattle.figures.proofs.Filled.{S-stays, T-stays}
-use Rattle.coset.specs.Tables.{indexOf, tableS, tableT}
+use Rattle.figures.proofs.Filled.{S-stays, R-stays, T-stays}
+use Rattle.coset.specs.Tables.{tableS, tableR, tableT}
+use Rattle.coset.specs.Theorem.{leads, Cosets}
 use Rattle.coset.proofs.Answer.{Made, meaning}
-use Rattle.cusp_record.specs.Record.{cuspTable, stepTable}
-use Rattle.cusp_record.specs.Answer.{roomForBoth, CuspMeaning, CuspsMean}
+use Rattle.cusp_record.specs.Record.{cuspWidth, cuspOf, cuspSteps, cuspTable, stepTable}
+use Rattle.cusp_record.specs.Answer.{roomForBoth, cuspReached, timesT, OneCusp, CuspMeaning, CuspsMean}
 use Rattle.cusp_record.specs.Inner.Fill.{ByCusps, RecordFilled, SymbolRecord}
-use Rattle.cusp_record.proofs.Record.{coset-record}
+use Rattle.cusp_record.proofs.Record.{ahead, cusp-at, in-order, coset-record}
 use Rattle.cusp_record.proofs.Fill.{scanned}
 
 module _ (n a b : ℕ) where
@@ -40,10 +41,60 @@ module _ (n a b : ℕ) where
 
 -- ---- what it means
 
-pub cusp-meaning : {v : ℕ} {t : List ℤ} → IsSymbol v t → CuspMeaning v t
-cusp-meaning {v} {t} ok =
-    let m = meaning ok in
-    record { tables = m; rule = coset-record (m .cosets .permutations) (m .cosets .T-is) }
+module _ {v : ℕ} {t : List ℤ} (ok : IsSymbol v t) where
+  abbrev u : List ℕ
+  u = tableT v t
+
+  abbrev at : Mat → ℕ
+  at m = leads (tableS v t) (tableR v t) m
+
+  cosets : Cosets v t (tableS v t) (tableR v t) (tableT v t)
+  cosets = meaning ok .cosets
+
+  p : Permutes u
+  p = cosets .permutations .T
+
+  at-low : (m : Mat) → det m ≡ pos 1 → at m < length u
+  at-low m d = omega (arith, cosets .low m d, cosets .size-T)
+
+  det-T : det matT ≡ pos 1
+  unfolding matT det
+  det-T = refl
+
+  T-unit : (m : Mat) (n : ℕ) → det m ≡ pos 1 → det (timesT m n) ≡ pos 1
+  T-unit m zero d = d
+  T-unit m (suc n) d = T-unit (m ⊗ matT) n (det-one m matT d det-T)
+
+  T-leads : (m : Mat) (n : ℕ) → det m ≡ pos 1 → at (timesT m n) ≡ times u n (at m)
+  unfolding times
+  T-leads m zero d = refl
+  T-leads m (suc n) d = T-leads (m ⊗ matT) n (T-unit m 1 d) ∙ ap (times u n) (cosets .by-T m d)
+
+  module _ (a b : Mat) (da : det a ≡ pos 1) (db : det b ≡ pos 1) where
+    cusp-a : cuspReached v t a ≡ cuspOf u (at a)
+    cusp-a = cusp-at p (at a) (at-low a da)
+
+    cusp-b : cuspReached v t b ≡ cuspOf u (at b)
+    cusp-b = cusp-at p (at b) (at-low b db)
+
+    one-cusp-if : cuspReached v t a ≡ cuspReached v t b → OneCusp v t a b
+    one-cusp-if e =
+        let n = cuspWidth u (cuspOf u (at a)) - cuspSteps u (at a) + cuspSteps u (at b) in
+        let there = ahead p (at a) (at b) (at-low a da) (at-low b db) (sym cusp-a ∙ e ∙ cusp-b) in
+        record { steps = n; joined = cosets .cosets (timesT a n) b (T-unit a n da) db .0 (T-leads a n da ∙ there) }
+
+    one-cusp-only : OneCusp v t a b → cuspReached v t a ≡ cuspReached v t b
+    one-cusp-only g =
+        let n = g .steps in
+        let there = sym (T-leads a n da) ∙ cosets .cosets (timesT a n) b (T-unit a n da) db .1 (g .joined) in
+        cusp-a ∙ sym (in-order p .keeps-all n (at a) (at-low a da)) ∙ ap (cuspOf u) there ∙ sym cusp-b
+
+  pub cusp-meaning : CuspMeaning v t
+  cusp-meaning = record {
+    tables = meaning ok;
+    rule = coset-record (cosets .permutations) (cosets .T-is);
+    one-cusp = λ a b da db. (one-cusp-if a b da db, one-cusp-only a b da db);
+  }
 
 pub cusps-mean-refused : {v : ℕ} {t : List ℤ} (f : Refusal) → CuspsMean v t (filled.Refused f)
 cusps-mean-refused f n e = let z : _≡_ {A = ℕ} 0 1 = cc in absurd (omega arith)
@@ -67,8 +118,9 @@ module _ {t : List ℤ} {v n k : ℕ} {w w1 : List ℕ} (ok : IsSymbol v t) (m :
       record {
         index = m .index;
         same = f .frame .same ∙ same1 ∙ same;
-        S-is = entries-same S-TABLE n w1 w2 (f .frame .same) (omega arith) (λ i a b. f .frame .below i (omega arith)) ∙ S-stays p c ∙ m .S-is;
-        T-is = entries-same T-TABLE n w1 w2 (f .frame .same) (omega arith) (λ i a b. f .frame .above i a) ∙ T1;
+        S-is = entries-same S-TABLE n w1 w2 (f .frame .same) (omega arith) (λ i a b. f .frame .between i a (omega arith)) ∙ S-stays p c ∙ m .S-is;
+        R-is = entries-same R-TABLE n w1 w2 (f .frame .same) (omega arith) (λ i a b. f .frame .above i (omega arith)) ∙ R-stays p c ∙ m .R-is;
+        T-is = entries-same T-TABLE n w1 w2 (f .frame .same) (omega arith) (λ i a b. f .frame .above i (omega arith)) ∙ T1;
         lists = rw (← T1, ← rw (← T1) at count) (f .lists);
         cusps-are = f .cusps-are ∙ ap cuspTable T1;
         steps-are = f .steps-are ∙ ap stepTable T1;

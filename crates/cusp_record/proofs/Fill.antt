@@ -1,78 +1,64 @@
 -- The laws of the loop that enters cusps and steps, one for each place in the code.
--- Why: the cusps lie side by side in the list of points, so a cusp ends where the next begins, and a place's steps are its distance from the first.
--- In order: the cusps side by side (`cusp-here`, `steps-here`); a cusp from place to place (`at-first`, `at-more`, `at-next`); stores beside the lists
+-- Why: in the list of points one cusp follows on another, and within a cusp each place is one step of T behind the place before.
+-- In order: what the list has at a place (`cusp-here`, `steps-here`); a cusp from place to place (`at-first`, `at-more`, `at-next`); stores beside the lists
 -- (`lists-set`); one point more (`entered-more`); the end (`filled`); what the scan of the cusps leaves (`scanned`).
 -- Assumes nothing.
 use mathlib.Core.Path.{_≡_, refl, sym, ap, _∙_}
 use mathlib.Core.Logic.{_⊎_, inl, inr}
-use mathlib.Core.List.{List, [], _∷_}
-use Prim.Native.Nat.{ℕ, zero, suc, _+_, _-_, _≤_, _<_}
+use mathlib.Core.List.{List}
+use Prim.Native.Nat.{ℕ, suc, _+_, _-_, _≤_, _<_}
 use native.Mathlib.Omega.{arith}
 use native.Mathlib.Decide.{decLt, ℕ-discrete}
-use lib.ListN.{length, getD, set, take, length-set, length-map}
+use lib.ListN.{length, getD, set, length-set, length-map}
 use lib.Seq.{getD-set-other, getD-set-same}
-use Rattle.workspace.specs.Space.{entries}
-use Rattle.numbering.specs.Inner.Space.{WORK, ROOM, WIDTHS, NUMBER, ORDER, T-TABLE}
-use Rattle.numbering.specs.Table.{imageAt, Permutes}
+use Rattle.numbering.specs.Inner.Space.{ROOM, S-TABLE, WIDTHS, NUMBER, ORDER, T-TABLE}
+use Rattle.numbering.specs.Table.{Permutes}
 use Rattle.numbering.proofs.Find.{none-below, once-inj}
 use Rattle.numbering.proofs.Space.{entries-set, entries-length, entries-at, entries-ext}
 use Rattle.figures.specs.Cusps.{times, width, cusps, widths, sum}
 use Rattle.figures.specs.Inner.Scan.{heldT, Permuted, CuspWidths}
 use Rattle.figures.proofs.Cusps.{cusps-are}
-use Rattle.cusp_record.specs.Record.{cuspPoint, cuspWidth, cuspOf, cuspSteps, cuspTable, stepTable, cuspOrder, cuspPlace, cuspFirst, InCuspOrder}
+use Rattle.cusp_record.specs.Record.{cuspPoint, cuspWidth, cuspOf, cuspSteps, cuspTable, stepTable, cuspOrder, cuspPlace, cuspFirst}
 use Rattle.cusp_record.specs.Inner.Fill.{CUSPS, STEPS, cuspEntry, ByCusps, RecordFrame, AtCusp, OnCusp, CuspsEntered, RecordFilled}
 use Rattle.cusp_record.specs.declared.Cusp.{Cusp}
-use Rattle.cusp_record.proofs.Cycles.{entry}
-use Rattle.cusp_record.proofs.Record.{point-low, width-at, width-some, k-low, cusp-of-point, cusp-at, steps-at, cusps-size, steps-size, in-order}
+use Rattle.cusp_record.proofs.Cycles.{parts, rest-next, rest-none}
+use Rattle.cusp_record.proofs.Record.{width-some, k-low, cusp-there, steps-there, point-there, cusp-at, steps-at, cusps-size, steps-size, in-order}
 
--- ---- the cusps side by side
-sum-next : (l : List ℕ) (k : ℕ) → sum (take (suc k) l) ≡ sum (take k l) + getD l k 0
-unfolding sum
-sum-next [] zero = refl
-sum-next [] (suc k) = refl
-sum-next (x ∷ l) zero = omega arith
-sum-next (x ∷ l) (suc k) = omega (arith, sum-next l k)
-
-sum-all : (l : List ℕ) (k : ℕ) → length l ≤ k → sum (take k l) ≡ sum l
-unfolding sum
-sum-all [] zero h = refl
-sum-all [] (suc k) h = refl
-sum-all (x ∷ l) zero h = none-below h
-sum-all (x ∷ l) (suc k) h = omega (arith, sum-all l k (omega arith))
-
+-- ---- what the list has at a place
 module _ {u : List ℕ} (p : Permutes u) where
   module _ {c : Cusp} {y : ℕ} (g : OnCusp u c y) where
     abbrev j : ℕ
     j = y - c .first
 
-    pub cusp-here : cuspOf u (cuspEntry u y) ≡ c .number
-    cusp-here =
-        let k = c .number in
-        let e : y ≡ cuspFirst u k + j = omega (arith, g .at .from, g .at .first-is) in
-        let h = g .at .low in
-        ap (λ (i : ℕ). cuspOf u (cuspEntry u i)) e
-        ∙ ap (cuspOf u) (entry u (cusps u) k j h (omega (arith, width-at p k h, g .within, g .at .wide-is, g .at .from)))
-        ∙ in-order p .keeps-all j (cuspPoint u k) (point-low p k h) ∙ cusp-of-point p k h
+    short : j < cuspWidth u (c .number)
+    short = omega (arith, g .within, g .at .width-is, g .at .from)
 
-    pub steps-here : y < length u → j ≡ cuspSteps u (cuspEntry u y)
-    steps-here l =
-        let x = cuspEntry u y in
-        let o = in-order p in
-        omega (arith, o .of-point y l, o .place-is x (o .point-low y l), ap (cuspFirst u) cusp-here, g .at .first-is)
+    here : cuspEntry u y ≡ times u j (cuspPoint u (c .number))
+    here =
+        let e : y ≡ cuspFirst u (c .number) + j = omega (arith, g .at .from, g .at .first-is) in
+        ap (cuspEntry u) e ∙ point-there p (c .number) (g .at .low) j short
+
+    pub cusp-here : cuspOf u (cuspEntry u y) ≡ c .number
+    cusp-here = ap (cuspOf u) here ∙ cusp-there p (c .number) (g .at .low) j
+
+    pub steps-here : cuspSteps u (cuspEntry u y) ≡ j
+    steps-here = ap (cuspSteps u) here ∙ steps-there p (c .number) (g .at .low) j short
 
     pub at-more : AtCusp u c (y + 1)
     at-more = record {
       low = g .at .low;
       first-is = g .at .first-is;
-      wide-is = g .at .wide-is;
+      width-is = g .at .width-is;
       from = omega (arith, g .at .from);
       to = omega (arith, g .within);
     }
 
   -- ---- from place to place
-  module _ {c : Cusp} {y : ℕ} (g : AtCusp u c y) (l : y < length u) (h : c .first + c .wide ≤ y) where
+  module _ {c : Cusp} {y : ℕ} (g : AtCusp u c y) (l : y < length u) (h : c .first + c .width ≤ y) where
     first-next : cuspFirst u (suc (c .number)) ≡ y
-    first-next = omega (arith, sum-next (widths u) (c .number), g .first-is, g .wide-is, g .to)
+    first-next =
+        let k = c .number in
+        omega (arith, parts (widths u) k, parts (widths u) (suc k), rest-next (widths u) k, g .first-is, g .width-is, g .to)
 
     pub next-low : c .number + 1 < length (cusps u)
     next-low = elim (decLt (suc (c .number)) (length (cusps u))) [
@@ -81,55 +67,58 @@ module _ {u : List ℕ} (p : Permutes u) where
           let no : ⊥ = omega (
             arith,
             first-next,
-            sum-all (widths u) (suc (c .number)) (omega (arith, length-map (cusps u) (width u))),
+            parts (widths u) (suc (c .number)),
+            rest-none (widths u) (suc (c .number)) (omega (arith, length-map (cusps u) (width u))),
             cusps-are p .total,
           ) in
           absurd no
     ]
 
-    pub at-next : {d : Cusp} → d .number ≡ c .number + 1 → d .first ≡ y → d .wide ≡ cuspWidth u (c .number + 1) → OnCusp u d y
+    pub at-next : {d : Cusp} → d .number ≡ c .number + 1 → d .first ≡ y → d .width ≡ cuspWidth u (c .number + 1) → OnCusp u d y
     at-next {d} a b e =
         let s : suc (c .number) ≡ c .number + 1 = omega arith in
         record {
           at = record {
             low = omega (arith, a, next-low);
             first-is = b ∙ sym first-next ∙ ap (cuspFirst u) (s ∙ sym a);
-            wide-is = e ∙ ap (cuspWidth u) (sym a);
+            width-is = e ∙ ap (cuspWidth u) (sym a);
             from = omega arith;
             to = omega arith;
           };
           within = omega (arith, b, e, width-some p (c .number + 1) next-low);
         }
 
-  pub at-fits : {c : Cusp} {y : ℕ} → AtCusp u c y → c .first + c .wide ≤ length u
-  at-fits {c} g = omega (arith, g .first-is, g .wide-is, in-order p .fits (c .number) (g .low))
+  pub at-fits : {c : Cusp} {y : ℕ} → AtCusp u c y → c .first + c .width ≤ length u
+  at-fits {c} g = omega (arith, g .first-is, g .width-is, in-order p .fits (c .number) (g .low))
 
   pub some-cusp : 0 < length u → 0 < length (cusps u)
   some-cusp h = omega (arith, k-low p 0 h)
 
-  pub at-first : {c : Cusp} → 0 < length u → c .number ≡ 0 → c .first ≡ 0 → c .wide ≡ cuspWidth u 0 → AtCusp u c 0
+  pub at-first : {c : Cusp} → 0 < length u → c .number ≡ 0 → c .first ≡ 0 → c .width ≡ cuspWidth u 0 → AtCusp u c 0
   unfolding sum
   at-first {c} h a b e = record {
     low = omega (arith, some-cusp h);
     first-is = b ∙ ap (cuspFirst u) (sym a);
-    wide-is = e ∙ ap (cuspWidth u) (sym a);
+    width-is = e ∙ ap (cuspWidth u) (sym a);
     from = omega arith;
     to = omega arith;
   }
 
 -- ---- `advance`
 module _ {u : List ℕ} {n k : ℕ} {w : List ℕ} (g : ByCusps u n k w) {c : Cusp} {y : ℕ} (a : AtCusp u c y) (h : y < n) where
-  pub cusp-fits : c .first + c .wide ≤ ROOM
+  pub cusp-fits : c .first + c .width ≤ ROOM
   cusp-fits = omega (arith, at-fits (g .permutes) a, g .size, g .room)
 
-  pub advanced : c .first + c .wide ≤ y → {d : Cusp} → d .number ≡ c .number + 1 → d .first ≡ y → d .wide ≡ getD w (WIDTHS + (c .number + 1)) 0 → OnCusp u d y
-  advanced past e f i =
+  pub advanced : y ≡ c .first + c .width → {d : Cusp} → d .number ≡ c .number + 1 → d .first ≡ c .first + c .width
+      → d .width ≡ getD w (WIDTHS + (c .number + 1)) 0 → OnCusp u d y
+  advanced end e f i =
       let l : y < length u = omega (arith, g .size) in
-      at-next (g .permutes) a l past e f (i ∙ g .width-is (c .number + 1) (omega (arith, g .count, next-low (g .permutes) a l past)))
+      let past : c .first + c .width ≤ y = omega arith in
+      at-next (g .permutes) a l past e (f ∙ sym end) (i ∙ g .width-is (c .number + 1) (omega (arith, g .count, next-low (g .permutes) a l past)))
 
 -- ---- stores beside the lists
 abbrev Beside : ℕ → Type 0
-Beside i = ((CUSPS ≤ i) × (i < NUMBER)) ⊎ ((STEPS ≤ i) × (i < T-TABLE))
+Beside i = ((CUSPS ≤ i) × (i < NUMBER)) ⊎ (i < S-TABLE)
 
 lists-set : {u : List ℕ} {n k : ℕ} {w : List ℕ} (i x : ℕ) → ByCusps u n k w → Beside i → ByCusps u n k (set w i x)
 lists-set {u} {n} {k} {w} i x g at =
@@ -151,7 +140,6 @@ lists-set {u} {n} {k} {w} i x g at =
 frame-set : {w w' : List ℕ} (i x : ℕ) → RecordFrame w w' → Beside i → RecordFrame w (set w' i x)
 frame-set {w} {w'} i x f at = record {
   same = length-set w' i x ∙ f .same;
-  below = λ j h. getD-set-other w' i j x 0 (λ e. elim at [ inl b ↦ omega arith | inr b ↦ omega arith ]) ∙ f .below j h;
   between = λ j h g. getD-set-other w' i j x 0 (λ e. elim at [ inl b ↦ omega arith | inr b ↦ omega arith ]) ∙ f .between j h g;
   above = λ j h. getD-set-other w' i j x 0 (λ e. elim at [ inl b ↦ omega arith | inr b ↦ omega arith ]) ∙ f .above j h;
 }
@@ -165,13 +153,13 @@ pub record Filling (u : List ℕ) (n k : ℕ) (w₀ w : List ℕ) (c : Cusp) (y 
   pub at : AtCusp u c y
   pub done : y ≤ n
 
-pub filling-start : {n k : ℕ} {w : List ℕ} {c : Cusp} → ByCusps (heldT n w) n k w → c .number ≡ 0 → c .first ≡ 0 → c .wide ≡ getD w WIDTHS 0
+pub filling-start : {n k : ℕ} {w : List ℕ} {c : Cusp} → ByCusps (heldT n w) n k w → c .number ≡ 0 → c .first ≡ 0 → c .width ≡ getD w WIDTHS 0
     → Filling (heldT n w) n k w w c 0
 filling-start {n} {k} {w} g a b e =
     let some : 0 < length (heldT n w) = omega (arith, g .size, g .some) in
     record {
       lists = g;
-      frame = record { same = refl; below = λ i h. refl; between = λ i h l. refl; above = λ i h. refl };
+      frame = record { same = refl; between = λ i h l. refl; above = λ i h. refl };
       T-is = refl;
       entered = record { cusps-are = λ j h. none-below h; steps-are = λ j h. none-below h };
       at = at-first (g .permutes) some a b (e ∙ g .width-is 0 (omega (arith, g .count, some-cusp (g .permutes) some)));
@@ -216,7 +204,7 @@ module _ {u : List ℕ} {n k : ℕ} {w₀ w : List ℕ} {c : Cusp} {y : ℕ} (g 
         let l1 = length-set w (CUSPS + x) (d .number) in
         let s = y - d .first in
         let here : Beside (CUSPS + x) = inl (omega arith, omega arith) in
-        let there : Beside (STEPS + x) = inr (omega arith, omega arith) in
+        let there : Beside (STEPS + x) = inr (omega arith) in
         let apart : (i : ℕ) → i < y → (cuspEntry u i ≡ x → ⊥) = λ i l e.
         let z = once-inj (cuspOrder u) (in-order p .once) i y (omega (arith, in-order p .size, y-low)) (omega (arith, in-order p .size, y-low)) (e ∙ x-is) in
         omega arith in
@@ -238,7 +226,7 @@ module _ {u : List ℕ} {n k : ℕ} {w₀ w : List ℕ} {c : Cusp} {y : ℕ} (g 
                   ∙ getD-set-other w (CUSPS + x) (CUSPS + cuspEntry u i) (d .number) 0 (λ q. a (omega arith)) ∙ g .entered .cusps-are i (omega arith)
             ];
             steps-are = λ i l. elim (ℕ-discrete i y) [
-              | yes e ↦ rw (e, ← x-is) (getD-set-same w1 (STEPS + x) s 0 (omega arith) ∙ steps-here p on y-low ∙ ap (cuspSteps u) (sym x-is))
+              | yes e ↦ rw (e, ← x-is) (getD-set-same w1 (STEPS + x) s 0 (omega arith) ∙ sym (steps-here p on) ∙ ap (cuspSteps u) (sym x-is))
               | no e ↦
                   let a = apart i (omega arith) in
                   let b = inside i (omega arith) in

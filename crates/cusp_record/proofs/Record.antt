@@ -1,45 +1,51 @@
 -- The theorems on the coset record: `columns`, `coset-record` and `in-order`.
--- Why: each point lies in the cycle of exactly one cusp; from the cusp's smallest point T leads through that cycle in the order in which it is listed,
--- and after the width it begins again. So one step more is one place further, by the remainder.
--- In order: the cusps; a point by its steps; the smallest points; point 0, the first of all; the columns; the theorems.
+-- Why: j steps from the smallest point of the cusp k lead to a point of that cusp (`cusp-there`), which stands j places behind the cusp's first one
+-- (`point-there`) and has j steps, as long as j is below the width (`steps-there`). Each point is reached so (`from-c`), and T adds one to j.
+-- In order: lists in ascending order; the cusps; j steps from a smallest point; n steps from any point; the coset 0; the columns; the theorems.
 -- Assumes nothing.
-use mathlib.Core.Path.{_≡_, refl, sym, ap, _∙_}
+use mathlib.Core.Path.{_≡_, sym, ap, _∙_}
 use mathlib.Core.Logic.{_≢_, inl, inr}
-use mathlib.Core.Bool.{Bool, true}
+use mathlib.Core.Bool.{Bool}
 use mathlib.Core.List.{List, [], _∷_, _++_, map}
-use Prim.Native.Nat.{ℕ, zero, suc, _+_, _%_, _≤_, _<_}
-use native.Mathlib.Nat.{mod-lt, zero-mod}
+use Prim.Native.Nat.{ℕ, zero, suc, _+_, _-_, _%_, _≤_, _<_}
+use native.Mathlib.Nat.{mod-lt}
 use native.Mathlib.Omega.{arith}
-use lib.ListN.{length, getD, length-map, List·getD-append}
+use native.Mathlib.Decide.{decLt}
+use lib.ListN.{length, getD, length-map, length-append, List·getD-append}
+use lib.Seq.{getD-append-add}
 use Rattle.numbering.specs.Find.{find, _∈_}
 use Rattle.basics.specs.Count.{those}
 use Rattle.numbering.specs.Order.{upTo}
 use Rattle.numbering.specs.Table.{imageAt, _thenTable_, Permutes, Permutations}
 use Rattle.numbering.proofs.Find.{none-below, test, getD-find, getD-in, once-inj}
 use Rattle.numbering.proofs.Numbered.{upTo-length, upTo-at}
-use Rattle.numbering.proofs.Those.{those-yes, those-no, those-few, those-low, those-in, those-once, those-true}
+use Rattle.numbering.proofs.Those.{those-yes, those-no, those-low, those-in, those-once, those-true}
 use Rattle.numbering.proofs.Table.{getD-map, then-length, then-at}
 use Rattle.figures.specs.Cusps.{times, width, cycle, smallest, cusps, widths, sum, Lies}
-use Rattle.figures.proofs.Cycle.{times-add, cycle-length, cycle-at, cycle-once, cycle-self, cycle-reached, width-is}
+use Rattle.figures.proofs.Cycle.{times-add, times-low, cycle-length, cycle-at, cycle-once, cycle-self, cycle-reached, cycle-times, width-is}
 use Rattle.figures.proofs.Cusps.{cycles-length, points-once, points-low, points-all, cusps-are}
 use Rattle.cusp_record.specs.Record.{cuspPoint, cuspWidth, cuspOf, cuspSteps, cuspTable, stepTable, cuspOrder, cuspPlace, cuspFirst, cuspOnward}
 use Rattle.cusp_record.specs.Record.{CuspColumns, CosetRecord, InCuspOrder}
-use Rattle.cusp_record.proofs.Cycles.{Found, found, entry, start-fits, times-mod, among-times}
+use Rattle.cusp_record.proofs.Cycles.{Among, among, entry, parts, rest-next, times-rest}
 
-zero-alone : (l : List ℕ) → length l ≤ 0 → getD (l ++ (0 ∷ [])) 0 0 ≡ 0
-zero-alone [] h = refl
-zero-alone (x ∷ l) h = none-below h
-
--- where 0 passes a test, it is the first of those that do
-zero-first : (t : ℕ → Bool) (n : ℕ) → 0 < n → t 0 ≡ true → getD (those t n) 0 0 ≡ 0
-zero-first t zero h e = none-below h
-zero-first t (suc zero) h e = rw (those-yes t 0 e) (zero-alone (those t 0) (those-few t 0))
-zero-first t (suc (suc n)) h e =
-    let ih = zero-first t (suc n) (omega arith) e in
-    let some : 0 < length (those t (suc n)) = omega (arith, those-in t (suc n) 0 (omega arith) e) in
-    elim (test (t (suc n))) [
-      | inl q ↦ rw (those-yes t (suc n) q) (List·getD-append (those t (suc n)) (suc n ∷ []) 0 0 some ∙ ih)
-      | inr q ↦ rw (those-no t (suc n) q) ih
+-- the numbers that pass a test are listed in ascending order
+those-up : (t : ℕ → Bool) (n j k : ℕ) → j < k → k < length (those t n) → getD (those t n) j 0 < getD (those t n) k 0
+those-up t zero j k h l = none-below l
+those-up t (suc n) j k h l =
+    let a = those t n in
+    elim (test (t n)) [
+      | inr q ↦ rw (those-no t n q) (those-up t n j k h (rw (those-no t n q) at l))
+      | inl q ↦
+          let i : k < length (a ++ (n ∷ [])) = rw (those-yes t n q) at l in
+          let len = length-append a (n ∷ []) in
+          let before : (m : ℕ) → m < length a → getD (a ++ (n ∷ [])) m 0 ≡ getD a m 0 = List·getD-append a (n ∷ []) 0 in
+          rw (those-yes t n q) (elim (decLt k (length a)) [
+            | yes g ↦ omega (arith, before j (omega arith), before k g, those-up t n j k h g)
+            | no g ↦
+                let e : k ≡ length a + 0 = omega arith in
+                let last : getD (a ++ (n ∷ [])) k 0 ≡ n = ap (λ (m : ℕ). getD (a ++ (n ∷ [])) m 0) e ∙ getD-append-add a (n ∷ []) 0 0 in
+                omega (arith, last, before j (omega arith), those-low t n (getD a j 0) (getD-in a j (omega arith)))
+          ])
     ]
 
 module _ {u : List ℕ} (p : Permutes u) where
@@ -53,23 +59,69 @@ module _ {u : List ℕ} (p : Permutes u) where
   pub width-some : (k : ℕ) → k < length (cusps u) → 0 < cuspWidth u k
   width-some k h = rw (width-at k h) (width-is p (point-low k h) .some)
 
-  small-at : (k : ℕ) → k < length (cusps u) → smallest u (cuspPoint u k) ≡ true
-  small-at k h = those-true (smallest u) (length u) (cuspPoint u k) (getD-in (cusps u) k h)
+  pub fits : (k : ℕ) → k < length (cusps u) → cuspFirst u k + cuspWidth u k ≤ length u
+  fits k h = omega (arith, parts (widths u) k, rest-next (widths u) k, cusps-are p .total)
 
-  at-point : (x : ℕ) → x < length u → Found u (cusps u) x
-  at-point x h = found u (cusps u) x (points-all p x h)
+  abbrev lies-in : (k x : ℕ) → k < length (cusps u) → x ∈ cycle u (cuspPoint u k) → Lies u (length u) x
+  lies-in k x h i = record {
+    cusp = cuspPoint u k;
+    low = point-low k h;
+    small = those-true (smallest u) (length u) (cuspPoint u k) (getD-in (cusps u) k h);
+    has = i;
+  }
 
+  -- some cusp has x, so the search for one ends at a cusp
+  cusp-found : (x : ℕ) → x < length u → Among u (cusps u) x
+  cusp-found x h =
+      let e = cusps-are p .each x h in
+      let i = those-in (smallest u) (length u) (e .cusp) (e .low) (e .small) in
+      among u (cusps u) x (find (cusps u) (e .cusp)) i (rw (getD-find (cusps u) (e .cusp) i) (e .has))
+
+  abbrev lies : (x : ℕ) → x < length u → Lies u (length u) x
+  lies x h = let f = cusp-found x h in lies-in (cuspOf u x) x (f .low) (f .has)
+
+  -- no two cusps share a point, so a cusp that has x is the one found
+  cusp-is : (k x : ℕ) → k < length (cusps u) → x < length u → x ∈ cycle u (cuspPoint u k) → cuspOf u x ≡ k
+  cusp-is k x h l i =
+      once-inj (cusps u) (those-once (smallest u) (length u)) (cuspOf u x) k (cusp-found x l .low) h (cusps-are p .one x (lies x l) (lies-in k x h i))
+
+  -- ---- j steps from the smallest point of the cusp k
+  module _ (k : ℕ) (h : k < length (cusps u)) where
+    abbrev b : ℕ
+    b = cuspPoint u k
+
+    l : b < length u
+    l = point-low k h
+
+    back : times u (cuspWidth u k) b ≡ b
+    back = ap (λ (i : ℕ). times u i b) (width-at k h) ∙ width-is p l .back
+
+    pub cusp-there : (j : ℕ) → cuspOf u (times u j b) ≡ k
+    cusp-there j = cusp-is k (times u j b) h (times-low p j b l) (cycle-times p l j b (cycle-self p l))
+
+    pub steps-there : (j : ℕ) → j < cuspWidth u k → cuspSteps u (times u j b) ≡ j
+    steps-there j i =
+        let short : j < width u b = omega (arith, width-at k h) in
+        ap (λ (m : ℕ). find (cycle u (cuspPoint u m)) (times u j b)) (cusp-there j)
+        ∙ ap (find (cycle u b)) (sym (cycle-at u b j short)) ∙ cycle-once p l .place j (omega (arith, cycle-length u b))
+
+    pub point-there : (j : ℕ) → j < cuspWidth u k → getD (cuspOrder u) (cuspFirst u k + j) 0 ≡ times u j b
+    point-there j i = entry u (cusps u) k j h (omega (arith, width-at k h))
+
+    steps-all : (j : ℕ) → cuspSteps u (times u j b) ≡ j % cuspWidth u k
+    steps-all j = ap (cuspSteps u) (times-rest u (cuspWidth u k) b back j) ∙ steps-there (j % cuspWidth u k) (mod-lt j {m = cuspWidth u k} (width-some k h))
+
+  cusp-of-point : (k : ℕ) → k < length (cusps u) → cuspOf u (cuspPoint u k) ≡ k
+  unfolding times
+  cusp-of-point k h = cusp-there k h 0
+
+  steps-of-point : (k : ℕ) → k < length (cusps u) → cuspSteps u (cuspPoint u k) ≡ 0
+  unfolding times
+  steps-of-point k h = steps-there k h 0 (width-some k h)
+
+  -- ---- a point x, and n steps from there
   order-size : length (cuspOrder u) ≡ length u
   order-size = cycles-length u (cusps u) ∙ cusps-are p .total
-
-  -- ---- the steps of a point of the cusp k
-  find-times : (k : ℕ) → k < length (cusps u) → (j : ℕ) → find (cycle u (cuspPoint u k)) (times u j (cuspPoint u k)) ≡ j % width u (cuspPoint u k)
-  find-times k h j =
-      let c = cuspPoint u k in
-      let l = point-low k h in
-      let m = mod-lt j {m = width u c} (width-is p l .some) in
-      ap (find (cycle u c)) (times-mod p l j ∙ sym (cycle-at u c (j % width u c) m))
-      ∙ cycle-once p l .place (j % width u c) (omega (arith, cycle-length u c))
 
   module _ (x : ℕ) (h : x < length u) where
     abbrev k : ℕ
@@ -79,89 +131,68 @@ module _ {u : List ℕ} (p : Permutes u) where
     c = cuspPoint u k
 
     pub k-low : k < length (cusps u)
-    k-low = at-point x h .low
-
-    steps-in : cuspSteps u x < width u c
-    steps-in = omega (arith, at-point x h .has, cycle-length u c)
+    k-low = cusp-found x h .low
 
     pub steps-low : cuspSteps u x < cuspWidth u k
-    steps-low = rw (width-at k k-low) steps-in
+    steps-low = omega (arith, cusp-found x h .has, cycle-length u c, width-at k k-low)
 
     from-c : times u (cuspSteps u x) c ≡ x
-    from-c = cycle-reached p (point-low k k-low) (at-point x h .has)
+    from-c = cycle-reached p (point-low k k-low) (cusp-found x h .has)
 
-    -- a point met before would be at two places of the cycle
+    -- a point met after j steps has j steps
     none-before : (j : ℕ) → j < cuspSteps u x → times u j c ≢ x
-    none-before j l e =
-        let i = steps-in in
-        let o = cycle-once p (point-low k k-low) .place j (omega (arith, cycle-length u c)) in
-        let same = ap (find (cycle u c)) (cycle-at u c j (omega arith) ∙ e) in
-        let no : ⊥ = omega (arith, o, same) in absurd no
+    none-before j i e =
+        let no : ⊥ = omega (arith, steps-there k k-low j (omega (arith, steps-low)), ap (cuspSteps u) e) in absurd no
+
+    pub place-at : cuspPlace u x ≡ cuspFirst u k + cuspSteps u x
+    place-at =
+        let y = cuspFirst u k + cuspSteps u x in
+        let low : y < length (cuspOrder u) = omega (arith, fits k k-low, steps-low, order-size) in
+        ap (find (cuspOrder u)) (sym (point-there k k-low (cuspSteps u x) steps-low ∙ from-c)) ∙ points-once p .place y low
 
     on : (n : ℕ) → times u n x ≡ times u (cuspSteps u x + n) c
     on n = ap (times u n) (sym from-c) ∙ sym (times-add u (cuspSteps u x) n c)
 
-    -- the width of its cusp leads a point back to itself
+    -- once round the cusp, from any of its points
     pub round : times u (cuspWidth u k) x ≡ x
     round =
-        let w = width u c in
+        let w = cuspWidth u k in
         let e : cuspSteps u x + w ≡ w + cuspSteps u x = omega arith in
-        ap (λ (i : ℕ). times u i x) (width-at k k-low) ∙ on w ∙ ap (λ (i : ℕ). times u i c) e ∙ times-add u w (cuspSteps u x) c
-        ∙ ap (times u (cuspSteps u x)) (width-is p (point-low k k-low) .back) ∙ from-c
+        on w ∙ ap (λ (i : ℕ). times u i c) e ∙ times-add u w (cuspSteps u x) c ∙ ap (times u (cuspSteps u x)) (back k k-low) ∙ from-c
 
-    keeps-n : (n : ℕ) → cuspOf u (times u n x) ≡ k
-    keeps-n n = among-times p h n (cusps u) (λ b i. those-low (smallest u) (length u) b i)
+    same-cusp : (n : ℕ) → cuspOf u (times u n x) ≡ k
+    same-cusp n = ap (cuspOf u) (on n) ∙ cusp-there k k-low (cuspSteps u x + n)
 
-    adds-n : (n : ℕ) → cuspSteps u (times u n x) ≡ (cuspSteps u x + n) % cuspWidth u k
-    adds-n n =
-        ap (λ (j : ℕ). find (cycle u (cuspPoint u j)) (times u n x)) (keeps-n n)
-        ∙ ap (find (cycle u c)) (on n) ∙ find-times k k-low (cuspSteps u x + n)
-        ∙ ap (λ (w : ℕ). (cuspSteps u x + n) % w) (sym (width-at k k-low))
+    more-steps : (n : ℕ) → cuspSteps u (times u n x) ≡ (cuspSteps u x + n) % cuspWidth u k
+    more-steps n = ap (cuspSteps u) (on n) ∙ steps-all k k-low (cuspSteps u x + n)
 
-    onward-n : (n : ℕ) → cuspOnward u n x ≡ times u n x
-    onward-n n =
-        let l = point-low k k-low in
-        let j = (cuspSteps u x + n) % width u c in
-        ap (λ (v : ℕ). getD (cuspOrder u) (cuspFirst u k + (cuspSteps u x + n) % v) 0) (width-at k k-low)
-        ∙ entry u (cusps u) k j k-low (mod-lt (cuspSteps u x + n) {m = width u c} (width-is p l .some))
-        ∙ sym (times-mod p l (cuspSteps u x + n)) ∙ sym (on n)
+  -- from a point of a cusp T comes to each other one: on to the end of the round, and then its steps
+  pub ahead : (x y : ℕ) (h : x < length u) (l : y < length u) → cuspOf u x ≡ cuspOf u y
+      → times u (cuspWidth u (cuspOf u x) - cuspSteps u x + cuspSteps u y) x ≡ y
+  ahead x y h l e =
+      let k = cuspOf u x in
+      let w = cuspWidth u k in
+      let z = cuspSteps u y in
+      let n : cuspSteps u x + (w - cuspSteps u x + z) ≡ w + z = omega (arith, steps-low x h) in
+      on x h (w - cuspSteps u x + z) ∙ ap (λ (i : ℕ). times u i (cuspPoint u k)) n ∙ times-add u w z (cuspPoint u k)
+      ∙ ap (times u z) (back k (k-low x h)) ∙ ap (λ (i : ℕ). times u z (cuspPoint u i)) e ∙ from-c y l
 
-  -- ---- the smallest points
-  abbrev lies : (x : ℕ) → x < length u → Lies u (length u) x
-  lies x h = let f = at-point x h in record {
-    cusp = cuspPoint u (cuspOf u x);
-    low = point-low (cuspOf u x) (f .low);
-    small = small-at (cuspOf u x) (f .low);
-    has = f .has;
-  }
-
-  pub cusp-of-point : (k : ℕ) → k < length (cusps u) → cuspOf u (cuspPoint u k) ≡ k
-  cusp-of-point k h =
-      let x = cuspPoint u k in
-      let l = point-low k h in
-      let b : Lies u (length u) x = record { cusp = x; low = l; small = small-at k h; has = cycle-self p l } in
-      once-inj (cusps u) (those-once (smallest u) (length u)) (cuspOf u x) k (at-point x l .low) h (cusps-are p .one x (lies x l) b)
-
-  steps-of-point : (k : ℕ) → k < length (cusps u) → cuspSteps u (cuspPoint u k) ≡ 0
-  unfolding times
-  steps-of-point k h =
-      ap (λ (j : ℕ). find (cycle u (cuspPoint u j)) (cuspPoint u k)) (cusp-of-point k h)
-      ∙ find-times k h 0 ∙ zero-mod (width u (cuspPoint u k))
-
-  -- ---- point 0 stands at the place 0
-  first-point : (x : ℕ) → x ≡ 0 → x < length u → smallest u x ≡ true → cuspPoint u 0 ≡ 0
-  first-point x z h e = zero-first (smallest u) (length u) (rw z at h) (rw z at e)
+  -- ---- the coset 0 is the first of its cusp, which is the first of all
+  ascending : (j k : ℕ) → j < k → k < length (cusps u) → cuspPoint u j < cuspPoint u k
+  ascending = those-up (smallest u) (length u)
 
   pub place-zero : 0 < length u → cuspPlace u 0 ≡ 0
   unfolding sum
   place-zero h =
-      let low = at-point 0 h .low in
-      let l = cusps-are p .least 0 (lies 0 h) in
-      let z = first-point (cuspPoint u (cuspOf u 0)) (omega arith) (point-low (cuspOf u 0) low) (small-at (cuspOf u 0) low) in
-      let some : 0 < length (cusps u) = omega arith in
-      let k : cuspOf u 0 ≡ 0 = rw z at (cusp-of-point 0 some) in
-      let s : cuspSteps u 0 ≡ 0 = rw z at (steps-of-point 0 some) in
-      at-point 0 h .place ∙ ap (λ (i : ℕ). cuspFirst u i + cuspSteps u 0) k ∙ ap (λ (i : ℕ). 0 + i) s
+      let low = k-low 0 h in
+      let least = cusps-are p .least 0 (lies 0 h) in
+      let k : cuspOf u 0 ≡ 0 = elim (decLt 0 (cuspOf u 0)) [
+        | yes i ↦ let no : ⊥ = omega (arith, ascending 0 (cuspOf u 0) i low) in absurd no
+        | no i ↦ omega arith
+      ] in
+      let z : cuspPoint u 0 ≡ 0 = omega (arith, ap (cuspPoint u) k) in
+      let s : cuspSteps u 0 ≡ 0 = rw z at (steps-of-point 0 (omega arith)) in
+      place-at 0 h ∙ ap (λ (i : ℕ). cuspFirst u i + cuspSteps u 0) k ∙ ap (λ (i : ℕ). 0 + i) s
 
   -- ---- the columns
   module _ (f : ℕ → ℕ) where
@@ -193,6 +224,7 @@ module _ {u : List ℕ} (p : Permutes u) where
   columns = record {
     size-cusps = cusps-size;
     size-steps = steps-size;
+    ascending = ascending;
     low = λ x h. rw (cusp-at x h) (k-low x h);
     least = λ x h. rw (cusp-at x h) (cusps-are p .least x (lies x h));
     leads = λ x h. rw (cusp-at x h, steps-at x h) (from-c x h);
@@ -200,9 +232,19 @@ module _ {u : List ℕ} (p : Permutes u) where
     no-fewer = λ x j h l. rw (cusp-at x h) (none-before x h j (rw (steps-at x h) at l));
     cusp-of = λ k h. cusp-at (cuspPoint u k) (point-low k h) ∙ cusp-of-point k h;
     no-steps = λ k h. steps-at (cuspPoint u k) (point-low k h) ∙ steps-of-point k h;
-    keeps = λ x h. cusp-at (imageAt u x) (p .low x h) ∙ keeps-n x h 1 ∙ sym (cusp-at x h);
-    adds = λ x h. rw (cusp-at x h, steps-at x h) (steps-at (imageAt u x) (p .low x h) ∙ adds-n x h 1);
+    keeps = λ x h. cusp-at (imageAt u x) (p .low x h) ∙ same-cusp x h 1 ∙ sym (cusp-at x h);
+    adds = λ x h. rw (cusp-at x h, steps-at x h) (steps-at (imageAt u x) (p .low x h) ∙ more-steps x h 1);
   }
+
+  -- the look at the list is at the place of T^n x
+  onward : (n x : ℕ) → x < length u → cuspOnward u n x ≡ times u n x
+  onward n x h =
+      let y = times u n x in
+      let i = times-low p n x h in
+      ap (λ (j : ℕ). getD (cuspOrder u) j 0)
+      (sym (place-at y i ∙ ap (λ (j : ℕ). cuspFirst u j + cuspSteps u y) (same-cusp x h n)
+      ∙ ap (λ (j : ℕ). cuspFirst u (cuspOf u x) + j) (more-steps x h n)))
+      ∙ getD-find (cuspOrder u) y (points-all p y i)
 
   pub in-order : InCuspOrder u
   in-order = record {
@@ -212,11 +254,11 @@ module _ {u : List ℕ} (p : Permutes u) where
     place-low = λ x h. omega (arith, points-all p x h, order-size);
     at-place = λ x h. getD-find (cuspOrder u) x (points-all p x h);
     of-point = λ j h. points-once p .place j (omega (arith, order-size));
-    place-is = λ x h. at-point x h .place;
-    fits = λ k h. rw (width-at k h) (omega (arith, start-fits u (cusps u) k h, cusps-are p .total));
-    keeps-all = λ n x h. keeps-n x h n;
-    adds-all = λ n x h. adds-n x h n;
-    onward-is = λ n x h. onward-n x h n;
+    place-is = place-at;
+    fits = fits;
+    keeps-all = λ n x h. same-cusp x h n;
+    adds-all = λ n x h. more-steps x h n;
+    onward-is = onward;
   }
 
 -- two permutations and their product

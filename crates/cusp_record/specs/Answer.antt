@@ -3,18 +3,28 @@
 --   roomForBoth n a b         n cosets, or 11 with that length: spaces of length a and b are tested in this order
 --   cuspedOf v t work a b     the refusals 1 to 7, then the work space, then the result spaces for cusps and for steps, or the number of cosets
 --   cuspColumn, stepColumn v t     the cusps and the steps of the symbol's cosets
---   CuspMeaning v t           the symbol means what its tables mean, and its columns of cusps and of steps keep the standing rule
+--   cuspReached v t m         the cusp of the coset H m, by the column: where m sends infinity
+--   timesT m n                m T^n
+--   OneCusp v t a b           for some n, a T^n and b lie in one right coset of H: some element of H takes what a makes of infinity to what b makes of it
+--   CuspMeaning v t           the symbol means what its tables mean; its columns of cusps and of steps keep the standing rule; and two matrices have one
+--                             cusp in the column exactly when they have one under H
 --   CuspsMean                 an answer that is no refusal means this
 use mathlib.Core.Path.{_≡_}
+use mathlib.Core.Logic.{_↔_}
 use mathlib.Core.List.{List}
-use Prim.Native.Nat.{ℕ}
+use Prim.Native.Nat.{ℕ, zero, suc}
 use lib.Dec.{ltb}
-use lib.IntN.{ℤ}
+use lib.IntN.{ℤ, pos}
 use Rattle.basics.specs.Choice.{pick}
 use Rattle.refusal.specs.Refusal.{tooShort}
 use Rattle.refusal.specs.declared.Filled.{Filled}
 use Rattle.refusal.specs.declared.Filled.the-variants as filled
 use Rattle.symbol.specs.Check.{symbolCheck}
+use Rattle.matrix.specs.Matrix.{Mat, _⊗_, det, matT}
+use Rattle.pairing.specs.Generator.{generators}
+use Rattle.polygon.specs.Theorem.{SameCoset}
+use Rattle.numbering.specs.Table.{imageAt}
+use Rattle.coset.specs.Theorem.{leads}
 use Rattle.coset.specs.Tables.{indexOf, tableS, tableR, tableT}
 use Rattle.coset.specs.Answer.{tabledBy, Meaning}
 use Rattle.cusp_record.specs.Record.{cuspTable, stepTable, CosetRecord}
@@ -33,9 +43,21 @@ cuspColumn v t = cuspTable (tableT v t)
 abbrev pub stepColumn : ℕ → List ℤ → List ℕ
 stepColumn v t = stepTable (tableT v t)
 
+abbrev pub cuspReached : ℕ → List ℤ → Mat → ℕ
+cuspReached v t m = imageAt (cuspColumn v t) (leads (tableS v t) (tableR v t) m)
+
+abbrev pub timesT : Mat → ℕ → Mat
+timesT m zero = m
+timesT m (suc n) = timesT (m ⊗ matT) n
+
+pub record OneCusp (v : ℕ) (t : List ℤ) (a b : Mat) : Type 0 where
+  pub steps : ℕ
+  pub joined : SameCoset (generators v t) (timesT a steps) b
+
 pub record CuspMeaning (v : ℕ) (t : List ℤ) : Type 0 where
   pub tables : Meaning v t
   pub rule : CosetRecord (tableS v t) (tableR v t) (tableT v t) (cuspColumn v t) (stepColumn v t)
+  pub one-cusp : (a b : Mat) → det a ≡ pos 1 → det b ≡ pos 1 → (cuspReached v t a ≡ cuspReached v t b) ↔ OneCusp v t a b
 
 abbrev pub CuspsMean : ℕ → List ℤ → Filled → Type 0
 CuspsMean v t r = (n : ℕ) → r ≡ filled.Made n → CuspMeaning v t

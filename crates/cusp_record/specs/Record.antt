@@ -1,25 +1,25 @@
--- THE CUSPS IN THE COSET RECORD. The record of a coset, a point of the tables s, r and u of S, R and T, is what tables by its number hold of it: its images
--- by S, R and T, the number of its cusp and its steps of T from the cusp's smallest point. The last two are defined by u alone, a permutation.
+-- THE COSET RECORD. The cosets are the points 0, 1, .. of the tables s, r and u of S, R and T. The record has two tables more: the cusp of each coset, and
+-- its steps. Both are defined here by the table u alone, which is a permutation.
 --
---   cuspPoint u k      the smallest point of the cusp k: the cusps are listed by it, from 0 (figures' `cusps`)
---   cuspWidth u k      the width of the cusp k
---   cuspAmong u l x    the place in l of the first point whose cycle has x
---   cuspOf u x         the number of the cusp of x
---   cuspSteps u x      how many steps of T lead from its cusp's smallest point to x
---   cuspTable u        the cusps of the points 0, 1, .., and `stepTable u` their steps
+--   cuspPoint u k      the entry k of figures' `cusps`, which lists the smallest points of the cycles of u: it stands for the cusp k
+--   cuspWidth u k      the length of its cycle
+--   cuspAmong u l x    which entry of l is the first with x in its cycle
+--   cuspOf u x         the cusp that x lies in, by its number
+--   cuspSteps u x      the steps of x: where x stands in its cusp's cycle, which begins with the smallest point
+--   cuspTable u        the cusps of the points 0, 1, ..; `stepTable u` has their steps
 --   cuspOrder u        all points, cusp by cusp, each cusp from its smallest point in the order of T
---   cuspPlace u x      the place of x in that list
---   cuspFirst u k      the place there where the cusp k begins: the widths before it, added up
---   cuspOnward u n x       T^n from x, by the remainder of its steps and n by the width
+--   cuspPlace u x      where x stands in cuspOrder
+--   cuspFirst u k      how many points the cusps below k have together: the cusp k begins there in cuspOrder
+--   cuspOnward u n x   T^n from x by one look at cuspOrder: n is added to the steps, and the width taken off as often as it goes
 --   CuspColumns u c d  THE STANDING RULE of the columns c of cusps and d of steps beside the table u of T, in these parts:
 --     size             each has an entry for each point
+--     listing          the cusps are numbered by their smallest points, in ascending order
 --     cusp             the entry of x in c is one of the cusps; its smallest point isn't above x
---     steps            as many steps of T as d says lead from that point to x, fewer than the width, and no fewer do
+--     steps            from that point T comes to x in as many steps as d says; these are less than the width, and a smaller number does not lead to x
 --     smallest         the smallest point of the cusp k has k and no steps
 --     rule             T keeps the cusp and adds one step, back to 0 after the width
 --   CosetRecord s r u c d   the standing rule of the whole record: s, r and u are permutations, u is s first and then r, and `CuspColumns u c d`
---   InCuspOrder u      what the list of all points by cusps is for: each point is there once, at its cusp's first place and its steps; so
---                      that n steps of T, however many, are one look at it
+--   InCuspOrder u      what cuspOrder is for: it has each point once, cuspSteps behind its cusp's first place, and so any number of steps of T is one look
 -- `proofs/Record.antt` proves `columns` and `in-order` for every u with `Permutes u`, and `coset-record` for permutations s, r and their product.
 use mathlib.Core.Path.{_≡_}
 use mathlib.Core.Logic.{_≢_}
@@ -74,6 +74,8 @@ pub record CuspColumns (u c d : List ℕ) : Type 0 where
   -- size
   pub size-cusps : length c ≡ length u
   pub size-steps : length d ≡ length u
+  -- listing
+  pub ascending : (j k : ℕ) → j < k → k < length (cusps u) → cuspPoint u j < cuspPoint u k
   -- cusp
   pub low : (x : ℕ) → x < length u → imageAt c x < length (cusps u)
   pub least : (x : ℕ) → x < length u → cuspPoint u (imageAt c x) ≤ x

@@ -23,33 +23,33 @@ ghost use Rattle.coset.specs.Answer.{columnLeft};
 ghost use Rattle.cusp_record.specs.Answer.{roomForBoth, cuspedOf, cuspColumn, stepColumn, CuspsMean};
 ghost use Rattle.cusp_record.specs.Inner.Fill.{CUSPS, STEPS, ByCusps, AtCusp, OnCusp, RecordFilled, SymbolRecord};
 
-// The tables of cusps and of steps in the work space.
+// Where the work space holds the cusps and the steps: the steps below all other tables, so that those of S, R and T stay.
 pub const CUSPS: usize = 12288;
 
-pub const STEPS: usize = 24576;
+pub const STEPS: usize = 0;
 
 // A cusp: its number, the place where it begins in the list of points by cusps, and its width.
-struct Cusp {
-    number: usize,
-    first: usize,
-    wide: usize,
+pub struct Cusp {
+    pub number: usize,
+    pub first: usize,
+    pub width: usize,
 }
 
-// The cusp of the place y, where c is that of the place before.
-fn advance(w: &[u16], n: usize, k: usize, c: Cusp, y: usize) -> Cusp
+// Where c ends at y, the cusp behind it; else c.
+pub fn advance(w: &[u16], n: usize, k: usize, c: Cusp, y: usize) -> Cusp
     requires { ⌜ ByCusps (heldT n (now w)) n k (now w) × AtCusp (heldT n (now w)) c y × (y < n) ⌝ }
     ensures { λ r. ⌜ OnCusp (heldT n (now (w .entry))) r y ⌝ }
 {
-    if y < c.first + c.wide {
-        return c;
+    let end = c.first + c.width;
+    if y == end {
+        let number = c.number + 1;
+        return Cusp {
+            number,
+            first: end,
+            width: workspace::index(w[WIDTHS + number]),
+        };
     }
-    let number = c.number + 1;
-    let wide = workspace::index(w[WIDTHS + number]);
-    Cusp {
-        number,
-        first: y,
-        wide,
-    }
+    c
 }
 
 // The cusp and the steps of each point, in one pass over the points by cusps.
@@ -57,11 +57,11 @@ fn enter_cusps(w: &mut [u16], n: usize, k: usize)
     requires { ⌜ ByCusps (heldT n (now w)) n k (now w) ⌝ }
     ensures { λ _. ⌜ RecordFilled (heldT n (now (w .entry))) n k (now (w .entry)) (now (w .exit)) ⌝ }
 {
-    let wide = workspace::index(w[WIDTHS]);
+    let width = workspace::index(w[WIDTHS]);
     let mut c = Cusp {
         number: 0,
         first: 0,
-        wide,
+        width,
     };
     let mut y: usize = 0;
     while y < n {
@@ -73,7 +73,8 @@ fn enter_cusps(w: &mut [u16], n: usize, k: usize)
     }
 }
 
-// The coset record of an accepted symbol in the work space, how many cosets there are: the tables of S and T, the cusps and the steps, and the points by cusps.
+// The coset record of an accepted symbol in the work space, how many cosets there are: the tables of S, R and T, the cusps and the steps, and the points by
+// cusps.
 pub fn arrange_record(v: usize, t: &[i64], w: &mut [u16]) -> usize
     requires { ⌜ IsSymbol v (now t) × (workLength ≤ length (now w)) ⌝ }
     ensures { λ n. ⌜ SymbolRecord v (now (t .entry)) (now (w .entry)) (now (w .exit)) n ⌝ }

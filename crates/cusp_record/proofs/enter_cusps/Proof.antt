@@ -10,10 +10,10 @@ use Rattle.cusp_record.proofs.enter_cusps.Statement.{statement}
 use Rattle.cusp_record.proofs.enter_cusps.Tie as tie
 
 abbrev Inv-loop : tie.InvT-loop
-Inv-loop w₀ n k wide c₀ y₀ w c y = Filling (heldT n w₀) n k w₀ w c y
+Inv-loop w₀ n k width c₀ y₀ w c y = Filling (heldT n w₀) n k w₀ w c y
 
 abbrev μ-loop : tie.MeasureT-loop
-μ-loop w₀ n k wide c₀ y₀ w c y = n - y
+μ-loop w₀ n k width c₀ y₀ w c y = n - y
 
 slice-read-index : tie.Need-slice-read-index Inv-loop μ-loop
 slice-read-index c = search needs
