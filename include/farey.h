@@ -30,6 +30,9 @@
  * THE WORK SPACE has at least FAREY_WORK numbers; what stands in it at the call is free. It is all zero after a call that got past its
  * length check, and as it was after any other.
  *
+ * DOUBLES are IEEE 754's binary64. The floating-point mode is C's default, rounding to nearest, ties to even: farey_drawing promises what it does in
+ * that mode alone. No other function uses one.
+ *
  * REFUSALS, number and place:
  *    1  v isn't from 1 to 1,023                                                             0
  *    2  the table's length isn't 3v + 1                                                     that length
@@ -41,7 +44,7 @@
  *    8  a matrix entry over 1,000,000 in size                                               0 to 3 in A, 4 to 7 in B
  *    9  a determinant other than 1                                                          0 for A, 1 for B
  *   10  none: no product of generators and inverses takes A to B                            0
- *   11  a space is too short                                                                the length that it needs
+ *   11  a space is too short                                                                the length that it needs; for a drawing, in sides
  *       in farey_sheet also: entries that are no pairs, or over 2,048                       2,048
  *   12  an index not from 1 to 3,066, or tables unequal in length                           0
  *   13  an entry outside its table, or equal to an earlier one                              its index, S before R
@@ -168,13 +171,13 @@ uint64_t farey_sheet(size_t v, const int64_t *t, size_t t_len, const int64_t *p,
 uint64_t farey_same(size_t v, const int64_t *t, size_t t_len, size_t m, const int64_t *u, size_t u_len, uint16_t *work, size_t work_len,
                     size_t *place);
 
-/* The sides of the symbol's polygon as they are drawn in the upper half plane, in order, four floats each, from the front of out: 0, place, 0 for a
+/* The sides of the symbol's polygon as they are drawn in the upper half plane, in order, four doubles each, from the front of out: 0, place, 0 for a
  * vertical line, or 1, centre, radius for an arc; then 1, 2 or 3 for a free, an even or an odd side. A line's place is its finite vertex. For any other
- * side from a/b to c/d the centre is the quotient of ad + cb by 2bd and the radius that of 1 by 2bd, each one division of doubles: it differs from
- * the exact one by at most the exact one's size divided by 2^53. bounds points to four doubles, the box that holds every arc's ends and every
- * line's place and no more: left, right, bottom, top. An arc's ends are centre - radius and centre + radius, each rounded once; the bottom is 0, the top
- * the largest radius, or 0 without arcs. All these doubles are finite. Refused: 1 to 7, then 22, then 11 for out, which is counted in sides, whole ones
- * of four floats, with the number of sides for the place. Count: the number of sides, v + 1. */
+ * side from a/b to c/d the centre is the quotient of ad + cb by 2bd and the radius that of 1 by 2bd, each one division of doubles that are these whole
+ * numbers exactly: it differs from the exact one by at most the exact one's size divided by 2^53. bounds points to four doubles, the box that holds every
+ * arc's ends and every line's place and no more: left, right, bottom, top. An arc's ends are centre - radius and centre + radius, each rounded once; the
+ * bottom is 0, the top the largest radius, or 0 without arcs. All these doubles are finite. Refused: 1 to 7, then 22, then 11 for out where out_len, which
+ * counts doubles, is below 4(v + 1); the place of this 11 counts sides: v + 1. Count: the number of sides, v + 1. */
 uint64_t farey_drawing(size_t v, const int64_t *t, size_t t_len, double *out, size_t out_len, double *bounds, size_t *place);
 
 /* The right cosets of a named group, numbered as those of farey_tables: for each, its image under multiplication on the right by S and

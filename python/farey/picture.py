@@ -13,6 +13,8 @@ here from the vertices, and is tested and not proved.
   odd side the third beyond it. Half of it is shaded, from where its edge begins
   to the edge's middle.
 - Below the axis are the vertices, smaller denominators first, where there is room.
+- A pair is labelled where both its sides have room, and every side has a title with
+  its partner and its generator. Two lines at one place are drawn side by side.
 
 `python3 -m farey.picture < TEXT > FILE.svg` reads a symbol as `./farey listing`
 does; `./farey draw` runs it.
@@ -32,6 +34,8 @@ if TYPE_CHECKING:
 _SMALL, _HIGH, _LOW = 8, 1.3, 0.7
 #: In pixels: the plane's part at most, the margins, the room below the axis, the size of letters.
 _MOST, _MARGIN, _BELOW, _FONT = 560.0, 40.0, 44.0, 13.0
+#: In pixels: the least length of 1, for which a wide polygon gets a wider picture, and how far apart two lines at one place are drawn.
+_LEAST, _APART = 60.0, 3.0
 #: Triangles narrower than so many pixels are left out, and labels of arcs with smaller radii.
 _NARROW, _LABELLED = 0.5, 11.0
 
@@ -134,12 +138,23 @@ def generator_numbers(pairings: Tuple[int, ...]) -> List[int]:
     return numbers
 
 
+def partner_sides(pairings: Tuple[int, ...]) -> List[int]:
+    """The other side of each free pair; an even or an odd side is its own."""
+    first: Dict[int, int] = {}
+    partners = list(range(len(pairings)))
+    for i, pairing in enumerate(pairings):
+        if pairing > 0:
+            partners[i] = first.setdefault(pairing, i)
+            partners[partners[i]] = i
+    return partners
+
+
 class _Plane:
     """Where points of the plane are on the picture."""
 
     def __init__(self, left: float, right: float, height: float, width: float) -> None:
         self.left = left
-        self.unit = min((width - 2 * _MARGIN) / (right - left), _MOST / height)
+        self.unit = max(min((width - 2 * _MARGIN) / (right - left), _MOST / height), _LEAST)
         self.width = (right - left) * self.unit + 2 * _MARGIN
         self.axis = height * self.unit + _FONT
         self.height = self.axis + _BELOW
@@ -174,7 +189,7 @@ def _fraction(cusp: Cusp) -> str:
 
 
 def svg(symbol: Symbol, width: float = 960.0) -> str:
-    """The picture, at most that many pixels wide."""
+    """The picture, at most that many pixels wide unless the polygon is so wide that its height would be lost."""
     sides, box, vertices = symbol.sides(), symbol.box(), symbol.vertices
     kinds = [side.kind for side in sides]
     numbers = generator_numbers(symbol.pairings)
@@ -207,33 +222,39 @@ def svg(symbol: Symbol, width: float = 960.0) -> str:
         shades.append(f'<path class="coset" d="{half}"/>')
         edges.append(f'<path class="edge" d="M {plane.at(middle)} {plane.corner(start, middle, centre)}"/>')
 
+    # a pair is labelled where both its sides have room
+    partners = partner_sides(symbol.pairings)
+    wide = [side.radius is None or side.radius * plane.unit >= _LABELLED for side in sides]
     for i, side in enumerate(sides):
+        room = wide[i] and wide[partners[i]]
         colour = _PLAIN.get(side.kind) or _COLOURS[(numbers[i] - 1) % len(_COLOURS)]
         if side.place is not None:
             # beside its line, within the polygon or where there is none outside it
-            place = plane.x(side.place)
+            # two lines at one place are drawn side by side
             inwards = 1 if (i == 0) == (box.left < box.right) else -1
+            place = plane.x(side.place) + (inwards * _APART / 2 if box.left == box.right else 0.0)
             data = f'data-place="{side.place!r}"'
-            d = f"M {plane.at(complex(side.place, 0))} L {place:.3f} 0"
+            d = f"M {place:.3f} {plane.axis:.3f} L {place:.3f} 0"
             label = (place + inwards * _FONT * 0.8, 2.2 * _FONT)
             fixed = complex(side.place, 1)
-            room = True
         else:
             data = f'data-centre="{side.centre!r}" data-radius="{side.radius!r}"'
             ends = complex(side.centre - side.radius, 0), complex(side.centre + side.radius, 0)
             d = f"M {plane.at(ends[0])} {plane.geodesic(*ends)}"
             label = (plane.x(side.centre), plane.axis - side.radius * plane.unit - 0.35 * _FONT)
             fixed = complex(side.centre, side.radius)
-            room = side.radius * plane.unit >= _LABELLED
         if side.kind == "odd":
             # the third beyond it belongs to the domain, whose boundary goes through the third's centre
             start, end, middle, fixed = beyond(vertices, i)
             behind = plane.corner(end, fixed, middle)
             ground.append(f'<path class="polygon" d="M {plane.at(middle)} {plane.corner(start, middle, fixed)} {behind} Z"/>')
             edges.append(f'<path class="edge" d="M {plane.at(fixed)} {behind}"/>')
-        drawn.append(f'<path class="side {side.kind}" id="side{i}" data-generator="{numbers[i]}" {data} stroke="{colour}" d="{d}"/>')
+        told = f"side {i}, " + (f"paired with {partners[i]}" if side.kind == "free" else side.kind) + f", generator {numbers[i]}"
+        title = f"<title>{told}</title>"
+        drawn.append(f'<path class="side {side.kind}" id="side{i}" data-generator="{numbers[i]}" {data} stroke="{colour}" d="{d}">{title}</path>')
         if room and side.kind == "free":
-            letters.append(f'<text class="pair" x="{label[0]:.3f}" y="{label[1]:.3f}" fill="{colour}" style="fill: {colour}">{numbers[i]}</text>')
+            at = f'x="{label[0]:.3f}" y="{label[1]:.3f}" data-side="{i}"'
+            letters.append(f'<text class="pair" {at} fill="{colour}" style="fill: {colour}">{numbers[i]}</text>')
         elif room:
             x, y = plane.at(fixed).split()
             inside = "#ffffff" if side.kind == "even" else colour

@@ -428,8 +428,9 @@ class Symbol:
         return self._drawing()[1]
 
     def svg(self, width: float = 960.0) -> str:
-        """A picture of the polygon, at most that many pixels wide, as the text of an SVG
-        file: `farey.picture` says what it shows. Refusal 22, as `sides`.
+        """A picture of the polygon, at most that many pixels wide (but 1 is never under 60
+        pixels long), as the text of an SVG file: `farey.picture` says what it shows.
+        Refusal 22, as `sides`.
 
         >>> picture = Symbol([0, 1], [1, -2, 1]).svg()
         >>> picture.count('class="side'), picture.count('class="coset"')

@@ -86,14 +86,26 @@ def read(path):
     return Side(path.get("class")[5:], *(None if number is None else float(number) for number in numbers))
 
 
+def told(pairings, numbers):
+    """What the title of each side says."""
+    for i, pairing in enumerate(pairings):
+        if pairing > 0:
+            (other,) = (k for k, label in enumerate(pairings) if label == pairing and k != i)
+            yield f"side {i}, paired with {other}, generator {numbers[i]}"
+        else:
+            yield f"side {i}, {'even' if pairing == -2 else 'odd'}, generator {numbers[i]}"
+
+
 class Pictures(unittest.TestCase):
     def symbols(self):
         for name, vertices, pairings, *_ in by_hand.stored_symbols():
             yield name, Symbol(vertices, pairings)
         yield "index 1", Symbol([0], [-2, -3])
         yield "index 2", Symbol([0], [-3, -3])
-        yield "one free pair and odd sides", Symbol([0, (1, 2), 1], [-3, -2, -3, -2])
-        yield "300 sides", Symbol.gamma0(997)
+        yield "odd and even sides by turns", Symbol([0, (1, 2), 1], [-3, -2, -3, -2])
+        yield "one free pair and odd sides", Symbol([0, (1, 2), 1], [1, -3, -3, 1])
+        yield "from -20 to 20", Symbol(range(-20, 21), [1] + [-3] * 40 + [1])
+        yield "334 sides", Symbol.gamma0(997)
 
     def test_well_formed_and_the_numbers_of_the_call(self):
         for name, H in self.symbols():
@@ -139,8 +151,50 @@ class Pictures(unittest.TestCase):
                     self.assertEqual(alike, [k for k, other in enumerate(H.pairings) if other == pairing] if pairing > 0 else [i])
                     self.assertEqual({colours[k] for k in alike}, {colours[i]})
                 self.assertEqual(sorted(set(numbers)), list(range(1, len(H.generators) + 1)))
-                written = {int(each.text) for each in root.iter(SVG + "text") if each.get("class") == "pair"}
-                self.assertLessEqual(written, set(numbers))
+                self.assertEqual([each.find(SVG + "title").text for each in drawn], list(told(H.pairings, numbers)))
+
+    def test_labels_stand_at_their_sides(self):
+        """Just above the top of an arc, or beside a line near the upper edge; on both sides of a pair or on none."""
+        for name, H in self.symbols():
+            with self.subTest(name):
+                root = ElementTree.fromstring(H.svg())
+                drawn = [each for each in root.iter(SVG + "path") if each.get("class").startswith("side ")]
+                labels = [each for each in root.iter(SVG + "text") if each.get("class") == "pair"]
+                met = []
+                for label in labels:
+                    x, y = float(label.get("x")), float(label.get("y"))
+                    near = []
+                    for i, side in enumerate(drawn):
+                        path = side.get("d").split()
+                        if path[3] == "L":
+                            fits = abs(x - float(path[1])) < 13 and y < 40
+                        else:
+                            top = float(path[2]) - float(path[4])
+                            fits = abs(x - (float(path[1]) + float(path[9])) / 2) < 0.01 and 0 < top - y < 13
+                        near += [i] if fits and side.get("data-generator") == label.text else []
+                    self.assertEqual(len(near), 1)
+                    self.assertGreater(H.pairings[near[0]], 0)
+                    met += near
+                self.assertEqual(len(set(met)), len(met))
+                self.assertEqual({i for i, pairing in enumerate(H.pairings) if pairing in {H.pairings[k] for k in met}}, set(met))
+                # lines have room, and so has an arc of 11 pixels
+                for i, side in enumerate(drawn):
+                    path = side.get("d").split()
+                    pair = [drawn[k].get("d").split() for k, pairing in enumerate(H.pairings) if pairing == H.pairings[i]]
+                    if H.pairings[i] > 0 and all(each[3] == "L" or float(each[4]) > 11 for each in pair):
+                        self.assertIn(i, met)
+
+    def test_wide_and_narrow(self):
+        """The length of 1 is at least 60 pixels, and two lines at one place are seen apart."""
+        for name, H in self.symbols():
+            root = ElementTree.fromstring(H.svg())
+            paths = [each.get("d").split() for each in root.iter(SVG + "path") if each.get("class").startswith("side ")]
+            first, last = float(paths[0][1]), float(paths[-1][1])
+            with self.subTest(name):
+                if H.box().left == H.box().right:
+                    self.assertGreater(abs(last - first), 2)
+                else:
+                    self.assertGreaterEqual(round((last - first) / (H.box().right - H.box().left), 3), 60)
 
     def test_triangles_of_the_cosets(self):
         """As many as the index; each has its centre at the same distance from its edge's middle,

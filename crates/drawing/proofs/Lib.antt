@@ -1,4 +1,4 @@
--- The laws behind the crate's promises, in reading order. Each upper crate may cite them.
+-- From the numbers of one side to all sides, their box and the answer, with an example computed at the end.
 pub mod Whole
 pub mod Shape
 pub mod Rows

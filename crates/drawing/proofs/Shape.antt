@@ -24,16 +24,16 @@ use Rattle.symbol.specs.declared.Side.{Side}
 use Rattle.symbol.proofs.Choice.{eqZ-true}
 use Rattle.rounding.specs.Quotient.{quotient, floatOf, Near, Exact}
 use Rattle.rounding.proofs.Nearest.{apart, Within}
-use Rattle.rounding.proofs.Quotient.{isBelow, quotient-is, quotient-within, near, by-one}
+use Rattle.rounding.proofs.Quotient.{isBelow, quotient-is, quotient-within, exact, near, by-one}
 use Rattle.rounding.proofs.Order.{itself}
 use Rattle.rounding.proofs.Sum.{Signed, Bounded, bounded, round-signed, add-finite, sub-finite, ends}
-use Rattle.drawing.specs.Drawn.{crossSum, twiceProduct, arcOf, drawnOf, placeNum, NearExact, leftReach, rightReach, height}
+use Rattle.drawing.specs.Drawn.{crossSum, twiceProduct, arcOf, drawnOf, placeNum, placeDen, NearExact, CarriedOver, leftReach, rightReach, height}
 use Rattle.drawing.specs.Inner.Ready.{Drawable}
 use Rattle.drawing.specs.declared.Drawn.{Drawn}
 use Rattle.drawing.specs.declared.Drawn.the-variants.{Line, Arc}
-use Rattle.drawing.proofs.Whole.{none-size, cross-small, twiceSize, twice-is, twice-in}
+use Rattle.drawing.proofs.Whole.{none-size, cross-small, twice-small, twiceSize, twice-is, twice-in}
 
--- ---- by the tests
+-- ---- the three forms
 
 module _ (s : Side) (h : Drawable s) where
   pub line-first : eqZ (s .b) (pos 0) ≡ true → (Line (quotient (s .c) (s .d)) ≡ drawnOf s) × NearExact s (Line (quotient (s .c) (s .d)))
@@ -70,10 +70,22 @@ module _ (s : Side) (h : Drawable s) where
       go (inr e) (inl f) = subst P (line-last e f .0) (q e f)
       go (inr e) (inr f) = subst P (arc e f .0) (r e f)
 
+  -- all of them are at most 2⁵³ in size
+  pub carried-over : CarriedOver s
+  carried-over = record {
+    cross-sum = exact (crossSum s) (omega (arith, cross-small s h));
+    twice-product = exact (twiceProduct s) (omega (arith, twice-small s h));
+    one = exact (pos 1) (lit≤ tt);
+    left-numerator = exact (s .a) (omega arith);
+    left-denominator = exact (s .b) (omega arith);
+    right-numerator = exact (s .c) (omega arith);
+    right-denominator = exact (s .d) (omega arith);
+  }
+
   pub near-exact : NearExact s (drawnOf s)
   near-exact = by-tests (NearExact s) (λ e. line-first e .1) (λ e f. line-last e f .1) (λ e f. arc e f .1)
 
--- ---- what holds of each drawn side
+-- ---- finite floats, ends in order, radii above 0
 
 pub record Shaped (r : Drawn) : Type 0 where
   pub left-finite : T (finite (leftReach r))
@@ -85,6 +97,9 @@ pub record Shaped (r : Drawn) : Type 0 where
 zero-float : floatOf 0 ≡ fin false 0 (pos 0)
 unfolding floatOf ofInt
 zero-float = refl
+
+pub zero-finite : T (finite (floatOf 0))
+zero-finite = rw zero-float tt
 
 some-digits : (m c q : ℕ) → 0 < q → apart (m * c) (1 * q) * 2 ^ 53 ≤ 1 * q → 0 < m
 some-digits zero c q Q h = absurd (omega (arith, zero-mul c))
@@ -113,7 +128,7 @@ shaped-line : (x : ℤ) (y : ℕ) → natAbs x ≤ 2 ^ 53 → 0 < y → y ≤ 2 
 shaped-line x y X P Y =
     let q = quotient x (pos y) in
     let f : T (finite q) = near x y X P Y .is-finite in
-    record { left-finite = f; right-finite = f; height-finite = rw zero-float tt; in-order = itself q f; rises = λ c r e. absurd (line-no-arc q c r e) }
+    record { left-finite = f; right-finite = f; height-finite = zero-finite; in-order = itself q f; rises = λ c r e. absurd (line-no-arc q c r e) }
 
 shaped-arc : (x : ℤ) (y : ℕ) → natAbs x ≤ 2251799813685248 → 0 < y → y ≤ 2 ^ 53 → Shaped (Arc (quotient x (pos y)) (quotient (pos 1) (pos y)))
 shaped-arc x y X P Y =
@@ -140,7 +155,7 @@ module _ (s : Side) (h : Drawable s) where
       (λ e f. rw (← (h .natural-b)) at (shaped-line (s .a) (natAbs (s .b)) (omega arith) (omega (arith, none-size (s .d) f)) (omega arith)))
       (λ e f. let d = twice-in s h e f in rw (twice-is s h) (shaped-arc (crossSum s) (twiceSize s h) (cross-small s h) (d .0) (d .1)))
 
-  -- ---- a neighbour of infinity is a whole number
+  -- ---- lines: where an end has the denominator 0, the other has 1, by the determinant
 
   factor-one : (m n : ℕ) → m * n ≡ 1 → n ≡ 1
   factor-one zero n e = absurd (omega (arith, zero-mul n))
@@ -167,13 +182,13 @@ module _ (s : Side) (h : Drawable s) where
       h .natural-b ∙ ap pos (factor-one (natAbs (s .c)) (natAbs (s .b)) n)
 
   abbrev ExactPlace : Drawn → Type 0
-  ExactPlace r = (x : Float) → r ≡ Line x → Exact (placeNum s) x
+  ExactPlace r = (x : Float) → r ≡ Line x → (placeDen s ≡ 1) × Exact (placeNum s) x
 
-  pub exact-place : det (frame s) ≡ pos 1 → (x : Float) → drawnOf s ≡ Line x → Exact (placeNum s) x
+  pub exact-place : det (frame s) ≡ pos 1 → (x : Float) → drawnOf s ≡ Line x → (placeDen s ≡ 1) × Exact (placeNum s) x
   exact-place g =
       by-tests s h ExactPlace
       (λ e x k. let p : Exact (s .c) (quotient (s .c) (s .d)) = rw (right-whole e g) (by-one (s .c) (omega arith)) in
-      rw (e, ← (same-place (quotient (s .c) (s .d)) x k)) p)
+      rw (e, ← (same-place (quotient (s .c) (s .d)) x k)) (ap natAbs (right-whole e g), p))
       (λ e f x k. let p : Exact (s .a) (quotient (s .a) (s .b)) = rw (left-whole f g) (by-one (s .a) (omega arith)) in
-      rw (e, ← (same-place (quotient (s .a) (s .b)) x k)) p)
+      rw (e, ← (same-place (quotient (s .a) (s .b)) x k)) (ap natAbs (left-whole f g), p))
       (λ e f x k. absurd (line-no-arc x (quotient (crossSum s) (twiceProduct s)) (quotient (pos 1) (twiceProduct s)) (sym k)))

@@ -1,20 +1,23 @@
 -- The whole numbers of a side, and how they go into floats: they fit 64 bits and are at most 2⁵³ in size.
 --
--- In order: literals (`is-0`, `is-1`); the test for 0 (`is-none`, `some-size`, `none-size`); what a cast asks (`in-float`, `kind-most`); the numbers
--- of a drawable side (`cross-adds`, `cross-small`, `twice-small`, `twice-is`).
+-- In order: literals (`is-0`, `is-1`); the test for 0 (`is-none`, `some-bits`, `some-size`, `none-size`) and for large numbers (`over`); what a cast
+-- asks (`in-float`, `kind-most`); the numbers of a drawable side (`cross-adds`, `cross-small`, `twice-small`, `twice-is`).
 -- Assumes nothing.
 use mathlib.Core.Path.{_≡_, refl, sym, _∙_, ap}
-use mathlib.Core.Bool.{Bool, true, false, true≢false}
+use mathlib.Core.Bool.{true, false, not, true≢false}
+use mathlib.Core.Logic.{_⊎_, inl, inr}
 use Prim.Native.Nat.{ℕ, zero, suc, _+_, _*_, _^_, _≤_, _<_}
 use native.Mathlib.Omega.{arith}
 use native.Mathlib.Nat.{mul-le-mul, mul-pos}
-use lib.Dec.{T, eqb, lit<, lit≤, le→leb, lt→ltb}
-use borrow.Author.Tests.{eqb-true, eqb-false}
-use lib.IntN.{ℤ, pos, negsuc, natAbs, _+ℤ_, _*ℤ_}
+use lib.Dec.{T, ltb, leb, lit<, lit≤, le→leb, lt→ltb}
+use borrow.Author.Tests.{ltb-true, ltb-false, lt-leb, le-leb}
+use lib.IntN.{ℤ, pos, negsuc, natAbs, _*ℤ_}
+use lib.Signed.{ltZ}
 use lib.Ieee.{binary64, ofBits, ofInt, inFloat}
 use mir.Syntax.{w64}
 use mir.Val.{SFits, toZ, ofZ}
 use mir.Facts.{toZ-ofZ}
+use Rattle.basics.proofs.Choice.{either}
 use Rattle.matrix.specs.Bounds.{Adds}
 use Rattle.matrix.proofs.Integer.{abs-*, abs-+}
 use Rattle.matrix.proofs.Bounds.{fits}
@@ -39,16 +42,18 @@ pub is-1 : ofBits binary64 0x3ff0_0000_0000_0000 ≡ floatOf 1
 unfolding ofBits ofInt floatOf
 is-1 = refl
 
--- ---- the test for 0
+-- ---- comparisons
 
 -- the code compares the bits
-pub is-none : (x : ℤ) → SFits w64 x → eqb (ofZ w64 x) 0 ≡ eqZ x (pos 0)
-is-none x f = go (eqb (ofZ w64 x) 0) (eqZ x (pos 0)) refl refl
+pub is-none : (x : ℤ) → SFits w64 x → ofZ w64 x ≡ 0 → eqZ x (pos 0) ≡ true
+is-none x f e = eq-eqZ x (pos 0) (bits-positive x 0 f (lit< tt) e)
+
+pub some-bits : (x : ℤ) → (ofZ w64 x ≡ 0 → ⊥) → eqZ x (pos 0) ≡ false
+some-bits x h = go (either (eqZ x (pos 0)))
   where
-    go : (b c : Bool) → eqb (ofZ w64 x) 0 ≡ b → eqZ x (pos 0) ≡ c → eqb (ofZ w64 x) 0 ≡ eqZ x (pos 0)
-    go true c e h = e ∙ sym (eq-eqZ x (pos 0) (bits-positive x 0 f (lit< tt) (eqb-true (ofZ w64 x) 0 e)))
-    go false true e h = absurd (eqb-false (ofZ w64 x) 0 e (ap (ofZ w64) (eqZ-true x (pos 0) h)))
-    go false false e h = e ∙ sym h
+    go : (eqZ x (pos 0) ≡ true) ⊎ (eqZ x (pos 0) ≡ false) → eqZ x (pos 0) ≡ false
+    go (inl e) = absurd (h (ap (ofZ w64) (eqZ-true x (pos 0) e)))
+    go (inr e) = e
 
 pub some-size : (x : ℤ) → x ≡ pos (natAbs x) → eqZ x (pos 0) ≡ false → 1 ≤ natAbs x
 some-size (pos zero) e f = absurd (true≢false f)
@@ -57,6 +62,15 @@ some-size (negsuc n) e f = omega arith
 
 pub none-size : (x : ℤ) → eqZ x (pos 0) ≡ true → natAbs x ≡ 0
 none-size x e = ap natAbs (eqZ-true x (pos 0) e)
+
+-- what isn't below -(h + 1) is over h + 1 in size exactly where it is above h + 1
+pub over : (x : ℤ) (h : ℕ) → ltZ x (negsuc h) ≡ false → ltZ (pos (suc h)) x ≡ not (leb (natAbs x) (suc h))
+over (pos n) h e = go (either (ltb (suc h) n))
+  where
+    go : (ltb (suc h) n ≡ true) ⊎ (ltb (suc h) n ≡ false) → ltb (suc h) n ≡ not (leb n (suc h))
+    go (inl t) = t ∙ ap not (sym (lt-leb n (suc h) (ltb-true (suc h) n t)))
+    go (inr f) = f ∙ ap not (sym (le-leb n (suc h) (ltb-false (suc h) n f)))
+over (negsuc n) h e = ap not (sym (le-leb (suc n) (suc h) (let k = ltb-false h n e in omega arith)))
 
 -- ---- casts
 
@@ -109,7 +123,7 @@ module _ (s : Side) (h : Drawable s) where
   pub twice-fits : SFits w64 (twiceProduct s)
   twice-fits = fits (twiceProduct s) (omega (arith, twice-small))
 
-  -- 2 b d as a natural number
+  -- no denominator is negative, so the size of 2 b d is 2 b d
   abbrev pub twiceSize : ℕ
   twiceSize = 2 * (natAbs (s .b) * natAbs (s .d))
 

@@ -1,7 +1,7 @@
 -- THE CALL `draw_symbol`: its refusals, what it returns and what it leaves (docs/CONVENTIONS.md, 14).
 --
 --   Drawing                   the answer: Made with the box, or Refused
---   drawnRow v t i            the four floats of side i: 0, place, 0 for a line, or 1, centre, radius for an arc; then 1, 2 or 3 for free, even or odd
+--   drawnRow v t i            side i in four floats: a line gives 0, its place and 0, an arc 1, its centre and its radius; behind these the kind, 1 free, 2 even, 3 odd
 --   drawnRows v t n           those of the first n sides, one after another
 --   tooLargeAt t i            whether the entry i is over 33,554,432 in size
 --   check22 v t               refused with 22 at the first such vertex entry
@@ -10,8 +10,8 @@
 --                             whole ones of four floats, or else the box
 --   drawingRefusal            the refusal that an answer is
 --   drawingLeft r table out   what the call leaves in the result space: the rows at its front, or all as it was
---   Picture v t               what a drawing that was made means
---   DrawingMeans v t r        an answer with a box means that, and the box is tight
+--   Picture v t               what a drawing of the symbol means; its box is `boxTo v t (v + 1)`
+--   DrawingMeans v t r        where a drawing was made, it means that
 use mathlib.Core.Path.{_≡_}
 use mathlib.Core.Bool.{Bool, not}
 use mathlib.Core.List.{List, [], _∷_, _++_}
@@ -32,7 +32,7 @@ use Rattle.symbol.specs.Check.{refuseAt, symbolCheck}
 use Rattle.symbol.specs.Symbol.{IsSymbol}
 use Rattle.pairing.specs.Generator.{kindOf, pairingAt}
 use Rattle.rounding.specs.Quotient.{floatOf, Exact}
-use Rattle.drawing.specs.Drawn.{drawnAt, placeNum, NearExact}
+use Rattle.drawing.specs.Drawn.{drawnAt, placeNum, placeDen, CarriedOver, NearExact}
 use Rattle.drawing.specs.Bounding.{boxTo, Tight}
 use Rattle.drawing.specs.declared.Drawn.{Drawn}
 use Rattle.drawing.specs.declared.Drawn.the-variants.{Line, Arc}
@@ -64,7 +64,7 @@ check22 v t = refuseAt (first (tooLargeAt t) (2 * v)) (2 * v) tooLargeToDraw
 abbrev pub drawingCheck : ℕ → List ℤ → Checked
 drawingCheck v t = symbolCheck v t orElse check22 v t
 
--- the result space is counted in sides, whole ones of four floats
+-- a side takes four places of the result space, and what is over after the last whole four counts for nothing
 abbrev pub drawingRoom : ℕ → List ℤ → ℕ → Drawing
 drawingRoom v t n = pick (ltb (n / 4) (v + 1)) (drawing.Refused (tooShort (v + 1))) (drawing.Made (boxTo v t (v + 1)))
 
@@ -87,13 +87,14 @@ drawingLeft (drawing.Refused f) table out = out
 
 -- ---- what it means
 
--- each float is near the exact number, a line's place is its finite vertex exactly, and the box is tight
+-- what is divided is carried over whole, the quotients are near; a line stands exactly at its finite vertex, a whole number over 1
 pub record Picture (v : ℕ) (t : List ℤ) : Type 0 where
   pub symbol : IsSymbol v t
   pub small : (i : ℕ) → i < 2 * v → natAbs (nth t i) ≤ 33554432
+  pub carried : (i : ℕ) → i ≤ v → CarriedOver (sideAt v t i)
   pub near : (i : ℕ) → i ≤ v → NearExact (sideAt v t i) (drawnAt v t i)
-  pub exact : (i : ℕ) (x : Float) → i ≤ v → drawnAt v t i ≡ Line x → Exact (placeNum (sideAt v t i)) x
+  pub exact : (i : ℕ) (x : Float) → i ≤ v → drawnAt v t i ≡ Line x → (placeDen (sideAt v t i) ≡ 1) × Exact (placeNum (sideAt v t i)) x
   pub box : Tight v t (boxTo v t (v + 1))
 
 abbrev pub DrawingMeans : ℕ → List ℤ → Drawing → Type 0
-DrawingMeans v t r = (b : BoundingBox) → r ≡ drawing.Made b → Picture v t × Tight v t b
+DrawingMeans v t r = (b : BoundingBox) → r ≡ drawing.Made b → Picture v t

@@ -1,5 +1,5 @@
--- A SIDE AS IT IS DRAWN in the upper half plane: a vertical line where one of its ends is infinity, otherwise half a circle that stands on the real
--- line. The sides are those of `symbol`: s goes from a/b to c/d. Floats are those of `rounding`.
+-- A SIDE AS IT IS DRAWN in the upper half plane: a vertical line where one of its ends is infinity, otherwise a semicircle centred on the real axis.
+-- The sides are those of `symbol`: s goes from a/b to c/d. Floats are those of `rounding`.
 --
 --   Drawn                     Line with its place, or Arc with its centre and its radius
 --   crossSum s                a d + c b
@@ -7,6 +7,8 @@
 --   drawnOf s                 a line at the finite end, or the arc with centre (a d + c b) / (2 b d) and radius 1 / (2 b d): each number is one float division
 --   placeNum s, placeDen s    numerator and denominator of the finite end of a line
 --   NearExact s r             every float of r is near the exact number that it stands for: the two differ by at most the exact number's size divided by 2⁵³
+--   CarriedOver s             every whole number that is divided for s becomes a float with nothing lost: a d + c b, 2 b d and 1 for an arc, a, b, c and d for
+--                             a line
 --   drawnAt v t i             side i of the symbol in t
 --   leftReach r, rightReach r  how far a drawn side goes to the left and to the right: a line's place; centre - radius and centre + radius, each rounded once
 --   height r                  0 for a line, the radius of an arc
@@ -18,7 +20,7 @@ use Rattle.basics.specs.Choice.{pick}
 use Rattle.symbol.specs.Check.{eqZ}
 use Rattle.symbol.specs.Table.{sideAt}
 use Rattle.symbol.specs.declared.Side.{Side}
-use Rattle.rounding.specs.Quotient.{quotient, floatOf, Near}
+use Rattle.rounding.specs.Quotient.{quotient, floatOf, Carried, Near}
 use Rattle.drawing.specs.declared.Drawn.{Drawn}
 use Rattle.drawing.specs.declared.Drawn.the-variants.{Line, Arc}
 
@@ -48,6 +50,15 @@ placeDen s = pick (eqZ (s .b) (pos 0)) (natAbs (s .d)) (natAbs (s .b))
 abbrev pub NearExact : Side → Drawn → Type 0
 NearExact s (Line x) = Near (placeNum s) (placeDen s) x
 NearExact s (Arc c r) = Near (crossSum s) (2 * (natAbs (s .b) * natAbs (s .d))) c × Near (pos 1) (2 * (natAbs (s .b) * natAbs (s .d))) r
+
+pub record CarriedOver (s : Side) : Type 0 where
+  pub cross-sum : Carried (crossSum s)
+  pub twice-product : Carried (twiceProduct s)
+  pub one : Carried (pos 1)
+  pub left-numerator : Carried (s .a)
+  pub left-denominator : Carried (s .b)
+  pub right-numerator : Carried (s .c)
+  pub right-denominator : Carried (s .d)
 
 -- ---- how far it goes
 

@@ -1,6 +1,6 @@
-// The sides of a symbol for a drawing: each a vertical line or an arc, in floats, and the box that holds them.
+// Drawings of a symbol: `draw_symbol` turns its sides into lines and semicircles, writes their numbers as floats and gives the box around them.
 //
-// specs/ says which float each number is, how near it is to the exact one, what the call leaves in the result space, and what the box holds.
+// One side is `draw`, and its box `box_of`; `join` puts boxes together. `drawing_check` looks at the symbol first, and `draw_in_room` at the result space.
 use pairing::partner::kind_at;
 use refusal::Checked;
 use refusal::Refusal;
@@ -9,33 +9,31 @@ use refusal::TOO_SHORT;
 use symbol::Side;
 use symbol::check;
 ghost use mathlib.Core.Path.{_≡_};
-ghost use mathlib.Core.List.{[], _∷_, _++_};
+ghost use mathlib.Core.List.{_++_};
+ghost use mathlib.Core.Bool.{not};
 ghost use Prim.Native.Nat.{_+_, _*_, _^_, _≤_, _<_};
 ghost use lib.Dec.{leb};
 ghost use lib.ListN.{length, drop};
-ghost use lib.IntN.{pos, natAbs};
-ghost use Rattle.basics.specs.Count.{first};
-ghost use Rattle.symbol.specs.Check.{eqZ};
+ghost use lib.IntN.{natAbs};
 ghost use Rattle.matrix.specs.Matrix.{nth};
 ghost use Rattle.symbol.specs.Table.{pairingEntries, pairingOf};
-ghost use Rattle.symbol.specs.Symbol.{IsSymbol};
 ghost use Rattle.pairing.specs.Generator.{kindOf};
 ghost use Rattle.rounding.specs.Quotient.{quotient, floatOf};
 ghost use Rattle.rounding.specs.Extreme.{lesser, greater};
-ghost use Rattle.drawing.specs.Drawn.{crossSum, twiceProduct, drawnOf, NearExact};
+ghost use Rattle.drawing.specs.Drawn.{arcOf, drawnOf};
 ghost use Rattle.drawing.specs.Bounding.{boxTo};
-ghost use Rattle.drawing.specs.Answer.{rowFor, drawnRows, tooLargeAt, check22, drawingBy, drawingRoom, drawingOf, drawingLeft, DrawingMeans};
-ghost use Rattle.drawing.specs.Inner.Ready.{Drawable, SmallSymbol, sideBox, stretched, widened, putFour};
+ghost use Rattle.drawing.specs.Answer.{rowFor, drawnRows, check22, drawingCheck, drawingRoom, drawingOf, drawingLeft, DrawingMeans};
+ghost use Rattle.drawing.specs.Inner.Ready.{Drawable, SmallSymbol, sideBox, jointBox, putFour};
 
-// A side as it is drawn.
+// How a side is drawn in the upper half plane.
 pub enum Drawn {
-    // A vertical line at this place.
+    // Vertical, over this number.
     Line(f64),
-    // Half a circle with this centre and this radius.
+    // A semicircle on the real axis: its centre, its radius.
     Arc(f64, f64),
 }
 
-// What a drawing fills.
+// A box around drawn sides; its lower edge is on the real axis.
 pub struct BoundingBox {
     pub left: f64,
     pub right: f64,
@@ -43,77 +41,68 @@ pub struct BoundingBox {
     pub top: f64,
 }
 
-// The answer of `draw_symbol`.
+// What `draw_symbol` answers.
 pub enum Drawing {
-    // All sides stand at the front of the result space, four floats each, and this box holds them.
+    // The result space begins with the rows of all sides; the box is theirs.
     Made(BoundingBox),
     Refused(Refusal),
 }
 
-// x / y by one float division; both are carried over without loss.
-fn quotient(x: i64, y: i64) -> f64
+// The float nearest to x / y: neither cast rounds, so that the division alone does.
+fn divided(x: i64, y: i64) -> f64
     requires { ⌜ (natAbs x ≤ 2 ^ 53) × (natAbs y ≤ 2 ^ 53) ⌝ }
     ensures { λ r. ⌜ r ≡ quotient x y ⌝ }
 {
-    x as f64 / y as f64
+    let numerator = x as f64;
+    let denominator = y as f64;
+    numerator / denominator
 }
 
-// Whether x is 0.
-fn vanishes(x: i64) -> bool
-    ensures { λ r. ⌜ r ≡ eqZ x (pos 0) ⌝ }
-{
-    x == 0
-}
-
-// a d + c b
-fn cross_sum(s: Side) -> i64
+// The semicircle from a/b to c/d. Its diameter is c/d - a/b, which is 1 / (b d) as the two are neighbours.
+fn arc_of(s: Side) -> Drawn
     requires { ⌜ Drawable s ⌝ }
-    ensures { λ r. ⌜ r ≡ crossSum s ⌝ }
+    ensures { λ r. ⌜ r ≡ arcOf s ⌝ }
 {
-    s.a * s.d + s.c * s.b
+    let twice = 2 * (s.b * s.d);
+    let centre = divided(s.a * s.d + s.c * s.b, twice);
+    Drawn::Arc(centre, divided(1, twice))
 }
 
-// 2 b d
-fn twice_product(s: Side) -> i64
-    requires { ⌜ Drawable s ⌝ }
-    ensures { λ r. ⌜ r ≡ twiceProduct s ⌝ }
-{
-    2 * (s.b * s.d)
-}
-
-// A side as it is drawn: a line where an end is infinity, or else an arc.
+// The side from a/b to c/d: over c/d where a/b is infinity, over a/b where c/d is, and a semicircle where neither is.
 fn draw(s: Side) -> Drawn
     requires { ⌜ Drawable s ⌝ }
     ensures { λ r. ⌜ r ≡ drawnOf s ⌝ }
-    ensures { λ r. ⌜ NearExact s r ⌝ }
 {
-    if vanishes(s.b) {
-        return Drawn::Line(quotient(s.c, s.d));
+    if s.b == 0 {
+        return Drawn::Line(divided(s.c, s.d));
     }
-    if vanishes(s.d) {
-        return Drawn::Line(quotient(s.a, s.b));
+    if s.d == 0 {
+        return Drawn::Line(divided(s.a, s.b));
     }
-    let y = twice_product(s);
-    let centre = quotient(cross_sum(s), y);
-    let radius = quotient(1, y);
-    Drawn::Arc(centre, radius)
+    arc_of(s)
 }
 
-// The lesser of two floats, the first of two equal ones.
+// b where it is below a, and a otherwise.
 fn lesser(a: f64, b: f64) -> f64
     ensures { λ r. ⌜ r ≡ lesser a b ⌝ }
 {
-    if b < a { b } else { a }
+    if b < a {
+        return b;
+    }
+    a
 }
 
-// The greater of two floats, the first of two equal ones.
+// b where it is above a, and a otherwise.
 fn greater(a: f64, b: f64) -> f64
     ensures { λ r. ⌜ r ≡ greater a b ⌝ }
 {
-    if a < b { b } else { a }
+    if a < b {
+        return b;
+    }
+    a
 }
 
-// The box of one drawn side.
+// The box around a single side. A line has no height here: it rises without end.
 fn box_of(side: Drawn) -> BoundingBox
     ensures { λ r. ⌜ r ≡ sideBox side ⌝ }
 {
@@ -133,55 +122,40 @@ fn box_of(side: Drawn) -> BoundingBox
     }
 }
 
-// A box that holds what it held, and what lies between from and to up to this height.
-fn stretch(bounds: BoundingBox, from: f64, to: f64, up: f64) -> BoundingBox
-    ensures { λ r. ⌜ r ≡ stretched bounds from to up ⌝ }
+// The smallest box around two, of which both have the same bottom.
+fn join(a: BoundingBox, b: BoundingBox) -> BoundingBox
+    ensures { λ r. ⌜ r ≡ jointBox a b ⌝ }
 {
-    let left = lesser(bounds.left, from);
-    let right = greater(bounds.right, to);
-    let top = greater(bounds.top, up);
     BoundingBox {
-        left,
-        right,
-        bottom: bounds.bottom,
-        top,
+        left: lesser(a.left, b.left),
+        right: greater(a.right, b.right),
+        bottom: a.bottom,
+        top: greater(a.top, b.top),
     }
 }
 
-// The box widened by a drawn side.
-fn widen(bounds: BoundingBox, side: Drawn) -> BoundingBox
-    ensures { λ r. ⌜ r ≡ widened bounds side ⌝ }
-{
-    match side {
-        Drawn::Line(x) => stretch(bounds, x, x, 0.0),
-        Drawn::Arc(centre, radius) => stretch(bounds, centre - radius, centre + radius, radius),
-    }
-}
-
-// Writes four floats as the row i of out.
-fn put_row(out: &mut [f64], i: usize, a: f64, b: f64, c: f64, d: f64)
-    requires { ⌜ (i ≤ 1023) × (4 * i + 4 ≤ length (now out)) ⌝ }
-    ensures { λ _. ⌜ now (out .exit) ≡ putFour i (a ∷ b ∷ c ∷ d ∷ []) (now (out .entry)) ⌝ }
-{
-    let at = 4 * i;
-    out[at] = a;
-    out[at + 1] = b;
-    out[at + 2] = c;
-    out[at + 3] = d;
-}
-
-// Writes a drawn side and its kind as the row i of out.
+// The row i of out: which of the two the side is, its numbers, its kind.
 fn put_side(out: &mut [f64], i: usize, side: Drawn, kind: f64)
     requires { ⌜ (i ≤ 1023) × (4 * i + 4 ≤ length (now out)) ⌝ }
     ensures { λ _. ⌜ now (out .exit) ≡ putFour i (rowFor side kind) (now (out .entry)) ⌝ }
 {
     match side {
-        Drawn::Line(x) => put_row(out, i, 0.0, x, 0.0, kind),
-        Drawn::Arc(centre, radius) => put_row(out, i, 1.0, centre, radius, kind),
+        Drawn::Line(x) => {
+            out[4 * i] = 0.0;
+            out[4 * i + 1] = x;
+            out[4 * i + 2] = 0.0;
+            out[4 * i + 3] = kind;
+        }
+        Drawn::Arc(centre, radius) => {
+            out[4 * i] = 1.0;
+            out[4 * i + 1] = centre;
+            out[4 * i + 2] = radius;
+            out[4 * i + 3] = kind;
+        }
     }
 }
 
-// The kind of side i as a float: 1 free, 2 even, 3 odd.
+// 1, 2 or 3, as side i is free, even or odd.
 fn kind(v: usize, p: &[i64], i: usize) -> f64
     requires { ⌜ (v ≤ 1023) × (i < length (now p)) ⌝ }
     ensures { λ r. ⌜ r ≡ floatOf (kindOf (pairingOf v (nth (now (p .entry)) i))) ⌝ }
@@ -189,7 +163,7 @@ fn kind(v: usize, p: &[i64], i: usize) -> f64
     kind_at(v, p, i) as f64
 }
 
-// Draws all sides, from the front of out, which has room for them: their box.
+// The rows of all sides go to the front of out, and their boxes are joined. The first box is there from the start: with itself it stays as it is.
 fn draw_sides(v: usize, t: &[i64], p: &[i64], out: &mut [f64]) -> BoundingBox
     requires { ⌜ SmallSymbol v (now t) × (now p ≡ pairingEntries v (now t)) × (4 * (v + 1) ≤ length (now out)) ⌝ }
     ensures { λ r. ⌜ r ≡ boxTo v (now (t .entry)) (v + 1) ⌝ }
@@ -197,76 +171,79 @@ fn draw_sides(v: usize, t: &[i64], p: &[i64], out: &mut [f64]) -> BoundingBox
 {
     let mut bounds = box_of(draw(Side::at(v, t, 0)));
     let mut i = 0;
-    while i <= v {
+    while i < v + 1 {
         let side = draw(Side::at(v, t, i));
+        bounds = join(bounds, box_of(side));
         put_side(out, i, side, kind(v, p, i));
-        bounds = widen(bounds, side);
         i += 1;
     }
     bounds
 }
 
-// Whether x is at most 33,554,432 in size.
-fn drawable(x: i64) -> bool
-    ensures { λ r. ⌜ r ≡ leb (natAbs x) 33554432 ⌝ }
+// The result space has room for one side in each whole four of its floats.
+fn draw_in_room(v: usize, t: &[i64], out: &mut [f64]) -> Drawing
+    requires { ⌜ SmallSymbol v (now t) ⌝ }
+    ensures { λ r. ⌜ r ≡ drawingRoom v (now (t .entry)) (length (now (out .entry))) ⌝ }
+    ensures { λ r. ⌜ now (out .exit) ≡ drawingLeft r (drawnRows v (now (t .entry)) (v + 1)) (now (out .entry)) ⌝ }
 {
-    if x < -33554432 {
-        return false;
+    let sides = v + 1;
+    if out.len() / 4 < sides {
+        return Drawing::Refused(Refusal {
+            number: TOO_SHORT,
+            place: sides,
+        });
     }
-    x <= 33554432
+    Drawing::Made(draw_sides(v, t, &t[2 * v..], out))
 }
 
-// The first vertex entry over 33,554,432 in size, or the number of vertex entries.
-fn first_large(v: usize, t: &[i64]) -> usize
-    requires { ⌜ (v ≤ 1023) × (2 * v ≤ length (now t)) ⌝ }
-    ensures { λ r. ⌜ r ≡ first (tooLargeAt (now (t .entry))) (2 * v) ⌝ }
+// Over 2^25 in size. Up to there 2 b d and a d + c b are at most 2^51.
+fn too_large(x: i64) -> bool
+    ensures { λ r. ⌜ r ≡ not (leb (natAbs x) 33554432) ⌝ }
 {
-    let n = 2 * v;
+    if x < -33554432 {
+        return true;
+    }
+    x > 33554432
+}
+
+// Check 22, from the first vertex entry on.
+fn check_entries(v: usize, t: &[i64]) -> Checked
+    requires { ⌜ (v ≤ 1023) × (2 * v ≤ length (now t)) ⌝ }
+    ensures { λ r. ⌜ r ≡ check22 v (now (t .entry)) ⌝ }
+{
     let mut i = 0;
-    while i < n {
-        let x = t[i];
-        if !drawable(x) {
-            return i;
+    while i < 2 * v {
+        if too_large(t[i]) {
+            return Checked::Refused(Refusal {
+                number: TOO_LARGE_TO_DRAW,
+                place: i,
+            });
         }
         i += 1;
     }
-    n
+    Checked::Accepted
 }
 
-// The same for an accepted symbol: check 22, then the result space.
-fn draw_accepted(v: usize, t: &[i64], out: &mut [f64]) -> Drawing
-    requires { ⌜ IsSymbol v (now t) ⌝ }
-    ensures { λ r. ⌜ r ≡ drawingBy (check22 v (now (t .entry))) (drawingRoom v (now (t .entry)) (length (now (out .entry)))) ⌝ }
-    ensures { λ r. ⌜ now (out .exit) ≡ drawingLeft r (drawnRows v (now (t .entry)) (v + 1)) (now (out .entry)) ⌝ }
-    ensures { λ r. ⌜ DrawingMeans v (now (t .entry)) r ⌝ }
+// Whether t has a symbol that can be drawn.
+fn drawing_check(v: usize, t: &[i64]) -> Checked
+    ensures { λ r. ⌜ r ≡ drawingCheck v (now (t .entry)) ⌝ }
 {
-    let entry = first_large(v, t);
-    if entry < 2 * v {
-        return Drawing::Refused(Refusal {
-            number: TOO_LARGE_TO_DRAW,
-            place: entry,
-        });
+    let checked = check(v, t);
+    match checked {
+        Checked::Refused(refusal) => Checked::Refused(refusal),
+        Checked::Accepted => check_entries(v, t),
     }
-    if out.len() / 4 < v + 1 {
-        return Drawing::Refused(Refusal {
-            number: TOO_SHORT,
-            place: v + 1,
-        });
-    }
-    let p = &t[2 * v..];
-    let bounds = draw_sides(v, t, p, out);
-    Drawing::Made(bounds)
 }
 
-// The sides of the symbol in t, four floats each, from the front of out, and their box: checks 1 to 7, then 22, then the result space, counted in sides.
+// Draws the symbol in t: a row of four floats in out for each side, in their order, and the box around them; or the first refusal.
 pub fn draw_symbol(v: usize, t: &[i64], out: &mut [f64]) -> Drawing
     ensures { λ r. ⌜ r ≡ drawingOf v (now (t .entry)) (length (now (out .entry))) ⌝ }
     ensures { λ r. ⌜ now (out .exit) ≡ drawingLeft r (drawnRows v (now (t .entry)) (v + 1)) (now (out .entry)) ⌝ }
     ensures { λ r. ⌜ DrawingMeans v (now (t .entry)) r ⌝ }
 {
-    let checked = check(v, t);
+    let checked = drawing_check(v, t);
     match checked {
+        Checked::Accepted => draw_in_room(v, t, out),
         Checked::Refused(refusal) => Drawing::Refused(refusal),
-        Checked::Accepted => draw_accepted(v, t, out),
     }
 }

@@ -1,7 +1,7 @@
 -- THE ORDER OF FINITE FLOATS: the float comparison `≤` is the order of their fractions, so it is total, and goes through a third.
 --
--- In order: `≤` on fractions with signs (`Below`, `to-below`, `of-below`); what isn't above is at most (`at-most`), what is below is too (`less`); a float
--- is at most itself (`itself`); through a third (`le-through`); negation turns it (`neg-le`).
+-- In order: `≤` on fractions with signs (`Below`, `to-below`, `of-below`); what isn't above is at most (`at-most`), what is below is too (`less`), and isn't
+-- above (`not-back`); a float is at most itself (`itself`); through a third (`le-through`); negation turns it (`neg-le`).
 -- Assumes nothing.
 use mathlib.Core.Path.{_≡_, refl, sym, ap, _∙_, subst}
 use mathlib.Core.Bool.{Bool, true, false, not, _&&_, _||_, false≢true}
@@ -9,7 +9,7 @@ use mathlib.Core.Logic.{_⊎_, inl, inr}
 use Prim.Native.Nat.{ℕ, zero, suc, _+_, _*_, _≤_, _<_}
 use native.Mathlib.Omega.{arith}
 use native.Mathlib.Nat as Nat
-use lib.Dec.{T, ltb, eqb}
+use lib.Dec.{T, ltb, eqb, ltb→lt}
 use borrow.Author.Tests.{lt-ltb, eq-eqb, ltb-true, ltb-false, eqb-true}
 use lib.Ieee.{Float, nan, inf, fin, up, down, neg, below, level, lt, eq, le}
 use lib.Ieee.Scale.{finite}
@@ -105,6 +105,22 @@ at-most (fin s m e) nan a b h = absurd b
 at-most (fin s m e) (inf t) a b h = absurd b
 at-most (fin s m e) (fin t n d) a b h =
     of-below s (m * up e * down d) t (n * up d * down e) (not-above s (m * up e * down d) t (n * up d * down e) h)
+
+-- below and at most exclude each other the other way round
+below-back : (s : Bool) (a : ℕ) (t : Bool) (b : ℕ) → T (below s a t b) → Below t b s a → ⊥
+below-back false a false b l h = let k = ltb→lt a b l in omega arith
+below-back false a true b l h = l
+below-back true a false b l h = let k = ltb→lt 0 (a + b) l in let p = h .0 in let q = h .1 in omega arith
+below-back true a true b l h = let k = ltb→lt b a l in omega arith
+
+pub not-back : (x y : Float) → T (finite x) → T (finite y) → T (lt x y) → T (le y x) → ⊥
+unfolding lt le
+not-back nan y a b l h = absurd a
+not-back (inf s) y a b l h = absurd a
+not-back (fin s m e) nan a b l h = absurd b
+not-back (fin s m e) (inf t) a b l h = absurd b
+not-back (fin s m e) (fin t n d) a b l h =
+    below-back s (m * up e * down d) t (n * up d * down e) l (to-below t (n * up d * down e) s (m * up e * down d) h)
 
 pub less : (x y : Float) → lt x y ≡ true → T (le x y)
 unfolding le

@@ -17,7 +17,7 @@ use lib.Ieee.Exact.{HasValue}
 use lib.Ieee.Back.{round-whole}
 use lib.Ieee.Scale.{round-same}
 use Rattle.matrix.proofs.Integer.{neg-*-left}
-use Rattle.rounding.specs.Quotient.{signedBy, quotient, Exact, Near}
+use Rattle.rounding.specs.Quotient.{signedBy, quotient, Exact, Carried, Near}
 use Rattle.rounding.proofs.Nearest.{apart, Within, divided}
 
 abbrev pub isBelow : ℤ → Bool
@@ -48,7 +48,7 @@ exact-by (fin t m e) s a v = record {
       ap (λ (u : Bool). signedBy u (m * up e)) (v .0) ∙ ap (λ (n : ℕ). signedBy s n) (sym (mul-one (m * up e)) ∙ v .1) ∙ sym (signed-times s a (down e));
 }
 
-pub exact : (x : ℤ) → natAbs x ≤ 2 ^ 53 → Exact x (ofInt binary64 x)
+pub exact : (x : ℤ) → natAbs x ≤ 2 ^ 53 → Carried x
 exact x h = rw (← (sign-size x)) at (exact-by (ofInt binary64 x) (isBelow x) (natAbs x) (int-value x h))
 
 -- ---- one division

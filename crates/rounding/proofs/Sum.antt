@@ -151,7 +151,7 @@ sub-finite x (fin t n d) h k = add-finite x (fin (not t) n d) h k
 
 -- ---- the two ends
 
--- what is negative is at most what isn't
+-- a minus sign before the one float, a plus before the other: whatever their sizes, they are in order
 signed-le : (x y : Float) → T (finite x) → T (finite y) → Signed true x → Signed false y → T (le x y)
 unfolding le
 signed-le nan y a b s t = absurd a

@@ -5,10 +5,12 @@
 --   quotient x y       the float that one division gives for the whole numbers x and y, each carried over to a float
 --   floatOf n          the float that is n
 --   Exact x r          r is finite, and it is the whole number x: nothing was lost
+--   Carried x          x goes over to a float with nothing lost
 --   Near x y r         r is finite, and it differs from x / y by at most the size of x / y divided by 2⁵³. With r the fraction p / q this is
 --                      |p y - x q| 2⁵³ ≤ |x| q, a statement of whole numbers
 --
--- proofs/Quotient.antt, `near`: the quotient of whole numbers of size at most 2⁵³ is near the exact one. `by-one`: divided by 1, it is exact.
+-- proofs/Quotient.antt, `exact`: a whole number of size at most 2⁵³ is carried over. `near`: the quotient of two such numbers is near the exact one.
+-- `by-one`: divided by 1, it is exact.
 use mathlib.Core.Path.{_≡_}
 use mathlib.Core.Bool.{Bool, true, false}
 use Prim.Native.Nat.{ℕ, _*_, _^_, _≤_}
@@ -37,6 +39,9 @@ floatOf n = ofInt binary64 (pos n)
 pub record Exact (x : ℤ) (r : Float) : Type 0 where
   pub is-finite : T (finite r)
   pub equal : numerator r ≡ x *ℤ pos (den r)
+
+abbrev pub Carried : ℤ → Type 0
+Carried x = Exact x (ofInt binary64 x)
 
 pub record Near (x : ℤ) (y : ℕ) (r : Float) : Type 0 where
   pub is-finite : T (finite r)

@@ -53,7 +53,7 @@ pub fn at_the_limit(rng: &mut Rng, over: bool) -> Draft {
         }
     };
     if rng.chance(50) {
-        // Turned about the line above 0: -a/b, from the right to the left.
+        // Reflected in the imaginary axis: -a/b, from the right to the left.
         vertices = vertices.iter().rev().map(|&(a, b)| (-a, b)).collect();
     }
     Draft {

@@ -1,67 +1,65 @@
--- `draw_symbol`: the refusals 1 to 7, or what an accepted symbol gives. Assumes nothing.
+-- `draw_symbol`: the answer goes by the check (`drawingBy`); what passed it is a symbol with small vertex entries (`small-symbol`), and a drawing of it
+-- means what it should (`picture`). Assumes nothing.
 use mathlib.Core.Path.{refl, sym, _∙_, ap}
 use lib.ListN.{length}
 use borrow.Author.Needs.{needs}
-use Rattle.refusal.specs.Refusal.{_orElse_}
 use Rattle.refusal.specs.declared.Checked.{Checked}
-use Rattle.symbol.proofs.Accepted.{accepted}
-use Rattle.drawing.specs.Answer.{check22, drawingBy, drawingRoom}
-use Rattle.drawing.proofs.Judged.{refused-means}
+use Rattle.drawing.specs.Answer.{drawingBy, drawingRoom}
+use Rattle.drawing.proofs.Picture.{picture}
+use Rattle.drawing.proofs.Judged.{small-symbol, refused-means, room-means}
 use Rattle.drawing.proofs.draw_symbol.Statement.{statement}
 use Rattle.drawing.proofs.draw_symbol.Tie as tie
 
-check-requires : tie.Need-check-requires
-check-requires c κs = search needs
-
-enum-known-checked : tie.Need-enum-known-checked
-enum-known-checked c = search needs
+drawing-check-requires : tie.Need-drawing-check-requires
+drawing-check-requires c κs = search needs
 
 enum-told : tie.Need-enum-told
 enum-told c = search needs
 
-draw-accepted-requires : tie.Need-draw-accepted-requires
-draw-accepted-requires c κs =
-    let e = c .before in
-    let r = e .before .before in
+draw-in-room-requires : tie.Need-draw-in-room-requires
+draw-in-room-requires c κs =
+    let told = c .before in
+    let r = told .before .before in
     let s = r .before .before in
-    accepted (s .args .v) (s .args .t .now) .0 (sym (r .check .ensures .returned) ∙ e .enum-told .given .1)
+    small-symbol (s .args .v) (s .args .t .now) (sym (r .drawing-check .ensures) ∙ told .enum-told .given .1)
 
-returns : tie.Need-returns
-returns c =
-    let k = c .before in
-    let r = k .before .before in
-    let s = r .before .before in
-    let v = s .args .v in
-    let t = s .args .t .now in
-    let is = sym (r .check .ensures .returned) ∙ k .checked .given .1 in (
-      sym (ap (λ (x : Checked). drawingBy (x orElse check22 v t) (drawingRoom v t (length (s .args .out .now)))) is),
-      (refl, refused-means v t (k .checked .given .0 .0)),
-    )
+enum-known-checked : tie.Need-enum-known-checked
+enum-known-checked c = search needs
 
 same-length : tie.Need-same-length
 same-length c = search needs
 
-returns-2 : tie.Need-returns-2
-returns-2 c =
-    let a = c .before .before in
-    let e = a .before .before in
-    let r = e .before .before in
+returns : tie.Need-returns
+returns c =
+    let room = c .before .before in
+    let told = room .before .before in
+    let r = told .before .before in
     let s = r .before .before in
     let v = s .args .v in
     let t = s .args .t .now in
-    let is = sym (r .check .ensures .returned) ∙ e .enum-told .given .1 in (
-      a .draw-accepted .ensures .0 ∙ sym (ap (λ (x : Checked). drawingBy (x orElse check22 v t) (drawingRoom v t (length (s .args .out .now)))) is),
-      (a .draw-accepted .ensures .1 .0, a .draw-accepted .ensures .1 .1),
+    let passed = sym (r .drawing-check .ensures) ∙ told .enum-told .given .1 in (
+      room .draw-in-room .ensures .0 ∙ ap (λ (x : Checked). drawingBy x (drawingRoom v t (length (s .args .out .now)))) (sym passed),
+      (room .draw-in-room .ensures .1, room-means v t (room .draw-in-room .result) (picture v t (small-symbol v t passed))),
     )
+
+returns-2 : tie.Need-returns-2
+returns-2 c =
+    let told = c .before in
+    let r = told .before .before in
+    let s = r .before .before in
+    let v = s .args .v in
+    let t = s .args .t .now in
+    let refused = sym (told .checked .given .1) ∙ r .drawing-check .ensures in
+    (ap (λ (x : Checked). drawingBy x (drawingRoom v t (length (s .args .out .now)))) refused, (refl, refused-means v t (told .checked .given .0 .0)))
 
 pub draw-symbol-spec : {M : Type 1} → statement M
 draw-symbol-spec =
     tie.close
     (tie.spec
-    check-requires
-    enum-known-checked
+    drawing-check-requires
     enum-told
-    draw-accepted-requires
-    returns
+    draw-in-room-requires
+    enum-known-checked
     same-length
+    returns
     returns-2)

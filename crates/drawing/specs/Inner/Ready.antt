@@ -3,9 +3,9 @@
 --   Drawable s             the ends of s are of size at most 33,554,432, no denominator is negative, and one of them isn't 0
 --   SmallSymbol v t        a symbol, each of whose vertex entries is at most 33,554,432 in size
 --   sideBox r              the box of one drawn side
---   stretched, widened     a box made to hold more, and to hold a drawn side
+--   jointBox a b           the smallest box that holds two with one bottom
 --   putFour i r out        four floats in place of those from 4 i on
---   DrawnTo v t i w w'     the rows of the first i sides stand in front
+--   DrawnTo v t i w w'     w' begins with the rows of the first i sides, and goes on as w does
 use mathlib.Core.Path.{_≡_}
 use mathlib.Core.List.{List, _++_}
 use Prim.Native.Nat.{ℕ, _+_, _*_, _≤_, _<_}
@@ -38,11 +38,8 @@ pub record SmallSymbol (v : ℕ) (t : List ℤ) : Type 0 where
 abbrev pub sideBox : Drawn → BoundingBox
 sideBox r = record { left = leftReach r; right = rightReach r; bottom = floatOf 0; top = height r }
 
-abbrev pub stretched : BoundingBox → (from to up : Float) → BoundingBox
-stretched b from to up = record { left = lesser (b .left) from; right = greater (b .right) to; bottom = b .bottom; top = greater (b .top) up }
-
-abbrev pub widened : BoundingBox → Drawn → BoundingBox
-widened b r = stretched b (leftReach r) (rightReach r) (height r)
+abbrev pub jointBox : BoundingBox → BoundingBox → BoundingBox
+jointBox a b = record { left = lesser (a .left) (b .left); right = greater (a .right) (b .right); bottom = a .bottom; top = greater (a .top) (b .top) }
 
 abbrev pub putFour : ℕ → List Float → List Float → List Float
 putFour i r out = take (4 * i) out ++ r ++ drop (4 * i + 4) out

@@ -24,7 +24,7 @@ add-place : tie.Need-add-place
 add-place c =
     let q = c .before .before .before .before .before .draw-symbol in
     let told = c .before .answer2 .given in
-    omega (arith, q .ensures .1 .1 (told .0 .0) (told .1) .0 .symbol .most)
+    omega (arith, q .ensures .1 .1 (told .0 .0) (told .1) .symbol .most)
 
 same-length : tie.Need-same-length
 same-length c = search needs
@@ -64,7 +64,7 @@ returns-2 c =
         ap (drawingPlace v) k,
         (
           q .ensures .1 .0 ∙ ap (λ (x : Drawing). drawingLeft x (drawnRows v t (v + 1)) (s .args .out .now)) (q .ensures .0),
-          (ap (λ (x : Drawing). boxLeft x (s .args .bounds .now)) k, λ z. q .ensures .1 .1 (told .0 .0) (told .1) .0),
+          (ap (λ (x : Drawing). boxLeft x (s .args .bounds .now)) k, λ z. q .ensures .1 .1 (told .0 .0) (told .1)),
         ),
       ),
     )
