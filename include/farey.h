@@ -130,8 +130,9 @@ uint64_t farey_cusps(size_t v, const int64_t *t, size_t t_len, uint16_t *work, s
                      uint32_t *steps, size_t steps_len, size_t *place);
 
 /* A symbol from the permutations S and R: it generates precisely the matrices, up to sign, that fix point 0. out: its table, from the
- * front. It has at most (number of points)/3 + 1 vertices. Refused: 12 to 15, then 11 for work, then 16, then 11 for out. Count: v, the
- * number of vertices; 3v + 1 numbers are written. */
+ * front. It has exactly (n - e3)/3 + 1 vertices, where n is the number of points and R fixes e3 of them; farey_import_length tells the
+ * length of the table beforehand. Refused: 12 to 15, then 11 for work, then 11 for out, then 16. Count: v, the number of vertices; 3v + 1
+ * numbers are written. */
 uint64_t farey_import(const uint32_t *s, size_t s_len, const uint32_t *r, size_t r_len, uint16_t *work, size_t work_len, int64_t *out,
                       size_t out_len, size_t *place);
 
@@ -140,6 +141,11 @@ uint64_t farey_import(const uint32_t *s, size_t s_len, const uint32_t *r, size_t
  * 16 is rarer. */
 uint64_t farey_import_wide(const uint32_t *s, size_t s_len, const uint32_t *r, size_t r_len, uint16_t *work, size_t work_len, int64_t *out,
                            size_t out_len, size_t *place);
+
+/* The length of the table that farey_import and farey_import_wide write for S and R, 3v + 1: in an out of this length neither is refused
+ * with 11 for out, and in any shorter one, with a work space that is long enough, both are. No symbol is made, and no work space is
+ * needed; 16 may still follow. Refused: 12 to 15. Count: the length. */
+uint64_t farey_import_length(const uint32_t *s, size_t s_len, const uint32_t *r, size_t r_len, size_t *place);
 
 /* A word in the generators that takes A to B, UP TO SIGN: the product of its letters from left to right, times A, is B or -B, and the
  * answer doesn't tell which; farey_signed_query does. a and b point to four numbers each. Letter j is generator j, -j its inverse. The word
@@ -187,8 +193,8 @@ uint64_t farey_named_tables(uint64_t family, uint64_t n, uint16_t *work, size_t 
                             size_t r_len, size_t *place);
 
 /* The symbol that farey_import makes of these tables: it generates precisely the matrices that meet the condition. out: its table, from
- * the front. Refused: 20, 21, then 11 for work, then 16, then 11 for out. Count: v, the number of vertices; 3v + 1 numbers are
- * written. */
+ * the front. Refused: 20, 21, then 11 for work, then 11 for out, then 16. Count: v, the number of vertices; 3v + 1 numbers are written.
+ * farey_import_length of the group's tables is 3v + 1. */
 uint64_t farey_named_symbol(uint64_t family, uint64_t n, uint16_t *work, size_t work_len, int64_t *out, size_t out_len, size_t *place);
 
 /* The symbol that farey_import_wide makes of them, of the same group. In the tests no named group met 16 here. */

@@ -45,6 +45,8 @@ int main(void)
     say("import of nothing", number, place);
     number = farey_import_wide(NULL, 0, NULL, 0, work, FAREY_WORK, table, 7, &place);
     say("wide import of nothing", number, place);
+    number = farey_import_length(NULL, 0, NULL, 0, &place);
+    say("length of an import of nothing", number, place);
 
     /* No work space. */
     number = farey_generators(2, t, 7, NULL, 0, generators, 10, &place);

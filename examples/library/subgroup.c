@@ -11,11 +11,22 @@
 #include "farey.h"
 
 static uint16_t work[FAREY_WORK];
-static int64_t table[FAREY_TABLE], leftmost[FAREY_TABLE];
+static int64_t *table, *leftmost;
 static int64_t generators[FAREY_GENERATORS];
 static uint32_t widths[FAREY_COSETS], s[FAREY_COSETS], r[FAREY_COSETS], t[FAREY_COSETS];
 static int16_t word[16], unsigned_word[16];
 static double sides[FAREY_DRAWING], bounds[4];
+
+/* A space of so many numbers. */
+static int64_t *booked(size_t length)
+{
+    int64_t *space = calloc(length, sizeof *space);
+    if (space == NULL) {
+        printf("no memory\n");
+        exit(1);
+    }
+    return space;
+}
 
 /* Ends the program where a call is refused. */
 static void expect(uint64_t number, const size_t *place)
@@ -65,8 +76,13 @@ int main(void)
     size_t v, length, count, place;
     uint64_t figures[8];
 
-    expect(farey_import_wide(given_s, 7, given_r, 7, work, FAREY_WORK, table, FAREY_TABLE, &v), &v);
-    length = 3 * v + 1;
+    /* Each rule of import makes a symbol with a table of this length. */
+    expect(farey_import_length(given_s, 7, given_r, 7, &length), &length);
+    printf("length %zu\n", length);
+    table = booked(length);
+    leftmost = booked(length);
+
+    expect(farey_import_wide(given_s, 7, given_r, 7, work, FAREY_WORK, table, length, &v), &v);
     printf("symbol");
     for (size_t i = 0; i < length; i++)
         printf(" %" PRId64, table[i]);
@@ -121,8 +137,8 @@ int main(void)
     printf("same %s\n", place == 1 ? "yes" : "no");
 
     /* The rule that splits the leftmost open side: whichever symbol it finds, it is one of the same subgroup. */
-    expect(farey_import(given_s, 7, given_r, 7, work, FAREY_WORK, leftmost, FAREY_TABLE, &count), &count);
-    expect(farey_same(v, table, length, count, leftmost, 3 * count + 1, work, FAREY_WORK, &place), &place);
+    expect(farey_import(given_s, 7, given_r, 7, work, FAREY_WORK, leftmost, length, &count), &count);
+    expect(farey_same(v, table, length, count, leftmost, length, work, FAREY_WORK, &place), &place);
     printf("same from the left %s\n", place == 1 ? "yes" : "no");
 
     /* The sides for a drawing, and the box that holds them. */
@@ -136,5 +152,7 @@ int main(void)
             printf("arc %.3f %.3f %s\n", side[1], side[2], kind);
     }
     printf("box %.3f %.3f %.3f %.3f\n", bounds[0], bounds[1], bounds[2], bounds[3]);
+    free(table);
+    free(leftmost);
     return 0;
 }

@@ -7,7 +7,7 @@
 //! The group has index 7, and no congruence describes it. The output is in
 //! subgroup.output.
 
-use farey::{Kind, Refusal, Shape, Symbol, Word};
+use farey::{calls, Kind, Refusal, Shape, Symbol, Word};
 
 /// Numbers with a space before each.
 fn spaced<T: ToString>(numbers: &[T]) -> String {
@@ -33,6 +33,7 @@ fn name(kind: Kind) -> &'static str {
 
 fn main() -> Result<(), Refusal> {
     let (s, r) = ([1, 0, 4, 6, 2, 5, 3], [2, 3, 5, 6, 4, 0, 1]);
+    println!("length {}", calls::import_length(&s, &r)?);
     let symbol = Symbol::from_permutations_wide(&s, &r)?;
     println!("symbol{}", spaced(symbol.table()));
     println!("index {}", symbol.figures().index);

@@ -3,15 +3,16 @@
 The answers are those of the proved engine; this package lends it its spaces
 and gives the results names. The package itself is tested and not proved.
 
-| module     | what it holds                                                   |
-|------------|-----------------------------------------------------------------|
-| `symbol`   | `Symbol`: a symbol and all that can be asked of it; `Word`      |
-| `named`    | `named_tables`: S and R of Γ0(N), Γ1(N) and Γ(N)                |
-| `refusal`  | `Refusal`: the exception, with number, place and sentence       |
-| `evidence` | a check, without the engine, of the statement that no word is   |
-| `picture`  | the polygon in the upper half plane, as SVG                     |
-| `cycles`   | permutations as Sage, GAP and Magma write them, points from 1   |
-| `systems`  | from PARI's polygons, to Magma                                  |
+| module         | what it holds                                                   |
+|----------------|-----------------------------------------------------------------|
+| `symbol`       | `Symbol`: a symbol and all that can be asked of it; `Word`      |
+| `named`        | `named_tables`: S and R of Γ0(N), Γ1(N) and Γ(N)                |
+| `permutations` | `import_length`: how long a symbol's table will be              |
+| `refusal`      | `Refusal`: the exception, with number, place and sentence       |
+| `evidence`     | a check, without the engine, of the statement that no word is   |
+| `picture`      | the polygon in the upper half plane, as SVG                     |
+| `cycles`       | permutations as Sage, GAP and Magma write them, points from 1   |
+| `systems`      | from PARI's polygons, to Magma                                  |
 
 `./farey library` in the root of the repository makes the shared library that
 is called, `target/libfarey.so`; `FAREY_LIBRARY` names another file. It is
@@ -30,8 +31,9 @@ without it.
 
 from . import cycles, evidence
 from .named import named_tables
+from .permutations import import_length
 from .refusal import Refusal
 from .symbol import Box, Cusp, Evidence, Generator, Side, Symbol, Word
 from . import systems  # stands on Symbol
 
-__all__ = ["Box", "Cusp", "Evidence", "Generator", "Refusal", "Side", "Symbol", "Word", "cycles", "evidence", "named_tables", "systems"]
+__all__ = ["Box", "Cusp", "Evidence", "Generator", "Refusal", "Side", "Symbol", "Word", "cycles", "evidence", "import_length", "named_tables", "systems"]

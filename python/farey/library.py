@@ -56,6 +56,7 @@ _PARAMETERS = {
     "farey_cusps": _SYMBOL + _WORK + 2 * _space(c_uint32) + _PLACE,
     "farey_import": 2 * _space(c_uint32) + _WORK + _space(c_int64) + _PLACE,
     "farey_import_wide": 2 * _space(c_uint32) + _WORK + _space(c_int64) + _PLACE,
+    "farey_import_length": 2 * _space(c_uint32) + _PLACE,
     "farey_query": _SYMBOL + 2 * [POINTER(c_int64)] + _WORK + _space(c_int16) + [c_size_t] + _PLACE,
     "farey_signed_query": _SYMBOL + 2 * [POINTER(c_int64)] + _WORK + _space(c_int16) + [c_size_t] + _SIGN + _PLACE,
     "farey_sheet": _SYMBOL + _space(c_int64) + _WORK + _space(c_int64) + _space(c_int16) + _PLACE,

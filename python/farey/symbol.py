@@ -10,11 +10,11 @@ from . import arguments, library
 from .arguments import Matrix, Pair, Vertex, clamped, integers, matrix, shown
 from .library import Fixed
 from .named import FAMILIES, level
+from .permutations import points
 from .refusal import Refusal
 
 _KINDS = {1: "free", 2: "even", 3: "odd"}
 _LOW, _HIGH = -(2**63), 2**63 - 1
-_NO_POINT = 2**32 - 1
 #: How many letters a query is lent at first; a longer word is asked for again.
 _LETTERS = 1024
 #: The same for a sheet of pairs.
@@ -184,18 +184,17 @@ class Symbol:
 
         By the wide rule the entries of the vertices stay small; with
         `wide=False` the side that is split is the leftmost one. Both are symbols
-        of one group. Refusals 12 to 16.
+        of one group, with (index - e3)/3 + 1 vertices each. Refusals 12 to 16.
 
         >>> Symbol.from_permutations([1, 0, 2], [2, 0, 1])
         Symbol([(0, 1), (1, 1)], [1, -2, 1])
         """
         if not isinstance(wide, bool):
             raise TypeError(f"wide is {shown(wide)}, and True or False is wanted")
-        s = clamped(integers(S, "S"), 0, _NO_POINT, _NO_POINT)
-        r = clamped(integers(R, "R"), 0, _NO_POINT, _NO_POINT)
+        s, r = points(S, "S"), points(R, "R")
         out = (c_int64 * library.TABLE)()
         name = "farey_import_wide" if wide else "farey_import"
-        v = library.call(name, (c_uint32 * len(s))(*s), (c_uint32 * len(r))(*r), library.work(), out)
+        v = library.call(name, s, r, library.work(), out)
         made = cls.__new__(cls)
         made._accept(v, out[: 3 * v + 1])
         return made

@@ -65,7 +65,7 @@ class Sessions(unittest.TestCase):
         result = doctest.testmod(farey, verbose=False)
         self.assertEqual(result.failed, 0)
         self.assertGreater(result.attempted, 0)
-        for name in ("symbol", "refusal", "evidence", "cycles", "named", "systems"):
+        for name in ("symbol", "refusal", "evidence", "cycles", "named", "permutations", "systems"):
             self.assertGreater(attempted[name], 1, name)
 
     def test_public_names_have_examples(self):

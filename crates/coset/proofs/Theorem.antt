@@ -83,7 +83,7 @@ module _ (v : ℕ) (t : List ℤ) (g : Polygon v t) where
   ρ-real : (x : ℕ) → Real v t x → Real v t (ρ x)
   ρ-real x h = rw (ρ-is x) (g .closed S (κ (κ (σ x))) (g .closed P (σ x) (g .closed S x h)))
 
-  listed-real : (x : ℕ) → Reached σ ρ origin x → Real v t x
+  pub listed-real : (x : ℕ) → Reached σ ρ origin x → Real v t x
   listed-real _ here = g .walks .origin
   listed-real _ (by-σ {x} r) = g .closed S x (listed-real x r)
   listed-real _ (by-ρ {x} r) = ρ-real x (listed-real x r)
@@ -110,7 +110,7 @@ module _ (v : ℕ) (t : List ℤ) (g : Polygon v t) where
     ρ-low = λ x h. elim (either (real v t x)) [ inl e ↦ g .within (ρ x) (ρ-real x e) | inr e ↦ rw (ρ-still x e) h ];
   }
 
-  numbers : Numbering σ ρ origin (places v) (cosets v t)
+  pub numbers : Numbering σ ρ origin (places v) (cosets v t)
   unfolding cosets
   numbers = numbering σ ρ origin (places v) maps
 
@@ -151,7 +151,7 @@ module _ (v : ℕ) (t : List ℤ) (g : Polygon v t) where
 
   -- ---- words in the tables
 
-  member : (x : ℕ) → Real v t x → x ∈ cosets v t
+  pub member : (x : ℕ) → Real v t x → x ∈ cosets v t
   member x h = numbers .all x (real-reached x h)
 
   abbrev s : List ℕ
@@ -166,7 +166,7 @@ module _ (v : ℕ) (t : List ℤ) (g : Polygon v t) where
   abbrev number : ℕ → ℕ
   number x = find (cosets v t) x
 
-  names : Renaming σ ρ (cosets v t) s r u
+  pub names : Renaming σ ρ (cosets v t) s r u
   unfolding cosets tableS tableR tableT
   names = renaming σ ρ origin (places v) maps
 

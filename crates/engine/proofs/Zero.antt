@@ -1,5 +1,6 @@
 -- WHAT A NUMBER 0 TELLS: the call was not refused, so what its answer means holds. In order: no answer is refused with the number 0
--- (`generated-above`, `tabled-above`, `widthed-above`, `cusped-above`, `import-above`, `figured-above`); what a call that made something means (`zero-means`).
+-- (`generated-above`, `tabled-above`, `widthed-above`, `cusped-above`, `import-above`, `import-length-above`, `figured-above`); what a call that made something means
+-- (`zero-means`).
 -- Assumes nothing.
 use mathlib.Core.Path.{_≡_, refl, sym, ap, subst, _∙_}
 use mathlib.Core.Logic.{_⊎_, inl, inr}
@@ -35,10 +36,11 @@ use Rattle.import_rule.specs.Order.{Order}
 use Rattle.import_rule.specs.Symbol as rule
 use Rattle.import_table.specs.Answer.{grownOf}
 use Rattle.permutations.specs.Check as passport
-use Rattle.permutations.specs.Import.{importBy}
+use Rattle.permutations.specs.Import.{neededLength, grownWithin, importBy, importLengthOf}
 use Rattle.congruence.specs.Index.{familyIndex}
+use Rattle.congruence.specs.Cosets.{familyS, familyR}
 use Rattle.named_groups.specs.Group.{familyOf, groupCheck}
-use Rattle.named_groups.specs.Answer.{roomTwo, namedTablesOf, namedRule, namedSymbolBy}
+use Rattle.named_groups.specs.Answer.{roomTwo, namedTablesOf, namedSymbolBy}
 use Rattle.named_groups.proofs.Checked.{group-numbers}
 use Rattle.engine.specs.Exported.{filledPlace, samenessPlace}
 
@@ -97,9 +99,15 @@ module _ (v : ℕ) (t : List ℤ) (work : ℕ) where
       go (Refused f) h = omega (arith, h .0)
       go Accepted h = by-length (ltb work workLength)
 
-grown-above : (g : rule.Ruled) (room : ℕ) → AboveIn (grownOf g room)
-grown-above (rule.made v t) room = above-pick (ltb room (3 * v + 1)) (filled.Refused (tooShort (3 * v + 1))) (filled.Made v) (omega arith) tt
-grown-above (rule.over i) room = omega arith
+grown-above : (g : rule.Ruled) → AboveIn (grownOf g)
+grown-above (rule.made v t) = tt
+grown-above (rule.over i) = omega arith
+
+within-above : (order : Order) (s r : List ℕ) (room : ℕ) → AboveIn (grownWithin order s r room)
+within-above order s r room =
+    let n = neededLength r in
+    let g = rule.ruledBy order s r in
+    above-pick (ltb room n) (filled.Refused (tooShort n)) (grownOf g) (omega arith) (grown-above g)
 
 module _ (s r : List ℕ) where
   pairs-among : Among 12 15 (passport.pairCheck s r)
@@ -124,8 +132,11 @@ module _ (s r : List ℕ) where
 
   pub import-above : (order : Order) (work room : ℕ) → AboveIn (importBy order s r work room)
   import-above order work room =
-      let g = rule.ruledBy order s r in
-      above-by 12 15 (passport.pairCheck s r) (byWork work (grownOf g room)) (omega arith) pairs-among (above-work work (grownOf g room) (grown-above g room))
+      let g = grownWithin order s r room in
+      above-by 12 15 (passport.pairCheck s r) (byWork work g) (omega arith) pairs-among (above-work work g (within-above order s r room))
+
+  pub import-length-above : AboveIn (importLengthOf s r)
+  import-length-above = above-by 12 15 (passport.pairCheck s r) (filled.Made (neededLength r)) (omega arith) pairs-among tt
 
 -- ---- groups with names
 
@@ -144,9 +155,10 @@ module _ (k n work : ℕ) where
 
   pub named-symbol-above : (order : Order) (room : ℕ) → AboveIn (namedSymbolBy order k n work room)
   named-symbol-above order room =
-      let g = namedRule order k n in
-      above-by 20 21 (groupCheck k n) (byWork work (grownOf g room)) (omega arith) (groups-among (groupCheck k n) refl)
-      (above-work work (grownOf g room) (grown-above g room))
+      let s = familyS (familyOf k) n in
+      let r = familyR (familyOf k) n in
+      let g = grownWithin order s r room in
+      above-by 20 21 (groupCheck k n) (byWork work g) (omega arith) (groups-among (groupCheck k n) refl) (above-work work g (within-above order s r room))
 
 -- sameness: a number 0 is yes or no, by the place
 pub zero-same : (v : ℕ) (t : List ℤ) (v' : ℕ) (t' : List ℤ) (work : ℕ) (r : Sameness) → r ≡ samenessOf v t v' t' work → samenessRefusal r .number ≡ 0

@@ -3,7 +3,7 @@
 -- Each returns a number: 0, or that of the answer's refusal (`checkedRefusal`, `filledRefusal`, `figuredRefusal`, `queryRefusal`,
 -- `samenessRefusal`, `drawingRefusal`). Through `place` it writes the refusal's place or, where it returns 0, a count.
 --
---   filledPlace                     place, or how many things were made: generators, cosets, cusps, vertices
+--   filledPlace                     place, or how many things were made: generators, cosets, cusps, vertices, numbers of a table
 --   queryPlace                      place, or how many letters the word has
 --   signWritten                     the sign of a word, 1 or -1, or what stood there where the call refuses
 --   samenessPlace                   place, or 1 for yes and 0 for no

@@ -223,6 +223,18 @@ pub extern "C" fn farey_import_wide(
     said.number
 }
 
+// The length of the table that these two would write.
+#[no_mangle]
+pub extern "C" fn farey_import_length(s: &[u32], r: &[u32], place: &mut usize) -> u64
+    ensures { λ n. ⌜ n ≡ filledRefusal (import.importLengthOf (now (s .entry)) (now (r .entry))) .number ⌝ }
+    ensures { λ n. ⌜ now (place .exit) ≡ filledPlace (import.importLengthOf (now (s .entry)) (now (r .entry))) ⌝ }
+    ensures { λ n. ⌜ (n ≡ 0 → import.Booked (now (s .entry)) (now (r .entry)) (now (place .exit))) ⌝ }
+{
+    let said = of_filled(permutations::import_length(s, r));
+    *place = said.place;
+    said.number
+}
+
 // A word that takes A to B up to sign, in out from the start place on, or 10: there is none.
 #[no_mangle]
 pub extern "C" fn farey_query(

@@ -539,5 +539,5 @@ module _ (σ κ : ℕ → ℕ) (n : ℕ) (T : Turning σ κ n) (top : n ≤ 3066
   pub group : (m : Mat) → det m ≡ pos 1 → InH gens m ↔ (at σ κ 0 m ≡ 0)
   group = stabiliser gens σ κ n T fix Known steps known-leads (inv .home) only
 
-  pub finished-precisely : Precisely σ κ n v t
-  finished-precisely = record { symbol = is-symbol; group = group; few = few }
+  pub finished-precisely : Precisely σ κ v t
+  finished-precisely = record { symbol = is-symbol; group = group }

@@ -152,12 +152,11 @@ module _ (σ κ : ℕ → ℕ) (n : ℕ) (T : Turning σ κ n) where
       go word.Q = put (getD even-gens 1 𝟙) matQ (in-gen even-gens 1 (rw long (lit≤ tt))) (sym (has 1))
       go word.P = put (adj (getD even-gens 1 𝟙)) matP (in-inv even-gens 1 (rw long (lit≤ tt))) (sym (ap adj (has 1) ∙ adj-Q))
 
-  pub precisely-1 : σ 0 ≡ 0 → κ 0 ≡ 0 → Precisely σ κ n 1 (smallTable (negsuc 1))
+  pub precisely-1 : σ 0 ≡ 0 → κ 0 ≡ 0 → Precisely σ κ 1 (smallTable (negsuc 1))
   precisely-1 e o = record {
     symbol = small-symbol (negsuc 1) (inl refl);
     group = stabiliser even-gens σ κ n T (fix-1 e o) Known1 steps-1 (λ m x k. rw (k .1) (leads-≈ σ κ n T (k .0) (leads-𝟙 σ κ n T))) (inl refl, refl)
         (λ m k. record { word = []; letters = tt; is = k .0 });
-    few = omega arith;
   }
 
   -- ---- Q and S Q S⁻¹ fix 0, and S doesn't
@@ -219,9 +218,8 @@ module _ (σ κ : ℕ → ℕ) (n : ℕ) (T : Turning σ κ n) where
   only-2 ne m (inl k) = record { word = []; letters = tt; is = k .0 }
   only-2 ne m (inr k) = absurd (ne (sym (k .1)))
 
-  pub precisely-2 : ¬ (σ 0 ≡ 0) → κ 0 ≡ 0 → κ (σ 0) ≡ σ 0 → Precisely σ κ n 1 (smallTable (negsuc 2))
+  pub precisely-2 : ¬ (σ 0 ≡ 0) → κ 0 ≡ 0 → κ (σ 0) ≡ σ 0 → Precisely σ κ 1 (smallTable (negsuc 2))
   precisely-2 ne o q = record {
     symbol = small-symbol (negsuc 2) (inr refl);
     group = stabiliser odd-gens σ κ n T (fix-2 o q) Known2 steps-2 known-leads-2 (inl (inl refl, refl)) (only-2 ne);
-    few = omega arith;
   }

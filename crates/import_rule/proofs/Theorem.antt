@@ -154,19 +154,19 @@ module _ (σ κ : ℕ → ℕ) (n : ℕ) (T : Turning σ κ n) where
     -- ---- WHAT THE RULE GIVES
 
     module _ (top : n ≤ 3066) where
-      pub quick-precisely : (v : ℕ) (t : List ℤ) → quickBy σ κ order n ≡ made v t → Precisely σ κ n v t
+      pub quick-precisely : (v : ℕ) (t : List ℤ) → quickBy σ κ order n ≡ made v t → Precisely σ κ v t
       quick-precisely v t e = by-first firstTest refl e
         where
-          is-made : (v' : ℕ) (t' : List ℤ) → made v' t' ≡ made v t → Precisely σ κ n v' t' → Precisely σ κ n v t
+          is-made : (v' : ℕ) (t' : List ℤ) → made v' t' ≡ made v t → Precisely σ κ v' t' → Precisely σ κ v t
           is-made v' t' q p =
               let a : v' ≡ v = cc in
               let b : t' ≡ t = cc in
               rw (← a, ← b) p
 
-          grown : secondTest ≡ false → symbolBy σ κ (grow σ κ order n (startPlaced σ κ)) ≡ made v t → Precisely σ κ n v t
+          grown : secondTest ≡ false → symbolBy σ κ (grow σ κ order n (startPlaced σ κ)) ≡ made v t → Precisely σ κ v t
           grown s q = by-grown (grow σ κ order n (startPlaced σ κ)) (ends-start s) q
             where
-              by-grown : (g : Grew) → ((z : List Placed) → g ≡ model.finished z → Ends σ κ n T Kept z) → symbolBy σ κ g ≡ made v t → Precisely σ κ n v t
+              by-grown : (g : Grew) → ((z : List Placed) → g ≡ model.finished z → Ends σ κ n T Kept z) → symbolBy σ κ g ≡ made v t → Precisely σ κ v t
               by-grown (model.finished z) f q =
                   let k = f z refl in
                   let p = finished-precisely σ κ n T top (k .tris) z (k .inv) (k .all) (k .kept .shape) (k .kept .count) in
@@ -174,7 +174,7 @@ module _ (σ κ : ℕ → ℕ) (n : ℕ) (T : Turning σ κ n) where
               by-grown (model.refused i) f q = let z : _≡_ {A = ℕ} 0 1 = cc in absurd (omega arith)
 
           by-second : firstTest ≡ false → (b : Bool) → secondTest ≡ b
-              → pick b (oneVertex (negsuc 2) (negsuc 2)) (symbolBy σ κ (grow σ κ order n (startPlaced σ κ))) ≡ made v t → Precisely σ κ n v t
+              → pick b (oneVertex (negsuc 2) (negsuc 2)) (symbolBy σ κ (grow σ κ order n (startPlaced σ κ))) ≡ made v t → Precisely σ κ v t
           by-second f true s q =
               let o = eqb-true (κ 0) 0 (and-left (eqb (κ 0) 0) (eqb (κ (σ 0)) (σ 0)) s) in
               let r = eqb-true (κ (σ 0)) (σ 0) (and-right (eqb (κ 0) 0) (eqb (κ (σ 0)) (σ 0)) s) in
@@ -183,7 +183,7 @@ module _ (σ κ : ℕ → ℕ) (n : ℕ) (T : Turning σ κ n) where
           by-second f false s q = grown s q
 
           by-first : (b : Bool) → firstTest ≡ b → pick b (oneVertex (negsuc 1) (negsuc 2))
-              (pick secondTest (oneVertex (negsuc 2) (negsuc 2)) (symbolBy σ κ (grow σ κ order n (startPlaced σ κ)))) ≡ made v t → Precisely σ κ n v t
+              (pick secondTest (oneVertex (negsuc 2) (negsuc 2)) (symbolBy σ κ (grow σ κ order n (startPlaced σ κ)))) ≡ made v t → Precisely σ κ v t
           by-first true f q =
               is-made 1 (smallTable (negsuc 1)) q (precisely-1 σ κ n T (eqb-true (σ 0) 0 (and-left (eqb (σ 0) 0) (eqb (κ 0) 0) f))
               (eqb-true (κ 0) 0 (and-right (eqb (σ 0) 0) (eqb (κ 0) 0) f)))
@@ -191,7 +191,7 @@ module _ (σ κ : ℕ → ℕ) (n : ℕ) (T : Turning σ κ n) where
 
 -- FOR EVERY ORDER AND EVERY PAIR OF PERMUTATIONS
 pub rule-precisely : (order : Order) (σ ρ : ℕ → ℕ) (n : ℕ) → Permuting σ ρ n → n ≤ 3066 → (v : ℕ) (t : List ℤ) → ruleBy order σ (byQ σ ρ) n ≡ made v t
-    → Precisely σ (byQ σ ρ) n v t
+    → Precisely σ (byQ σ ρ) v t
 rule-precisely order σ ρ n p top v t e =
     let T = turning σ ρ n p in
     quick-precisely σ (byQ σ ρ) n T order top v t (sym (rule-is σ (byQ σ ρ) n T order) ∙ e)

@@ -1,19 +1,19 @@
 -- What the answers of the calls come to.
 --
 -- In order: the walk may begin in a cleared space (`ground`), by the order that is told (`by-wide`, `by-rule`); the answers for a large group
--- (`large-over`, `large-short`, `large-made`); the cases of the rule (`rule-first`, `rule-second`, `rule-large`); the four numbers of a small
--- symbol (`four-stores`, `small-made`).
+-- (`large-over`, `large-room`, `large-made`); the cases of the rule (`rule-first`, `rule-second`, `rule-large`); the four numbers of a small
+-- symbol (`small-room`, `four-stores`).
 -- Assumes nothing.
 use mathlib.Core.Path.{_≡_, refl, sym, _∙_, ap}
 use mathlib.Core.Bool.{Bool, true, false, _&&_}
 use mathlib.Core.List.{List, [], _∷_, _++_}
 use Prim.Native.Nat.{ℕ, zero, suc, _+_, _-_, _*_, _^_, _≤_, _<_}
 use native.Mathlib.Omega.{arith}
-use lib.Dec.{ltb, eqb}
+use lib.Dec.{eqb}
 use lib.ListN.{length, getD, set, drop}
 use lib.IntN.{ℤ, pos, negsuc}
-use borrow.Author.Tests.{lt-ltb, le-ltb, eq-eqb, ne-eqb}
-use Rattle.refusal.specs.Refusal.{tooShort, entryTooLarge}
+use borrow.Author.Tests.{eq-eqb, ne-eqb}
+use Rattle.refusal.specs.Refusal.{entryTooLarge}
 use Rattle.refusal.specs.declared.Filled.{Filled}
 use Rattle.refusal.specs.declared.Filled.the-variants.{Made, Refused}
 use Rattle.basics.specs.Choice.{pick}
@@ -25,7 +25,7 @@ use Rattle.import_rule.specs.Order.{Order, leftmost, longestOpen}
 use Rattle.import_rule.specs.Symbol.{Ruled, made, over, oneVertex, symbolTable, ruleBy}
 use Rattle.import_rule.specs.Inner.Placed.{Grew, finished, refused, rowsOf, symbolBy, quickBy}
 use Rattle.import_walk.specs.Inner.Work.{Large, Ground, grownBy, Whole, WalkLeaves, halted, whole, doneIn}
-use Rattle.import_table.specs.Inner.Writing.{tableWritten, largeBy}
+use Rattle.import_table.specs.Inner.Writing.{tableWritten, largeBy, HasRoom}
 use Rattle.import_table.specs.Answer.{orderBy, grownOf, ruledTable, ruledLeft}
 use Rattle.import_rule.proofs.Lead.{Turning, turning}
 use Rattle.import_rule.proofs.Theorem.{rule-is}
@@ -62,27 +62,19 @@ module _ (order : Order) (s r : List ℕ) where
   whole-of w stop d (whole e g) f = g
 
   pub large-over : (w : List ℕ) (stop : Bool) (d : ℕ) (o : List ℤ) → WalkLeaves order s r w stop d → stop ≡ true
-      → (Refused (entryTooLarge d) ≡ grownOf large (length o)) × (o ≡ ruledLeft large (Refused (entryTooLarge d)) o)
-  large-over w stop d o (halted e g) f = (sym (ap (λ (x : Grew). grownOf (symbolBy σ κ x) (length o)) g), refl)
+      → (Refused (entryTooLarge d) ≡ grownOf large) × (o ≡ ruledLeft large (Refused (entryTooLarge d)) o)
+  large-over w stop d o (halted e g) f = (sym (ap (λ (x : Grew). grownOf (symbolBy σ κ x)) g), refl)
   large-over w stop d o (whole e g) f = clash f e
 
   made-is : (w : List ℕ) (d : ℕ) → Whole order s r w d → large ≡ made (d - 1) (symbolTable (rowsOf σ κ (doneIn w d)))
   made-is w d g = ap (symbolBy σ κ) (g .is) ∙ ap (λ (k : ℕ). made (k - 1) (symbolTable (rowsOf σ κ (doneIn w d)))) (length-done w d)
 
-  pub large-short : (w : List ℕ) (d : ℕ) (o : List ℤ) → Whole order s r w d → length o < 3 * (d - 1) + 1
-      → (Refused (tooShort (3 * (d - 1) + 1)) ≡ grownOf large (length o)) × (o ≡ ruledLeft large (Refused (tooShort (3 * (d - 1) + 1))) o)
-  large-short w d o g h = (
-    sym (ap (λ (x : Ruled). grownOf x (length o)) (made-is w d g)
-        ∙ pick-true (ltb (length o) (3 * (d - 1) + 1)) _ _ (lt-ltb (length o) (3 * (d - 1) + 1) h)),
-    refl,
-  )
+  pub large-room : (w : List ℕ) (d room : ℕ) → Whole order s r w d → HasRoom large room → 3 * (d - 1) + 1 ≤ room
+  large-room w d room g h = h .fits (d - 1) (symbolTable (rowsOf σ κ (doneIn w d))) (made-is w d g)
 
-  pub large-made : (w : List ℕ) (d : ℕ) (o y : List ℤ) → Whole order s r w d → 3 * (d - 1) + 1 ≤ length o → y ≡ tableWritten σ κ w d o
-      → (Made (d - 1) ≡ grownOf large (length o)) × (y ≡ ruledLeft large (Made (d - 1)) o)
-  large-made w d o y g h e = (
-    sym (ap (λ (x : Ruled). grownOf x (length o)) (made-is w d g) ∙ pick-false (ltb (length o) (3 * (d - 1) + 1)) _ _ (le-ltb (length o) (3 * (d - 1) + 1) h)),
-    e ∙ sym (ap (λ (x : Ruled). ruledLeft x (Made (d - 1)) o) (made-is w d g)),
-  )
+  pub large-made : (w : List ℕ) (d : ℕ) (o y : List ℤ) → Whole order s r w d → y ≡ tableWritten σ κ w d o
+      → (Made (d - 1) ≡ grownOf large) × (y ≡ ruledLeft large (Made (d - 1)) o)
+  large-made w d o y g e = (sym (ap grownOf (made-is w d g)), e ∙ sym (ap (λ (x : Ruled). ruledLeft x (Made (d - 1)) o) (made-is w d g)))
 
   -- ---- the cases of the rule
 
@@ -126,20 +118,17 @@ module _ (order : Order) (s r : List ℕ) where
         and-false true b t = t
         and-false false b t = refl
 
--- an answer for what the rule gives
-pub answers : (g g' : Ruled) (a : Filled) (o y : List ℤ) → g ≡ g' → (a ≡ grownOf g' (length o)) → (y ≡ ruledLeft g' a o) → (a ≡ grownOf g (length o))
-    × (y ≡ ruledLeft g a o)
-answers g g' a o y e p q = (p ∙ ap (λ (x : Ruled). grownOf x (length o)) (sym e), q ∙ ap (λ (x : Ruled). ruledLeft x a o) (sym e))
+-- an answer for what the rule gives, and room for it
+pub answers : (g g' : Ruled) (a : Filled) (o y : List ℤ) → g ≡ g' → (a ≡ grownOf g') → (y ≡ ruledLeft g' a o) → (a ≡ grownOf g) × (y ≡ ruledLeft g a o)
+answers g g' a o y e p q = (p ∙ ap grownOf (sym e), q ∙ ap (λ (x : Ruled). ruledLeft x a o) (sym e))
+
+pub room-for : (g g' : Ruled) (room : ℕ) → g ≡ g' → HasRoom g room → HasRoom g' room
+room-for g g' room e h = rw (sym e) h
 
 -- ---- a small symbol
 
-pub small-short : (x : ℤ) (o : List ℤ) → length o < 4 → (Refused (tooShort 4) ≡ grownOf (oneVertex x (negsuc 2)) (length o))
-    × (o ≡ ruledLeft (oneVertex x (negsuc 2)) (Refused (tooShort 4)) o)
-small-short x o h = (sym (pick-true (ltb (length o) 4) (Refused (tooShort 4)) (Made 1) (lt-ltb (length o) 4 h)), refl)
-
-pub small-made : (x : ℤ) (o y : List ℤ) → 4 ≤ length o → y ≡ (pos 0 ∷ pos 1 ∷ x ∷ negsuc 2 ∷ []) ++ drop 4 o
-    → (Made 1 ≡ grownOf (oneVertex x (negsuc 2)) (length o)) × (y ≡ ruledLeft (oneVertex x (negsuc 2)) (Made 1) o)
-small-made x o y h e = (sym (pick-false (ltb (length o) 4) (Refused (tooShort 4)) (Made 1) (le-ltb (length o) 4 h)), e)
+pub small-room : (g : Ruled) (x : ℤ) (room : ℕ) → g ≡ oneVertex x (negsuc 2) → HasRoom g room → 4 ≤ room
+small-room g x room e h = h .fits 1 (pos 0 ∷ pos 1 ∷ x ∷ negsuc 2 ∷ []) e
 
 pub four-stores : (o : List ℤ) (x : ℤ) → 4 ≤ length o → set (set (set (set o 0 (pos 0)) 1 (pos 1)) 2 x) 3 (negsuc 2) ≡ (pos 0 ∷ pos 1 ∷ x ∷ negsuc 2 ∷ []) ++ drop 4 o
 four-stores [] x h = absurd (omega arith)

@@ -6,32 +6,26 @@ use import_walk::walk::Outcome;
 use refusal::ENTRY_TOO_LARGE;
 use refusal::Filled;
 use refusal::Refusal;
-use refusal::TOO_SHORT;
 use write::write_four;
 use write::write_table;
 ghost use mathlib.Core.Path.{_≡_};
-ghost use Prim.Native.Nat.{_<_, _≤_};
+ghost use Prim.Native.Nat.{_≤_};
 ghost use lib.IntN.{negsuc};
 ghost use lib.ListN.{length};
 ghost use Rattle.import_rule.specs.Fixed.{image, byQ, Pair};
 ghost use Rattle.import_rule.specs.Symbol.{oneVertex, ruledBy};
 ghost use Rattle.import_walk.specs.Inner.Work.{Large, Ground, WalkLeaves};
-ghost use Rattle.import_table.specs.Inner.Writing.{largeBy};
+ghost use Rattle.import_table.specs.Inner.Writing.{largeBy, HasRoom};
 ghost use Rattle.import_table.specs.Answer.{orderBy, grownOf, ruledLeft};
 
 mod write;
 
 // The symbol of one vertex, with the pairings x and -3.
 fn grow_small(out: &mut [i64], x: i64) -> Filled
-    ensures { λ a. ⌜ a ≡ grownOf (oneVertex x (negsuc 2)) (length (now (out .entry))) ⌝ }
+    requires { ⌜ 4 ≤ length (now out) ⌝ }
+    ensures { λ a. ⌜ a ≡ grownOf (oneVertex x (negsuc 2)) ⌝ }
     ensures { λ a. ⌜ now (out .exit) ≡ ruledLeft (oneVertex x (negsuc 2)) a (now (out .entry)) ⌝ }
 {
-    if out.len() < 4 {
-        return Filled::Refused(Refusal {
-            number: TOO_SHORT,
-            place: 4,
-        });
-    }
     write_four(out, x);
     Filled::Made(1)
 }
@@ -49,8 +43,8 @@ fn sides(s: &[u32], r: &[u32], w: &mut [u16], wide: bool) -> Outcome
 
 // The symbol of a group that is none of the small ones.
 fn grow_large(s: &[u32], r: &[u32], w: &mut [u16], out: &mut [i64], wide: bool) -> Filled
-    requires { ⌜ Pair (now s) (now r) × (32768 ≤ length (now w)) × Large (now s) (now r) ⌝ }
-    ensures { λ a. ⌜ a ≡ grownOf (largeBy (orderBy wide) (now (s .entry)) (now (r .entry))) (length (now (out .entry))) ⌝ }
+    requires { ⌜ Pair (now s) (now r) × (32768 ≤ length (now w)) × Large (now s) (now r) × HasRoom (largeBy (orderBy wide) (now s) (now r)) (length (now out)) ⌝ }
+    ensures { λ a. ⌜ a ≡ grownOf (largeBy (orderBy wide) (now (s .entry)) (now (r .entry))) ⌝ }
     ensures { λ a. ⌜ now (out .exit) ≡ ruledLeft (largeBy (orderBy wide) (now (s .entry)) (now (r .entry))) a (now (out .entry)) ⌝ }
 {
     workspace::clear(w);
@@ -62,13 +56,6 @@ fn grow_large(s: &[u32], r: &[u32], w: &mut [u16], out: &mut [i64], wide: bool) 
             place: d,
         });
     }
-    let n = 3 * (d - 1) + 1;
-    if out.len() < n {
-        return Filled::Refused(Refusal {
-            number: TOO_SHORT,
-            place: n,
-        });
-    }
     write_table(s, r, w, d, out);
     let v = d - 1;
     Filled::Made(v)
@@ -76,8 +63,8 @@ fn grow_large(s: &[u32], r: &[u32], w: &mut [u16], out: &mut [i64], wide: bool) 
 
 // The symbol of the matrices that fix point 0, where Q does.
 fn grow_fixed(s: &[u32], r: &[u32], w: &mut [u16], out: &mut [i64], wide: bool) -> Filled
-    requires { ⌜ Pair (now s) (now r) × (32768 ≤ length (now w)) × (byQ (image (now s)) (image (now r)) 0 ≡ 0) ⌝ }
-    ensures { λ a. ⌜ a ≡ grownOf (ruledBy (orderBy wide) (now (s .entry)) (now (r .entry))) (length (now (out .entry))) ⌝ }
+    requires { ⌜ Pair (now s) (now r) × (32768 ≤ length (now w)) × (byQ (image (now s)) (image (now r)) 0 ≡ 0) × HasRoom (ruledBy (orderBy wide) (now s) (now r)) (length (now out)) ⌝ }
+    ensures { λ a. ⌜ a ≡ grownOf (ruledBy (orderBy wide) (now (s .entry)) (now (r .entry))) ⌝ }
     ensures { λ a. ⌜ now (out .exit) ≡ ruledLeft (ruledBy (orderBy wide) (now (s .entry)) (now (r .entry))) a (now (out .entry)) ⌝ }
 {
     let o = image(s, 0);
@@ -91,11 +78,11 @@ fn grow_fixed(s: &[u32], r: &[u32], w: &mut [u16], out: &mut [i64], wide: bool) 
     grow_large(s, r, w, out, wide)
 }
 
-// The symbol of the matrices that fix point 0, for an accepted pair, by the wide rule or by the rule: the number of its vertices, its table at the
-// front of the result space; or 16 with the side that can't be split, then 11 with the length that the result space needs.
+// The symbol of the matrices that fix point 0, for an accepted pair and a result space that its table fits, by the wide rule or by the rule: the number of
+// its vertices, its table at the front of the result space; or 16 with the side that can't be split.
 pub fn grow(s: &[u32], r: &[u32], w: &mut [u16], out: &mut [i64], wide: bool) -> Filled
-    requires { ⌜ Pair (now s) (now r) × (32768 ≤ length (now w)) ⌝ }
-    ensures { λ a. ⌜ a ≡ grownOf (ruledBy (orderBy wide) (now (s .entry)) (now (r .entry))) (length (now (out .entry))) ⌝ }
+    requires { ⌜ Pair (now s) (now r) × (32768 ≤ length (now w)) × HasRoom (ruledBy (orderBy wide) (now s) (now r)) (length (now out)) ⌝ }
+    ensures { λ a. ⌜ a ≡ grownOf (ruledBy (orderBy wide) (now (s .entry)) (now (r .entry))) ⌝ }
     ensures { λ a. ⌜ now (out .exit) ≡ ruledLeft (ruledBy (orderBy wide) (now (s .entry)) (now (r .entry))) a (now (out .entry)) ⌝ }
 {
     let q = turned(s, r, 0);

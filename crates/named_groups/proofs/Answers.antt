@@ -29,9 +29,9 @@ use Rattle.congruence_tables.specs.Inner.Held.{Group}
 use Rattle.named_groups.specs.Group.{familyOf, groupCheck, NamedGroup}
 use Rattle.import_rule.specs.Order.{Order}
 use Rattle.import_rule.specs.Symbol.{ruledBy}
-use Rattle.import_table.specs.Answer.{grownOf, ruledLeft}
+use Rattle.import_table.specs.Answer.{ruledLeft}
 use Rattle.permutations.specs.Check.{pairCheck}
-use Rattle.permutations.specs.Import.{importBy, importWork, importTable}
+use Rattle.permutations.specs.Import.{grownWithin, importBy, importWork, importTable}
 use Rattle.permutations.proofs.Accepted.{accepted}
 use Rattle.permutations.proofs.Means.{import-means}
 use Rattle.named_groups.specs.Answer.{roomTwo, namedTablesOf, NamedTables, NamedTablesMean, namedRule, namedSymbolBy, NamedSymbol, NamedSymbolMeans}
@@ -143,14 +143,14 @@ module _ (f : Family) (n : ℕ) (g : Group f n) where
   accepted-pair = accepted (familyS f n) (familyR f n) .1 (passport f n g)
 
   -- an import of the family's tables answers by the rule, and clears the work space
-  pub import-long : (order : Order) (work room : ℕ) → workLength ≤ work → importBy order (familyS f n) (familyR f n) work room ≡ grownOf (ruledBy order (familyS f n) (familyR f n)) room
+  pub import-long : (order : Order) (work room : ℕ) → workLength ≤ work → importBy order (familyS f n) (familyR f n) work room ≡ grownWithin order (familyS f n) (familyR f n) room
   import-long order work room h = rw (accepted-pair, le-ltb work workLength h)
 
   pub import-clears : (w : List ℕ) → workLength ≤ length w → importWork (pairCheck (familyS f n) (familyR f n)) w ≡ zeros (length w)
   import-clears w h = rw (accepted-pair, le-ltb (length w) workLength h)
 
   -- what a symbol that was made means
-  pub symbol-means : (order : Order) (a : Filled) (out : List ℤ) (room : ℕ) → a ≡ grownOf (ruledBy order (familyS f n) (familyR f n)) room → (v : ℕ) → a ≡ filled.Made v
+  pub symbol-means : (order : Order) (a : Filled) (out : List ℤ) (room : ℕ) → a ≡ grownWithin order (familyS f n) (familyR f n) room → (v : ℕ) → a ≡ filled.Made v
       → NamedSymbol f n v (take (3 * v + 1) (ruledLeft (ruledBy order (familyS f n) (familyR f n)) a out))
   symbol-means order a out room e v d = symbol-named f n g v _ (import-means order (familyS f n) (familyR f n) workLength room a out (e ∙ sym (import-long order workLength room (omega arith))) v d)
 
@@ -164,7 +164,7 @@ module _ (order : Order) (k n : ℕ) (w : List ℕ) (out : List ℤ) where
     pub means : NamedSymbolMeans k n a out'
 
   abbrev grown : Filled
-  grown = grownOf (namedRule order k n) (length out)
+  grown = grownWithin order (familyS (familyOf k) n) (familyR (familyOf k) n) (length out)
 
   pub symboled-refused : {f : Refusal} → groupCheck k n ≡ checked.Refused f → Symboled (filled.Refused f) w out
   symboled-refused e = record { returned = by-refusal k n w grown e; work = work-refused k n w grown e; result = refl; means = λ v d. refused-made d }
@@ -174,10 +174,10 @@ module _ (order : Order) (k n : ℕ) (w : List ℕ) (out : List ℤ) where
     symboled-short h = record { returned = by-short k n w grown e h; work = work-short k n w grown e h; result = refl; means = λ v d. refused-made d }
 
     pub symboled-long : workLength ≤ length w → {f : Family} → f ≡ familyOf k → (a : Filled) (w' : List ℕ) (out' : List ℤ)
-        → a ≡ grownOf (ruledBy order (familyS f n) (familyR f n)) (length out) → w' ≡ zeros (length w) → out' ≡ ruledLeft (ruledBy order (familyS f n) (familyR f n)) a out
+        → a ≡ grownWithin order (familyS f n) (familyR f n) (length out) → w' ≡ zeros (length w) → out' ≡ ruledLeft (ruledBy order (familyS f n) (familyR f n)) a out
         → Symboled a w' out'
     symboled-long h d a w' out' p q t =
-        let p' : a ≡ grownOf (namedRule order k n) (length out) = p ∙ ap (λ (f : Family). grownOf (ruledBy order (familyS f n) (familyR f n)) (length out)) d in
+        let p' : a ≡ grown = p ∙ ap (λ (f : Family). grownWithin order (familyS f n) (familyR f n) (length out)) d in
         let t' : out' ≡ ruledLeft (namedRule order k n) a out = t ∙ ap (λ (f : Family). ruledLeft (ruledBy order (familyS f n) (familyR f n)) a out) d in
         record {
           returned = p' ∙ by-long k n w grown e h;
@@ -200,7 +200,7 @@ module _ (f : Family) (n : ℕ) (g : Group f n) where
 pub imported : (f : Family) (n : ℕ) → Group f n → (order : Order) (s r w w' : List ℕ) (out : List ℤ) (a : Filled) (w'' : List ℕ) (out' : List ℤ)
     → s ≡ familyS f n → r ≡ familyR f n → length w' ≡ length w → workLength ≤ length w → a ≡ importBy order s r (length w') (length out)
     → w'' ≡ importWork (pairCheck s r) w' → out' ≡ importTable (ruledBy order s r) a out
-    → (a ≡ grownOf (ruledBy order (familyS f n) (familyR f n)) (length out)) × ((w'' ≡ zeros (length w)) × (out' ≡ ruledLeft (ruledBy order (familyS f n) (familyR f n)) a out))
+    → (a ≡ grownWithin order (familyS f n) (familyR f n) (length out)) × ((w'' ≡ zeros (length w)) × (out' ≡ ruledLeft (ruledBy order (familyS f n) (familyR f n)) a out))
 imported f n g order s r w w' out a w'' out' es er ew long p q t =
     let long' : workLength ≤ length w' = rw ew long in
     let p' : a ≡ importBy order (familyS f n) (familyR f n) (length w') (length out) = rw (es, er) at p in

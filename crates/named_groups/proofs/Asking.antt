@@ -1,7 +1,6 @@
 -- Laws for the queries on groups with names: what `make_symbol` leaves, the query on it, and the ways out of `named_query_by`.
 -- Assumes nothing.
 use mathlib.Core.Path.{_≡_, refl, sym, _∙_, ap, subst}
-use mathlib.Core.Bool.{Bool, true, false}
 use mathlib.Core.List.{List, _++_}
 use Prim.Native.Nat.{ℕ, _+_, _*_, _-_, _≤_, _<_}
 use native.Mathlib.Omega.{arith}
@@ -10,7 +9,7 @@ use lib.ListN.{length, take, drop, length-take}
 use lib.Seq.{take-at}
 use lib.IntN.{ℤ}
 use borrow.Author.Tests.{le-ltb}
-use Rattle.basics.specs.Choice.{pick}
+use Rattle.basics.proofs.Choice.{pick-false}
 use Rattle.basics.specs.Count.{first}
 use Rattle.matrix.specs.Matrix.{ofList}
 use Rattle.refusal.specs.Refusal.{matrixEntry, badDeterminant, tooShort, entryTooLarge, filledRefusal}
@@ -29,6 +28,7 @@ use Rattle.congruence_tables.specs.Inner.Held.{Group}
 use Rattle.import_rule.specs.Order.{Order}
 use Rattle.import_rule.specs.Symbol.{Ruled, made, over, ruledBy}
 use Rattle.import_table.specs.Answer.{grownOf, ruledTable, ruledLeft}
+use Rattle.permutations.specs.Import.{neededLength, grownWithin}
 use Rattle.word.specs.Answer.{large, unit, foundWord, foundOf, queryOf, queryWork, wordLeft}
 use Rattle.word.specs.Inner.Ready.{judgedOf}
 use Rattle.word.specs.declared.Queried.{Queried}
@@ -40,45 +40,45 @@ use Rattle.named_groups.specs.Group.{familyOf, groupCheck}
 use Rattle.named_groups.specs.Answer.{namedRule, NamedSymbol, ruledQuery, ruledWord, namedQueryBy, namedQueryWork}
 use Rattle.named_groups.specs.Claim.{NamedClaim}
 use Rattle.named_groups.specs.Inner.Ready.{QueryReady}
+use Rattle.named_groups.proofs.Tables.{passport}
 use Rattle.named_groups.proofs.Answers.{group-by}
 use Rattle.named_groups.proofs.Claim.{rule-symbol, pair-passed, named-claim}
 
 -- ---- what was made
 
-made-rule : (g : Ruled) (room v : ℕ) → grownOf g room ≡ filled.Made v → g ≡ made v (ruledTable g)
-made-rule (made v' t) room v e = by-room (ltb room (3 * v' + 1)) e
-  where
-    by-room : (b : Bool) → pick b (filled.Refused (tooShort (3 * v' + 1))) (filled.Made v') ≡ filled.Made v → made v' t ≡ made v t
-    by-room true q = refused-made q
-    by-room false q = let z : v' ≡ v = cc in ap (λ (x : ℕ). made x t) z
-made-rule (over i) room v e = refused-made e
+made-rule : (g : Ruled) (v : ℕ) → grownOf g ≡ filled.Made v → g ≡ made v (ruledTable g)
+made-rule (made v' t) v e = let z : v' ≡ v = cc in ap (λ (x : ℕ). made x t) z
+made-rule (over i) v e = refused-made e
 
 record Over (g : Ruled) (x : Refusal) : Type 0 where
   side : ℕ
   is : g ≡ over side
   refusal : x ≡ entryTooLarge side
 
-over-rule : (g : Ruled) (room : ℕ) → ((v : ℕ) (t : List ℤ) → g ≡ made v t → 3 * v + 1 ≤ room) → {x : Refusal} → grownOf g room ≡ filled.Refused x → Over g x
-over-rule (made v t) room fits e = refused-made (sym (sym (ap (λ (b : Bool). pick b (filled.Refused (tooShort (3 * v + 1))) (filled.Made v)) (le-ltb room (3 * v + 1) (fits v t refl))) ∙ e))
-over-rule (over i) room fits {x} e = record { side = i; is = refl; refusal = sym (ap filledRefusal e) }
+over-rule : (g : Ruled) {x : Refusal} → grownOf g ≡ filled.Refused x → Over g x
+over-rule (made v t) e = refused-made (sym e)
+over-rule (over i) {x} e = record { side = i; is = refl; refusal = sym (ap filledRefusal e) }
 
 module _ (f : Family) (n : ℕ) (g : Group f n) (order : Order) where
   abbrev G : Ruled
   G = ruledBy order (familyS f n) (familyR f n)
 
   -- each table fits in 3,070 numbers
-  fits : (v : ℕ) (t : List ℤ) → G ≡ made v t → 3 * v + 1 ≤ 3070
-  fits v t e = omega (arith, rule-symbol f n g order v t e .symbol .most)
+  fits : neededLength (familyR f n) ≤ 3070
+  fits = let p = passport f n g in omega (arith, p .most, p .even)
 
-  pub query-over : {x : Refusal} {a' : Filled} → a' ≡ grownOf G 3070 → a' ≡ filled.Refused x → (a b : List ℤ) (start room : ℕ)
+  within : grownWithin order (familyS f n) (familyR f n) 3070 ≡ grownOf G
+  within = pick-false (ltb 3070 (neededLength (familyR f n))) _ _ (le-ltb 3070 (neededLength (familyR f n)) fits)
+
+  pub query-over : {x : Refusal} {a' : Filled} → a' ≡ grownWithin order (familyS f n) (familyR f n) 3070 → a' ≡ filled.Refused x → (a b : List ℤ) (start room : ℕ)
       → queried.Refused x ≡ ruledQuery G a b start room
   query-over e d a b start room =
-      let o = over-rule G 3070 fits (sym e ∙ d) in
+      let o = over-rule G (sym within ∙ sym e ∙ d) in
       ap queried.Refused (o .refusal) ∙ sym (ap (λ (z : Ruled). ruledQuery z a b start room) (o .is))
 
-  module _ {v : ℕ} {a' : Filled} (e : a' ≡ grownOf G 3070) (d : a' ≡ filled.Made v) where
+  module _ {v : ℕ} {a' : Filled} (e : a' ≡ grownWithin order (familyS f n) (familyR f n) 3070) (d : a' ≡ filled.Made v) where
     is-made : G ≡ made v (ruledTable G)
-    is-made = made-rule G 3070 v (sym e ∙ d)
+    is-made = made-rule G v (sym within ∙ sym e ∙ d)
 
     symbol : NamedSymbol f n v (ruledTable G)
     symbol = rule-symbol f n g order v (ruledTable G) is-made

@@ -10,7 +10,6 @@ use Prim.Native.Nat.{ℕ, _+_, _*_, _≤_, _<_}
 use native.Mathlib.Omega.{arith}
 use lib.ListN.{length, take, drop}
 use lib.IntN.{ℤ}
-use borrow.Author.Tests.{le-ltb}
 use Rattle.matrix.specs.Matrix.{Mat, _⊗_, adj, ofList}
 use Rattle.matrix.proofs.Matrix.{det-one, det-adj}
 use Rattle.basics.specs.Count.{first}
@@ -19,10 +18,9 @@ use Rattle.refusal.specs.Refusal.{noWord, tooShort, entryTooLarge}
 use Rattle.refusal.specs.declared.Refusal.{Refusal}
 use Rattle.refusal.specs.declared.Checked.{Checked}
 use Rattle.refusal.specs.declared.Checked.the-variants as checked
-use Rattle.refusal.specs.declared.Filled.the-variants as filled
 use Rattle.workspace.specs.Space.{workLength}
 use Rattle.pairing.specs.Generator.{generators}
-use Rattle.permutations.proofs.Means.{made-means}
+use Rattle.permutations.proofs.Means.{ruled-means}
 use Rattle.permutations.proofs.Renumbered.{from-coset, to-coset}
 use Rattle.congruence.specs.Condition.{Unit}
 use Rattle.congruence.specs.Congruence.{Meets}
@@ -31,7 +29,6 @@ use Rattle.congruence.specs.declared.Family.{Family}
 use Rattle.congruence_tables.specs.Inner.Held.{Group}
 use Rattle.import_rule.specs.Order.{Order}
 use Rattle.import_rule.specs.Symbol.{Ruled, made, over, ruledBy}
-use Rattle.import_table.specs.Answer.{grownOf, ruledTable}
 use Rattle.word.specs.Answer.{queryRefusal, large, foundWord, foundSign, foundOf, wordLeft}
 use Rattle.word.specs.Claim.{Joined, Found, Answered, ShortWork}
 use Rattle.word.specs.declared.Queried.{Queried}
@@ -46,16 +43,12 @@ use Rattle.named_groups.specs.Answer.{namedRule, NamedSymbol, ruledQuery
 use Rattle.named_groups.specs.Claim.{NamedAsked, NamedAnswered, RuleMakes, NamedClaim}
 use Rattle.named_groups.proofs.Checked.{check-named, check-accepts, group-of, group-numbers}
 use Rattle.named_groups.proofs.Symbols.{symbol-named}
-use Rattle.named_groups.proofs.Answers.{import-long}
+use Rattle.named_groups.proofs.Tables.{passport}
 
 -- ---- the symbol that the rule gives
 
 pub rule-symbol : (f : Family) (n : ℕ) → Group f n → (order : Order) (v : ℕ) (t : List ℤ) → ruledBy order (familyS f n) (familyR f n) ≡ made v t → NamedSymbol f n v t
-rule-symbol f n g order v t e =
-    let room = 3 * v + 1 in
-    let grown : grownOf (ruledBy order (familyS f n) (familyR f n)) room ≡ filled.Made v = rw (e, le-ltb room room (omega arith)) in
-    let y = made-means order (familyS f n) (familyR f n) workLength room v (import-long f n g order workLength room (omega arith) ∙ grown) in
-    symbol-named f n g v t (rw e at y)
+rule-symbol f n g order v t e = symbol-named f n g v t (ruled-means order (familyS f n) (familyR f n) v t (passport f n g) e)
 
 -- ---- the pair
 

@@ -2,12 +2,10 @@
 -- Assumes nothing.
 use mathlib.Core.Path.{_≡_, sym, _∙_}
 use mathlib.Core.List.{List}
-use Prim.Native.Nat.{ℕ, _≤_}
+use Prim.Native.Nat.{ℕ}
 use lib.IntN.{ℤ}
-use lib.ListN.{length}
 use Rattle.matrix.specs.Matrix.{Mat}
 use Rattle.congruence.specs.Condition.{Unit}
-use Rattle.congruence.specs.Index.{familyIndex}
 use Rattle.congruence.specs.Cosets.{familyS, familyR}
 use Rattle.congruence.specs.declared.Family.{Family}
 use Rattle.congruence_tables.specs.Inner.Held.{Group}
@@ -28,5 +26,5 @@ symbol-named f n g v t y =
       index = sym (y .index) ∙ a .size-S;
       S-table = y .S-table ∙ numbered-S a;
       R-table = y .R-table ∙ numbered-R a;
-      few = rw (a .size-S) at (y .precisely .few);
+      vertices = y .vertices;
     }

@@ -3,18 +3,19 @@
 --   roomTwo n a b            n points, or 11 with that length: spaces of length a and b are tested in this order
 --   namedTablesOf            20, 21, then the work space, then the spaces for S and R, or the number of points
 --   namedRule order k n      what the rule gives for the group's tables, under an order
---   namedSymbolBy            20, 21, then the work space, then 16, then the result space, or the number of vertices; by the rule `leftmost`, by
+--   namedSymbolBy            20, 21, then the work space, then the result space, then 16, or the number of vertices; by the rule `leftmost`, by
 --                            the wide rule `longestOpen`
 --   ruledQuery               the answer by the symbol that the rule gave, or 16
 --   namedQueryBy             20, 21, then 8 and 9, then the work space, then 16, then 10, then the word space, or the word
 --   ruledWord                the word that the walk over that symbol writes
 --   namedQueryWork           what a query leaves in the work space: zeros where it got past the length check, else all as it was
 --   NamedTablesMean, NamedSymbolMeans     what an answer that is no refusal means: the tables are those of the right cosets of the group, numbered
---                            by the rule; the symbol generates precisely the matrices that meet the condition, and its own tables are these
+--                            by the rule; the symbol generates precisely the matrices that meet the condition, its own tables are these, and it has
+--                            (index - e3)/3 + 1 vertices
 use mathlib.Core.Path.{_≡_}
 use mathlib.Core.Logic.{_↔_}
 use mathlib.Core.List.{List, []}
-use Prim.Native.Nat.{ℕ, _+_, _*_, _≤_}
+use Prim.Native.Nat.{ℕ, _+_, _*_}
 use lib.Dec.{ltb}
 use lib.ListN.{take}
 use lib.IntN.{ℤ}
@@ -34,7 +35,7 @@ use Rattle.congruence.specs.Cosets.{familyS, familyR, CosetsOf}
 use Rattle.congruence.specs.declared.Family.{Family}
 use Rattle.import_rule.specs.Order.{Order, leftmost, longestOpen}
 use Rattle.import_rule.specs.Symbol.{Ruled, made, over, ruledBy}
-use Rattle.import_table.specs.Answer.{grownOf}
+use Rattle.permutations.specs.Import.{neededVertices, grownWithin}
 use Rattle.word.specs.Answer.{passes, foundWord, foundOf, byCheck, byEntries, byDeterminants, queryByWork}
 use Rattle.word.specs.declared.Queried.{Queried}
 use Rattle.word.specs.declared.Queried.the-variants as queried
@@ -63,7 +64,7 @@ abbrev pub namedRule : Order → (k n : ℕ) → Ruled
 namedRule order k n = ruledBy order (familyS (familyOf k) n) (familyR (familyOf k) n)
 
 abbrev pub namedSymbolBy : Order → (k n work room : ℕ) → Filled
-namedSymbolBy order k n work room = filledBy (groupCheck k n) (byWork work (grownOf (namedRule order k n) room))
+namedSymbolBy order k n work room = filledBy (groupCheck k n) (byWork work (grownWithin order (familyS (familyOf k) n) (familyR (familyOf k) n) room))
 
 pub record NamedSymbol (f : Family) (n v : ℕ) (t : List ℤ) : Type 0 where
   pub symbol : IsSymbol v t
@@ -71,7 +72,7 @@ pub record NamedSymbol (f : Family) (n v : ℕ) (t : List ℤ) : Type 0 where
   pub index : indexOf v t ≡ familyIndex f n
   pub S-table : tableS v t ≡ familyS f n
   pub R-table : tableR v t ≡ familyR f n
-  pub few : 3 * v ≤ familyIndex f n + 3
+  pub vertices : v ≡ neededVertices (familyR f n)
 
 abbrev pub NamedSymbolMeans : (k n : ℕ) → Filled → List ℤ → Type 0
 NamedSymbolMeans k n a out = (v : ℕ) → a ≡ filled.Made v → NamedSymbol (familyOf k) n v (take (3 * v + 1) out)

@@ -23,7 +23,8 @@ ghost use Rattle.congruence.specs.Cosets.{familyS, familyR};
 ghost use Rattle.congruence_tables.specs.Inner.Held.{Group};
 ghost use Rattle.import_rule.specs.Order.{leftmost, longestOpen};
 ghost use Rattle.import_rule.specs.Symbol.{ruledBy};
-ghost use Rattle.import_table.specs.Answer.{orderBy, grownOf, ruledLeft};
+ghost use Rattle.import_table.specs.Answer.{orderBy, ruledLeft};
+ghost use Rattle.permutations.specs.Import.{grownWithin};
 ghost use Rattle.word.specs.Answer.{wordLeft};
 ghost use Rattle.named_groups.specs.Group.{familyOf, groupCheck, GroupVerdict};
 ghost use Rattle.named_groups.specs.Answer.{roomTwo, namedTablesOf, NamedTablesMean, namedRule, namedSymbolBy, NamedSymbolMeans, ruledQuery, ruledWord, namedQueryBy, namedQueryWork};
@@ -137,7 +138,7 @@ pub fn named_tables(k: u64, n: u64, w: &mut [u16], s: &mut [u32], r: &mut [u32])
 // The symbol of the group's tables, by the wide rule or by the rule; the work space is cleared after.
 fn make_symbol(f: Family, n: u64, w: &mut [u16], out: &mut [i64], wide: bool) -> Filled
     requires { ⌜ Group f n × (workLength ≤ length (now w)) ⌝ }
-    ensures { λ a. ⌜ a ≡ grownOf (ruledBy (orderBy wide) (familyS f n) (familyR f n)) (length (now (out .entry))) ⌝ }
+    ensures { λ a. ⌜ a ≡ grownWithin (orderBy wide) (familyS f n) (familyR f n) (length (now (out .entry))) ⌝ }
     ensures { λ a. ⌜ now (w .exit) ≡ zeros (length (now (w .entry))) ⌝ }
     ensures { λ a. ⌜ now (out .exit) ≡ ruledLeft (ruledBy (orderBy wide) (familyS f n) (familyR f n)) a (now (out .entry)) ⌝ }
 {
@@ -169,7 +170,7 @@ pub fn named_symbol_by(k: u64, n: u64, w: &mut [u16], out: &mut [i64], wide: boo
     }
 }
 
-// The symbol of the group by the rule, its table at the front of out: 20, 21, then the work space, then 16, then out.
+// The symbol of the group by the rule, its table at the front of out: 20, 21, then the work space, then out, then 16.
 pub fn named_symbol(k: u64, n: u64, w: &mut [u16], out: &mut [i64]) -> Filled
     ensures { λ a. ⌜ a ≡ namedSymbolBy leftmost k n (length (now (w .entry))) (length (now (out .entry))) ⌝ }
     ensures { λ a. ⌜ now (w .exit) ≡ workAfter (groupCheck k n) (now (w .entry)) ⌝ }

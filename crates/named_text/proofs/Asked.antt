@@ -27,7 +27,8 @@ use Rattle.text.specs.Piece.{pieces, numbers}
 use Rattle.text.specs.Reading.{inputOf, leftBy, vertexCount}
 use Rattle.text.specs.declared.Reading.{Reading}
 use Rattle.import_rule.specs.Order.{Order}
-use Rattle.import_table.specs.Answer.{grownOf, ruledTable, ruledLeft}
+use Rattle.import_table.specs.Answer.{ruledTable, ruledLeft}
+use Rattle.permutations.specs.Import.{grownWithin}
 use Rattle.import_text.specs.Answer.{symbolLines, linesBy}
 use Rattle.import_text.proofs.ReadBack.{symbol-read-back}
 use Rattle.permutations.proofs.Means.{made-means}
@@ -84,7 +85,7 @@ leaves-as {a} {b} {w} {w'} {t} {t'} e l = rw (← e) l
 symbol-made : (order : Order) (k n v : ℕ) → madeBy order k n ≡ filled.Made v → NamedSymbol (familyOf k) n v (ruledTable (namedRule order k n))
 symbol-made order k n v m = go (groupCheck k n) refl m
   where
-    go : (c : Checked) → groupCheck k n ≡ c → filledBy c (byWork workLength (grownOf (namedRule order k n) 3070)) ≡ filled.Made v
+    go : (c : Checked) → groupCheck k n ≡ c → filledBy c (byWork workLength (grownWithin order (familyS (familyOf k) n) (familyR (familyOf k) n) 3070)) ≡ filled.Made v
         → NamedSymbol (familyOf k) n v (ruledTable (namedRule order k n))
     go (checked.Refused f) q d = refused-made d
     go checked.Accepted q d =

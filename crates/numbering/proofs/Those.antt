@@ -1,16 +1,18 @@
--- Laws of `those`: one number more, how many there are, and which.
+-- Laws of `those`: one number more, how many there are, and which; and that as many numbers pass one test as another where maps lead there and back
+-- (`those-matched`).
 -- Assumes nothing.
-use mathlib.Core.Path.{_≡_}
+use mathlib.Core.Path.{_≡_, sym, _∙_, ap}
 use mathlib.Core.Logic.{inl, inr}
 use mathlib.Core.Bool.{Bool, true, false}
 use mathlib.Core.List.{[], _∷_, _++_, append-nil}
 use Prim.Native.Nat.{ℕ, zero, suc, _+_, _≤_, _<_}
 use native.Mathlib.Omega.{arith}
 use native.Mathlib.Decide.{decLt, ℕ-discrete}
-use lib.ListN.{length, length-append}
+use native.Mathlib.Nat.{le-antisymm}
+use lib.ListN.{length, getD, length-append}
 use Rattle.numbering.specs.Find.{find, _∈_, _∉_, Once}
 use Rattle.basics.specs.Count.{those}
-use Rattle.numbering.proofs.Find.{none-below, test, in-left, in-last, all-last, once-none, once-last}
+use Rattle.numbering.proofs.Find.{none-below, test, getD-in, getD-find, in-left, in-last, all-last, once-none, once-last, once-inj, pigeonhole}
 
 module _ (p : ℕ → Bool) where
   pub those-yes : (i : ℕ) → p i ≡ true → those p (suc i) ≡ those p i ++ (i ∷ [])
@@ -76,3 +78,35 @@ module _ (p : ℕ → Bool) where
           | inr q ↦ rw (those-no i q) k
         ]
   ]
+
+-- ---- as many numbers pass one test as another
+
+-- y passes q and lies below m, and g leads from it back to x
+pub record Matched (q : ℕ → Bool) (m : ℕ) (g : ℕ → ℕ) (x y : ℕ) : Type 0 where
+  pub low : y < m
+  pub passes : q y ≡ true
+  pub back : g y ≡ x
+
+module _ (p q : ℕ → Bool) (n m : ℕ) (f g : ℕ → ℕ) (to : (x : ℕ) → x < n → p x ≡ true → Matched q m g x (f x)) where
+  abbrev there : ℕ → ℕ
+  there j = f (getD (those p n) j 0)
+
+  entry-matched : (j : ℕ) → j < length (those p n) → Matched q m g (getD (those p n) j 0) (there j)
+  entry-matched j h =
+      let x = getD (those p n) j 0 in
+      let i = getD-in (those p n) j h in
+      to x (those-low p n x i) (those-true p n x i)
+
+  there-in : (j : ℕ) → j < length (those p n) → there j ∈ those q m
+  there-in j h = let k = entry-matched j h in those-in q m (there j) (k .low) (k .passes)
+
+  those-into : length (those p n) ≤ length (those q m)
+  those-into = pigeonhole (length (those p n)) (length (those q m)) (λ (j : ℕ). find (those q m) (there j)) there-in
+      (λ j k h h' e.
+      let same : there j ≡ there k =
+      sym (getD-find (those q m) (there j) (there-in j h)) ∙ ap (λ (i : ℕ). getD (those q m) i 0) e ∙ getD-find (those q m) (there k) (there-in k h') in
+      once-inj (those p n) (those-once p n) j k h h' (sym (entry-matched j h .back) ∙ ap g same ∙ entry-matched k h' .back))
+
+pub those-matched : (p q : ℕ → Bool) (n m : ℕ) (f g : ℕ → ℕ) → ((x : ℕ) → x < n → p x ≡ true → Matched q m g x (f x))
+    → ((y : ℕ) → y < m → q y ≡ true → Matched p n f y (g y)) → length (those p n) ≡ length (those q m)
+those-matched p q n m f g to from = le-antisymm (those-into p q n m f g to) (those-into q p m n g f from)

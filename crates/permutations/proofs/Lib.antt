@@ -1,6 +1,7 @@
 -- Why the calls answer and leave what they do, in reading order.
 pub mod Accepted
 pub mod Renumbered
+pub mod Vertices
 pub mod Means
 pub mod Marks
 pub mod Queue

@@ -2,9 +2,8 @@
 -- Assumes nothing.
 use mathlib.Core.Path.{_≡_, refl, sym, _∙_, ap}
 use mathlib.Core.Bool.{Bool, true, false}
-use mathlib.Core.List.{List, [], _∷_, _++_}
-use Prim.Native.Nat.{ℕ, suc, _+_, _*_, _≤_, _<_}
-use native.Mathlib.Omega.{arith}
+use mathlib.Core.List.{List}
+use Prim.Native.Nat.{ℕ, _+_, _*_, _≤_}
 use lib.Dec.{ltb}
 use lib.ListN.{length, take, drop}
 use lib.Seq.{take-at}
@@ -18,18 +17,19 @@ use Rattle.refusal.proofs.Apart.{refused-made}
 use Rattle.basics.specs.Choice.{pick}
 use Rattle.workspace.specs.Space.{workLength}
 use Rattle.import_rule.specs.Fixed.{image, byQ}
-use Rattle.numbering.specs.Order.{Maps}
 use Rattle.coset.specs.Tables.{tableS, tableR, tableT}
 use Rattle.coset.proofs.Answer.{meaning}
 use Rattle.import_rule.specs.Theorem.{Precisely}
 use Rattle.import_rule.specs.Order.{Order}
 use Rattle.import_rule.specs.Symbol.{Ruled, made, over, ruledBy}
 use Rattle.import_table.specs.Answer.{grownOf, ruledTable}
+use Rattle.import_table.specs.Inner.Writing.{HasRoom}
 use Rattle.import_rule.proofs.Theorem.{rule-precisely}
 use Rattle.permutations.specs.Check.{pairCheck, Passport}
-use Rattle.permutations.specs.Import.{importBy, importTable, Symbolised, ImportMeans}
+use Rattle.permutations.specs.Import.{neededLength, grownWithin, importBy, importTable, Symbolised, ImportMeans, Booked}
 use Rattle.permutations.proofs.Accepted.{accepted, permuting-of}
 use Rattle.permutations.proofs.Renumbered.{index-is, renumbered-S, renumbered-R}
+use Rattle.permutations.proofs.Vertices.{maps, vertices-are}
 
 -- a symbol of v vertices was made only by an accepted pair, with room for its table
 pub record Success (order : Order) (s r : List ℕ) (v : ℕ) : Type 0 where
@@ -40,48 +40,72 @@ pub record Success (order : Order) (s r : List ℕ) (v : ℕ) : Type 0 where
 success : (order : Order) (s r : List ℕ) (work room v : ℕ) → importBy order s r work room ≡ Made v → Success order s r v
 success order s r work room v e = by-check (pairCheck s r) refl e
   where
-    by-rule : pairCheck s r ≡ checked.Accepted → (g : Ruled) → ruledBy order s r ≡ g → grownOf g room ≡ Made v → Success order s r v
-    by-rule c (made v' t) g q = by-room (ltb room (3 * v' + 1)) q
-      where
-        by-room : (b : Bool) → pick b (Refused (tooShort (3 * v' + 1))) (Made v') ≡ Made v → Success order s r v
-        by-room true q = refused-made q
-        by-room false q = let z : v' ≡ v = cc in record { table = t; pair = c; rule = g ∙ ap (λ (x : ℕ). made x t) z }
+    by-rule : pairCheck s r ≡ checked.Accepted → (g : Ruled) → ruledBy order s r ≡ g → grownOf g ≡ Made v → Success order s r v
+    by-rule c (made v' t) g q = let z : v' ≡ v = cc in record { table = t; pair = c; rule = g ∙ ap (λ (x : ℕ). made x t) z }
     by-rule c (over i) g q = refused-made q
 
-    by-work : pairCheck s r ≡ checked.Accepted → (b : Bool) → pick b (Refused (tooShort workLength)) (grownOf (ruledBy order s r) room) ≡ Made v
+    by-space : pairCheck s r ≡ checked.Accepted → (b : Bool) → pick b (Refused (tooShort (neededLength r))) (grownOf (ruledBy order s r)) ≡ Made v
         → Success order s r v
+    by-space c true q = refused-made q
+    by-space c false q = by-rule c (ruledBy order s r) refl q
+
+    by-work : pairCheck s r ≡ checked.Accepted → (b : Bool)
+        → pick b (Refused (tooShort workLength)) (grownWithin order s r room) ≡ Made v → Success order s r v
     by-work c true q = refused-made q
-    by-work c false q = by-rule c (ruledBy order s r) refl q
+    by-work c false q = by-space c (ltb room (neededLength r)) q
 
     by-check : (c : Checked) → pairCheck s r ≡ c
-        → filledBy c (pick (ltb work workLength) (Refused (tooShort workLength)) (grownOf (ruledBy order s r) room)) ≡ Made v → Success order s r v
+        → filledBy c (pick (ltb work workLength) (Refused (tooShort workLength)) (grownWithin order s r room)) ≡ Made v
+        → Success order s r v
     by-check checked.Accepted c q = by-work c (ltb work workLength) q
     by-check (checked.Refused f) c q = refused-made q
 
 -- a symbol that generates precisely the matrices that fix point 0: its tables are the given ones, renumbered
-symbolised : (s r : List ℕ) (v : ℕ) (t : List ℤ) → Passport s r → Precisely (image s) (byQ (image s) (image r)) (length s) v t → Symbolised s r v t
+symbolised : (s r : List ℕ) (v : ℕ) (t : List ℤ) → Passport s r → Precisely (image s) (byQ (image s) (image r)) v t → Symbolised s r v t
 symbolised s r v t p q =
     let a = permuting-of s r p in
-    let maps : Maps (image s) (image r) 0 (length s) = record { start-low = a .some; σ-low = a .σ-low; ρ-low = a .ρ-low } in
+    let m = maps s r p in
     let c = meaning (q .symbol) .cosets in
     let S = tableS v t in
     let R = tableR v t in
     let T = tableT v t in
+    let i = index-is (image s) (image r) (length s) m (a .twice) (a .thrice) (p .reached) v t S R T c (q .group) in
+    let k = renumbered-R (image s) (image r) (length s) m (a .twice) (a .thrice) (p .reached) v t S R T c (q .group) in
     record {
       passport = p;
       precisely = q;
-      index = index-is (image s) (image r) (length s) maps (a .twice) (a .thrice) (p .reached) v t S R T c (q .group);
-      S-table = renumbered-S (image s) (image r) (length s) maps (a .twice) (a .thrice) (p .reached) v t S R T c (q .group);
-      R-table = renumbered-R (image s) (image r) (length s) maps (a .twice) (a .thrice) (p .reached) v t S R T c (q .group);
+      vertices = vertices-are s r p v t (q .symbol) i k;
+      index = i;
+      S-table = renumbered-S (image s) (image r) (length s) m (a .twice) (a .thrice) (p .reached) v t S R T c (q .group);
+      R-table = k;
     }
+
+-- whatever symbol the rule makes of a passport
+pub ruled-means : (order : Order) (s r : List ℕ) (v : ℕ) (t : List ℤ) → Passport s r → ruledBy order s r ≡ made v t → Symbolised s r v t
+ruled-means order s r v t p e = symbolised s r v t p (rule-precisely order (image s) (image r) (length s) (permuting-of s r p) (p .most) v t e)
+
+-- ITS TABLE HAS THE LENGTH THAT IS NEEDED
+needed-is : (order : Order) (s r : List ℕ) (v : ℕ) (t : List ℤ) → Passport s r → ruledBy order s r ≡ made v t → neededLength r ≡ 3 * v + 1
+needed-is order s r v t p e = ap (λ (k : ℕ). 3 * k + 1) (sym (ruled-means order s r v t p e .vertices))
+
+pub has-room : (order : Order) (s r : List ℕ) (room : ℕ) → Passport s r → neededLength r ≤ room → HasRoom (ruledBy order s r) room
+has-room order s r room p h = record { fits = λ v t e. rw (needed-is order s r v t p e) at h }
+
+pub booked : (s r : List ℕ) → Passport s r → Booked s r (neededLength r)
+booked s r p = record {
+  passport = p;
+  needed = refl;
+  takes = λ order v t e.
+      let n = needed-is order s r v t p e in
+      (n, n ∙ sym (ruled-means order s r v t p e .precisely .symbol .long));
+}
 
 -- WHAT A MADE SYMBOL MEANS
 pub made-means : (order : Order) (s r : List ℕ) (work room v : ℕ) → importBy order s r work room ≡ Made v → Symbolised s r v (ruledTable (ruledBy order s r))
 made-means order s r work room v e =
     let k = success order s r work room v e in
     let p = accepted s r .0 (k .pair) in
-    rw (ap ruledTable (k .rule)) (symbolised s r v (k .table) p
-    (rule-precisely order (image s) (image r) (length s) (permuting-of s r p) (p .most) v (k .table) (k .rule)))
+    rw (ap ruledTable (k .rule)) (ruled-means order s r v (k .table) p (k .rule))
 
 -- its table stands at the front of the result space
 pub import-means : (order : Order) (s r : List ℕ) (work room : ℕ) (a : Filled) (out : List ℤ) → a ≡ importBy order s r work room

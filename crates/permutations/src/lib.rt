@@ -2,6 +2,7 @@
 // matrices that fix point 0. specs/Check.antt and specs/Import.antt say what the calls answer and leave.
 use entries::first_bad;
 use entries::first_moved;
+use length::needed_length;
 use reach::first_unreached;
 use refusal::Checked;
 use refusal::Filled;
@@ -16,14 +17,14 @@ ghost use Prim.Native.Nat.{_≤_, _<_};
 ghost use lib.ListN.{length};
 ghost use Rattle.workspace.specs.Space.{zeros};
 ghost use Rattle.refusal.specs.Refusal.{_orElse_};
-ghost use Rattle.import_rule.specs.Fixed.{Pair};
 ghost use Rattle.import_rule.specs.Symbol.{ruledBy};
-ghost use Rattle.import_table.specs.Answer.{orderBy, grownOf};
-ghost use Rattle.permutations.specs.Check.{check13, check14, check15, twiceMoved, thriceMoved, pairCheck, PairVerdict};
+ghost use Rattle.import_table.specs.Answer.{orderBy};
+ghost use Rattle.permutations.specs.Check.{check13, check14, check15, twiceMoved, thriceMoved, pairCheck, Passport, PairVerdict};
 ghost use Rattle.permutations.specs.Inner.Reach.{Two};
-ghost use Rattle.permutations.specs.Import.{importBy, ruleFor, wideRuleFor, importOf, importWideOf, importTable, importWork, ImportMeans};
+ghost use Rattle.permutations.specs.Import.{grownWithin, importBy, ruleFor, wideRuleFor, importOf, importWideOf, importTable, importWork, ImportMeans, importLengthOf, LengthMeans};
 
 mod entries;
+mod length;
 mod reach;
 
 // The checks 14 and 15, on tables of points.
@@ -103,14 +104,30 @@ pub fn check(s: &[u32], r: &[u32]) -> Checked
     check_entries(s, r)
 }
 
-// The symbol of an accepted pair, by the wide rule or by the rule; the work space is cleared after.
+// The symbol of an accepted pair, by the wide rule or by the rule, where the result space has room for its table.
+fn grow_within(s: &[u32], r: &[u32], w: &mut [u16], out: &mut [i64], wide: bool) -> Filled
+    requires { ⌜ Passport (now s) (now r) × (32768 ≤ length (now w)) ⌝ }
+    ensures { λ a. ⌜ a ≡ grownWithin (orderBy wide) (now (s .entry)) (now (r .entry)) (length (now (out .entry))) ⌝ }
+    ensures { λ a. ⌜ now (out .exit) ≡ importTable (ruledBy (orderBy wide) (now (s .entry)) (now (r .entry))) a (now (out .entry)) ⌝ }
+{
+    let n = needed_length(r);
+    if out.len() < n {
+        return Filled::Refused(Refusal {
+            number: TOO_SHORT,
+            place: n,
+        });
+    }
+    import_table::grow(s, r, w, out, wide)
+}
+
+// The same; the work space is cleared after.
 fn import_accepted(s: &[u32], r: &[u32], w: &mut [u16], out: &mut [i64], wide: bool) -> Filled
-    requires { ⌜ Pair (now s) (now r) × (32768 ≤ length (now w)) ⌝ }
-    ensures { λ a. ⌜ a ≡ grownOf (ruledBy (orderBy wide) (now (s .entry)) (now (r .entry))) (length (now (out .entry))) ⌝ }
+    requires { ⌜ Passport (now s) (now r) × (32768 ≤ length (now w)) ⌝ }
+    ensures { λ a. ⌜ a ≡ grownWithin (orderBy wide) (now (s .entry)) (now (r .entry)) (length (now (out .entry))) ⌝ }
     ensures { λ a. ⌜ now (w .exit) ≡ zeros (length (now (w .entry))) ⌝ }
     ensures { λ a. ⌜ now (out .exit) ≡ importTable (ruledBy (orderBy wide) (now (s .entry)) (now (r .entry))) a (now (out .entry)) ⌝ }
 {
-    let grown = import_table::grow(s, r, w, out, wide);
+    let grown = grow_within(s, r, w, out, wide);
     workspace::clear(w);
     grown
 }
@@ -138,7 +155,7 @@ pub fn import_by(s: &[u32], r: &[u32], w: &mut [u16], out: &mut [i64], wide: boo
 }
 
 // The symbol of the matrices that fix point 0, from the tables of S and R: the number of its vertices, its table at the front of the result
-// space; or 12 to 15, then the work space, then 16, then the result space.
+// space; or 12 to 15, then the work space, then the result space, then 16.
 pub fn import(s: &[u32], r: &[u32], w: &mut [u16], out: &mut [i64]) -> Filled
     ensures { λ a. ⌜ a ≡ importOf (now (s .entry)) (now (r .entry)) (length (now (w .entry))) (length (now (out .entry))) ⌝ }
     ensures { λ a. ⌜ now (w .exit) ≡ importWork (pairCheck (now (s .entry)) (now (r .entry))) (now (w .entry)) ⌝ }
@@ -156,4 +173,20 @@ pub fn import_wide(s: &[u32], r: &[u32], w: &mut [u16], out: &mut [i64]) -> Fill
     ensures { λ a. ⌜ ImportMeans (now (s .entry)) (now (r .entry)) a (now (out .exit)) ⌝ }
 {
     import_by(s, r, w, out, true)
+}
+
+// The length of the table of the symbol that an import would make, 3v + 1, for a caller who books the result space: 12 to 15, or the length. No symbol is
+// made, and no work space is needed.
+pub fn import_length(s: &[u32], r: &[u32]) -> Filled
+    ensures { λ a. ⌜ a ≡ importLengthOf (now (s .entry)) (now (r .entry)) ⌝ }
+    ensures { λ a. ⌜ LengthMeans (now (s .entry)) (now (r .entry)) a ⌝ }
+{
+    let checked = check(s, r);
+    match checked {
+        Checked::Refused(refusal) => Filled::Refused(refusal),
+        Checked::Accepted => {
+            let n = needed_length(r);
+            Filled::Made(n)
+        }
+    }
 }

@@ -1,5 +1,6 @@
 //! `import` and `import_wide`: from permutations S and R to a symbol; refusals
-//! 12 to 15, 11 for the work space, 16, 11 for the result space.
+//! 12 to 15, 11 for the work space, 11 for the result space, 16. `import_length`:
+//! the length of the symbol's table; refusals 12 to 15.
 
 use farey::calls;
 use reference::permutations::{Action, Rule};
@@ -22,18 +23,14 @@ pub fn wide_case(rng: &mut Rng) -> Outcome {
 fn by(rule: Rule, rng: &mut Rng) -> Outcome {
     let [s, r] = tables(rng);
     let action = Action::new(&signed(&s), &signed(&r));
-    let made = action.as_ref().map(|action| action.by_points(rule));
-    let needed = match &made {
-        Ok(Ok(imported)) => 3 * imported.v() + 1,
-        _ => 20,
-    };
+    // Where 16 would follow, a space that is too short still gets 11, with this length.
+    let needed = action.as_ref().map_or(20, Action::table_length);
     let (s, r) = (Space::holding(rng, &s), Space::holding(rng, &r));
     let mut work = work(rng);
     let mut out = Space::around(rng, needed);
-    let expected = Expected::in_order(made.map_err(|&refusal| refusal), &work, |made| {
-        let table = made?.numbers().split_off(1);
-        out.enough(table.len())?;
-        Ok(table)
+    let expected = Expected::in_order(action, &work, |action| {
+        out.enough(needed)?;
+        Ok(action.by_points(rule)?.numbers().split_off(1))
     });
     let call = match rule {
         Rule::Leftmost => calls::import,
@@ -49,6 +46,17 @@ fn by(rule: Rule, rng: &mut Rng) -> Outcome {
         let (work, out) = (work.length(), out.length());
         format!("s {:?}, r {:?}, work {work}, out {out}", s.read(), r.read())
     })
+}
+
+pub fn length_case(rng: &mut Rng) -> Outcome {
+    let [s, r] = tables(rng);
+    let expected = Action::new(&signed(&s), &signed(&r)).map(|action| action.table_length());
+    let (s, r) = (Space::holding(rng, &s), Space::holding(rng, &r));
+    let came = calls::import_length(s.read(), r.read());
+    let mut outcome = Outcome::new(expected, came);
+    outcome.unchanged("s", &s);
+    outcome.unchanged("r", &r);
+    outcome.on(|| format!("s {:?}, r {:?}", s.read(), r.read()))
 }
 
 fn signed(table: &[u32]) -> Vec<i64> {

@@ -46,7 +46,7 @@ use reference::random::Rng;
 pub type Call = (&'static str, fn(&mut Rng) -> Outcome);
 
 /// All calls.
-pub const CALLS: [Call; 20] = [
+pub const CALLS: [Call; 21] = [
     ("check", check::case),
     ("generators", generators::case),
     ("figures", figures::case),
@@ -55,6 +55,7 @@ pub const CALLS: [Call; 20] = [
     ("cusps", cusps::case),
     ("import", import::case),
     ("import_wide", import::wide_case),
+    ("import_length", import::length_case),
     ("query", query::case),
     ("same", same::case),
     ("drawing", drawing::case),

@@ -1,7 +1,8 @@
 //! `named_tables`, `named_symbol`, `named_query`, `named_signed_query` and the
 //! wide forms of the last three: groups by family and N. Refusals 20 and 21; for
-//! a query 8 and 9; 11 for the work space; but for the tables 16; for a query 10;
-//! 11 for the result spaces in their order.
+//! a query 8 and 9; 11 for the work space; for a symbol 11 for the result space and
+//! then 16; for a query 16, 10, and then 11 for the word; for tables 11 for the
+//! result spaces in their order.
 
 use farey::calls;
 use reference::congruence::named;
@@ -60,10 +61,14 @@ impl Name {
         Ok(family.pair(n))
     }
 
+    fn action(&self) -> Result<Action, Refusal> {
+        let Pair { s, r } = self.pair()?;
+        Action::new(&s, &r)
+    }
+
     /// The symbol of the tables by a rule, or refusal 16; before that 20 and 21.
     fn symbol(&self, rule: Rule) -> Result<Result<Imported, Refusal>, Refusal> {
-        let Pair { s, r } = self.pair()?;
-        Ok(Action::new(&s, &r)?.by_points(rule))
+        Ok(self.action()?.by_points(rule))
     }
 
     fn told(&self) -> String {
@@ -125,17 +130,13 @@ pub fn symbol_wide_case(rng: &mut Rng) -> Outcome {
 
 fn symbol_by(rule: Rule, rng: &mut Rng) -> Outcome {
     let name = Name::any(rng);
-    let made = name.symbol(rule);
-    let needed = match &made {
-        Ok(Ok(imported)) => 3 * imported.v() + 1,
-        _ => 20,
-    };
+    let action = name.action();
+    let needed = action.as_ref().map_or(20, Action::table_length);
     let mut work = work(rng);
     let mut out = Space::around(rng, needed);
-    let expected = Expected::in_order(made, &work, |made| {
-        let table = made?.numbers().split_off(1);
-        out.enough(table.len())?;
-        Ok(table)
+    let expected = Expected::in_order(action, &work, |action| {
+        out.enough(needed)?;
+        Ok(action.by_points(rule)?.numbers().split_off(1))
     });
     let call = match rule {
         Rule::Leftmost => calls::named_symbol,

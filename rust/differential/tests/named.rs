@@ -131,6 +131,7 @@ fn symbols_of_all_names() {
                 continue;
             }
         };
+        let length = calls::import_length(&s, &r).expect("a group's tables");
         let mut expected: Vec<i64> = old(calls::TABLE);
         let made = short(calls::import(&s, &r, &mut work, &mut expected));
         work.fill(OLD.into());
@@ -138,16 +139,24 @@ fn symbols_of_all_names() {
         assert_eq!(came, made, "{name}");
         assert_eq!(out, expected, "{name}");
         assert!(is_zero(&work), "{name}");
-        if let Err((number, _)) = made {
-            assert_eq!(number, 16, "{name}");
-            refused += 1;
+        match made {
+            Ok(v) => assert_eq!(3 * v + 1, length, "{name}"),
+            Err((number, _)) => {
+                assert_eq!(number, 16, "{name}");
+                refused += 1;
+                // One number too short, and an entry over 10^9: 11 comes first.
+                let mut less: Vec<i64> = old(length - 1);
+                let came = short(calls::named_symbol(family, n, &mut work, &mut less));
+                assert_eq!(came, Err((11, length)), "{name}");
+                assert!(is_old(&less) && is_zero(&work), "{name}");
+            }
         }
 
         let (mut out, mut expected): (Vec<i64>, Vec<i64>) = (old(calls::TABLE), old(calls::TABLE));
         let made = short(calls::import_wide(&s, &r, &mut work, &mut expected));
         work.fill(OLD.into());
         let came = short(calls::named_symbol_wide(family, n, &mut work, &mut out));
-        assert!(came.is_ok(), "{name}: {came:?}");
+        assert_eq!(came.map(|v| 3 * v + 1), Ok(length), "{name}");
         assert_eq!(came, made, "{name}");
         assert_eq!(out, expected, "{name}");
         assert!(is_zero(&work), "{name}");
@@ -251,8 +260,9 @@ fn refused_names_without_spaces() {
     }
 }
 
-/// Γ0(120) by the rule: 16 comes behind the work space and before the space for
-/// the symbol.
+/// Γ0(120) by the rule: 16 comes behind the work space and behind the space for the
+/// symbol, whose length is known though there is no symbol: the index is 288, and R
+/// fixes no point.
 #[test]
 fn sixteen_in_its_place() {
     let ask = |work_len: usize, out_len: usize| {
@@ -267,8 +277,11 @@ fn sixteen_in_its_place() {
         came
     };
     assert_eq!(ask(calls::WORK - 1, 0), Err((11, calls::WORK)));
+    let length = 3 * (288 / 3 + 1) + 1;
+    assert_eq!(ask(calls::WORK, 0), Err((11, length)));
+    assert_eq!(ask(calls::WORK, length - 1), Err((11, length)));
     // The place is the one of the handbook's example, by the reference.
-    assert_eq!(ask(calls::WORK, 0), Err((16, 28)));
+    assert_eq!(ask(calls::WORK, length), Err((16, 28)));
     assert_eq!(ask(calls::WORK, calls::TABLE), Err((16, 28)));
 }
 

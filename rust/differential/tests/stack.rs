@@ -219,6 +219,9 @@ fn calls_stay_within_the_stack_that_the_header_names() {
         measure("farey_import_wide", &mut || {
             let _ = black_box(calls::import_wide(&s, &r, &mut work, &mut table));
         });
+        measure("farey_import_length", &mut || {
+            let _ = black_box(calls::import_length(&s, &r));
+        });
         // The largest indices of each family, entries over 10^9, small groups, an
         // index over the limit and an N out of range.
         let [s, r, _] = &mut columns;
@@ -258,7 +261,7 @@ fn calls_stay_within_the_stack_that_the_header_names() {
             }
         }
     }
-    assert_eq!(most.0.len(), 20);
+    assert_eq!(most.0.len(), 21);
     let promised = promised();
     println!("a thread by itself: {nothing}; FAREY_STACK: {promised}");
     for (call, bytes) in most.0 {

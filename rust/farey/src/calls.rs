@@ -110,6 +110,13 @@ mod engine {
             out_len: usize,
             place: *mut usize,
         ) -> u64;
+        pub fn farey_import_length(
+            s: *const u32,
+            s_len: usize,
+            r: *const u32,
+            r_len: usize,
+            place: *mut usize,
+        ) -> u64;
         pub fn farey_query(
             v: usize,
             t: *const i64,
@@ -423,6 +430,16 @@ pub fn import_wide(
             out.len(),
             &mut place,
         )
+    };
+    answer(number, place)
+}
+
+/// The length of the table that each of these two writes for S and R, by which out
+/// can be booked.
+pub fn import_length(s: &[u32], r: &[u32]) -> Result<usize, Refusal> {
+    let mut place = UNWRITTEN;
+    let number = unsafe {
+        engine::farey_import_length(s.as_ptr(), s.len(), r.as_ptr(), r.len(), &mut place)
     };
     answer(number, place)
 }

@@ -119,6 +119,13 @@ impl Action {
         self.s.len()
     }
 
+    /// The length of the table of each symbol that a rule makes: (index - e3)/3 + 1
+    /// vertices, where R fixes e3 points.
+    pub fn table_length(&self) -> usize {
+        let fixed = (0..self.points()).filter(|&x| self.r[x] == x).count();
+        3 * ((self.points() - fixed) / 3 + 1) + 1
+    }
+
     /// The same action with the points numbered as the listing numbers cosets.
     pub fn numbered(&self) -> (Vec<u32>, Vec<u32>) {
         let order = self.order();
@@ -352,14 +359,14 @@ impl Imported {
 }
 
 /// A whole import with `space` numbers lent for the table of the symbol:
-/// refusals 12 to 15, 16, 11.
+/// refusals 12 to 15, 11, 16.
 pub fn import_pair(rule: Rule, s: &[i64], r: &[i64], space: usize) -> Result<Imported, Refusal> {
-    let imported = Action::new(s, r)?.by_points(rule)?;
-    let needed = 3 * imported.v() + 1;
+    let action = Action::new(s, r)?;
+    let needed = action.table_length();
     if space < needed {
         return Err(Refusal::new(11, needed));
     }
-    Ok(imported)
+    action.by_points(rule)
 }
 
 #[cfg(test)]

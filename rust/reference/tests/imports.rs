@@ -32,8 +32,9 @@ fn check_symbol(action: &Action, imported: &Imported) {
     let symbol = Symbol::from_numbers(&numbers).unwrap_or_else(|r| panic!("{r} for {numbers:?}"));
     let cosets = Cosets::new(&symbol);
     assert_eq!((cosets.s.clone(), cosets.r.clone()), action.numbered());
-    assert!(imported.v() <= action.points() / 3 + 1);
+    // By the symbol's own figures, and by the points that the given R fixes.
     assert_eq!(imported.v(), (action.points() - cosets.e3()) / 3 + 1);
+    assert_eq!(3 * imported.v() + 1, action.table_length());
     // Labels count up by their leftmost side.
     let mut labels = 0;
     for &pairing in &imported.pairings {
@@ -506,5 +507,30 @@ fn space_for_the_result() {
                 assert_eq!(refusal, Err(Refusal::new(11, needed)));
             }
         }
+    }
+}
+
+/// An entry over 10^9 and a space that is one number too short: the space is told
+/// first, and the length that it needs. With that length it is 16.
+#[test]
+fn space_before_the_entry() {
+    let mut rng = Rng::new(79);
+    for rule in RULES {
+        let mut met = 0;
+        for _ in 0..100 {
+            let pair = rows_pair(&mut rng);
+            let needed = action(&pair).table_length();
+            let [short, whole] =
+                [needed - 1, needed].map(|space| import_pair(rule, &pair.s, &pair.r, space));
+            assert_eq!(short, Err(Refusal::new(11, needed)));
+            match whole {
+                Ok(imported) => assert_eq!(3 * imported.v() + 1, needed),
+                Err(refusal) => {
+                    assert_eq!(refusal.number, 16);
+                    met += 1;
+                }
+            }
+        }
+        assert!(met >= 20, "{rule:?} met 16 only {met} times");
     }
 }

@@ -1,6 +1,6 @@
 -- `grow` looks where Q leads from point 0: if Q moves it, the group is neither of the small ones (`moved-by-Q`, `first-moved`) and its
 -- symbol is grown; if Q fixes it, `grow_fixed` looks further. Assumes nothing.
-use Rattle.import_table.proofs.Answers.{answers, rule-large, moved-by-Q, first-moved}
+use Rattle.import_table.proofs.Answers.{answers, room-for, rule-large, moved-by-Q, first-moved}
 use Rattle.import_table.specs.Answer.{orderBy}
 use borrow.Author.Needs.{needs}
 use Rattle.import_table.proofs.grow.Statement.{statement}
@@ -26,9 +26,10 @@ grow-large-requires c κs =
     let s = c .before .before .before .before .before .before .before in
     let S = s .args .s .now in
     let R = s .args .r .now in
-    let O = s .args .out .now in
     let z = s .pre in
-    (z .0, z .1, moved-by-Q (orderBy (s .args .wide)) S R (z .0) _ (c .before .before .before .turned .ensures) (c .before .before .if1 .left))
+    let n = moved-by-Q (orderBy (s .args .wide)) S R (z .0) _ (c .before .before .before .turned .ensures) (c .before .before .if1 .left) in
+    let m = first-moved (orderBy (s .args .wide)) S R (z .0) _ (c .before .before .before .turned .ensures) (c .before .before .if1 .left) in
+    (z .0, z .1, n, room-for _ _ _ (rule-large (orderBy (s .args .wide)) S R (z .0) n m) (z .2))
 
 same-length-3 : tie.Need-same-length-3
 same-length-3 c = search needs

@@ -1,6 +1,6 @@
 -- `grow_fixed`, where Q fixes point 0, has three cases: S fixes it too, pairings -2 -3 (`rule-first`); Q also fixes its S image, pairings
 -- -3 -3 (`rule-second`); any other group is grown (`rule-large`). Assumes nothing.
-use Rattle.import_table.proofs.Answers.{answers, rule-first, rule-second, rule-large, neither, first-no}
+use Rattle.import_table.proofs.Answers.{answers, small-room, room-for, rule-first, rule-second, rule-large, neither, first-no}
 use Rattle.import_table.specs.Answer.{orderBy}
 use borrow.Author.Needs.{needs}
 use Rattle.import_table.proofs.grow_fixed.Statement.{statement}
@@ -10,7 +10,11 @@ image-requires : tie.Need-image-requires
 image-requires c κs = search needs
 
 grow-small-requires : tie.Need-grow-small-requires
-grow-small-requires c κs = search needs
+grow-small-requires c κs =
+    let a = c .before .before in
+    let s = a .before .before .before .before in
+    let z = s .pre in
+    small-room _ _ _ (rule-first (orderBy (s .args .wide)) (s .args .s .now) (s .args .r .now) (z .0) (z .2) _ (a .image .ensures) (c .before .if1 .taken)) (z .3)
 
 same-length : tie.Need-same-length
 same-length c = search needs
@@ -32,7 +36,13 @@ turned-requires : tie.Need-turned-requires
 turned-requires c κs = search needs
 
 grow-small-requires-2 : tie.Need-grow-small-requires-2
-grow-small-requires-2 c κs = search needs
+grow-small-requires-2 c κs =
+    let t = c .before .before in
+    let b = t .before .before in
+    let s = b .before .before .before .before in
+    let z = s .pre in
+    small-room _ _ _ (rule-second (orderBy (s .args .wide)) (s .args .s .now) (s .args .r .now) (z .0) (z .2) _ _ (b .image .ensures) (t .before .if1 .left)
+    (t .turned .ensures) (c .before .if2 .taken)) (z .3)
 
 same-length-2 : tie.Need-same-length-2
 same-length-2 c = search needs
@@ -60,9 +70,10 @@ grow-large-requires c κs =
     let s = a .before .before .before .before in
     let S = s .args .s .now in
     let R = s .args .r .now in
-    let O = s .args .out .now in
     let z = s .pre in
-    (z .0, z .1, neither (orderBy (s .args .wide)) S R (z .0) _ _ (a .image .ensures) (t .turned .ensures) (i .if2 .left))
+    let n = neither (orderBy (s .args .wide)) S R (z .0) _ _ (a .image .ensures) (t .turned .ensures) (i .if2 .left) in
+    let m = first-no (orderBy (s .args .wide)) S R (z .0) _ (a .image .ensures) (t .before .if1 .left) in
+    (z .0, z .1, n, room-for _ _ _ (rule-large (orderBy (s .args .wide)) S R (z .0) n m) (z .3))
 
 same-length-3 : tie.Need-same-length-3
 same-length-3 c = search needs

@@ -1,7 +1,7 @@
 -- `grow_large` walks in a cleared space (`ground`). The walk stops at a side that can't be split, 16; or all d sides are done, and their
--- table of 3 (d - 1) + 1 numbers is written if it fits (`large-over`, `large-short`, `large-made`). Assumes nothing.
+-- table of 3 (d - 1) + 1 numbers, which fits, is written (`large-over`, `large-room`, `large-made`). Assumes nothing.
 use native.Mathlib.Omega.{arith}
-use Rattle.import_table.proofs.Answers.{ground, whole-of, large-over, large-short, large-made}
+use Rattle.import_table.proofs.Answers.{ground, whole-of, large-over, large-room, large-made}
 use Rattle.import_table.specs.Answer.{orderBy}
 use borrow.Author.Needs.{needs}
 use Rattle.import_table.proofs.grow_large.Statement.{statement}
@@ -25,65 +25,19 @@ returns c =
     let s = a .before .before .before .before .before .before .before .before .before in
     large-over (orderBy (s .args .wide)) (s .args .s .now) (s .args .r .now) _ _ _ (s .args .out .now) (a .sides .ensures) (c .if1 .taken)
 
-sub-n : tie.Need-sub-n
-sub-n c =
-    let s = c .before .before .before .before .before .before .before .before .before .before .before .before in
-    let S = s .args .s .now in
-    let R = s .args .r .now in
-    let g = whole-of (orderBy (s .args .wide)) S R _ _ _ (c .before .before .before .sides .ensures) (c .if1 .left) in
-    let so = g .done .some in
-    let mo = g .done .most in
-    omega arith
-
-mul-n : tie.Need-mul-n
-mul-n c =
-    let s = c .before .before .before .before .before .before .before .before .before .before .before .before in
-    let S = s .args .s .now in
-    let R = s .args .r .now in
-    let g = whole-of (orderBy (s .args .wide)) S R _ _ _ (c .before .before .before .sides .ensures) (c .if1 .left) in
-    let so = g .done .some in
-    let mo = g .done .most in
-    omega arith
-
-add-n : tie.Need-add-n
-add-n c =
-    let s = c .before .before .before .before .before .before .before .before .before .before .before .before in
-    let S = s .args .s .now in
-    let R = s .args .r .now in
-    let g = whole-of (orderBy (s .args .wide)) S R _ _ _ (c .before .before .before .sides .ensures) (c .if1 .left) in
-    let so = g .done .some in
-    let mo = g .done .most in
-    omega arith
-
-same-length-2 : tie.Need-same-length-2
-same-length-2 c = search needs
-
-returns-2 : tie.Need-returns-2
-returns-2 c =
-    let s = c .before .before .before .before .before .before .before .before .before .before .before .before .before in
-    let S = s .args .s .now in
-    let R = s .args .r .now in
-    let g = whole-of (orderBy (s .args .wide)) S R _ _ _ (c .before .before .before .before .sides .ensures) (c .before .if1 .left) in
-    let so = g .done .some in
-    let mo = g .done .most in
-    large-short (orderBy (s .args .wide)) S R _ _ (s .args .out .now) g (c .if2 .taken)
-
 write-table-requires : tie.Need-write-table-requires
 write-table-requires c κs =
     let i = c .before .before in
-    let a = i .before in
-    let b = a .before .before .before in
-    let s = b .before .before .before .before .before .before .before .before .before in
+    let a = i .before .before .before in
+    let s = a .before .before .before .before .before .before .before .before .before in
     let S = s .args .s .now in
     let R = s .args .r .now in
-    let g = whole-of (orderBy (s .args .wide)) S R _ _ _ (b .sides .ensures) (a .if1 .left) in
-    let so = g .done .some in
-    let mo = g .done .most in
-    (g .done, i .if2 .left)
+    let g = whole-of (orderBy (s .args .wide)) S R _ _ _ (a .sides .ensures) (i .if1 .left) in
+    (g .done, large-room (orderBy (s .args .wide)) S R _ _ _ g (s .pre .3))
 
 sub-v : tie.Need-sub-v
 sub-v c =
-    let i = c .before .before .before .before .before .before .before in
+    let i = c .before .before .before .before .before .before in
     let a = i .before .before .before in
     let s = a .before .before .before .before .before .before .before .before .before in
     let S = s .args .s .now in
@@ -93,25 +47,22 @@ sub-v c =
     let mo = g .done .most in
     omega arith
 
+same-length-2 : tie.Need-same-length-2
+same-length-2 c = search needs
+
 same-length-3 : tie.Need-same-length-3
 same-length-3 c = search needs
 
-same-length-4 : tie.Need-same-length-4
-same-length-4 c = search needs
-
-returns-3 : tie.Need-returns-3
-returns-3 c =
+returns-2 : tie.Need-returns-2
+returns-2 c =
     let w = c .before .before .before in
     let i = w .before .before .before in
-    let a = i .before in
-    let b = a .before .before .before in
-    let s = b .before .before .before .before .before .before .before .before .before in
+    let a = i .before .before .before in
+    let s = a .before .before .before .before .before .before .before .before .before in
     let S = s .args .s .now in
     let R = s .args .r .now in
-    let g = whole-of (orderBy (s .args .wide)) S R _ _ _ (b .sides .ensures) (a .if1 .left) in
-    let so = g .done .some in
-    let mo = g .done .most in
-    large-made (orderBy (s .args .wide)) S R _ _ (s .args .out .now) _ g (i .if2 .left) (w .write-table .ensures)
+    let g = whole-of (orderBy (s .args .wide)) S R _ _ _ (a .sides .ensures) (i .if1 .left) in
+    large-made (orderBy (s .args .wide)) S R _ _ (s .args .out .now) _ g (w .write-table .ensures)
 
 pub grow-large-spec : {M : Type 1} → statement M
 grow-large-spec =
@@ -121,13 +72,8 @@ grow-large-spec =
     sides-requires
     same-length
     returns
-    sub-n
-    mul-n
-    add-n
-    same-length-2
-    returns-2
     write-table-requires
     sub-v
+    same-length-2
     same-length-3
-    same-length-4
-    returns-3)
+    returns-2)

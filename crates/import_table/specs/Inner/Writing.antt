@@ -7,6 +7,7 @@
 --   tableWritten w d out  out with the symbol's table at its front
 --   SideToWrite          what writing one pairing asks for
 --   largeBy order s r    what the rule gives for a group that is none of the small ones
+--   HasRoom g room       the table that the rule gives fits into a result space of that length
 use mathlib.Core.Path.{_≡_}
 use mathlib.Core.Bool.{Bool}
 use mathlib.Core.List.{List, [], _∷_, _++_}
@@ -16,7 +17,7 @@ use lib.IntN.{ℤ, pos, negsuc}
 use Rattle.import_rule.specs.Fixed.{image, byQ, Pair}
 use Rattle.import_rule.specs.Rule.{Mark, even, odd, free, least}
 use Rattle.import_rule.specs.Order.{Order}
-use Rattle.import_rule.specs.Symbol.{labelsOf, rowEntries, symbolTable, Ruled}
+use Rattle.import_rule.specs.Symbol.{labelsOf, rowEntries, symbolTable, Ruled, made}
 use Rattle.import_rule.specs.Inner.Placed.{rowsOf, markOf, symbolBy}
 use Rattle.import_walk.specs.Inner.Work.{LABEL, DONE, cellPlace, endAt, pointAt, doneIn, grownBy}
 
@@ -53,3 +54,6 @@ pub record SideToWrite (s r w : List ℕ) (out : List ℤ) (i j c : ℕ) : Type 
 
 abbrev pub largeBy : Order → (s r : List ℕ) → Ruled
 largeBy order s r = symbolBy (image s) (byQ (image s) (image r)) (grownBy order s r)
+
+pub record HasRoom (g : Ruled) (room : ℕ) : Type 0 where
+  pub fits : (v : ℕ) (t : List ℤ) → g ≡ made v t → 3 * v + 1 ≤ room

@@ -1,12 +1,12 @@
--- `import_accepted` answers as `grow` does; the space is cleared after, so zeros stay on each way out. Assumes nothing.
+-- `import_accepted` answers as `grow_within` does; the space is cleared after, so zeros stay on each way out. Assumes nothing.
 use mathlib.Core.Path.{_∙_, ap}
 use Rattle.workspace.specs.Space.{zeros}
 use borrow.Author.Needs.{needs}
 use Rattle.permutations.proofs.import_accepted.Statement.{statement}
 use Rattle.permutations.proofs.import_accepted.Tie as tie
 
-grow-requires : tie.Need-grow-requires
-grow-requires c κs = search needs
+grow-within-requires : tie.Need-grow-within-requires
+grow-within-requires c κs = search needs
 
 clear-requires : tie.Need-clear-requires
 clear-requires c κs = search needs
@@ -21,9 +21,9 @@ returns : tie.Need-returns
 returns c =
     let k = c .before .before in
     let b = k .before .before .before .before in
-    let g = b .before .grow in
+    let g = b .before .grow-within in
     (g .ensures .0, (k .clear .ensures ∙ ap zeros (b .w .given), g .ensures .1))
 
 pub import-accepted-spec : {M : Type 1} → statement M
 import-accepted-spec =
-    tie.close (tie.spec grow-requires clear-requires same-length same-length-2 returns)
+    tie.close (tie.spec grow-within-requires clear-requires same-length same-length-2 returns)

@@ -1,7 +1,7 @@
 -- `import_by` meets its contract: 12 to 15 leave both spaces as they were (`refused`), and so does a short work space (`short`); an accepted
--- pair is what the rule asks for (`pair-of`), and `import_accepted` has its answer with what that means (`long`). Assumes nothing.
+-- pair is a passport (`passport-of`), and `import_accepted` has its answer with what that means (`long`). Assumes nothing.
 use mathlib.Core.Path.{_≡_, sym, _∙_}
-use Rattle.permutations.proofs.Answering.{refused, short, long, pair-of}
+use Rattle.permutations.proofs.Answering.{refused, short, long, passport-of}
 use Rattle.import_table.specs.Answer.{orderBy}
 use borrow.Author.Needs.{needs}
 use Rattle.permutations.proofs.import_by.Statement.{statement}
@@ -31,7 +31,7 @@ import-accepted-requires c κs =
     let k = f .before in
     let d = k .before .before in
     let s = d .before .before .before .before in
-    (pair-of (s .args .s .now) (s .args .r .now) (sym (d .check .ensures .returned) ∙ k .enum-told .given .1), f .if1 .left)
+    (passport-of (s .args .s .now) (s .args .r .now) (sym (d .check .ensures .returned) ∙ k .enum-told .given .1), f .if1 .left)
 
 returns-2 : tie.Need-returns-2
 returns-2 c =
