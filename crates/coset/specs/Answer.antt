@@ -8,15 +8,17 @@
 --   figuredRefusal a        the refusal that the answer of `figures` is
 --   figuredOf v t work      the refusals 1 to 7, then the work space, or the figures
 --   Meaning v t             the symbol is one; its polygon is cut into Farey triangles, and the steps over these keep their promise; its tables are
---                           those of the right cosets of H; its cusps are the cycles of T, and its widths, genus and level what docs/CONVENTIONS.md says
+--                           those of the right cosets of H; its cusps are the cycles of T, and its widths, genus and level what docs/CONVENTIONS.md says;
+--                           its e3 is the number of its odd sides
 --   TablesMean, FiguresMean an answer that is no refusal means this
 use mathlib.Core.Path.{_≡_}
 use mathlib.Core.List.{List, _++_}
-use Prim.Native.Nat.{ℕ, _≤_}
+use Prim.Native.Nat.{ℕ, _+_, _≤_}
 use lib.Dec.{ltb}
 use lib.ListN.{length, drop}
 use lib.IntN.{ℤ}
 use Rattle.basics.specs.Choice.{pick}
+use Rattle.basics.specs.Count.{count}
 use Rattle.workspace.specs.Space.{workLength}
 use Rattle.refusal.specs.Refusal.{noRefusal, tooShort, filledBy}
 use Rattle.refusal.specs.declared.Refusal.{Refusal}
@@ -27,6 +29,7 @@ use Rattle.refusal.specs.declared.Filled.the-variants as filled
 use Rattle.symbol.specs.Check.{symbolCheck}
 use Rattle.symbol.specs.Symbol.{IsSymbol}
 use Rattle.pairing.specs.Generator.{byWork}
+use Rattle.polygon.specs.Step.{oddAt}
 use Rattle.polygon.specs.Theorem.{Polygon}
 use Rattle.figures.specs.Cusps.{widths, Cusps}
 use Rattle.figures.specs.FiguresOf.{figuresIn}
@@ -86,6 +89,7 @@ pub record Meaning (v : ℕ) (t : List ℤ) : Type 0 where
   pub cosets : Cosets v t (tableS v t) (tableR v t) (tableT v t)
   pub cusps : Cusps (tableT v t)
   pub figures : TableFigures (tableS v t) (tableR v t) (tableT v t) (figuresOf v t)
+  pub odd-sides : figuresOf v t .e3 ≡ count (oddAt v t) (v + 1)
 
 abbrev pub TablesMean : ℕ → List ℤ → Filled → Type 0
 TablesMean v t r = (n : ℕ) → r ≡ filled.Made n → Meaning v t

@@ -27,4 +27,5 @@ symbol-named f n g v t y =
       S-table = y .S-table ∙ numbered-S a;
       R-table = y .R-table ∙ numbered-R a;
       vertices = y .vertices;
+      thirds = y .thirds ∙ a .size-R;
     }

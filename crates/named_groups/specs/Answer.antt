@@ -11,11 +11,11 @@
 --   namedQueryWork           what a query leaves in the work space: zeros where it got past the length check, else all as it was
 --   NamedTablesMean, NamedSymbolMeans     what an answer that is no refusal means: the tables are those of the right cosets of the group, numbered
 --                            by the rule; the symbol generates precisely the matrices that meet the condition, its own tables are these, and it has
---                            (index - e3)/3 + 1 vertices
+--                            (index - e3)/3 + 1 vertices, where 3 divides index - e3
 use mathlib.Core.Path.{_≡_}
 use mathlib.Core.Logic.{_↔_}
 use mathlib.Core.List.{List, []}
-use Prim.Native.Nat.{ℕ, _+_, _*_}
+use Prim.Native.Nat.{ℕ, _+_, _-_, _*_}
 use lib.Dec.{ltb}
 use lib.ListN.{take}
 use lib.IntN.{ℤ}
@@ -27,6 +27,7 @@ use Rattle.refusal.specs.declared.Filled.the-variants as filled
 use Rattle.symbol.specs.Symbol.{IsSymbol}
 use Rattle.pairing.specs.Generator.{generators, byWork, workAfter}
 use Rattle.pairing.specs.Subgroup.{InH}
+use Rattle.figures.specs.Cusps.{fixedPoints}
 use Rattle.coset.specs.Tables.{indexOf, tableS, tableR}
 use Rattle.congruence.specs.Condition.{Unit}
 use Rattle.congruence.specs.Congruence.{Meets}
@@ -73,6 +74,7 @@ pub record NamedSymbol (f : Family) (n v : ℕ) (t : List ℤ) : Type 0 where
   pub S-table : tableS v t ≡ familyS f n
   pub R-table : tableR v t ≡ familyR f n
   pub vertices : v ≡ neededVertices (familyR f n)
+  pub thirds : 3 * (v - 1) + fixedPoints (familyR f n) ≡ familyIndex f n
 
 abbrev pub NamedSymbolMeans : (k n : ℕ) → Filled → List ℤ → Type 0
 NamedSymbolMeans k n a out = (v : ℕ) → a ≡ filled.Made v → NamedSymbol (familyOf k) n v (take (3 * v + 1) out)

@@ -8,6 +8,7 @@ use lib.Dec.{ltb}
 use lib.ListN.{length, take, drop}
 use lib.Seq.{take-at}
 use lib.IntN.{ℤ}
+use borrow.Author.Tests.{lt-ltb, le-ltb}
 use Rattle.refusal.specs.Refusal.{tooShort, filledBy}
 use Rattle.refusal.specs.declared.Checked.{Checked}
 use Rattle.refusal.specs.declared.Checked.the-variants as checked
@@ -15,6 +16,8 @@ use Rattle.refusal.specs.declared.Filled.{Filled}
 use Rattle.refusal.specs.declared.Filled.the-variants.{Made, Refused}
 use Rattle.refusal.proofs.Apart.{refused-made}
 use Rattle.basics.specs.Choice.{pick}
+use Rattle.basics.proofs.Choice.{pick-true, pick-false}
+use Rattle.pairing.specs.Generator.{byWork}
 use Rattle.workspace.specs.Space.{workLength}
 use Rattle.import_rule.specs.Fixed.{image, byQ}
 use Rattle.coset.specs.Tables.{tableS, tableR, tableT}
@@ -29,7 +32,7 @@ use Rattle.permutations.specs.Check.{pairCheck, Passport}
 use Rattle.permutations.specs.Import.{neededLength, grownWithin, importBy, importTable, Symbolised, ImportMeans, Booked}
 use Rattle.permutations.proofs.Accepted.{accepted, permuting-of}
 use Rattle.permutations.proofs.Renumbered.{index-is, renumbered-S, renumbered-R}
-use Rattle.permutations.proofs.Vertices.{maps, vertices-are}
+use Rattle.permutations.proofs.Vertices.{maps, thirds-are, vertices-are}
 
 -- a symbol of v vertices was made only by an accepted pair, with room for its table
 pub record Success (order : Order) (s r : List ℕ) (v : ℕ) : Type 0 where
@@ -71,10 +74,12 @@ symbolised s r v t p q =
     let T = tableT v t in
     let i = index-is (image s) (image r) (length s) m (a .twice) (a .thrice) (p .reached) v t S R T c (q .group) in
     let k = renumbered-R (image s) (image r) (length s) m (a .twice) (a .thrice) (p .reached) v t S R T c (q .group) in
+    let e = thirds-are s r p v t (q .symbol) i k in
     record {
       passport = p;
       precisely = q;
-      vertices = vertices-are s r p v t (q .symbol) i k;
+      vertices = vertices-are s r p v t (q .symbol) e;
+      thirds = e;
       index = i;
       S-table = renumbered-S (image s) (image r) (length s) m (a .twice) (a .thrice) (p .reached) v t S R T c (q .group);
       R-table = k;
@@ -91,6 +96,12 @@ needed-is order s r v t p e = ap (λ (k : ℕ). 3 * k + 1) (sym (ruled-means ord
 pub has-room : (order : Order) (s r : List ℕ) (room : ℕ) → Passport s r → neededLength r ≤ room → HasRoom (ruledBy order s r) room
 has-room order s r room p h = record { fits = λ v t e. rw (needed-is order s r v t p e) at h }
 
+-- an import of a passport that gets to its result space
+in-room : (order : Order) (s r : List ℕ) (work room : ℕ) → Passport s r → workLength ≤ work → importBy order s r work room ≡ grownWithin order s r room
+in-room order s r work room p h =
+    ap (λ (c : Checked). filledBy c (byWork work (grownWithin order s r room))) (accepted s r .1 p)
+    ∙ pick-false (ltb work workLength) _ _ (le-ltb work workLength h)
+
 pub booked : (s r : List ℕ) → Passport s r → Booked s r (neededLength r)
 booked s r p = record {
   passport = p;
@@ -98,6 +109,8 @@ booked s r p = record {
   takes = λ order v t e.
       let n = needed-is order s r v t p e in
       (n, n ∙ sym (ruled-means order s r v t p e .precisely .symbol .long));
+  enough = λ order work room h l. in-room order s r work room p h ∙ pick-false (ltb room (neededLength r)) _ _ (le-ltb room (neededLength r) l);
+  fewer = λ order work room h l. in-room order s r work room p h ∙ pick-true (ltb room (neededLength r)) _ _ (lt-ltb room (neededLength r) l);
 }
 
 -- WHAT A MADE SYMBOL MEANS

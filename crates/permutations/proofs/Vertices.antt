@@ -1,11 +1,11 @@
--- How many vertices a symbol for two permutations has, from the permutations alone: `vertices-are`.
+-- How many vertices a symbol for two permutations has, from the permutations alone: `thirds-are`, `vertices-are`.
 -- Why: the symbol's index is 3(v - 1) plus the number of its odd sides; it is the number of points; the odd sides are the points that R fixes in the symbol's own tables
 -- (coset/proofs/OddSides.antt); and these are the given ones, renumbered, so that R fixes as many there (`fixed-renumbered`).
 -- Assumes nothing.
 use mathlib.Core.Path.{_≡_, sym, _∙_, ap}
 use mathlib.Core.Bool.{true}
 use mathlib.Core.List.{List}
-use Prim.Native.Nat.{ℕ, _-_, _*_, _<_}
+use Prim.Native.Nat.{ℕ, _+_, _-_, _*_, _<_}
 use native.Mathlib.Omega.{arith}
 use lib.ListN.{length, getD}
 use lib.IntN.{ℤ}
@@ -21,7 +21,6 @@ use Rattle.numbering.proofs.Those.{Matched, those-matched}
 use Rattle.figures.specs.Cusps.{isFixed, fixedPoints}
 use Rattle.coset.specs.Tables.{indexOf, tableR}
 use Rattle.coset.proofs.Answer.{meaning}
-use Rattle.coset.proofs.OddSides.{odd-sides}
 use Rattle.import_rule.specs.Fixed.{image}
 use Rattle.import_rule.proofs.Images.{image-in}
 use Rattle.permutations.specs.Check.{Passport}
@@ -67,11 +66,14 @@ module _ (s r : List ℕ) (p : Passport s r) where
   fixed-renumbered : fixedPoints table ≡ fixedPoints r
   fixed-renumbered = those-matched (isFixed table) (isFixed r) (length table) (length r) (λ (j : ℕ). getD list j 0) (find list) at-given at-numbered
 
-  pub vertices-are : (v : ℕ) (t : List ℤ) → IsSymbol v t → length s ≡ indexOf v t → tableR v t ≡ table → v ≡ neededVertices r
-  vertices-are v t y i e =
-      let odd = odd-sides v t (meaning y .polygon) in
+  pub thirds-are : (v : ℕ) (t : List ℤ) → IsSymbol v t → length s ≡ indexOf v t → tableR v t ≡ table → 3 * (v - 1) + fixedPoints r ≡ length r
+  thirds-are v t y i e =
+      let odd = meaning y .odd-sides in
       let same = ap fixedPoints e ∙ fixed-renumbered in
-      let size = p .even in
+      omega (arith, p .even)
+
+  pub vertices-are : (v : ℕ) (t : List ℤ) → IsSymbol v t → 3 * (v - 1) + fixedPoints r ≡ length r → v ≡ neededVertices r
+  vertices-are v t y e =
       let some = y .some in
       let n : length r - fixedPoints r ≡ 3 * (v - 1) = omega arith in
       rw n (omega arith)

@@ -12,14 +12,16 @@
 --   importTable g a out  what the call leaves in the result space: the symbol's table at its front, or all as it was
 --   importWork c w       what it leaves in the work space: zeros where it got past the length check, else all as it was
 --   ImportMeans s r a t  an answer that is no refusal means this: the pair is a passport, and the 3v + 1 numbers at the front of the result
---                        space are a symbol that generates precisely the matrices that fix point 0, of exactly (index - e3)/3 + 1 vertices; its
---                        index is the number of points, and its own coset tables are the given permutations, renumbered by the listing's rule
+--                        space are a symbol that generates precisely the matrices that fix point 0, of exactly (index - e3)/3 + 1 vertices, where 3
+--                        divides index - e3 (`thirds`); its index is the number of points, and its own coset tables are the given permutations,
+--                        renumbered by the listing's rule
 --   importLengthOf s r   the answer of `import_length`: the refusals 12 to 15, or the length of the symbol's table
---   LengthMeans s r a    an answer that is no refusal means this: the pair is a passport, and under every order a symbol that the rule makes has a
---                        table of that length (`Booked`)
+--   LengthMeans s r a    an answer n that is no refusal means this (`Booked`): the pair is a passport, and for imports by every order, with the work space
+--                        that they ask for: into a space of n numbers or more the symbol's table goes, of just n numbers, or the answer is 16; a shorter
+--                        space is refused with 11 and n
 use mathlib.Core.Path.{_≡_}
 use mathlib.Core.List.{List}
-use Prim.Native.Nat.{ℕ, _+_, _-_, _*_, _/_}
+use Prim.Native.Nat.{ℕ, _+_, _-_, _*_, _/_, _≤_, _<_}
 use lib.Dec.{ltb}
 use lib.ListN.{length, take}
 use lib.IntN.{ℤ}
@@ -28,6 +30,7 @@ use Rattle.refusal.specs.Refusal.{tooShort, filledBy}
 use Rattle.refusal.specs.declared.Checked.{Checked}
 use Rattle.refusal.specs.declared.Filled.{Filled}
 use Rattle.refusal.specs.declared.Filled.the-variants.{Made, Refused}
+use Rattle.workspace.specs.Space.{workLength}
 use Rattle.pairing.specs.Generator.{byWork, workAfter}
 use Rattle.numbering.specs.Order.{orderOf}
 use Rattle.numbering.specs.Table.{renamed}
@@ -81,6 +84,7 @@ pub record Symbolised (s r : List ℕ) (v : ℕ) (t : List ℤ) : Type 0 where
   pub passport : Passport s r
   pub precisely : Precisely (image s) (byQ (image s) (image r)) v t
   pub vertices : v ≡ neededVertices r
+  pub thirds : 3 * (v - 1) + fixedPoints r ≡ length r
   pub index : length s ≡ indexOf v t
   pub S-table : tableS v t ≡ renamed (numbering s r) (image s)
   pub R-table : tableR v t ≡ renamed (numbering s r) (image r)
@@ -97,6 +101,8 @@ pub record Booked (s r : List ℕ) (n : ℕ) : Type 0 where
   pub passport : Passport s r
   pub needed : n ≡ neededLength r
   pub takes : (order : Order) (v : ℕ) (t : List ℤ) → ruledBy order s r ≡ made v t → (n ≡ 3 * v + 1) × (n ≡ length t)
+  pub enough : (order : Order) (work room : ℕ) → workLength ≤ work → n ≤ room → importBy order s r work room ≡ grownOf (ruledBy order s r)
+  pub fewer : (order : Order) (work room : ℕ) → workLength ≤ work → room < n → importBy order s r work room ≡ Refused (tooShort n)
 
 abbrev pub LengthMeans : (s r : List ℕ) → Filled → Type 0
 LengthMeans s r a = (n : ℕ) → a ≡ Made n → Booked s r n

@@ -3,8 +3,7 @@
 --
 --   MatrixSigns        [proofs/Word.antt, matrix-signs]   each matrix of determinant 1 is its `matrixSign` times the value of its alternating word
 --   edgeMatrix t x y   (a' a; b' b), where the vertex x is a/b and the vertex y is a'/b', counted from 0 for -1/0, with the entries of the table
---   EdgeFrame v t m    m is that matrix for two vertices of the polygon, -1/0 among them, the first of them on the left. At corner 0 of a triangle they
---                      are its left and its right vertex, as `Triangles` has them: up to sign that says the same, and no two vertices are equal
+--   EdgeFrame v t m    m is that matrix for some two vertices of the polygon, -1/0 among them, the first of them on the left
 --   Signs v t          [proofs/Query.antt, signs]   the promise, for every accepted symbol:
 --     frames       the frames of the cut into Farey triangles (`Triangles`, in the crate polygon): the outer face of each side has that side's frame
 --                  as docs/CONVENTIONS.md writes it, and Q turns within a triangle. Corner 0 of each triangle has the matrix of its edge, sign
