@@ -13,22 +13,22 @@ use word::query;
 use word::query_refusal;
 use word::word_part;
 ghost use mathlib.Core.Path.{_≡_};
-ghost use Prim.Native.Nat.{_≤_};
+ghost use Prim.Native.Nat.{_+_, _*_, _≤_};
 ghost use lib.ListN.{length, take};
 ghost use Rattle.text_line.specs.Line.{line, Puts};
 ghost use Rattle.word.specs.Answer.{queryWork};
 ghost use Rattle.query_text.specs.Reply.{wordHead, lettersLent, replied, lettersLeft, repliedTo, workTo, lettersTo, replyOf, ReplyLeaves, ReplyMeans};
 ghost use Rattle.query_text.specs.Inner.Spaces.{ReplySpaces};
 
-// The line of a word with its sign.
-fn word_line(sign: bool, word: &[i16], out: &mut [u8]) -> usize
-    requires { ⌜ (length (now word) ≤ lettersLent) × (131072 ≤ length (now out)) ⌝ }
-    ensures { λ e. ⌜ Puts (line (wordHead sign) (now (word .entry))) 0 e (now (out .entry)) (now (out .exit)) ⌝ }
+// The line of a word with its sign, from `at` on.
+pub fn word_line(sign: bool, word: &[i16], out: &mut [u8], at: usize) -> usize
+    requires { ⌜ at + (7 * length (now word) + 27) ≤ length (now out) ⌝ }
+    ensures { λ e. ⌜ Puts (line (wordHead sign) (now (word .entry))) at e (now (out .entry)) (now (out .exit)) × (e ≤ at + (7 * length (now (word .entry)) + 7)) ⌝ }
 {
     if sign {
-        return line_of_letters(b"word +", word, out, 0);
+        return line_of_letters(b"word +", word, out, at);
     }
-    line_of_letters(b"word -", word, out, 0)
+    line_of_letters(b"word -", word, out, at)
 }
 
 // The answer for the symbol in t and the pair: the word with its sign, or its refusal.
@@ -52,7 +52,7 @@ fn reply_pair(
         return refusal_line(refusal, out);
     };
     let word = word_part(letters, start, n);
-    word_line(sign, word, out)
+    word_line(sign, word, out, 0)
 }
 
 // The answer for the numbers of a text.

@@ -27,7 +27,7 @@ four-stores lines i a b c d h =
     let three : 4 * i + 3 ≡ suc (suc (suc (4 * i))) = omega arith in
     rw (one, two, three) (sets-eq (a ∷ b ∷ c ∷ d ∷ []) lines (4 * i) h)
 
-length-line : (r : Queried) → length (lineOf r) ≡ 4
+pub length-line : (r : Queried) → length (lineOf r) ≡ 4
 length-line (queried.Word start n sign) = refl
 length-line (queried.Refused f) = refl
 

@@ -42,7 +42,7 @@ module _ (v : ℕ) (t a b : List ℤ) (w : List ℕ) (out : List ℤ) (start : �
   abbrev r : Queried
   r = queryOf v t a b (length w) (length out) start
 
-  record Stood (s n : ℕ) : Type 0 where
+  pub record Stood (s n : ℕ) : Type 0 where
     pub place : s ≡ start
     pub long : n ≡ length l
     pub inside : start + length l ≤ length out
@@ -51,7 +51,7 @@ module _ (v : ℕ) (t a b : List ℤ) (w : List ℕ) (out : List ℤ) (start : �
   all : Claim v t a b w out start r (wordLeft r l out)
   all = claim refl refl
 
-  word-stood : (s n : ℕ) (sign : Bool) → r ≡ queried.Word s n sign → Stood s n
+  pub word-stood : (s n : ℕ) (sign : Bool) → r ≡ queried.Word s n sign → Stood s n
   word-stood s n sign e =
       let z : queryRefusal r ≡ noRefusal = ap queryRefusal e in
       let k = all .answered (all .asked (inl (same-number z))) in

@@ -32,7 +32,7 @@ ghost use Rattle.sheets.specs.Inner.Pairs.{TablesReady, pairOf, SheetRea
 pub const ENTRIES: usize = 2048;
 
 // Whether n entries are no sheet.
-fn is_bad_count(n: usize) -> bool
+pub fn is_bad_count(n: usize) -> bool
     ensures { λ r. ⌜ r ≡ badCount n ⌝ }
 {
     if n % 8 != 0 {

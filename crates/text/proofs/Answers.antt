@@ -78,7 +78,7 @@ all-good (some at) n k e = clash (cc)
 pub survey-all : (ps : List Piece) (k : ℕ) → survey.Count k ≡ surveyOf ps → (firstBad ps ≡ none) × (length ps ≡ k)
 survey-all ps k e = all-good (firstBad ps) (length ps) k e
 
-bad-at : (o : Option ℕ) (n at : ℕ) → survey.Bad at ≡ badOrCount o n → o ≡ some at
+pub bad-at : (o : Option ℕ) (n at : ℕ) → survey.Bad at ≡ badOrCount o n → o ≡ some at
 bad-at none n at e = clash (cc)
 bad-at (some k) n at e = cc
 

@@ -260,7 +260,7 @@ pub fn place(text: &[u8], k: usize) -> usize
 
 // The first k numbers of the text, at the front of `out`. There are so many, and no piece is bad, by the contract: the
 // loop ends by its test.
-fn fill(text: &[u8], k: usize, out: &mut [i64])
+pub fn fill(text: &[u8], k: usize, out: &mut [i64])
     requires { ⌜ (firstBad (pieces (now text)) ≡ none) × (k ≤ length (pieces (now text))) × (k ≤ length (now out)) ⌝ }
     ensures { λ _. ⌜ now (out .exit) ≡ take k (numbers (pieces (now (text .entry)))) ++ drop k (now (out .entry)) ⌝ }
 {
@@ -442,7 +442,7 @@ pub fn copy(bytes: &[u8], out: &mut [u8], at: usize) -> Written
 }
 
 // The magnitude of n. -1 - n is within 64 bits for each negative n, where -n is not.
-fn size(n: i64) -> u64
+pub fn size(n: i64) -> u64
     ensures { λ r. ⌜ r ≡ natAbs n ⌝ }
 {
     if n < 0 {

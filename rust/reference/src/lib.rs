@@ -22,7 +22,7 @@
 //! | `sheet`        | a sheet of pairs: single queries in one word space              |
 //! | `permutations` | checks 12 to 16, from two permutations to a symbol, two rules   |
 //! | `congruence`   | Γ0(N), Γ1(N), Γ(N): condition, index, permutations; 20 and 21   |
-//! | `report`       | the whole output of the six programs                            |
+//! | `report`       | the whole output of the seven programs                          |
 //! | `random`       | test symbols, pairs, matrices and texts, sound and damaged      |
 
 #![forbid(unsafe_code)]
@@ -43,4 +43,4 @@ pub mod text;
 pub mod word;
 
 pub use refusal::Refusal;
-pub use report::{import, import_wide, listing, named, query, same};
+pub use report::{import, import_wide, listing, named, query, same, sheet};

@@ -1,4 +1,4 @@
-//! The whole output of the six programs, from the bytes of standard input.
+//! The whole output of the seven programs, from the bytes of standard input.
 
 use std::fmt::{Display, Write};
 
@@ -7,11 +7,12 @@ use crate::coset::Cosets;
 use crate::permutations::{import_pair, Imported, Rule};
 use crate::refusal::Refusal;
 use crate::sameness::same_group;
+use crate::sheet::{answers, check_entries};
 use crate::symbol::{Symbol, MAX_VERTICES};
-use crate::text::{numbers, two_symbols, Format, MAX_POINTS};
+use crate::text::{numbers, symbol_and_more, two_symbols, Format, MAX_POINTS};
 use crate::word::{pair_query, Found};
 
-/// The letters that the query program lends.
+/// The letters that the programs `query` and `sheet` lend.
 pub const LENT_LETTERS: usize = 16_384;
 
 /// A name and the items behind it, with single spaces between and no space at
@@ -65,14 +66,19 @@ fn try_listing(text: &[u8]) -> Result<String, Refusal> {
 
 /// What the query program prints.
 pub fn query(text: &[u8]) -> String {
-    match try_query(text) {
+    answer_line(&try_query(text))
+}
+
+/// The line for the answer of a query.
+fn answer_line(answer: &Result<Found, Refusal>) -> String {
+    match answer {
         Ok(found) => {
             let mut out = String::new();
             let name = match found.sign {
                 1 => "word +",
                 _ => "word -",
             };
-            line(&mut out, name, found.letters);
+            line(&mut out, name, &found.letters);
             out
         }
         Err(refusal) => format!("{refusal}\n"),
@@ -90,6 +96,20 @@ fn try_query(text: &[u8]) -> Result<Found, Refusal> {
     }
     let [a, b] = matrices;
     pair_query(&symbol, a, b, LENT_LETTERS, 0)
+}
+
+/// What the program `sheet` prints: a line for each pair, as the query program
+/// prints it, in one word space for all of them.
+pub fn sheet(text: &[u8]) -> String {
+    try_sheet(text).unwrap_or_else(|refusal| format!("{refusal}\n"))
+}
+
+fn try_sheet(text: &[u8]) -> Result<String, Refusal> {
+    let (symbol, entries) = symbol_and_more(text)?;
+    check_entries(entries.len())?;
+    let symbol = Symbol::from_numbers(&symbol)?;
+    let answers = answers(&symbol, &entries, LENT_LETTERS);
+    Ok(answers.iter().map(|(_, a)| answer_line(a)).collect())
 }
 
 /// What the import program prints: v, the vertices and the pairings, a line

@@ -147,6 +147,24 @@ pub fn two_symbols(text: &[u8]) -> Result<(Vec<i64>, Vec<i64>), Refusal> {
     Ok((values(one), values(other)))
 }
 
+/// The numbers of a symbol's text, and those behind it: as many as there are.
+///
+/// Where v is out of range it is refused with 1 at once, and nothing is counted.
+pub fn symbol_and_more(text: &[u8]) -> Result<(Vec<i64>, Vec<i64>), Refusal> {
+    if text.len() > MAX_TEXT {
+        return Err(Refusal::new(19, MAX_TEXT));
+    }
+    let mut found: Vec<i64> = pieces(text)?.into_iter().map(|(_, n)| n).collect();
+    let short = Refusal::new(19, text.len());
+    let v = *found.first().ok_or(short)?;
+    let wanted = Format::Listing.wanted(v).ok_or(Refusal::new(1, 0))?;
+    if found.len() < wanted {
+        return Err(short);
+    }
+    let more = found.split_off(wanted);
+    Ok((found, more))
+}
+
 #[cfg(test)]
 mod tests {
     use super::*;
@@ -251,6 +269,33 @@ mod tests {
         assert_eq!(place(b"3066 1", Format::Import), 6);
         assert_eq!(place(b"1023 1", Format::Listing), 6);
     }
+
+    #[test]
+    fn a_symbol_and_more() {
+        let both = |text: &str| symbol_and_more(text.as_bytes());
+        let refused = |number: u32, place: usize| Err(Refusal::new(number, place));
+        let one = vec![1, 0, 1, -2, -3];
+        assert_eq!(both("1 0 1 -2 -3"), Ok((one.clone(), vec![])));
+        assert_eq!(both("1 0 1 -2 -3\n7 8\n"), Ok((one.clone(), vec![7, 8])));
+        // Never too many.
+        let many = format!("1 0 1 -2 -3{}", " 5".repeat(30_000));
+        assert_eq!(both(&many), Ok((one, vec![5; 30_000])));
+        // Too few: no number at all, or a symbol that isn't whole.
+        assert_eq!(both(""), refused(19, 0));
+        assert_eq!(both(" \r\n"), refused(19, 3));
+        assert_eq!(both("1 0 1 -2 "), refused(19, 9));
+        assert_eq!(both("1023 1 1"), refused(19, 8));
+        // With v out of range nothing is counted, but a piece that is no number
+        // goes before that.
+        assert_eq!(both("0"), refused(1, 0));
+        assert_eq!(both("1024 1"), refused(1, 0));
+        assert_eq!(both("-1 0 1 -2 -3 5"), refused(1, 0));
+        assert_eq!(both("0 5 x"), refused(19, 4));
+        assert_eq!(both("1 0 1 -2 -3 1 0 0 1 1 0 0 9-"), refused(19, 26));
+        assert_eq!(both("1 0 x"), refused(19, 4));
+        assert_eq!(both(&"x".repeat(MAX_TEXT + 1)), refused(19, MAX_TEXT));
+    }
+
     #[test]
     fn two_texts() {
         let both = |text: &str| two_symbols(text.as_bytes());

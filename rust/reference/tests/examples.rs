@@ -9,7 +9,7 @@ use std::path::PathBuf;
 
 use child::{repository, Program};
 use reference::congruence::gamma0;
-use reference::{import, import_wide, listing, named, query, same};
+use reference::{import, import_wide, listing, named, query, same, sheet};
 
 /// One program's examples.
 struct Kind {
@@ -63,6 +63,14 @@ const SAMES: Kind = Kind {
     input: "txt",
     output: "answer",
     reference: same,
+    least: 7,
+};
+
+const SHEETS: Kind = Kind {
+    folder: "examples/sheets",
+    input: "sheet",
+    output: "lines",
+    reference: sheet,
     least: 7,
 };
 
@@ -137,7 +145,15 @@ impl Kind {
 
 #[test]
 fn by_the_reference() {
-    for kind in [LISTINGS, QUERIES, IMPORTS, WIDE_IMPORTS, NAMED, SAMES] {
+    for kind in [
+        LISTINGS,
+        QUERIES,
+        IMPORTS,
+        WIDE_IMPORTS,
+        NAMED,
+        SAMES,
+        SHEETS,
+    ] {
         kind.by_the_reference();
     }
 }
@@ -170,6 +186,28 @@ fn named_by_the_program() {
 #[test]
 fn same_by_the_program() {
     SAMES.by_the_program("SAME_PROGRAM");
+}
+
+#[test]
+fn sheets_by_the_program() {
+    SHEETS.by_the_program("SHEET_PROGRAM");
+}
+
+/// What document and hand say of the sheets.
+#[test]
+fn stated_sheets() {
+    let lines = "word + 2 1\nrefused 10 0\nword - 1\nword -\n";
+    for (name, answer) in [
+        ("gamma0-2", lines),
+        ("gamma0-2-no-pairs", ""),
+        ("gamma0-2-seven-entries", "refused 11 2048\n"),
+        ("gamma0-2-not-whole", "refused 19 15\n"),
+        ("gamma0-2-no-number", "refused 19 23\n"),
+        ("refused-symbol", "refused 6 0\n"),
+        ("v-out-of-range", "refused 1 0\n"),
+    ] {
+        assert_eq!(SHEETS.expected(name), answer, "{name}");
+    }
 }
 
 /// The two symbols of Γ0(2) that the request has, and what the others are of.

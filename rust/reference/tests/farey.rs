@@ -100,7 +100,7 @@ impl Folder {
         }
         folder.put(
             "crates.txt",
-            "low:\nlisting: low io\nquery: low\nimport_wide: low\nnamed: low\nsame: low\n",
+            "low:\nlisting: low io\nquery: low\nsheet: low\nimport_wide: low\nnamed: low\nsame: low\n",
         );
         folder.put("crates/low/src/lib.rt", "first");
         folder.put("crates/listing/src/main.rt", "");
@@ -541,7 +541,7 @@ fn a_refusal_is_passed_on() {
     let Some(farey) = farey() else {
         return;
     };
-    for name in ["listing", "query", "import", "import-wide", "draw"] {
+    for name in ["listing", "query", "sheet", "import", "import-wide", "draw"] {
         for line in ["refused 15 2\n", "refused 19 65536\n", "refused 22 0\n"] {
             let came = run_on(&farey, name, line.as_bytes());
             assert_eq!(text(&came.stdout), line);
@@ -640,6 +640,8 @@ fn wrong_words_are_refused() {
         &["11", "gamma0"],
         &["named"],
         &["named", "11"],
+        &["sheets"],
+        &["sheet", "examples/gamma0-2.txt"],
         &["listing", "11"],
         &["same"],
         &["same", "examples/gamma0-2.txt"],

@@ -17,7 +17,7 @@ use std::fs;
 use std::process::Command;
 
 use child::{farey, repository, Program};
-use reference::{import, import_wide, listing, named, query, same};
+use reference::{import, import_wide, listing, named, query, same, sheet};
 
 /// A block between two fences: what stands behind the first one, and the lines.
 struct Block {
@@ -98,6 +98,7 @@ fn answers(program: &str, text: &[u8]) -> [String; 2] {
         "import-wide" => ("IMPORT_WIDE_PROGRAM", import_wide),
         "named" => ("NAMED_PROGRAM", named),
         "same" => ("SAME_PROGRAM", same),
+        "sheet" => ("SHEET_PROGRAM", sheet),
         _ => panic!("there is no program {program}"),
     };
     let expected = reference(text);
@@ -198,6 +199,7 @@ fn commands_print_what_is_shown() {
         "gamma1",
         "gamma",
         "same",
+        "sheet",
     ] {
         assert!(
             programs.iter().any(|name| name == program),

@@ -9,10 +9,10 @@
 //! | a reader that is gone  | the system's signal ends it, unless it is ignored: then as a write    |
 //! | nothing, but a pause   | the answer to the whole text                                          |
 //!
-//! Each test is made of each of the six programs (`LISTING_PROGRAM`,
-//! `QUERY_PROGRAM`, `IMPORT_PROGRAM`, `IMPORT_WIDE_PROGRAM`, `NAMED_PROGRAM`,
-//! `SAME_PROGRAM`) and of `./farey` with each of their names (`FAREY_PROGRAM`),
-//! whose exit status isn't 0 then. A program of the engine has no exit status of
+//! Each test is made of each of the seven programs (`LISTING_PROGRAM`,
+//! `QUERY_PROGRAM`, `SHEET_PROGRAM`, `IMPORT_PROGRAM`, `IMPORT_WIDE_PROGRAM`,
+//! `NAMED_PROGRAM`, `SAME_PROGRAM`) and of `./farey` with each of their names
+//! (`FAREY_PROGRAM`), whose exit status isn't 0 then. A program of the engine has no exit status of
 //! its own to give. Of `./farey` with the programs `named` and `same`, for which it
 //! doesn't read standard input, it is the tests of writing. No answer of `same` is
 //! long enough to fill a pipe.
@@ -32,7 +32,7 @@ use child::{farey, repository, shown, Program};
 use reference::random::pairs::shallow_pair;
 use reference::random::Rng;
 use reference::text::MAX_TEXT;
-use reference::{import, import_wide, listing, named, query, same};
+use reference::{import, import_wide, listing, named, query, same, sheet};
 
 /// How long a program may take before it counts as hanging.
 const TIME_LIMIT: Duration = Duration::from_secs(120);
@@ -93,7 +93,7 @@ impl Subject {
             fn(&[u8]) -> String,
             &'static str,
         );
-        let rows: [Row; 6] = [
+        let rows: [Row; 7] = [
             (
                 "LISTING_PROGRAM",
                 "listing",
@@ -105,6 +105,12 @@ impl Subject {
                 "query",
                 query,
                 "2 0 1 1 1 1 -2 1 0 -1 1 0 0 -1 1 20",
+            ),
+            (
+                "SHEET_PROGRAM",
+                "sheet",
+                sheet,
+                "2 0 1 1 1 1 -2 1 1 0 0 1 1 1 0 1 0 -1 1 0 0 -1 1 20",
             ),
             ("IMPORT_PROGRAM", "import", import, "3\n1 0 2\n2 0 1\n"),
             (
@@ -173,7 +179,7 @@ impl Subject {
     fn long_text(&self) -> String {
         match self.name {
             // T to the power 3,000, in a group that has T for a generator.
-            "query" => "2 0 1 1 1 1 -2 1 1 0 0 1 1 3000 0 1".to_string(),
+            "query" | "sheet" => "2 0 1 1 1 1 -2 1 1 0 0 1 1 3000 0 1".to_string(),
             "named" => "0 990".to_string(),
             _ => {
                 let pair = shallow_pair(&mut Rng::new(7), 1_000).numbers();

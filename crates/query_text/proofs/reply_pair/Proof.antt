@@ -121,7 +121,8 @@ word-part-requires : tie.Need-word-part-requires
 word-part-requires c κs = search needs
 
 word-line-requires : tie.Need-word-line-requires
-word-line-requires c κs = (
+word-line-requires c κs = omega (
+  arith,
   part-most (c .before),
   (c .before .before .before .before .before .before .before .before .before .before .before .before .before .before) .pre .out-long,
 )
@@ -149,7 +150,7 @@ returns-2 c =
     ap (line (wordHead (sign n))) (part-is n)
     ∙ ap (λ (x : Queried). said x (word n)) (sym (told n .answer .given .1))
     ∙ replied-as v t a b r (length (s .args .w .now)) (length (s .args .letters .now)) (s .pre .work) (s .pre .lent) (q .query .ensures .0) in (
-      puts-as same ((c .before .before) .word-line .ensures),
+      puts-as same ((c .before .before) .word-line .ensures .0),
       (
         q .query .ensures .1 .0,
         q .query .ensures .1 .1 .0

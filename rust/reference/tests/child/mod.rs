@@ -46,6 +46,7 @@ pub fn farey() -> Option<Program> {
         for words in [
             &["listing"][..],
             &["query"],
+            &["sheet"],
             &["import"],
             &["import-wide"],
             &["gamma0", "1"],
