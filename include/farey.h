@@ -46,6 +46,7 @@
  *   10  none: no product of generators and inverses takes A to B                            0
  *   11  a space is too short                                                                the length that it needs; for a drawing, in sides
  *       in farey_sheet also: entries that are no pairs, or over 2,048                       2,048
+ *       in farey_same_cosets also: entries that are no pairs                                the next multiple of 8
  *   12  an index not from 1 to 3,066, or tables unequal in length                           0
  *   13  an entry outside its table, or equal to an earlier one                              its index, S before R
  *   14  S twice or R three times moves a point                                              the first such point, S before R
@@ -170,6 +171,19 @@ uint64_t farey_signed_query(size_t v, const int64_t *t, size_t t_len, const int6
  * which are counted in whole lines of four, with the number of pairs for the place. Count: how many pairs; none is a sheet too. */
 uint64_t farey_sheet(size_t v, const int64_t *t, size_t t_len, const int64_t *p, size_t p_len, uint16_t *work, size_t work_len,
                      int64_t *lines, size_t lines_len, int16_t *out, size_t out_len, size_t *place);
+
+/* WHETHER A AND B SHARE A RIGHT COSET of the symbol's group, yes or no, without a word: yes exactly where farey_query would find a word, given enough
+ * space, and no where it gives 10. Long runs of T cost no more than short ones. a and b point to four numbers each. Refused: 1 to 7, then 8, then 9, A before B
+ * under each, then 11 for work. Count: 1 for yes, 0 for no. */
+uint64_t farey_same_coset(size_t v, const int64_t *t, size_t t_len, const int64_t *a, const int64_t *b, uint16_t *work, size_t work_len,
+                          size_t *place);
+
+/* The same for any number of pairs against one symbol, which is checked once and whose tables are built once. p has the pairs one after another, eight
+ * entries each, as in farey_sheet. lines: for each pair two numbers, from the front: 0, and 1 for yes or 0 for no; or the refusal (8 or 9) and its
+ * place. The whole call is refused: 11 for a number of entries that isn't a multiple of 8, with the next one that is for the place, then 1 to 7, then 11 for work,
+ * then 11 for lines, which are counted in whole lines of two, with the number of pairs for the place. Count: how many pairs. */
+uint64_t farey_same_cosets(size_t v, const int64_t *t, size_t t_len, const int64_t *p, size_t p_len, uint16_t *work, size_t work_len,
+                           int64_t *lines, size_t lines_len, size_t *place);
 
 /* Whether two symbols generate the same subgroup: yes precisely when every generator of each is, up to sign, a word in the other's generators and
  * inverses. So two symbols of one group are the same, whatever their vertices are, and symbols that differ in their free labels alone are. Refused:

@@ -67,6 +67,10 @@ int main(void)
     say("query without work", number, place);
     number = farey_sheet(2, t, 7, NULL, 0, NULL, 0, NULL, 0, NULL, 0, &place);
     say("sheet without work", number, place);
+    number = farey_same_coset(2, t, 7, one, one, NULL, 0, &place);
+    say("same coset without work", number, place);
+    number = farey_same_cosets(2, t, 7, NULL, 0, NULL, 0, NULL, 0, &place);
+    say("same cosets without work", number, place);
     number = farey_same(2, t, 7, 2, t, 7, NULL, 0, &place);
     say("same without work", number, place);
     number = farey_named_tables(FAREY_GAMMA0, 2, NULL, 0, NULL, 0, NULL, 0, &place);
@@ -107,6 +111,8 @@ int main(void)
     say("query without room", number, place);
     number = farey_sheet(2, t, 7, pair, 8, work, FAREY_WORK, NULL, 0, NULL, 0, &place);
     say("sheet without room for its line", number, place);
+    number = farey_same_cosets(2, t, 7, pair, 8, work, FAREY_WORK, NULL, 0, &place);
+    say("same cosets without room for a line", number, place);
     number = farey_named_tables(FAREY_GAMMA0, 2, work, FAREY_WORK, NULL, 0, columns[1], 3, &place);
     say("named tables without room for S", number, place);
     number = farey_named_tables(FAREY_GAMMA0, 2, work, FAREY_WORK, columns[0], 3, NULL, 0, &place);
@@ -129,6 +135,8 @@ int main(void)
     /* A sheet without pairs, and one whose word has no room: that is told in its line. */
     number = farey_sheet(2, t, 7, NULL, 0, work, FAREY_WORK, NULL, 0, NULL, 0, &place);
     say("sheet of nothing", number, place);
+    number = farey_same_cosets(2, t, 7, NULL, 0, work, FAREY_WORK, NULL, 0, &place);
+    say("same cosets of nothing", number, place);
     number = farey_sheet(2, t, 7, pair, 8, work, FAREY_WORK, line, 4, NULL, 0, &place);
     say("sheet without room for its word", number, place);
     printf("its line: %" PRId64 " %" PRId64 " %" PRId64 " %" PRId64 "\n", line[0], line[1], line[2], line[3]);

@@ -131,6 +131,18 @@ int main(void)
         printf("\n");
     }
 
+    /* The same pairs, yes or no without a word; and one of them by itself. */
+    expect(farey_same_cosets(v, table, length, pairs, 24, work, FAREY_WORK, lines, FAREY_SHEET_LINES, &count), &count);
+    for (size_t i = 0; i < count; i++) {
+        const int64_t *answer = lines + 2 * i;
+        if (answer[0] != 0)
+            printf("refused %" PRId64 " %" PRId64 "\n", answer[0], answer[1]);
+        else
+            printf("coset %s\n", answer[1] == 1 ? "yes" : "no");
+    }
+    expect(farey_same_coset(v, table, length, one, six, work, FAREY_WORK, &count), &count);
+    printf("coset %s\n", count == 1 ? "yes" : "no");
+
     /* The same symbol with another label. */
     static const int64_t relabelled[10] = {-1, 1, 0, 1, 1, 1, -2, -3, 4, 4};
     expect(farey_same(v, table, length, 3, relabelled, 10, work, FAREY_WORK, &place), &place);

@@ -492,6 +492,37 @@ class Symbol:
             answers += self._sheet(entries[start : start + library.SHEET])
         return answers
 
+    def same_coset(self, A: Matrix, B: Matrix) -> bool:
+        """Whether A and B share a right coset of H: True exactly where `word` would give
+        a word, False where it would give None. No word is made, and long runs of T
+        cost no more than short ones. Refusals 8 and 9, as `word`.
+
+        >>> gamma0_2 = Symbol([0, 1], [1, -2, 1])
+        >>> gamma0_2.same_coset((1, 0, 0, 1), (1, 123456, 0, 1)), gamma0_2.same_coset((1, 0, 0, 1), (1, 0, 123457, 1))
+        (True, False)
+        """
+        number, place = self._share(matrix(A, "A"), matrix(B, "B"))
+        if number != 0:
+            raise Refusal(number, place)
+        return place == 1
+
+    def same_cosets(self, pairs: Iterable[Pair]) -> List[Union[bool, Refusal]]:
+        """The answers of `same_coset` for many pairs (A, B), up to a million at once, in
+        their order: for each True or False, or the `Refusal`, 8 or 9, that `same_coset`
+        would raise. They go to the engine in one call, which checks the symbol and
+        builds its tables once.
+
+        >>> gamma0_2, one = Symbol([0, 1], [1, -2, 1]), (1, 0, 0, 1)
+        >>> gamma0_2.same_cosets([(one, (1, 0, 2, 1)), (one, (0, -1, 1, 0)), (one, (2, 0, 0, 1))])
+        [True, False, Refusal(9, 1)]
+        """
+        entries = arguments.pairs(pairs, "pairs")
+        numbers = clamped((entry for pair in entries for entry in pair), _LOW, _HIGH, _HIGH)
+        spaces = (c_int64 * len(numbers))(*numbers), (c_int64 * (2 * len(entries)))()
+        library.call("farey_same_cosets", self._v, self._space, spaces[0], library.work(), spaces[1])
+        lines = spaces[1][:]
+        return [place == 1 if number == 0 else Refusal(number, place) for number, place in zip(lines[::2], lines[1::2])]
+
     def why_none(self, A: Matrix, B: Matrix) -> Evidence:
         """Evidence that no word takes A to B, for `farey.evidence.check`: the
         generators, the tables of S and R, A and B. A ValueError where there is a word.
@@ -519,15 +550,14 @@ class Symbol:
         Traceback (most recent call last):
         farey.refusal.Refusal: refused 9 0: the determinant of M isn't 1
         """
-        # 11 is the answer of a word that is found and longer than no space at all
-        number, place = self._query(_IDENTITY, matrix(M, "M"), (c_int16 * 0)(), (c_int64 * 1)())
+        number, place = self._share(_IDENTITY, matrix(M, "M"))
         if number == 8:
             raise Refusal(8, place - 4, "entry {place} of M is over 1,000,000 in size")
         if number == 9:
             raise Refusal(9, place - 1, "the determinant of M isn't 1")
-        if number not in (0, 10, 11):
+        if number != 0:
             raise Refusal(number, place)
-        return number != 10
+        return place == 1
 
     def __eq__(self, other: object) -> bool:
         """Whether the two generate the same subgroup: every generator of each is, up
@@ -566,6 +596,10 @@ class Symbol:
         if name not in found:
             found[name] = ask()
         return found[name]
+
+    def _share(self, a: Tuple[int, ...], b: Tuple[int, ...]) -> Tuple[int, int]:
+        spaces = [Fixed((c_int64 * 4)(*clamped(entries, _LOW, _HIGH, _HIGH))) for entries in (a, b)]
+        return library.answer("farey_same_coset", self._v, self._space, *spaces, library.work())
 
     def _query(self, a: Tuple[int, ...], b: Tuple[int, ...], out: Any, sign: Any) -> Tuple[int, int]:
         spaces = [Fixed((c_int64 * 4)(*clamped(entries, _LOW, _HIGH, _HIGH))) for entries in (a, b)]

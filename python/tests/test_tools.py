@@ -55,10 +55,10 @@ class Tool(unittest.TestCase):
     def given(self, runs):
         """What `sage` and `gp` are given: words and standard input."""
         found = {}
-        keeps = {name: KEEPS.format(python=sys.executable, line=line) for name, line in (("sage", "ms 1 2 3 4"), ("gp", "ms 5"))}
+        keeps = {name: KEEPS.format(python=sys.executable, line=line) for name, line in (("sage", "ms 1 2 3 4 6"), ("gp", "ms 5"))}
         came = self.run_with(keeps, str(runs), given=found)
         self.assertEqual((came.returncode, came.stderr), (0, ""))
-        self.assertEqual([row[1:3] for row in self.rows(came.stdout)], [["1", "5"], ["2", ""], ["3", ""], ["4", ""], ["", ""], ["", ""]])
+        self.assertEqual([row[1:3] for row in self.rows(came.stdout)], [["1", "5"], ["2", ""], ["3", ""], ["4", ""], ["6", ""], ["", ""], ["", ""]])
         return found
 
 
@@ -69,17 +69,17 @@ class CompareSystems(Tool):
         for name in ("sage", "gp"):
             self.assertIn(f"there is no {name} on the PATH", came.stderr)
         rows = self.rows(came.stdout)
-        self.assertEqual(len(rows), 6)
+        self.assertEqual(len(rows), 7)
         for _, sage, pari, by_c, by_python in rows:
             self.assertEqual((sage, pari), ("", ""))
             self.assertGreater(float(by_c), 0)
             self.assertGreater(float(by_python), 0)
 
     def test_both_are_there(self):
-        came = self.run_with({"sage": "echo ms 995 337 34 15.9", "gp": "echo ms 12.5"}, "1")
+        came = self.run_with({"sage": "echo ms 995 337 34 15.9 2", "gp": "echo ms 12.5"}, "1")
         self.assertEqual((came.returncode, came.stderr), (0, ""))
         said = [row[1:3] for row in self.rows(came.stdout)]
-        self.assertEqual(said, [["995", "12.5"], ["337", ""], ["34", ""], ["15.9", ""], ["", ""], ["", ""]])
+        self.assertEqual(said, [["995", "12.5"], ["337", ""], ["34", ""], ["15.9", ""], ["2", ""], ["", ""], ["", ""]])
 
     def test_one_fails(self):
         for script in ("exit 1", "echo nothing", "echo ms 1"):
@@ -131,24 +131,29 @@ class SageStandIn:
             def coset_reps(self):
                 stand_in.takes("cosets")
 
+            def __contains__(self, member):
+                assert isinstance(member, SL2Z) and member.entries == MEMBERS[1]
+                stand_in.takes("in")
+                return True
+
         return {"Gamma0": Gamma0, "SL2Z": SL2Z, "FareySymbol": FareySymbol}
 
 
 class Texts(Tool):
     def test_sage(self):
         """Its text is Python. Run with stand-ins for Sage's names it makes the symbol of Γ0(990), asks for the two
-        words and the representatives, five times each, and prints the medians of the seconds by the clock, as milliseconds."""
+        words, the representatives and a member, five times each, and prints the medians of the seconds by the clock, as milliseconds."""
         words, read = self.given(5)["sage"]
         self.assertEqual((words[0], len(words), read), ("-c", 2, ""))
         # the first symbol is made before the clock is looked at
-        times = {"symbol": [77, 4, 1, 3, 90, 2], MEMBERS[0]: [5, 50, 6, 60, 7], MEMBERS[1]: [1 / 2048, 0.5, 8, 0, 1 / 1024], "cosets": [1, 1, 9, 9, 9]}
+        times = {"symbol": [77, 4, 1, 3, 90, 2], MEMBERS[0]: [5, 50, 6, 60, 7], MEMBERS[1]: [1 / 2048, 0.5, 8, 0, 1 / 1024], "cosets": [1, 1, 9, 9, 9], "in": [3, 2, 1, 5, 4]}
         stand_in = SageStandIn(times)
         said = io.StringIO()
         with mock.patch("time.perf_counter", lambda: stand_in.clock), contextlib.redirect_stdout(said):
             exec(compile(words[1], "the text for Sage", "exec"), stand_in.names())
-        self.assertEqual(stand_in.asked, ["symbol"] * 6 + [MEMBERS[0]] * 5 + [MEMBERS[1]] * 5 + ["cosets"] * 5)
+        self.assertEqual(stand_in.asked, ["symbol"] * 6 + [MEMBERS[0]] * 5 + [MEMBERS[1]] * 5 + ["cosets"] * 5 + ["in"] * 5)
         printed = said.getvalue().split()
-        self.assertEqual([printed[0], *map(float, printed[1:])], ["ms", 3000, 7000, 1000 / 1024, 9000])
+        self.assertEqual([printed[0], *map(float, printed[1:])], ["ms", 3000, 7000, 1000 / 1024, 9000, 3000])
 
     def test_gp(self):
         """Its text asks seven times for ten polygons of Γ0(990), divides the wall clock's milliseconds by ten and prints the middle one."""
@@ -168,14 +173,14 @@ class Texts(Tool):
         self.assertEqual(came.returncode, 0, came.stderr)
         self.assertEqual("there is no gp on the PATH" in came.stderr, not links)
         column = [row[2] for row in self.rows(came.stdout)]
-        self.assertEqual(column[1:], [""] * 5)
+        self.assertEqual(column[1:], [""] * 6)
         self.assertEqual([float(time) > 0 for time in column[:1] if time], [True] * len(links))
 
     def test_the_engines_group(self):
         """What the engine is asked for is Γ0(990), and the same two matrices."""
         tool = runpy.run_path(str(TOOL), run_name="compare-systems")
         self.assertEqual((tool["N"], tool["ONE"], tool["MEMBERS"]), (990, by_hand.I, MEMBERS))
-        self.assertEqual(len(tool["JOBS"]), 6)
+        self.assertEqual(len(tool["JOBS"]), 7)
         asked = []
 
         class Library:
@@ -195,5 +200,5 @@ class Texts(Tool):
         names = tool["engine"].__globals__
         with mock.patch.dict(names, library=mock.Mock(wraps=library, load=Library, TABLE=library.TABLE, COSETS=library.COSETS)):
             times = names["engine"](2)
-        self.assertEqual([len(row) for row in times], [6, 6])
+        self.assertEqual([len(row) for row in times], [7, 7])
         self.assertEqual(sorted(set(asked)), [("farey_named_symbol_wide", 0, 990), ("farey_named_tables", 0, 990)])

@@ -24,7 +24,7 @@ pub(crate) struct Told {
 }
 
 // A refusal.
-fn refused(refusal: Refusal) -> Said
+pub(crate) fn refused(refusal: Refusal) -> Said
     ensures { λ r. ⌜ (r .number ≡ refusal .number) × (r .place ≡ refusal .place) ⌝ }
 {
     Said {
@@ -34,7 +34,7 @@ fn refused(refusal: Refusal) -> Said
 }
 
 // No refusal, and a count.
-fn counted(count: usize) -> Said
+pub(crate) fn counted(count: usize) -> Said
     ensures { λ r. ⌜ (r .number ≡ 0) × (r .place ≡ count) ⌝ }
 {
     Said {

@@ -40,6 +40,7 @@ ghost use Rattle.named_groups.specs.Claim.{NamedClaim, NamedQuerySays, NamedSig
 ghost use Rattle.engine.specs.Exported.{filledPlace, queryPlace, signWritten, samenessPlace, figuresLeft, drawingPlace, boxLeft};
 
 mod answers;
+pub mod cosets;
 
 // The checks of a symbol: refusals 1 to 7.
 #[no_mangle]

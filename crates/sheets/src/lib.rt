@@ -64,7 +64,7 @@ fn put_line(lines: &mut [i64], i: usize, a: i64, b: i64, c: i64, d: i64)
 }
 
 // A number among the signed ones.
-fn signed(n: u64) -> i64
+pub fn signed(n: u64) -> i64
     requires { ⌜ n < 2 ^ 63 ⌝ }
     ensures { λ r. ⌜ r ≡ pos n ⌝ }
 {

@@ -200,7 +200,7 @@ fn finish(
 }
 
 // The size of x.
-fn magnitude(x: i64) -> u64
+pub fn magnitude(x: i64) -> u64
     requires { ⌜ natAbs x < 2 ^ 63 ⌝ }
     ensures { λ r. ⌜ r ≡ natAbs x ⌝ }
 {

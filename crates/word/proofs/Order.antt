@@ -37,13 +37,13 @@ asked a b ok k p =
     record { symbol = ok; work = k; entries-A = s .0; entries-B = s .1; unit-A = unit-is a (p .A); unit-B = unit-is b (p .B) }
 
 -- a query that gets to its walk answers what the walk finds
-asked-found : (v : ℕ) (t a b : List ℤ) (w : List ℕ) (room start : ℕ) → Asked v t a b w → foundOf v t a b start room ≡ queryOf v t a b (length w) room start
+pub asked-found : (v : ℕ) (t a b : List ℤ) (w : List ℕ) (room start : ℕ) → Asked v t a b w → foundOf v t a b start room ≡ queryOf v t a b (length w) room start
 asked-found v t a b w room start q =
     by-long (symbolCheck v t) (foundOf v t a b start room) a b w (accepted v t .1 (q .symbol)) (omega (arith, first-clear (large a b) 8 (small-clear a b (q .entries-A) (q .entries-B))))
     (is-unit a (q .unit-A)) (is-unit b (q .unit-B)) (q .work) .0
 
 -- a query gets to its walk, or it is refused: for its work space, or with 1 to 9 before that
-gets : (v : ℕ) (t a b : List ℤ) (w : List ℕ) (room start : ℕ) (r : Queried) → r ≡ queryOf v t a b (length w) room start
+pub gets : (v : ℕ) (t a b : List ℤ) (w : List ℕ) (room start : ℕ) (r : Queried) → r ≡ queryOf v t a b (length w) room start
     → Asked v t a b w ⊎ ShortWork w r ⊎ ((1 ≤ queryRefusal r .number) × (queryRefusal r .number ≤ 9))
 gets v t a b w room start r e = go (reaches (symbolCheck v t) (foundOf v t a b start room) a b w r e)
   where

@@ -13,6 +13,7 @@
 //! | `named`   | a family and N in, a symbol out                                  |
 //! | `same`    | whether two symbols generate the same subgroup, as a function    |
 //! | `sheet`   | many pairs against one symbol, whose tables are built once       |
+//! | `same_coset` | whether pairs share a coset, one T at a time                  |
 //! | `inputs`  | texts to measure with                                            |
 //! | `timing`  | wall times of two programs, run by turns                         |
 //!
@@ -28,6 +29,7 @@ pub mod named;
 pub mod polygon;
 pub mod query;
 pub mod same;
+pub mod same_coset;
 pub mod sheet;
 pub mod symbol;
 pub mod text;

@@ -30,6 +30,7 @@ pub mod named;
 pub mod outcome;
 pub mod query;
 pub mod same;
+pub mod same_coset;
 pub mod sheet;
 pub mod spaces;
 pub mod symbols;
@@ -46,7 +47,7 @@ use reference::random::Rng;
 pub type Call = (&'static str, fn(&mut Rng) -> Outcome);
 
 /// All calls.
-pub const CALLS: [Call; 21] = [
+pub const CALLS: [Call; 23] = [
     ("check", check::case),
     ("generators", generators::case),
     ("figures", figures::case),
@@ -68,6 +69,8 @@ pub const CALLS: [Call; 21] = [
     ("named_signed_query", named::signed_query_case),
     ("named_signed_query_wide", named::signed_query_wide_case),
     ("sheet", sheet::case),
+    ("same_coset", same_coset::case),
+    ("same_cosets", same_coset::many_case),
 ];
 
 /// Makes every call once for each case: the counts of each, in the order of

@@ -60,6 +60,14 @@ fn reachable(call: &str) -> BTreeSet<Reason> {
             let spaces = vec![(11, "entries"), (11, "work"), (11, "lines")];
             [answers, symbol, spaces].concat()
         }
+        "same_coset" => {
+            let answers = vec![(0, "yes"), (0, "no")];
+            [answers, symbol, plain(8..=9), vec![(11, "work")]].concat()
+        }
+        "same_cosets" => {
+            let spaces = vec![(11, "entries"), (11, "work"), (11, "lines")];
+            [vec![(0, "")], symbol, spaces].concat()
+        }
         "drawing" => [vec![(0, ""), (11, "")], symbol, plain(22..=22)].concat(),
         "named_tables" => {
             let spaces = vec![(11, "work"), (11, "s"), (11, "r")];
@@ -109,6 +117,7 @@ fn every_call_is_as_the_reference_has_it() {
     assert_eq!(calls["drawing"].largest, 1_024);
     assert_eq!(calls["import_length"].largest, 3_070);
     assert_eq!(calls["sheet"].largest, 256);
+    assert!(calls["same_cosets"].largest > 256);
     assert!(calls["widths"].largest >= 500);
     // More letters than the program lends.
     assert!(calls["query"].largest > 16_384);

@@ -200,6 +200,13 @@ fn calls_stay_within_the_stack_that_the_header_names() {
             let (work, lines) = (&mut work, &mut lines);
             let _ = black_box(calls::sheet(v, &t, &pairs, work, lines, &mut word));
         });
+        measure("farey_same_coset", &mut || {
+            let _ = black_box(calls::same_coset(v, &t, &a, &b, &mut work));
+        });
+        measure("farey_same_cosets", &mut || {
+            let (work, lines) = (&mut work, &mut lines);
+            let _ = black_box(calls::same_cosets(v, &t, &pairs, work, lines));
+        });
         measure("farey_same", &mut || {
             let _ = black_box(calls::same(v, &t, v, &t, &mut work));
         });
@@ -261,7 +268,7 @@ fn calls_stay_within_the_stack_that_the_header_names() {
             }
         }
     }
-    assert_eq!(most.0.len(), 21);
+    assert_eq!(most.0.len(), 23);
     let promised = promised();
     println!("a thread by itself: {nothing}; FAREY_STACK: {promised}");
     for (call, bytes) in most.0 {

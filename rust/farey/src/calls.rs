@@ -158,6 +158,28 @@ mod engine {
             out_len: usize,
             place: *mut usize,
         ) -> u64;
+        pub fn farey_same_coset(
+            v: usize,
+            t: *const i64,
+            t_len: usize,
+            a: *const i64,
+            b: *const i64,
+            work: *mut u16,
+            work_len: usize,
+            place: *mut usize,
+        ) -> u64;
+        pub fn farey_same_cosets(
+            v: usize,
+            t: *const i64,
+            t_len: usize,
+            p: *const i64,
+            p_len: usize,
+            work: *mut u16,
+            work_len: usize,
+            lines: *mut i64,
+            lines_len: usize,
+            place: *mut usize,
+        ) -> u64;
         pub fn farey_same(
             v: usize,
             t: *const i64,
@@ -532,6 +554,59 @@ pub fn sheet(
             lines.len(),
             out.as_mut_ptr(),
             out.len(),
+            &mut place,
+        )
+    };
+    answer(number, place)
+}
+
+/// Whether a and b share a right coset: yes exactly where `query` would find a word,
+/// given enough space, and no where it gives 10.
+pub fn same_coset(
+    v: usize,
+    t: &[i64],
+    a: &[i64; 4],
+    b: &[i64; 4],
+    work: &mut [u16],
+) -> Result<bool, Refusal> {
+    let mut place = UNWRITTEN;
+    let number = unsafe {
+        engine::farey_same_coset(
+            v,
+            t.as_ptr(),
+            t.len(),
+            a.as_ptr(),
+            b.as_ptr(),
+            work.as_mut_ptr(),
+            work.len(),
+            &mut place,
+        )
+    };
+    answer(number, place).map(|yes| yes == 1)
+}
+
+/// The same for the pairs in p, eight entries each: two numbers a pair to the front
+/// of lines, 0 and 1 for yes, 0 and 0 for no, or the refusal and its place. Answers
+/// with the number of pairs.
+pub fn same_cosets(
+    v: usize,
+    t: &[i64],
+    p: &[i64],
+    work: &mut [u16],
+    lines: &mut [i64],
+) -> Result<usize, Refusal> {
+    let mut place = UNWRITTEN;
+    let number = unsafe {
+        engine::farey_same_cosets(
+            v,
+            t.as_ptr(),
+            t.len(),
+            p.as_ptr(),
+            p.len(),
+            work.as_mut_ptr(),
+            work.len(),
+            lines.as_mut_ptr(),
+            lines.len(),
             &mut place,
         )
     };

@@ -11,6 +11,7 @@
 //! | `family`  | the families Γ0, Γ1 and Γ, and their tables by name       |
 //! | `refusal` | the error: number, place and a sentence                   |
 //! | `sheet`   | the words of many pairs                                   |
+//! | `same_coset` | whether two matrices share a coset, for one pair or many |
 //! | `symbol`  | symbols that own their tables, and what can be asked      |
 //!
 //! ```
@@ -26,6 +27,7 @@
 pub mod calls;
 pub mod family;
 pub mod refusal;
+pub mod same_coset;
 pub mod sheet;
 pub mod symbol;
 

@@ -1,0 +1,100 @@
+-- The lines of many pairs, one after another: two stores are a line (`two-stores`); the lines of the first i pairs, with one more (`pairs-more`); the line of each
+-- answer (`line-…`). And one pair of many: its answer is the single call's (`single`). Assumes nothing.
+use mathlib.Core.Path.{_≡_, refl, sym, _∙_, ap, subst}
+use mathlib.Core.Bool.{Bool, true, false}
+use mathlib.Core.List.{List, [], _∷_, _++_}
+use Prim.Native.Nat.{ℕ, zero, suc, _+_, _-_, _*_, _^_, _≤_, _<_}
+use native.Mathlib.Omega.{arith}
+use lib.ListN.{length, set, take, drop, length-append}
+use lib.Seq.{sets-eq, take-at, drop-at, drop-drop}
+use lib.IntN.{ℤ, pos}
+use Rattle.workspace.specs.Space.{workLength}
+use Rattle.refusal.specs.declared.Refusal.{Refusal}
+use Rattle.symbol.specs.Symbol.{IsSymbol}
+use Rattle.t_runs.specs.Inner.Places.{SymbolPlaces}
+use Rattle.word.specs.Answer.{four}
+use Rattle.sheets.specs.Sheet.{matrixA, matrixB}
+use Rattle.sheets.proofs.Single as sheet
+use Rattle.same_coset.specs.Answer.{sharedBy, enough, sameCosetOf}
+use Rattle.same_coset.specs.Pairs.{cosetLine, cosetAt, cosetLines}
+use Rattle.same_coset.specs.Inner.Ready.{yesNo, pairShared, PairShared, LineFits, pairLineAt, PairsShared}
+use Rattle.same_coset.specs.declared.Shared.{Shared}
+use Rattle.same_coset.specs.declared.Shared.the-variants as shared
+use Rattle.same_coset.proofs.Single.{refused-not-yes, refused-not-no}
+
+-- ---- one line
+
+pub two-stores : (lines : List ℤ) (i : ℕ) (a b : ℤ) → 2 * i + 2 ≤ length lines → set (set lines (2 * i) a) (2 * i + 1) b ≡ pairLineAt i (a ∷ b ∷ []) lines
+two-stores lines i a b h = let next : 2 * i + 1 ≡ suc (2 * i) = omega arith in rw next (sets-eq (a ∷ b ∷ []) lines (2 * i) h)
+
+length-line : (r : Shared) → length (cosetLine r) ≡ 2
+length-line shared.Yes = refl
+length-line shared.No = refl
+length-line (shared.Refused f) = refl
+
+pub line-is : (i : ℕ) (lines : List ℤ) (r s : Shared) → r ≡ s → pairLineAt i (cosetLine s) lines ≡ pairLineAt i (cosetLine r) lines
+line-is i lines r s e = ap (λ (x : Shared). pairLineAt i (cosetLine x) lines) (sym e)
+
+pub line-refused : (i : ℕ) (lines : List ℤ) (r : Shared) (f : Refusal) → r ≡ shared.Refused f → (x y : ℤ) → x ≡ pos (f .number) → y ≡ pos (f .place)
+    → pairLineAt i (x ∷ y ∷ []) lines ≡ pairLineAt i (cosetLine r) lines
+line-refused i lines r f e x y g h =
+    let line : (x ∷ y ∷ []) ≡ cosetLine (shared.Refused f) = cc (g, h) in
+    ap (λ (l : List ℤ). pairLineAt i l lines) line ∙ line-is i lines r (shared.Refused f) e
+
+-- ---- its numbers fit
+
+pub fits-yes-no : (k : Bool) → LineFits (yesNo k)
+fits-yes-no true = record { refused = λ f e. absurd (refused-not-yes f (sym e)) }
+fits-yes-no false = record { refused = λ f e. absurd (refused-not-no f (sym e)) }
+
+pub fits-refused : (f : Refusal) → f .number < 2 ^ 63 → f .place < 2 ^ 63 → LineFits (shared.Refused f)
+fits-refused f h k = record { refused = λ g e. let z : f ≡ g = cc in (rw (← z) h, rw (← z) k) }
+
+-- ---- one pair of many
+
+pub single : {v : ℕ} {t : List ℤ} → IsSymbol v t → (work : ℕ) → workLength ≤ work → (a b : List ℤ) → pairShared v t a b ≡ sameCosetOf v t a b work
+single {v} {t} ok work h a b = ap sharedBy (sheet.single ok work h a b (enough v t a b) 0)
+
+-- ---- one line after another
+
+module _ (v : ℕ) (t p : List ℤ) (work : ℕ) where
+  abbrev front : ℕ → List ℤ
+  front i = cosetLines v t p work i
+
+  front-length : (i : ℕ) → length (front i) ≡ 2 * i
+  unfolding cosetLines
+  front-length zero = refl
+  front-length (suc i) =
+      let e = front-length i in
+      length-append (front i) (cosetLine (cosetAt v t p work i)) ∙ omega (arith, length-line (cosetAt v t p work i))
+
+  lines-more : (i : ℕ) (lines lines' : List ℤ) → lines' ≡ front i ++ drop (2 * i) lines
+      → pairLineAt i (cosetLine (cosetAt v t p work i)) lines' ≡ front (suc i) ++ drop (2 * suc i) lines
+  unfolding cosetLines
+  lines-more i lines lines' e =
+      let line = cosetLine (cosetAt v t p work i) in
+      let rest = drop (2 * i) lines in
+      let sum : 2 * i + 2 ≡ 2 * suc i = omega arith in
+      let before = ap (take (2 * i)) e ∙ take-at (front i) rest (2 * i) (front-length i) in
+      let behind =
+      ap (drop (2 * i + 2)) e ∙ sym (drop-drop 2 (2 * i) (front i ++ rest)) ∙ ap (drop 2) (drop-at (front i) rest (2 * i) (front-length i))
+      ∙ drop-drop 2 (2 * i) lines ∙ ap (λ (k : ℕ). drop k lines) sum in
+      ap (λ (x : List ℤ). x ++ line ++ drop (2 * i + 2) lines') before ∙ ap (λ (x : List ℤ). front i ++ line ++ x) behind
+
+pub pairs-none : (n : ℕ) (w : List ℕ) (p lines : List ℤ) → PairsShared n w p 0 lines lines
+unfolding cosetLines
+pairs-none n w p lines v t w₀ ok g = refl
+
+pub pairs-more : (n : ℕ) (w : List ℕ) (p lines : List ℤ) {lines' : List ℤ} (i : ℕ) → PairsShared n w p i lines lines' → {part : List ℤ} → part ≡ take 8 (drop (8 * i) p)
+    → {r : Shared} → PairShared n w (four part 0) (four part 4) r → {lines₁ : List ℤ} → lines₁ ≡ pairLineAt i (cosetLine r) lines'
+    → PairsShared n w p (i + 1) lines lines₁
+pairs-more n w p lines {lines'} i f {part} cut {r} a {lines₁} e v t w₀ ok g =
+    let is-A : four part 0 ≡ matrixA p i = ap (λ (l : List ℤ). four l 0) cut ∙ sheet.part-A p (8 * i) in
+    let is-B : four part 4 ≡ matrixB p i = ap (λ (l : List ℤ). four l 4) cut ∙ sheet.part-B p (8 * i) in
+    let long : workLength ≤ length w = g .prepared .long in
+    let is : r ≡ cosetAt v t p (length w) i =
+    a v t w₀ ok g ∙ ap (λ (x : List ℤ). pairShared v t x (four part 4)) is-A ∙ ap (pairShared v t (matrixA p i)) is-B
+    ∙ single ok (length w) long (matrixA p i) (matrixB p i) in
+    let more : suc i ≡ i + 1 = omega arith in
+    e ∙ ap (λ (x : Shared). pairLineAt i (cosetLine x) lines') is ∙ lines-more v t p (length w) i lines lines' (f v t w₀ ok g)
+    ∙ ap (λ (k : ℕ). cosetLines v t p (length w) k ++ drop (2 * k) lines) more

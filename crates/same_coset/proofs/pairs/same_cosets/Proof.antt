@@ -1,0 +1,104 @@
+-- `same_cosets` meets its contract. Its ways out are the cases of `sameCosetsOf` in order (`by-ragged`, `by-symbol`, `by-work`, `by-fill`). Assumes nothing.
+use mathlib.Core.Path.{_≡_, refl, sym, _∙_}
+use mathlib.Core.Bool.{false}
+use Prim.Native.Nat.{_/_}
+use lib.ListN.{length}
+use Rattle.refusal.specs.declared.Checked.the-variants.{Accepted}
+use Rattle.symbol.specs.Check.{symbolCheck}
+use Rattle.symbol.proofs.Accepted.{accepted}
+use Rattle.same_coset.specs.Pairs.{ragged}
+use Rattle.same_coset.proofs.Whole.{by-ragged, by-symbol, by-work, by-fill, many-refused, many-mean}
+use borrow.Author.Needs.{needs}
+use Rattle.same_coset.proofs.pairs.same_cosets.Statement.{statement}
+use Rattle.same_coset.proofs.pairs.same_cosets.Tie as tie
+
+-- the entries are whole pairs, and the symbol was accepted
+module _ (e : tie.After-enum-told) where
+  abbrev st : tie.Start
+  st = e .before .before .before .before .before .before
+
+  counted : ragged (length (st .args .p .now)) ≡ false
+  counted = sym (e .before .before .before .before .is-ragged .ensures) ∙ e .before .before .before .if1 .left
+
+  ok : symbolCheck (st .args .v) (st .args .t .now) ≡ Accepted
+  ok = sym (e .before .before .check .ensures .returned) ∙ e .enum-told .given .1
+
+is-ragged-requires : tie.Need-is-ragged-requires
+is-ragged-requires c κs = search needs
+
+add-t12 : tie.Need-add-t12
+add-t12 c = search needs
+
+mul-t13 : tie.Need-mul-t13
+mul-t13 c = search needs
+
+returns : tie.Need-returns
+returns c =
+    let a = c .before .before .before .args in
+    let k = by-ragged (a .v) (a .t .now) (length (a .p .now)) (a .w .now) (length (a .lines .now)) (sym (c .before .is-ragged .ensures) ∙ c .if1 .taken) in
+    (k .0, (k .1, (refl, many-refused (a .v) (a .t .now) (a .p .now) (a .w .now) _)))
+
+check-requires : tie.Need-check-requires
+check-requires c κs = search needs
+
+enum-known-checked : tie.Need-enum-known-checked
+enum-known-checked c = search needs
+
+enum-told : tie.Need-enum-told
+enum-told c = search needs
+
+returns-2 : tie.Need-returns-2
+returns-2 c =
+    let e = c .before in
+    let a = st e .args in
+    let k = by-work (a .v) (a .t .now) (length (a .p .now)) (a .w .now) (length (a .lines .now)) (counted e) (ok e) (c .if2 .taken) in
+    (k .0, (k .1, (refl, many-refused (a .v) (a .t .now) (a .p .now) (a .w .now) _)))
+
+fill-requires : tie.Need-fill-requires
+fill-requires c κs =
+    let e = c .before .before .before in
+    let a = st e .args in
+    record { symbol = accepted (a .v) (a .t .now) .0 (ok e); count = counted e; work = c .before .before .if2 .left }
+
+returns-3 : tie.Need-returns-3
+returns-3 c =
+    let k = c .before .checked .given in
+    let h = c .before .before .before in
+    let a = h .before .before .before .before .args in
+    let b = by-symbol (a .v) (a .t .now) (length (a .p .now)) (a .w .now) (length (a .lines .now)) (sym (h .before .before .is-ragged .ensures) ∙ h .before .if1 .left)
+    (k .0 .0) (sym (h .check .ensures .returned) ∙ k .1) in
+    (b .0, (b .1, (refl, many-refused (a .v) (a .t .now) (a .p .now) (a .w .now) _)))
+
+same-length : tie.Need-same-length
+same-length c = search needs
+
+same-length-2 : tie.Need-same-length-2
+same-length-2 c = search needs
+
+returns-4 : tie.Need-returns-4
+returns-4 c =
+    let f = c .before .before .before .fill in
+    let h = c .before .before .before .before .before .before in
+    let e = h .before in
+    let a = st e .args in
+    let k = by-fill (a .v) (a .t .now) (length (a .p .now)) (a .w .now) (length (a .lines .now)) (counted e) (ok e) (h .if2 .left) in
+    let g = f .ensures in
+    (g .0 ∙ k .0, (g .1 .0 ∙ k .1, (g .1 .1, many-mean (a .v) (a .t .now) (a .p .now) (a .w .now) (length (a .lines .now) / 2) (f .result) (g .0))))
+
+pub same-cosets-spec : {M : Type 1} → statement M
+same-cosets-spec =
+    tie.close
+    (tie.spec
+    is-ragged-requires
+    add-t12
+    mul-t13
+    returns
+    check-requires
+    enum-known-checked
+    enum-told
+    returns-2
+    fill-requires
+    returns-3
+    same-length
+    same-length-2
+    returns-4)

@@ -1,0 +1,18 @@
+-- `remainder` is q modulo d, by a division only where q isn't below d. Assumes nothing.
+use mathlib.Core.Path.{sym}
+use native.Mathlib.Nat.{mod-eq-of-lt}
+use borrow.Author.Needs.{needs}
+use Rattle.t_runs.proofs.remainder.Statement.{statement}
+use Rattle.t_runs.proofs.remainder.Tie as tie
+
+returns : tie.Need-returns
+returns c = sym (mod-eq-of-lt (c .if1 .taken))
+
+rem-result : tie.Need-rem-result
+rem-result c = search needs
+
+returns-2 : tie.Need-returns-2
+returns-2 c = search needs
+
+pub remainder-spec : {M : Type 1} → statement M
+remainder-spec = tie.close (tie.spec returns rem-result returns-2)
