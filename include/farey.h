@@ -57,6 +57,7 @@
  *   20  N isn't from 1 to 1,000, or the family isn't one of the three below                 0
  *   21  the index of the named group is over 3,066                                          0
  *   22  a vertex entry over 33,554,432 in size, too large for a drawing                      the entry's index
+ *   23  a number that is no side's free label, or the other one again                       0 or 1: which of the two
  * 19 is for the programs, which read text.
  *
  * NAMED GROUPS are given by a family and an N from 1 to 1,000. A matrix (a b; c d) is in the group where it meets, modulo N, the condition
@@ -190,6 +191,18 @@ uint64_t farey_same_cosets(size_t v, const int64_t *t, size_t t_len, const int64
  * 1 to 7 for the first, then for the second, then 11 for work. Count: 1 for yes, 0 for no. */
 uint64_t farey_same(size_t v, const int64_t *t, size_t t_len, size_t m, const int64_t *u, size_t u_len, uint16_t *work, size_t work_len,
                     size_t *place);
+
+/* The symbol t in which the free labels x and y have exchanged partners: the first sides of both keep their labels, and the second ones trade them. out: the
+ * table of that symbol, 3v + 1 numbers, from the front. It is a symbol, with the vertices, the index, e2 and e3 of t. Exchanged once more it is t exactly where
+ * the first side of each label stands before the second side of the other; two more exchanges always bring it back. Refused: 1 to 7, then 23, then 11 for out.
+ * Count: v. */
+uint64_t farey_exchange(size_t v, const int64_t *t, size_t t_len, int64_t x, int64_t y, int64_t *out, size_t out_len, size_t *place);
+
+/* The figures that that symbol would have; no symbol is written. out points to eight numbers, as those of farey_figures; widths: the widths of its cusps, as
+ * those of farey_widths. Both are what these calls give of the table that farey_exchange makes. Refused: 1 to 7, then 23, then 11 for work, then 11 for widths;
+ * 17 and 18 in out, each for its own figure. Count: the number of cusps. */
+uint64_t farey_preview(size_t v, const int64_t *t, size_t t_len, int64_t x, int64_t y, uint16_t *work, size_t work_len, uint32_t *widths, size_t widths_len,
+                       uint64_t *out, size_t *place);
 
 /* The sides of the symbol's polygon as they are drawn in the upper half plane, in order, four doubles each, from the front of out: 0, place, 0 for a
  * vertical line, or 1, centre, radius for an arc; then 1, 2 or 3 for a free, an even or an odd side. A line's place is its finite vertex. For any other

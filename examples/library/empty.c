@@ -3,7 +3,7 @@
  *     rt staticlib engine
  *     cc -I include examples/library/empty.c target/staticlib/libengine.a -o empty && ./empty
  *
- * The group is Γ0(2). What is expected stands in empty.output: the number of each answer, and its place or count. */
+ * The group is Γ0(2), and Γ(2) where two labels are needed. What is expected stands in empty.output: the number of each answer, and its place or count. */
 #include <inttypes.h>
 #include <stdio.h>
 #include "farey.h"
@@ -23,7 +23,7 @@ static void say_signed(const char *call, uint64_t number, size_t place, int64_t 
 
 int main(void)
 {
-    static const int64_t t[7] = {0, 1, 1, 1, 1, -2, 1};
+    static const int64_t t[7] = {0, 1, 1, 1, 1, -2, 1}, g[10] = {0, 1, 1, 1, 2, 1, 1, 2, 2, 1};
     static const uint32_t s[3] = {1, 0, 2}, r[3] = {2, 0, 1};
     static const int64_t pair[8] = {1, 0, 0, 1, 1, 0, 2, 1};
     static const int64_t one[4] = {1, 0, 0, 1}, lower[4] = {1, 0, 2, 1}, minus[4] = {-1, 0, 0, -1};
@@ -41,6 +41,8 @@ int main(void)
     say("check without a table", number, place);
     number = farey_same(2, t, 7, 2, NULL, 0, work, FAREY_WORK, &place);
     say("same without a second table", number, place);
+    number = farey_exchange(3, NULL, 0, 1, 2, table, 7, &place);
+    say("exchange without a table", number, place);
     number = farey_import(NULL, 0, NULL, 0, work, FAREY_WORK, table, 7, &place);
     say("import of nothing", number, place);
     number = farey_import_wide(NULL, 0, NULL, 0, work, FAREY_WORK, table, 7, &place);
@@ -71,6 +73,8 @@ int main(void)
     say("same coset without work", number, place);
     number = farey_same_cosets(2, t, 7, NULL, 0, NULL, 0, NULL, 0, &place);
     say("same cosets without work", number, place);
+    number = farey_preview(3, g, 10, 1, 2, NULL, 0, NULL, 0, figures, &place);
+    say("preview without work", number, place);
     number = farey_same(2, t, 7, 2, t, 7, NULL, 0, &place);
     say("same without work", number, place);
     number = farey_named_tables(FAREY_GAMMA0, 2, NULL, 0, NULL, 0, NULL, 0, &place);
@@ -93,6 +97,10 @@ int main(void)
     /* No result space: the length that is needed. */
     number = farey_generators(2, t, 7, work, FAREY_WORK, NULL, 0, &place);
     say("generators without room", number, place);
+    number = farey_exchange(3, g, 10, 1, 2, NULL, 0, &place);
+    say("exchange without room", number, place);
+    number = farey_preview(3, g, 10, 1, 2, work, FAREY_WORK, NULL, 0, figures, &place);
+    say("preview without room", number, place);
     number = farey_drawing(2, t, 7, NULL, 0, bounds, &place);
     say("drawing without room", number, place);
     number = farey_widths(2, t, 7, work, FAREY_WORK, NULL, 0, &place);

@@ -33,7 +33,7 @@ from . import cycles, evidence
 from .named import named_tables
 from .permutations import import_length
 from .refusal import Refusal
-from .symbol import Box, Cusp, Evidence, Generator, Side, Symbol, Word
+from .symbol import Box, Cusp, Evidence, Generator, Preview, Side, Symbol, Word
 from . import systems  # stands on Symbol
 
-__all__ = ["Box", "Cusp", "Evidence", "Generator", "Refusal", "Side", "Symbol", "Word", "cycles", "evidence", "import_length", "named_tables", "systems"]
+__all__ = ["Box", "Cusp", "Evidence", "Generator", "Preview", "Refusal", "Side", "Symbol", "Word", "cycles", "evidence", "import_length", "named_tables", "systems"]

@@ -63,6 +63,8 @@ _PARAMETERS = {
     "farey_same_coset": _SYMBOL + 2 * [POINTER(c_int64)] + _WORK + _PLACE,
     "farey_same_cosets": _SYMBOL + _space(c_int64) + _WORK + _space(c_int64) + _PLACE,
     "farey_same": 2 * _SYMBOL + _WORK + _PLACE,
+    "farey_exchange": _SYMBOL + 2 * [c_int64] + _space(c_int64) + _PLACE,
+    "farey_preview": _SYMBOL + 2 * [c_int64] + _WORK + _space(c_uint32) + [POINTER(c_uint64)] + _PLACE,
     "farey_drawing": _SYMBOL + _space(c_double) + [POINTER(c_double)] + _PLACE,
     "farey_named_tables": _NAME + _WORK + 2 * _space(c_uint32) + _PLACE,
     "farey_named_symbol": _NAME + _WORK + _space(c_int64) + _PLACE,

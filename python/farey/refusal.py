@@ -29,6 +29,7 @@ SENTENCES: Dict[int, str] = {
     20: "N isn't from 1 to 1,000, or the family isn't Γ0, Γ1 or Γ",
     21: "the index of this group is over 3,066",
     22: "vertex entry {place} is over 33,554,432 in size, which is too large for a drawing",
+    23: "number {place} of the two (0 or 1) is no side's free label, or is the other one again",
 }
 
 

@@ -49,6 +49,17 @@ class Box(NamedTuple):
     top: float
 
 
+class Preview(NamedTuple):
+    """What a symbol would have after an exchange of partners: the number of its cusps,
+    their widths, its genus and its level. Where genus or level is refused, with 18
+    or 17, that `Refusal` stands in its place."""
+
+    cusps: int
+    widths: Tuple[int, ...]
+    genus: Union[int, Refusal]
+    level: Union[int, Refusal]
+
+
 class Cusp(NamedTuple):
     """A cusp: its number, from 0, in the order of `widths`, and its width."""
 
@@ -88,6 +99,11 @@ class Evidence(NamedTuple):
     R: Tuple[int, ...]
     A: Tuple[int, int, int, int]
     B: Tuple[int, int, int, int]
+
+
+def _labels(x: Any, y: Any) -> List[int]:
+    """Two labels, or numbers that are none."""
+    return clamped((arguments.integer(x, "x"), arguments.integer(y, "y")), _LOW, _HIGH, _HIGH)
 
 
 def _side(arc: float, first: float, second: float, kind: float) -> Side:
@@ -425,6 +441,38 @@ class Symbol:
         Box(left=0.0, right=1.0, bottom=0.0, top=0.5)
         """
         return self._drawing()[1]
+
+    def exchanged(self, x: int, y: int) -> Symbol:
+        """The symbol in which the free labels x and y have exchanged partners: their
+        first sides stay, and their second sides trade labels. Vertices, index, e2
+        and e3 stay; cusps, genus and level may change. Refusal 23, with place 0 or
+        1, where one of the two is no side's label, or they are the same.
+
+        >>> gamma_2 = Symbol([0, 1, 2], [1, 2, 2, 1])
+        >>> torus = gamma_2.exchanged(1, 2)
+        >>> torus, gamma_2.genus, torus.genus
+        (Symbol([(0, 1), (1, 1), (2, 1)], [1, 2, 1, 2]), 0, 1)
+        >>> gamma_2.exchanged(1, 3)
+        Traceback (most recent call last):
+        farey.refusal.Refusal: refused 23 1: number 1 of the two (0 or 1) is no side's free label, or is the other one again
+        """
+        out = (c_int64 * library.TABLE)()
+        v = library.call("farey_exchange", self._v, self._space, *_labels(x, y), out)
+        made = type(self).__new__(type(self))
+        made._accept(v, out[: 3 * v + 1])
+        return made
+
+    def preview(self, x: int, y: int) -> Preview:
+        """Cusps, widths, genus and level that `exchanged(x, y)` would have; no symbol is
+        made. Refusal 23, as there.
+
+        >>> Symbol([0, 1, 2], [1, 2, 2, 1]).preview(1, 2)
+        Preview(cusps=1, widths=(6,), genus=1, level=6)
+        """
+        widths, out = (c_uint32 * library.COSETS)(), (c_uint64 * 8)()
+        count = library.call("farey_preview", self._v, self._space, *_labels(x, y), library.work(), widths, Fixed(out))
+        genus, level = (value if number == 0 else Refusal(number, 0) for number, value in (out[4:6], out[6:8]))
+        return Preview(out[3], tuple(widths[:count]), genus, level)
 
     def svg(self, width: float = 960.0) -> str:
         """A picture of the polygon, at most that many pixels wide (but 1 is never under 60

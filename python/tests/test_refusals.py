@@ -67,6 +67,8 @@ class Examples(unittest.TestCase):
             if file.suffix == ".pair":
                 n = given[0]
                 return Symbol.from_permutations(given[1 : n + 1], given[n + 1 :], wide=False)
+            if file.suffix == ".exchange":
+                return Symbol.parse(" ".join(map(str, given[:-2]))).exchanged(*given[-2:])
             H = Symbol.parse(" ".join(map(str, given[:-8])))
             word = H.word(given[-8:-4], given[-4:])
             return "refused 10 0" if word is None else f"refused 11 {len(word)}"
@@ -80,7 +82,7 @@ class Examples(unittest.TestCase):
                 # 17 is the level's own. 11 is the program's: a word over 16,384 letters, which Python gives
                 self.assertEqual(self.said(file), answer.replace("level ", ""))
                 met.append(number)
-        self.assertEqual(sorted(met), [1, 3, 4, 5, 6, 7, 8, 9, 10, 11, 12, 13, 14, 15, 16, 17, 19, 20, 21, 22])
+        self.assertEqual(sorted(met), [1, 3, 4, 5, 6, 7, 8, 9, 10, 11, 12, 13, 14, 15, 16, 17, 19, 20, 21, 22, 23])
 
     def test_only_the_level_is_refused(self):
         H = Symbol.parse((by_hand.REPOSITORY / "examples/refusals/17.txt").read_text("utf-8"))

@@ -1,7 +1,9 @@
--- Why the crate `coset` answers what it does, in reading order: the theorem on the tables, odd sides as points that R fixes, the filling of
--- the work space, the answers.
+-- Why the crate `coset` answers what it does, in reading order: the theorem on the tables, even and odd sides as points that S
+-- and R fix, the filling of the work space, the answers.
 pub mod Theorem
+pub mod FixedPoints
 pub mod OddSides
+pub mod EvenSides
 pub mod TableFigures
 pub mod Work
 pub mod Answer

@@ -108,7 +108,7 @@ pub fn tables(
 }
 
 // Copies the widths of k cusps, where there is room.
-fn copy_widths(w: &[u16], k: usize, out: &mut [u32]) -> Filled
+pub fn copy_widths(w: &[u16], k: usize, out: &mut [u32]) -> Filled
     requires { ⌜ (k ≤ 4096) × (workLength ≤ length (now w)) ⌝ }
     ensures { λ a. ⌜ a ≡ roomOne k (length (now (out .entry))) ⌝ }
     ensures { λ a. ⌜ now (out .exit) ≡ columnLeft a (entries WIDTHS k (now (w .entry))) (now (out .entry)) ⌝ }

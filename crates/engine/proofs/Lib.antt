@@ -4,3 +4,4 @@ pub mod Said
 pub mod Imported
 pub mod Named
 pub mod Drawn
+pub mod Exchanged

@@ -46,7 +46,7 @@ use Rattle.engine.specs.Exported.{filledPlace, samenessPlace}
 
 -- ---- numbers above 0
 
-above-pick : (b : Bool) (x y : Filled) → AboveIn x → AboveIn y → AboveIn (pick b x y)
+pub above-pick : (b : Bool) (x y : Filled) → AboveIn x → AboveIn y → AboveIn (pick b x y)
 above-pick true x y h k = h
 above-pick false x y h k = k
 

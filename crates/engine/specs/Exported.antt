@@ -8,8 +8,9 @@
 --   signWritten                     the sign of a word, 1 or -1, or what stood there where the call refuses
 --   samenessPlace                   place, or 1 for yes and 0 for no
 --   figureNumber, figureValue       one figure: 0 and its value, or its refusal's number and 0
---   figuresLeft                     the eight numbers: index, e2, e3, cusps, then number and value of the genus, then of the level; or
---                                   all as it was
+--   figureNumbers                   the eight numbers: index, e2, e3, cusps, then number and value of the genus, then of the level
+--   figuresLeft                     these; or all as it was
+--   previewPlace                    place, or how many cusps there would be
 --   drawingPlace v                  place, or the number of sides
 --   boxLeft                         the four floats of the box: left, right, bottom, top; or all as it was
 use mathlib.Core.List.{List, [], _∷_}
@@ -22,6 +23,7 @@ use Rattle.sameness.specs.declared.Sameness.{Sameness}
 use Rattle.sameness.specs.declared.Sameness.the-variants as sameness
 use Rattle.figures.specs.declared.Figure.{Figure}
 use Rattle.figures.specs.declared.Figure.the-variants as figure
+use Rattle.figures.specs.declared.FigureRecord.{FigureRecord}
 use Rattle.coset.specs.declared.Figured.{Figured}
 use Rattle.coset.specs.declared.Figured.the-variants as figured
 use Rattle.word.specs.Answer.{signNumber}
@@ -57,12 +59,19 @@ abbrev pub figureValue : Figure → ℕ
 figureValue (figure.Value x) = x
 figureValue (figure.Refused f) = 0
 
-abbrev pub figuresLeft : Figured → List ℕ → List ℕ
-figuresLeft (figured.Made f) out =
+abbrev pub figureNumbers : FigureRecord → List ℕ
+figureNumbers f =
     let genus = f .genus in
     let level = f .level in
     f .index ∷ f .e2 ∷ f .e3 ∷ f .cusps ∷ figureNumber genus ∷ figureValue genus ∷ figureNumber level ∷ figureValue level ∷ []
+
+abbrev pub figuresLeft : Figured → List ℕ → List ℕ
+figuresLeft (figured.Made f) out = figureNumbers f
 figuresLeft (figured.Refused f) out = out
+
+abbrev pub previewPlace : Figured → ℕ
+previewPlace (figured.Made f) = f .cusps
+previewPlace (figured.Refused f) = f .place
 
 -- ---- drawings
 

@@ -1,5 +1,6 @@
 // What an exported function says of the answer of its call (specs/Exported.antt).
 use figures::Figure;
+use figures::FigureRecord;
 use refusal::Filled;
 use refusal::Refusal;
 use sameness::Sameness;
@@ -9,7 +10,7 @@ ghost use mathlib.Core.Path.{_≡_};
 ghost use Rattle.refusal.specs.Refusal.{filledRefusal};
 ghost use Rattle.sameness.specs.Same.{samenessRefusal};
 ghost use Rattle.word.specs.Answer.{queryRefusal};
-ghost use Rattle.engine.specs.Exported.{filledPlace, queryPlace, signWritten, samenessPlace, figureNumber, figureValue};
+ghost use Rattle.engine.specs.Exported.{filledPlace, queryPlace, signWritten, samenessPlace, figureNumber, figureValue, figureNumbers};
 
 // A refusal's number and place, or 0 and a count.
 pub(crate) struct Said {
@@ -95,4 +96,24 @@ pub(crate) fn of_figure(answer: Figure) -> Told
             value: 0,
         },
     }
+}
+
+// All figures: index, e2, e3, cusps, then number and value of the genus, then of the level.
+pub(crate) fn of_figures(f: FigureRecord) -> [u64; 8]
+    ensures { λ r. ⌜ r ≡ figureNumbers f ⌝ }
+{
+    let g = f.genus;
+    let l = f.level;
+    let genus = of_figure(g);
+    let level = of_figure(l);
+    [
+        f.index as u64,
+        f.e2 as u64,
+        f.e3 as u64,
+        f.cusps as u64,
+        genus.number,
+        genus.value,
+        level.number,
+        level.value,
+    ]
 }

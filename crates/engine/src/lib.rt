@@ -3,7 +3,7 @@
 // An exported function returns 0, or the number of a refusal. Through `place` it writes the refusal's place or, where it returns 0, a
 // count. What it writes elsewhere, and what that means, is the promise of the call beneath it (specs/Exported.antt has the numbers).
 // include/farey.h says all of it in words.
-use answers::of_figure;
+use answers::of_figures;
 use answers::of_filled;
 use answers::of_query;
 use answers::of_sameness;
@@ -41,6 +41,7 @@ ghost use Rattle.engine.specs.Exported.{filledPlace, queryPlace, signWri
 
 mod answers;
 pub mod cosets;
+mod exchanging;
 
 // The checks of a symbol: refusals 1 to 7.
 #[no_mangle]
@@ -162,21 +163,8 @@ pub extern "C" fn farey_figures(
             refusal.number
         }
         Figured::Made(f) => {
-            let g = f.genus;
-            let l = f.level;
-            let genus = of_figure(g);
-            let level = of_figure(l);
             *place = 0;
-            *out = [
-                f.index as u64,
-                f.e2 as u64,
-                f.e3 as u64,
-                f.cusps as u64,
-                genus.number,
-                genus.value,
-                level.number,
-                level.value,
-            ];
+            *out = of_figures(f);
             0
         }
     }

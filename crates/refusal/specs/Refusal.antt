@@ -4,7 +4,7 @@
 --   Refusal            a number and a place
 --   noRefusal          none: the number 0, and the place 0
 --   refusal n p        the refusal with the number n at the place p
---   badVertexCount .. tooLargeToDraw  the refusals 1 to 22 by name, each at its place
+--   badVertexCount .. notFreeLabel  the refusals 1 to 23 by name, each at its place
 --   Checked            the answer of checks: accepted, or refused
 --   c orElse d         the first refusal of the two
 --   checkedRefusal     the refusal that an answer of checks is
@@ -127,6 +127,12 @@ largeIndex = refusal 21 0
 -- a vertex entry over 33,554,432 in size: its index
 abbrev pub tooLargeToDraw : ℕ → Refusal
 tooLargeToDraw i = refusal 22 i
+
+-- ---- whoever exchanges partners
+
+-- a number that is no side's free label, or a label that is named again: which of the two numbers, 0 or 1
+abbrev pub notFreeLabel : ℕ → Refusal
+notFreeLabel i = refusal 23 i
 
 -- ---- the answers of checks
 

@@ -67,6 +67,8 @@ pub const BAD_LEVEL: u64 = 20;
 pub const LARGE_INDEX: u64 = 21;
 // Whoever asks for a drawing.
 pub const TOO_LARGE_TO_DRAW: u64 = 22;
+// Whoever exchanges partners.
+pub const NOT_FREE_LABEL: u64 = 23;
 
 // The refusal that an answer of checks is.
 pub fn checked_refusal(answer: Checked) -> Refusal

@@ -1,6 +1,6 @@
 -- Symbols that differ in their labels only have the same generators: `relabelled-generators`.
--- In order: sides of one kind with one partner (`Both`, `relabelled-both`); equal vertices make equal frames (`frame-same`); equal leading sides and
--- equal generators of sides (`leader-same`, `generator-same`); equal lists (`map-those`); the law.
+-- In order: equal lists (`map-those`); sides of one kind with one partner (`Both`, `relabelled-both`); equal leading sides and equal generators of
+-- sides (`leader-same`, `generator-same`); the law.
 -- Why: two free labels have one number exactly where they have one leftmost side, so where numbers agree, partners do.
 -- Assumes nothing.
 use mathlib.Core.Path.{_≡_, refl, sym, _∙_, ap}
@@ -8,19 +8,18 @@ use mathlib.Core.Bool.{Bool, true, false}
 use mathlib.Core.List.{List, [], _∷_, _++_, map, map-append}
 use Prim.Native.Nat.{ℕ, zero, suc, _+_, _*_, _<_, _≤_}
 use native.Mathlib.Omega.{arith}
-use native.Mathlib.Decide.{decLt}
 use lib.Dec.{ltb}
-use lib.IntN.{ℤ, pos, negsuc}
-use borrow.Author.Tests.{le-ltb}
+use lib.IntN.{ℤ, negsuc}
 use Rattle.matrix.specs.Matrix.{Mat, nth, matS, matQ}
 use Rattle.basics.specs.Choice.{pick}
 use Rattle.basics.specs.Count.{those}
-use Rattle.basics.proofs.Choice.{pick-false, clash}
-use Rattle.symbol.specs.Table.{pairingEntry, pairingOf, leftNum, leftDen, rightNum, rightDen, side, frame, carried}
+use Rattle.basics.proofs.Choice.{clash}
+use Rattle.symbol.specs.Table.{pairingEntry, pairingOf, carried}
 use Rattle.symbol.specs.Check.{eqZ}
 use Rattle.symbol.specs.Symbol.{IsSymbol}
 use Rattle.symbol.specs.declared.Pairing.{Pairing}
 use Rattle.symbol.proofs.Choice.{eq-eqZ}
+use Rattle.symbol.proofs.Vertices.{frame-same}
 use Rattle.pairing.specs.Generator.{partner, isLeaderBy, isLeader, frameAt, generatorBy, generator, generators}
 use Rattle.sameness.specs.Relabel.{relabelled, Relabelled}
 use Rattle.sameness.proofs.Sides.{FreeSide, Kind, even, odd, free, kind-of, relabelled-even, relabelled-odd, relabelled-free, relabelled-partner, number-apart}
@@ -82,40 +81,6 @@ module _ (v : ℕ) (t t' : List ℤ) (s : IsSymbol v t) (s' : IsSymbol v t') (al
 -- ---- equal vertices
 
 module _ (v : ℕ) (t t' : List ℤ) (same : (i : ℕ) → i < 2 * v → nth t i ≡ nth t' i) where
-  left-num : (i : ℕ) → i ≤ v → leftNum t i ≡ leftNum t' i
-  left-num zero h = refl
-  left-num (suc i) h = same (2 * i) (omega arith)
-
-  left-den : (i : ℕ) → i ≤ v → leftDen t i ≡ leftDen t' i
-  left-den zero h = refl
-  left-den (suc i) h = same (2 * i + 1) (omega arith)
-
-  right-num : (i : ℕ) → i ≤ v → rightNum v t i ≡ rightNum v t' i
-  right-num i h = elim (decLt i v) [
-    | yes l ↦ ap (λ (x : ℤ). pick (ltb i v) x (pos 1)) (same (2 * i) (omega arith))
-    | no l ↦
-        let e = le-ltb i v (omega arith) in
-        pick-false (ltb i v) (nth t (2 * i)) (pos 1) e ∙ sym (pick-false (ltb i v) (nth t' (2 * i)) (pos 1) e)
-  ]
-
-  right-den : (i : ℕ) → i ≤ v → rightDen v t i ≡ rightDen v t' i
-  right-den i h = elim (decLt i v) [
-    | yes l ↦ ap (λ (x : ℤ). pick (ltb i v) x (pos 0)) (same (2 * i + 1) (omega arith))
-    | no l ↦
-        let e = le-ltb i v (omega arith) in
-        pick-false (ltb i v) (nth t (2 * i + 1)) (pos 0) e ∙ sym (pick-false (ltb i v) (nth t' (2 * i + 1)) (pos 0) e)
-  ]
-
-  frame-same : (i : ℕ) → i ≤ v → frameAt v t i ≡ frameAt v t' i
-  frame-same i h =
-      let a = leftNum t' i in
-      let b = leftDen t' i in
-      let c = rightNum v t' i in
-      ap (λ (x : ℤ). frame (side x (leftDen t i) (rightNum v t i) (rightDen v t i))) (left-num i h)
-      ∙ ap (λ (x : ℤ). frame (side a x (rightNum v t i) (rightDen v t i))) (left-den i h)
-      ∙ ap (λ (x : ℤ). frame (side a b x (rightDen v t i))) (right-num i h)
-      ∙ ap (λ (x : ℤ). frame (side a b c x)) (right-den i h)
-
   -- ---- equal generators
 
   leader-same : (i : ℕ) → Both v t t' i → isLeader v t i ≡ isLeader v t' i
@@ -129,17 +94,17 @@ module _ (v : ℕ) (t t' : List ℤ) (same : (i : ℕ) → i < 2 * v → nth t i
   generator-same : (i : ℕ) → i ≤ v → Both v t t' i → generator v t i ≡ generator v t' i
   generator-same i h (evens a b) =
       ap (λ (x : ℤ). generatorBy (pairingOf v x) (frameAt v t i) (frameAt v t (partner v t i))) a
-      ∙ ap (λ (m : Mat). carried m matS m) (frame-same i h)
+      ∙ ap (λ (m : Mat). carried m matS m) (frame-same v t t' same i h)
       ∙ sym (ap (λ (x : ℤ). generatorBy (pairingOf v x) (frameAt v t' i) (frameAt v t' (partner v t' i))) b)
   generator-same i h (odds a b) =
       ap (λ (x : ℤ). generatorBy (pairingOf v x) (frameAt v t i) (frameAt v t (partner v t i))) a
-      ∙ ap (λ (m : Mat). carried m matQ m) (frame-same i h)
+      ∙ ap (λ (m : Mat). carried m matQ m) (frame-same v t t' same i h)
       ∙ sym (ap (λ (x : ℤ). generatorBy (pairingOf v x) (frameAt v t' i) (frameAt v t' (partner v t' i))) b)
   generator-same i h (frees f g e) =
       let m = frameAt v t' i in
       ap (λ (p : Pairing). generatorBy p (frameAt v t i) (frameAt v t (partner v t i))) (f .is)
-      ∙ ap (λ (x : Mat). carried (frameAt v t (partner v t i)) matS x) (frame-same i h)
-      ∙ ap (λ (x : Mat). carried x matS m) (frame-same (partner v t i) (f .within) ∙ ap (frameAt v t') e)
+      ∙ ap (λ (x : Mat). carried (frameAt v t (partner v t i)) matS x) (frame-same v t t' same i h)
+      ∙ ap (λ (x : Mat). carried x matS m) (frame-same v t t' same (partner v t i) (f .within) ∙ ap (frameAt v t') e)
       ∙ sym (ap (λ (p : Pairing). generatorBy p m (frameAt v t' (partner v t' i))) (g .is))
 
 -- ---- the law

@@ -3,6 +3,7 @@ pub mod Choice
 pub mod Signed
 pub mod Pairings
 pub mod Sides
+pub mod Vertices
 pub mod Accepted
 pub mod Marking
 pub mod Seeking

@@ -17,7 +17,7 @@ use crate::spaces::{work, Space};
 use crate::symbols::Lent;
 
 /// Index, e2, e3, cusps, then two numbers each for genus and level.
-const FIGURES: usize = 8;
+pub(crate) const FIGURES: usize = 8;
 
 pub fn case(rng: &mut Rng) -> Outcome {
     let lent = symbol(rng);
@@ -38,7 +38,7 @@ pub fn case(rng: &mut Rng) -> Outcome {
 }
 
 /// Any symbol, now and then one whose level may be past 64 bits.
-fn symbol(rng: &mut Rng) -> Lent {
+pub(crate) fn symbol(rng: &mut Rng) -> Lent {
     if rng.chance(6) {
         let draft = many_cusps(rng);
         return Lent::of(rng, &draft);
@@ -46,7 +46,8 @@ fn symbol(rng: &mut Rng) -> Lent {
     Lent::any(rng)
 }
 
-fn figures(symbol: &Symbol) -> [u64; FIGURES] {
+/// The eight numbers of a symbol.
+pub(crate) fn figures(symbol: &Symbol) -> [u64; FIGURES] {
     let cosets = Cosets::new(symbol);
     let cusps = cosets.widths().len();
     let counts = [cosets.index(), cosets.e2(), cosets.e3(), cusps].map(|count| count as u64);
@@ -68,7 +69,7 @@ fn figure(value: Result<u64, Refusal>) -> [u64; 2] {
 }
 
 /// Which figure is refused by itself.
-fn unavailable(genus: u64, level: u64) -> &'static str {
+pub(crate) fn unavailable(genus: u64, level: u64) -> &'static str {
     match (genus, level) {
         (0, 0) => "",
         (0, 17) => "level 17",

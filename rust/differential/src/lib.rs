@@ -22,6 +22,7 @@ pub mod check;
 pub mod counts;
 pub mod cusps;
 pub mod drawing;
+pub mod exchange;
 pub mod figures;
 pub mod generators;
 pub mod import;
@@ -71,6 +72,8 @@ pub const CALLS: [Call; 23] = [
     ("sheet", sheet::case),
     ("same_coset", same_coset::case),
     ("same_cosets", same_coset::many_case),
+    ("exchange", exchange::case),
+    ("preview", exchange::preview_case),
 ];
 
 /// Makes every call once for each case: the counts of each, in the order of

@@ -12,7 +12,8 @@ pub fn case(rng: &mut Rng) -> Outcome {
     listed::case(rng, widths, 1, calls::widths)
 }
 
-fn widths(symbol: &Symbol) -> Vec<u32> {
+/// Those of a symbol.
+pub(crate) fn widths(symbol: &Symbol) -> Vec<u32> {
     let widths = Cosets::new(symbol).widths();
     widths.into_iter().map(|width| width as u32).collect()
 }

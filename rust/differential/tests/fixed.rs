@@ -68,6 +68,11 @@ fn reachable(call: &str) -> BTreeSet<Reason> {
             let spaces = vec![(11, "entries"), (11, "work"), (11, "lines")];
             [vec![(0, "")], symbol, spaces].concat()
         }
+        "exchange" => [vec![(0, ""), (11, "")], symbol, plain(23..=23)].concat(),
+        "preview" => {
+            let answers = vec![(0, ""), (0, "level 17")];
+            [answers, symbol, plain(23..=23), spaces].concat()
+        }
         "drawing" => [vec![(0, ""), (11, "")], symbol, plain(22..=22)].concat(),
         "named_tables" => {
             let spaces = vec![(11, "work"), (11, "s"), (11, "r")];
@@ -118,6 +123,7 @@ fn every_call_is_as_the_reference_has_it() {
     assert_eq!(calls["import_length"].largest, 3_070);
     assert_eq!(calls["sheet"].largest, 256);
     assert!(calls["same_cosets"].largest > 256);
+    assert!(calls["exchange"].largest >= 1_000);
     assert!(calls["widths"].largest >= 500);
     // More letters than the program lends.
     assert!(calls["query"].largest > 16_384);
@@ -127,7 +133,7 @@ fn every_call_is_as_the_reference_has_it() {
     assert!(calls["named_query_wide"].largest >= 300);
     // Over all calls each number but 19; 17 is met by a figure alone, and 18
     // isn't known to happen.
-    for number in (1..=16).chain(20..=22) {
+    for number in (1..=16).chain(20..=23) {
         let count: usize = tallies.iter().map(|tally| tally.number(number)).sum();
         assert!(count >= LEAST, "refusal {number} only {count} times");
     }

@@ -213,6 +213,18 @@ fn calls_stay_within_the_stack_that_the_header_names() {
         measure("farey_drawing", &mut || {
             let _ = black_box(calls::drawing(v, &t, &mut floats, &mut [0.0; 4]));
         });
+        // Two labels of the symbol, where it has two.
+        let mut labels = t[2 * v..].iter().copied().filter(|&x| x > 0);
+        let first = labels.next().unwrap_or(1);
+        let second = labels.find(|&x| x != first).unwrap_or(2);
+        measure("farey_exchange", &mut || {
+            let _ = black_box(calls::exchange(v, &t, first, second, &mut table));
+        });
+        measure("farey_preview", &mut || {
+            let (widths, out) = (&mut columns[0], &mut [0; 8]);
+            let asked = calls::preview(v, &t, first, second, &mut work, widths, out);
+            let _ = black_box(asked);
+        });
         let pair = match round {
             0..=5 => shallow_pair(&mut rng, 1_023),
             6..=8 => dice_pair(&mut rng, 3_066),

@@ -200,6 +200,29 @@ mod engine {
             bounds: *mut f64,
             place: *mut usize,
         ) -> u64;
+        pub fn farey_exchange(
+            v: usize,
+            t: *const i64,
+            t_len: usize,
+            x: i64,
+            y: i64,
+            out: *mut i64,
+            out_len: usize,
+            place: *mut usize,
+        ) -> u64;
+        pub fn farey_preview(
+            v: usize,
+            t: *const i64,
+            t_len: usize,
+            x: i64,
+            y: i64,
+            work: *mut u16,
+            work_len: usize,
+            widths: *mut u32,
+            widths_len: usize,
+            out: *mut u64,
+            place: *mut usize,
+        ) -> u64;
         pub fn farey_named_tables(
             family: u64,
             n: u64,
@@ -630,6 +653,55 @@ pub fn same(v: usize, t: &[i64], m: usize, u: &[i64], work: &mut [u16]) -> Resul
         )
     };
     answer(number, place).map(|yes| yes == 1)
+}
+
+/// The symbol with the second sides of the labels x and y exchanged to the front of
+/// out: the number of its vertices.
+pub fn exchange(v: usize, t: &[i64], x: i64, y: i64, out: &mut [i64]) -> Result<usize, Refusal> {
+    let mut place = UNWRITTEN;
+    let number = unsafe {
+        engine::farey_exchange(
+            v,
+            t.as_ptr(),
+            t.len(),
+            x,
+            y,
+            out.as_mut_ptr(),
+            out.len(),
+            &mut place,
+        )
+    };
+    answer(number, place)
+}
+
+/// The figures of the symbol that `exchange` would make to out, and the widths of its
+/// cusps to the front of widths: how many.
+pub fn preview(
+    v: usize,
+    t: &[i64],
+    x: i64,
+    y: i64,
+    work: &mut [u16],
+    widths: &mut [u32],
+    out: &mut [u64; 8],
+) -> Result<usize, Refusal> {
+    let mut place = UNWRITTEN;
+    let number = unsafe {
+        engine::farey_preview(
+            v,
+            t.as_ptr(),
+            t.len(),
+            x,
+            y,
+            work.as_mut_ptr(),
+            work.len(),
+            widths.as_mut_ptr(),
+            widths.len(),
+            out.as_mut_ptr(),
+            &mut place,
+        )
+    };
+    answer(number, place)
 }
 
 /// The sides for a drawing to the front of out, four floats each, and the box

@@ -122,6 +122,18 @@ pub(crate) fn work() -> Vec<u16> {
     vec![0; WORK]
 }
 
+/// Eight numbers, as the engine gives them.
+fn figures(out: [u64; 8]) -> Figures {
+    Figures {
+        index: out[0] as usize,
+        e2: out[1] as usize,
+        e3: out[2] as usize,
+        cusps: out[3] as usize,
+        genus: figure(out[4], out[5]),
+        level: figure(out[6], out[7]),
+    }
+}
+
 /// A figure from its number and its value.
 fn figure(number: u64, value: u64) -> Result<u64, Refusal> {
     match number {
@@ -280,14 +292,7 @@ impl Symbol {
     pub fn figures(&self) -> Figures {
         let mut out = [0; 8];
         certain(calls::figures(self.v, &self.table, &mut work(), &mut out));
-        Figures {
-            index: out[0] as usize,
-            e2: out[1] as usize,
-            e3: out[2] as usize,
-            cusps: out[3] as usize,
-            genus: figure(out[4], out[5]),
-            level: figure(out[6], out[7]),
-        }
+        figures(out)
     }
 
     /// The widths of the cusps, by the smallest coset of each.
@@ -327,6 +332,53 @@ impl Symbol {
         cusps.truncate(index);
         steps.truncate(index);
         CosetCusps { cusps, steps }
+    }
+
+    /// The symbol in which the labels x and y have exchanged partners: their first
+    /// sides stay, and their second sides trade labels. Refusal 23, with place 0 or
+    /// 1, where one of the two numbers is no label, or they are the same.
+    ///
+    /// Index, e2, e3 and the vertices stay; cusps, genus and level may change, as
+    /// here, from Γ(2) to a torus with one cusp.
+    ///
+    /// ```
+    /// use farey::Symbol;
+    ///
+    /// let gamma_2 = Symbol::new(&[(0, 1), (1, 1), (2, 1)], &[1, 2, 2, 1])?;
+    /// let torus = gamma_2.exchanged(1, 2)?;
+    /// assert_eq!(torus.table()[6..], [1, 2, 1, 2]);
+    /// assert_eq!((gamma_2.figures().genus, torus.figures().genus), (Ok(0), Ok(1)));
+    /// # Ok::<(), farey::Refusal>(())
+    /// ```
+    pub fn exchanged(&self, x: i64, y: i64) -> Result<Symbol, Refusal> {
+        Symbol::made(|out| calls::exchange(self.v, &self.table, x, y, out))
+    }
+
+    /// The figures and the widths of the cusps that `exchanged` would have; no
+    /// symbol is made. Refusal 23 as there.
+    ///
+    /// ```
+    /// use farey::Symbol;
+    ///
+    /// let gamma_2 = Symbol::new(&[(0, 1), (1, 1), (2, 1)], &[1, 2, 2, 1])?;
+    /// let (figures, widths) = gamma_2.preview(1, 2)?;
+    /// assert_eq!((figures.genus, figures.level), (Ok(1), Ok(6)));
+    /// assert_eq!(widths, [6]);
+    /// # Ok::<(), farey::Refusal>(())
+    /// ```
+    pub fn preview(&self, x: i64, y: i64) -> Result<(Figures, Vec<u32>), Refusal> {
+        let (mut widths, mut out) = (vec![0; COSETS], [0; 8]);
+        let count = calls::preview(
+            self.v,
+            &self.table,
+            x,
+            y,
+            &mut work(),
+            &mut widths,
+            &mut out,
+        )?;
+        widths.truncate(count);
+        Ok((figures(out), widths))
     }
 
     /// The sides of the polygon for a drawing, and their box; refusal 22 where a

@@ -18,6 +18,7 @@
 //! | `coset`        | tables of S, R, T and the figures drawn from them               |
 //! | `sameness`     | whether two symbols generate the same subgroup                  |
 //! | `drawing`      | sides and box of a drawing, rounded by hand; 22                 |
+//! | `exchange`     | the partners of two labels exchanged; 23                        |
 //! | `word`         | pair queries: membership, the walk, a word's product and sign   |
 //! | `sheet`        | a sheet of pairs: single queries in one word space              |
 //! | `permutations` | checks 12 to 16, from two permutations to a symbol, two rules   |
@@ -30,6 +31,7 @@
 pub mod congruence;
 pub mod coset;
 pub mod drawing;
+pub mod exchange;
 pub mod matrix;
 pub mod permutations;
 pub mod polygon;
@@ -43,4 +45,4 @@ pub mod text;
 pub mod word;
 
 pub use refusal::Refusal;
-pub use report::{import, import_wide, listing, named, query, same, sheet};
+pub use report::{exchange, import, import_wide, listing, named, query, same, sheet};

@@ -4,6 +4,7 @@ use std::fmt::{Display, Write};
 
 use crate::congruence::named_symbol;
 use crate::coset::Cosets;
+use crate::exchange::exchange as exchanged;
 use crate::permutations::{import_pair, Imported, Rule};
 use crate::refusal::Refusal;
 use crate::sameness::same_group;
@@ -110,6 +111,31 @@ fn try_sheet(text: &[u8]) -> Result<String, Refusal> {
     let symbol = Symbol::from_numbers(&symbol)?;
     let answers = answers(&symbol, &entries, LENT_LETTERS);
     Ok(answers.iter().map(|(_, a)| answer_line(a)).collect())
+}
+
+/// What the program `exchange` prints: the exchanged symbol as `import` prints one.
+pub fn exchange(text: &[u8]) -> String {
+    match try_exchange(text) {
+        Ok(numbers) => {
+            let join = |numbers: &[i64]| {
+                let pieces: Vec<String> = numbers.iter().map(i64::to_string).collect();
+                pieces.join(" ")
+            };
+            let (vertices, pairings) = numbers[1..].split_at(2 * numbers[0] as usize);
+            format!("{}\n{}\n{}\n", numbers[0], join(vertices), join(pairings))
+        }
+        Err(refusal) => format!("{refusal}\n"),
+    }
+}
+
+/// v and the table, after the exchange.
+fn try_exchange(text: &[u8]) -> Result<Vec<i64>, Refusal> {
+    let numbers = numbers(text, Format::Exchange)?;
+    // With v out of range the count is free, and refusal 1 comes first.
+    let end = numbers.len().saturating_sub(2).max(1);
+    let label = |i: usize| numbers.get(end + i).copied().unwrap_or(0);
+    let table = exchanged(numbers[0], &numbers[1..end], label(0), label(1))?;
+    Ok([&numbers[..1], &table].concat())
 }
 
 /// What the import program prints: v, the vertices and the pairings, a line

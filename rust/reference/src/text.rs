@@ -17,6 +17,8 @@ pub enum Format {
     Listing,
     /// A listing text, then the four entries of A and the four of B.
     Query,
+    /// A listing text, then two labels.
+    Exchange,
     /// n, then n images of S, then n images of R.
     Import,
     /// The number of a family, then N.
@@ -32,6 +34,7 @@ impl Format {
         let (range, each, more) = match self {
             Format::Listing => (1..=MAX_VERTICES as i64, 3, 2),
             Format::Query => (1..=MAX_VERTICES as i64, 3, 10),
+            Format::Exchange => (1..=MAX_VERTICES as i64, 3, 4),
             Format::Import => (1..=MAX_POINTS, 2, 1),
             Format::Named => (0..=2, 0, 2),
         };
@@ -241,6 +244,8 @@ mod tests {
         assert_eq!(place(b"1 0 1 -2 -3   5 6\n", Format::Listing), 14);
         assert_eq!(place(b"1 0 1 -2 -3", Format::Query), 11);
         assert_eq!(place(b"1 0 1 -2 -3 1 0 0 1 1 0 0 1 -9", Format::Query), 28);
+        assert_eq!(place(b"1 0 1 -2 -3 1", Format::Exchange), 13);
+        assert_eq!(place(b"1 0 1 -2 -3 1 2 3", Format::Exchange), 16);
         assert_eq!(place(b"2 0 1 0", Format::Import), 7);
         assert_eq!(place(b"2 0 1 0 1 4", Format::Import), 10);
         assert_eq!(place(b" 0\n", Format::Named), 3);

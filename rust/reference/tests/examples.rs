@@ -9,7 +9,7 @@ use std::path::PathBuf;
 
 use child::{repository, Program};
 use reference::congruence::gamma0;
-use reference::{import, import_wide, listing, named, query, same, sheet};
+use reference::{exchange, import, import_wide, listing, named, query, same, sheet};
 
 /// One program's examples.
 struct Kind {
@@ -72,6 +72,14 @@ const SHEETS: Kind = Kind {
     output: "lines",
     reference: sheet,
     least: 7,
+};
+
+const EXCHANGES: Kind = Kind {
+    folder: "examples/exchanges",
+    input: "txt",
+    output: "symbol",
+    reference: exchange,
+    least: 5,
 };
 
 struct Example {
@@ -181,6 +189,32 @@ fn wide_imports_by_the_program() {
 #[test]
 fn named_by_the_program() {
     NAMED.by_the_program("NAMED_PROGRAM");
+}
+
+#[test]
+fn exchanges_by_the_reference() {
+    EXCHANGES.by_the_reference();
+}
+
+#[test]
+fn exchanges_by_the_program() {
+    EXCHANGES.by_the_program("EXCHANGE_PROGRAM");
+}
+
+/// Exchanged and exchanged again: back where the labels cross, and not where they stand
+/// apart; worked out by hand.
+#[test]
+fn stated_exchanges() {
+    for (name, pairings) in [
+        ("gamma-2", "1 2 1 2"),
+        ("gamma-2-again", "1 2 2 1"),
+        ("apart", "1 2 2 1"),
+        ("apart-again", "1 2 1 2"),
+    ] {
+        let expected = format!("3\n0 1 1 1 2 1\n{pairings}\n");
+        assert_eq!(EXCHANGES.expected(name), expected, "{name}");
+    }
+    assert_eq!(EXCHANGES.expected("no-label"), "refused 23 1\n");
 }
 
 #[test]

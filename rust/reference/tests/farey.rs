@@ -408,6 +408,7 @@ fn refusals_are_explained() {
             }
             Some("group") => vec![by_name(&farey, &text(&held))],
             Some("drawing") => vec![run_on(&farey, "draw", &held)],
+            Some("exchange") => vec![run_on(&farey, "exchange", &held)],
             _ => panic!("{}: no program reads this", path.display()),
         };
         for came in came {

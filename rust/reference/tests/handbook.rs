@@ -17,7 +17,7 @@ use std::fs;
 use std::process::Command;
 
 use child::{farey, repository, Program};
-use reference::{import, import_wide, listing, named, query, same, sheet};
+use reference::{exchange, import, import_wide, listing, named, query, same, sheet};
 
 /// A block between two fences: what stands behind the first one, and the lines.
 struct Block {
@@ -99,6 +99,7 @@ fn answers(program: &str, text: &[u8]) -> [String; 2] {
         "named" => ("NAMED_PROGRAM", named),
         "same" => ("SAME_PROGRAM", same),
         "sheet" => ("SHEET_PROGRAM", sheet),
+        "exchange" => ("EXCHANGE_PROGRAM", exchange),
         _ => panic!("there is no program {program}"),
     };
     let expected = reference(text);
@@ -200,6 +201,7 @@ fn commands_print_what_is_shown() {
         "gamma",
         "same",
         "sheet",
+        "exchange",
     ] {
         assert!(
             programs.iter().any(|name| name == program),
@@ -268,6 +270,7 @@ fn refusals_are_met() {
             "query" => "query",
             "pair" => "import",
             "group" => "named",
+            "exchange" => "exchange",
             _ => panic!("{}: no program reads this", row.example),
         };
         assert!(

@@ -11,7 +11,7 @@
 //!
 //! Each test is made of each of the seven programs (`LISTING_PROGRAM`,
 //! `QUERY_PROGRAM`, `SHEET_PROGRAM`, `IMPORT_PROGRAM`, `IMPORT_WIDE_PROGRAM`,
-//! `NAMED_PROGRAM`, `SAME_PROGRAM`) and of `./farey` with each of their names
+//! `NAMED_PROGRAM`, `SAME_PROGRAM`, `EXCHANGE_PROGRAM`) and of `./farey` with each of their names
 //! (`FAREY_PROGRAM`), whose exit status isn't 0 then. A program of the engine has no exit status of
 //! its own to give. Of `./farey` with the programs `named` and `same`, for which it
 //! doesn't read standard input, it is the tests of writing. No answer of `same` is
@@ -32,7 +32,7 @@ use child::{farey, repository, shown, Program};
 use reference::random::pairs::shallow_pair;
 use reference::random::Rng;
 use reference::text::MAX_TEXT;
-use reference::{import, import_wide, listing, named, query, same, sheet};
+use reference::{exchange, import, import_wide, listing, named, query, same, sheet};
 
 /// How long a program may take before it counts as hanging.
 const TIME_LIMIT: Duration = Duration::from_secs(120);
@@ -125,6 +125,12 @@ impl Subject {
                 "same",
                 same,
                 "2\n0 1 1 1\n1 -2 1\n2\n-1 1 0 1\n1 -2 1\n",
+            ),
+            (
+                "EXCHANGE_PROGRAM",
+                "exchange",
+                exchange,
+                "3\n0 1 1 1 2 1\n1 2 2 1\n1 2\n",
             ),
         ];
         let mut all = Vec::new();

@@ -1,0 +1,74 @@
+-- `exchange`: the answer goes by the check (`filledBy`); what passed it can be exchanged (`exchangeable`), and the exchange is a trade (`trades`).
+-- Assumes nothing.
+use mathlib.Core.Path.{_≡_, refl, sym, _∙_, ap}
+use lib.ListN.{length}
+use mir.Facts.{toZ-ofZ}
+use Rattle.refusal.specs.Refusal.{filledBy}
+use Rattle.refusal.specs.declared.Checked.{Checked}
+use Rattle.partner_exchange.specs.Answer.{symbolRoom}
+use Rattle.partner_exchange.specs.Inner.Ready.{Exchangeable}
+use Rattle.partner_exchange.proofs.Theorem.{trades}
+use Rattle.partner_exchange.proofs.Answered.{exchangeable, exchange-refused}
+use borrow.Author.Needs.{needs}
+use Rattle.partner_exchange.proofs.exchange.Statement.{statement}
+use Rattle.partner_exchange.proofs.exchange.Tie as tie
+
+exchange-check-requires : tie.Need-exchange-check-requires
+exchange-check-requires c κs = search needs
+
+enum-known-checked : tie.Need-enum-known-checked
+enum-known-checked c = search needs
+
+enum-told : tie.Need-enum-told
+enum-told c = search needs
+
+-- the labels have passed
+ready : (c : tie.After-enum-told) → Exchangeable (c .before .before .before .args .v) (c .before .before .before .args .t .now) (c .before .before .before .args .x)
+    (c .before .before .before .args .y)
+ready c =
+    let r = c .before .before in
+    let s = r .before in
+    exchangeable (s .args .v) (s .args .t .now) (s .args .x) (s .args .y)
+    (sym (rw (toZ-ofZ (s .fits .x), toZ-ofZ (s .fits .y)) at (r .exchange-check .ensures)) ∙ c .enum-told .given .1)
+
+exchange-in-room-requires : tie.Need-exchange-in-room-requires
+exchange-in-room-requires c κs =
+    let s = c .before .before .before .before in
+    rw (toZ-ofZ (s .fits .x), toZ-ofZ (s .fits .y)) (ready (c .before))
+
+returns : tie.Need-returns
+returns c =
+    let r = c .before .before .before in
+    let s = r .before in
+    let v = s .args .v in
+    let t = s .args .t .now in
+    let refused = sym (c .before .checked .given .1) ∙ (rw (toZ-ofZ (s .fits .x), toZ-ofZ (s .fits .y)) at (r .exchange-check .ensures)) in
+    (ap (λ (k : Checked). filledBy k (symbolRoom v (length (s .args .out .now)))) refused, (refl, exchange-refused v t (s .args .x) (s .args .y) (c .before .checked .given .0 .0)))
+
+same-length : tie.Need-same-length
+same-length c = search needs
+
+returns-2 : tie.Need-returns-2
+returns-2 c =
+    let m = c .before in
+    let e = m .before .before in
+    let r = e .before .before in
+    let s = r .before in
+    let v = s .args .v in
+    let t = s .args .t .now in
+    let passed = sym (rw (toZ-ofZ (s .fits .x), toZ-ofZ (s .fits .y)) at (r .exchange-check .ensures)) ∙ e .enum-told .given .1 in (
+      m .exchange-in-room .ensures .0 ∙ ap (λ (k : Checked). filledBy k (symbolRoom v (length (s .args .out .now)))) (sym passed),
+      (rw (toZ-ofZ (s .fits .x), toZ-ofZ (s .fits .y)) at (m .exchange-in-room .ensures .1), λ n z. trades (ready e)),
+    )
+
+pub exchange-spec : {M : Type 1} → statement M
+exchange-spec =
+    tie.close
+    (tie.spec
+    exchange-check-requires
+    enum-known-checked
+    enum-told
+    exchange-in-room-requires
+    returns
+    same-length
+    returns-2)

@@ -1,0 +1,106 @@
+-- `preview`: the answer goes by the check (`previewBy`); what passed it can be exchanged (`exchangeable`), and then the answer is what is asked of the
+-- exchanged symbol (`preview-means`). Assumes nothing.
+use mathlib.Core.Path.{_≡_, refl, sym, _∙_, ap}
+use lib.ListN.{length}
+use mir.Facts.{toZ-ofZ}
+use Rattle.refusal.specs.Refusal.{filledBy}
+use Rattle.refusal.specs.declared.Checked.{Checked}
+use Rattle.pairing.specs.Generator.{workAfter}
+use Rattle.coset.specs.Answer.{columnLeft, widthedOf, widthsOf}
+use Rattle.partner_exchange.specs.Exchange.{exchanged}
+use Rattle.partner_exchange.specs.Answer.{askedOf, previewBy}
+use Rattle.partner_exchange.specs.Inner.Ready.{Exchangeable}
+use Rattle.partner_exchange.proofs.Answered.{exchangeable, preview-refused, preview-means}
+use borrow.Author.Needs.{needs}
+use Rattle.partner_exchange.proofs.preview.Statement.{statement}
+use Rattle.partner_exchange.proofs.preview.Tie as tie
+
+exchange-check-requires : tie.Need-exchange-check-requires
+exchange-check-requires c κs = search needs
+
+enum-known-checked : tie.Need-enum-known-checked
+enum-known-checked c = search needs
+
+enum-told : tie.Need-enum-told
+enum-told c = search needs
+
+-- the labels have passed
+ready : (c : tie.After-enum-told) → Exchangeable (c .before .before .before .before .before .args .v) (c .before .before .before .before .before .args .t .now)
+    (c .before .before .before .before .before .args .x) (c .before .before .before .before .before .args .y)
+ready c =
+    let r = c .before .before in
+    let s = r .before .before .before in
+    exchangeable (s .args .v) (s .args .t .now) (s .args .x) (s .args .y)
+    (sym (rw (toZ-ofZ (s .fits .x), toZ-ofZ (s .fits .y)) at (r .exchange-check .ensures)) ∙ c .enum-told .given .1)
+
+preview-exchanged-requires : tie.Need-preview-exchanged-requires
+preview-exchanged-requires c κs =
+    let e = c .before .before in
+    let s = e .before .before .before .before .before in
+    rw (toZ-ofZ (s .fits .x), toZ-ofZ (s .fits .y)) (ready e)
+
+returns : tie.Need-returns
+returns c =
+    let r = c .before .before .before in
+    let s = r .before .before .before in
+    let v = s .args .v in
+    let t = s .args .t .now in
+    let x = s .args .x in
+    let y = s .args .y in
+    let u = exchanged v t x y in
+    let work = length (s .args .w .now) in
+    let n = length (s .args .out .now) in
+    let refused = sym (c .before .checked .given .1) ∙ (rw (toZ-ofZ (s .fits .x), toZ-ofZ (s .fits .y)) at (r .exchange-check .ensures)) in (
+      ap (λ (k : Checked). previewBy k (askedOf v u work n)) refused,
+      (
+        ap (λ (k : Checked). workAfter k (s .args .w .now)) refused,
+        (
+          ap (λ (k : Checked). columnLeft (filledBy k (widthedOf v u work n)) (widthsOf v u) (s .args .out .now)) refused,
+          preview-refused v t x y work (c .before .checked .given .0 .0),
+        ),
+      ),
+    )
+
+same-length : tie.Need-same-length
+same-length c = search needs
+
+same-length-2 : tie.Need-same-length-2
+same-length-2 c = search needs
+
+returns-2 : tie.Need-returns-2
+returns-2 c =
+    let m = c .before .before .before .before in
+    let e = m .before .before .before in
+    let r = e .before .before in
+    let s = r .before .before .before in
+    let v = s .args .v in
+    let t = s .args .t .now in
+    let x = s .args .x in
+    let y = s .args .y in
+    let u = exchanged v t x y in
+    let work = length (s .args .w .now) in
+    let n = length (s .args .out .now) in
+    let passed = sym (sym (rw (toZ-ofZ (s .fits .x), toZ-ofZ (s .fits .y)) at (r .exchange-check .ensures)) ∙ e .enum-told .given .1) in
+    let made = rw (toZ-ofZ (s .fits .x), toZ-ofZ (s .fits .y)) at (m .preview-exchanged .ensures) in (
+      made .0 ∙ ap (λ (k : Checked). previewBy k (askedOf v u work n)) passed,
+      (
+        made .1 .0 ∙ ap (λ (k : Checked). workAfter k (s .args .w .now)) passed,
+        (
+          made .1 .1 ∙ ap (λ (k : Checked). columnLeft (filledBy k (widthedOf v u work n)) (widthsOf v u) (s .args .out .now)) passed,
+          preview-means v t x y work n (m .preview-exchanged .result) (ready e) (made .0),
+        ),
+      ),
+    )
+
+pub preview-spec : {M : Type 1} → statement M
+preview-spec =
+    tie.close
+    (tie.spec
+    exchange-check-requires
+    enum-known-checked
+    enum-told
+    preview-exchanged-requires
+    returns
+    same-length
+    same-length-2
+    returns-2)
