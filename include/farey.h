@@ -53,7 +53,7 @@
  *   15  a point that isn't reached from 0                                                   the smallest
  *   16  a vertex entry over 10^9 would be needed                                            the side to be split
  *   17  the level is 2^64 or more                                                           (its own figure only)
- *   18  the genus formula gives no whole number from 0                                      (its own figure only)
+ *   18  the genus formula gives no whole number from 0                                      (never answered: a symbol has a genus)
  *   20  N isn't from 1 to 1,000, or the family isn't one of the three below                 0
  *   21  the index of the named group is over 3,066                                          0
  *   22  a vertex entry over 33,554,432 in size, too large for a drawing                      the entry's index
@@ -111,7 +111,7 @@ uint64_t farey_generators(size_t v, const int64_t *t, size_t t_len, uint16_t *wo
                           size_t *place);
 
 /* The figures of the subgroup H that they generate. out points to eight numbers: index; e2 and e3, the numbers of points that S and R
- * fix; cusps; then 0 and the genus, or 18 and 0; then 0 and the level, or 17 and 0. Refused: 1 to 7, then 11 for work. Count: 0. */
+ * fix; cusps; then 0 and the genus, always; then 0 and the level, or 17 and 0. Refused: 1 to 7, then 11 for work. Count: 0. */
 uint64_t farey_figures(size_t v, const int64_t *t, size_t t_len, uint16_t *work, size_t work_len, uint64_t *out, size_t *place);
 
 /* The widths of the cusps, by the smallest coset of each, from the front of out. They add up to the index. Refused: 1 to 7, then 11
@@ -152,7 +152,9 @@ uint64_t farey_import_length(const uint32_t *s, size_t s_len, const uint32_t *r,
 /* A word in the generators that takes A to B, UP TO SIGN: the product of its letters from left to right, times A, is B or -B, and the
  * answer doesn't tell which; farey_signed_query does. a and b point to four numbers each. Letter j is generator j, -j its inverse. The word
  * stands in out from the place `start` on. A word is found exactly when there is such a product, of whatever length; 10 says that there is
- * none. Refused: 1 to 7, then 8, then 9, A before B under each, then 11 for work, then 10, then 11 for out, with the word's true length.
+ * none. It is the only reduced word that takes A to B, up to sign, and no word that does so is shorter: a word is reduced when no generator
+ * stands beside its own inverse, an even generator never follows itself and is never inverted, and no odd letter follows an equal one.
+ * Refused: 1 to 7, then 8, then 9, A before B under each, then 11 for work, then 10, then 11 for out, with the word's true length.
  * Count: how many letters. */
 uint64_t farey_query(size_t v, const int64_t *t, size_t t_len, const int64_t *a, const int64_t *b, uint16_t *work, size_t work_len,
                      int16_t *out, size_t out_len, size_t start, size_t *place);

@@ -55,6 +55,18 @@ def value(word, generators):
     return product(*(generators[j - 1] if j > 0 else inverse(generators[-j - 1]) for j in word))
 
 
+def is_reduced(word, kinds):
+    """Whether a word meets the four clauses of request 2026-12; kinds are those of the generators, from 1 on."""
+    even, odd = ({j for j, each in enumerate(kinds, 1) if each == kind} for kind in ("even", "odd"))
+    neighbours = list(zip(word, word[1:]))
+    return not (
+        any(y == -x for x, y in neighbours)
+        or any(x == y and abs(x) in even for x, y in neighbours)
+        or any(x < 0 and -x in even for x in word)
+        or any(x == y and abs(x) in odd for x, y in neighbours)
+    )
+
+
 def generators_of(vertices, pairings):
     """Kinds and matrices by docs/CONVENTIONS.md, 3.1 to 3.4."""
     ends = [(-1, 0)] + [tuple(vertex) for vertex in vertices] + [(1, 0)]

@@ -62,7 +62,7 @@ module _ (v : ℕ) (t : List ℤ) (g : Polygon v t) where
   κ-is : (x : ℕ) → σ (ρ (ρ (σ x))) ≡ κ x
   κ-is x = cc (ρ-is (σ x), ρ-is (ρ (σ x)), g .involution x, g .involution (κ (κ x)), g .involution (κ (κ (κ (κ x)))), g .order-three x)
 
-  ρ-three : (x : ℕ) → ρ (ρ (ρ x)) ≡ x
+  pub ρ-three : (x : ℕ) → ρ (ρ (ρ x)) ≡ x
   ρ-three x = cc (
     ρ-is x,
     ρ-is (ρ x),

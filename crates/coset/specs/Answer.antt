@@ -10,6 +10,7 @@
 --   Meaning v t             the symbol is one; its polygon is cut into Farey triangles, and the steps over these keep their promise; its tables are
 --                           those of the right cosets of H; its cusps are the cycles of T, and its widths, genus and level what docs/CONVENTIONS.md says;
 --                           its e3 is the number of its odd sides
+--                           its genus is a number, never refusal 18
 --   TablesMean, FiguresMean an answer that is no refusal means this
 use mathlib.Core.Path.{_≡_}
 use mathlib.Core.List.{List, _++_}
@@ -34,6 +35,7 @@ use Rattle.polygon.specs.Theorem.{Polygon}
 use Rattle.figures.specs.Cusps.{widths, Cusps}
 use Rattle.figures.specs.FiguresOf.{figuresIn}
 use Rattle.figures.specs.declared.FigureRecord.{FigureRecord}
+use Rattle.genus.specs.Genus.{HasGenus}
 use Rattle.coset.specs.Tables.{indexOf, tableS, tableR, tableT}
 use Rattle.coset.specs.Theorem.{Cosets}
 use Rattle.coset.specs.TableFigures.{TableFigures}
@@ -90,6 +92,7 @@ pub record Meaning (v : ℕ) (t : List ℤ) : Type 0 where
   pub cusps : Cusps (tableT v t)
   pub figures : TableFigures (tableS v t) (tableR v t) (tableT v t) (figuresOf v t)
   pub odd-sides : figuresOf v t .e3 ≡ count (oddAt v t) (v + 1)
+  pub genus : HasGenus (figuresOf v t .genus)
 
 abbrev pub TablesMean : ℕ → List ℤ → Filled → Type 0
 TablesMean v t r = (n : ℕ) → r ≡ filled.Made n → Meaning v t

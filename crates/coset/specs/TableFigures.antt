@@ -4,7 +4,8 @@
 --     counts     as many points as its index, of which S fixes e2 and R fixes e3; as many cusps as it says
 --     widths     there is one width for each cusp, and the width at place j is the length of the cycle of the cusp at place j: so many steps of
 --                T lead from that point back to it, and no fewer
---     genus      it is the g with 12 g = 12 + index - 3 e2 - 4 e3 - 6 cusps; it is refused with 18 where there is none
+--     genus      it is the g with 12 g = 12 + index - 3 e2 - 4 e3 - 6 cusps; it is refused with 18 where there is none, which is so
+--                for no symbol (`Meaning`, in Answer.antt)
 --     level      it is the least common multiple of the widths (each width divides it, and it divides whatever they all divide); it is refused
 --                with 17 where that is 2^64 or more
 use mathlib.Core.Path.{_≡_}

@@ -178,7 +178,7 @@ fn make_figures(v: usize, t: &[i64], w: &mut [u16]) -> Figured
     Figured::Made(f)
 }
 
-// The figures of the symbol in t: checks 1 to 7, then the work space; 17 and 18 are each for its own figure.
+// The figures of the symbol in t: checks 1 to 7, then the work space. 17 is for the level alone; 18, for the genus alone, is never answered.
 pub fn figures(v: usize, t: &[i64], w: &mut [u16]) -> Figured
     ensures { λ a. ⌜ a ≡ figuredOf v (now (t .entry)) (length (now (w .entry))) ⌝ }
     ensures { λ a. ⌜ now (w .exit) ≡ workAfter (symbolCheck v (now (t .entry))) (now (w .entry)) ⌝ }

@@ -32,17 +32,22 @@ recorded p q e = coset-record (record { S = p; R = q; T = then-permutes p q e })
 symbol-recorded : {v : ℕ} {t : List ℤ} → IsSymbol v t → SymbolRecorded v t
 symbol-recorded ok = cusp-meaning ok .rule
 
-passport-recorded : (s r : List ℕ) → Passport s r → Recorded s r
-passport-recorded s r g = recorded
-    (record {
-      low = λ j h. rw (← image-in s j 0 h) (g .points-S j h);
-      one = λ j k h i e. g .one-S j k h i (image-in s j 0 h ∙ e ∙ sym (image-in s k 0 i));
-    })
-    (record {
-      low = λ j h. rw (← image-in r j 0 h) (g .points-R j h);
-      one = λ j k h i e. g .one-R j k h i (image-in r j 0 h ∙ e ∙ sym (image-in r k 0 i));
-    })
-    (g .even)
+-- the tables of a passport are permutations
+module _ (s r : List ℕ) (g : Passport s r) where
+  pub passport-S : Permutes s
+  passport-S = record {
+    low = λ j h. rw (← image-in s j 0 h) (g .points-S j h);
+    one = λ j k h i e. g .one-S j k h i (image-in s j 0 h ∙ e ∙ sym (image-in s k 0 i));
+  }
+
+  pub passport-R : Permutes r
+  passport-R = record {
+    low = λ j h. rw (← image-in r j 0 h) (g .points-R j h);
+    one = λ j k h i e. g .one-R j k h i (image-in r j 0 h ∙ e ∙ sym (image-in r k 0 i));
+  }
+
+  passport-recorded : Recorded s r
+  passport-recorded = recorded passport-S passport-R (g .even)
 
 -- the symbol's tables are the given ones renumbered
 imported : {s r : List ℕ} {v : ℕ} {t : List ℤ} → Symbolised s r v t → Imported s r v t

@@ -1,2 +1,3 @@
--- Why every builder keeps the standing rule.
+-- Why every builder keeps the standing rule, and why every genus is a number.
 pub mod Builders
+pub mod Genus

@@ -1,2 +1,3 @@
--- What a reader of the crate `coset_builders` must believe: the standing rule, for each builder of coset tables.
+-- What a reader of the crate `coset_builders` must believe, for each builder of coset tables: the standing rule, and that the genus is a number.
 pub mod Builders
+pub mod Genus

@@ -1,2 +1,2 @@
-// Every builder of coset tables keeps the standing rule of the coset record: specs/Builders.antt says it for symbols, for imports by both rules and for
-// the named families, and proofs/Builders.antt proves it. There is no code here.
+// Every builder of coset tables keeps the standing rule of the coset record, and the genus of its tables is a number: specs/Builders.antt and
+// specs/Genus.antt say it for symbols, for imports by both rules and for the named families, and proofs/ has the proofs. There is no code here.

@@ -1,5 +1,5 @@
--- WHAT THE NUMBER OF A QUERY TELLS (`query-says`; on a group with a name, `named-says`): 10 that there is no such product, 0 that the word is one; and
--- with it the sign (`sign-says`, `named-sign-says`).
+-- WHAT THE NUMBER OF A QUERY TELLS (`query-says`; on a group with a name, `named-says`): 10 that there is no such product, 0 that the word is one and
+-- the normal form, 11 the length of that; and with it the sign (`sign-says`, `named-sign-says`).
 -- Assumes nothing.
 use mathlib.Core.Path.{_≡_, refl, sym, ap, subst, _∙_}
 use mathlib.Core.Logic.{_⊎_, inl, inr}
@@ -7,6 +7,7 @@ use mathlib.Core.Bool.{Bool, true, false}
 use mathlib.Core.List.{List, [], _∷_}
 use Prim.Native.Nat.{ℕ}
 use native.Mathlib.Omega.{arith}
+use native.Mathlib.Decide.{ℕ-discrete}
 use lib.ListN.{length}
 use lib.IntN.{ℤ, pos, negsuc, negℤ, _*ℤ_}
 use Rattle.matrix.specs.Matrix.{Mat, mat, ofList, neg, _⊗_, _≈_}
@@ -15,11 +16,14 @@ use Rattle.matrix.proofs.Ring.{con, var, _⊙_, ⊖_, ring}
 use Rattle.signs.specs.Sign.{withSign}
 use Rattle.pairing.specs.Generator.{generators}
 use Rattle.pairing.specs.Subgroup.{IsWord, valueOf}
-use Rattle.refusal.specs.Refusal.{noRefusal, noWord}
+use Rattle.coset.specs.Tables.{tableS, tableR}
+use Rattle.coset.specs.Theorem.{leads}
+use Rattle.refusal.specs.Refusal.{noRefusal, noWord, tooShort}
+use Rattle.refusal.specs.declared.Refusal.{Refusal}
 use Rattle.import_rule.specs.Order.{Order}
 use Rattle.named_groups.specs.Claim.{NamedClaim, NamedQuerySays, NamedSignSays}
 use Rattle.word.specs.Answer.{queryRefusal, foundSign, signNumber, partOf}
-use Rattle.word.specs.Claim.{Asked, Answered, Joined, Claim, QuerySays, scaled, SignSays}
+use Rattle.word.specs.Claim.{Asked, NormalWord, Answered, Joined, Claim, QuerySays, scaled, SignSays}
 use Rattle.word.specs.declared.Queried.{Queried}
 use Rattle.word.specs.declared.Queried.the-variants as queried
 use Rattle.word.proofs.Claim.{same-number}
@@ -67,6 +71,23 @@ module _ {v : ℕ} {t : List ℤ} {A B : Mat} {word : List ℤ} {sign : Bool} {o
   pub zero-product : {place : ℕ} → place ≡ queryPlace r → queryRefusal r .number ≡ 0 → valueOf (generators v t) (partOf out' start place) ⊗ A ≈ B
   zero-product p z = subst (λ (x : List ℤ). valueOf (generators v t) x ⊗ A ≈ B) (stands-at p z) (s .product (inl (zero z)))
 
+  pub zero-normal : {place : ℕ} → place ≡ queryPlace r → queryRefusal r .number ≡ 0 → NormalWord v t A B (partOf out' start place)
+  zero-normal p z = subst (NormalWord v t A B) (stands-at p z) (s .normal (inl (zero z)))
+
+  -- a number 11 is that of a word which doesn't fit
+  pub eleven : queryRefusal r .number ≡ tooShort 0 .number → queryRefusal r ≡ tooShort (length word)
+  eleven z = elim (ℕ-discrete (leads (tableS v t) (tableR v t) A) (leads (tableS v t) (tableR v t) B)) [
+    | yes e ↦ elim (s .points .1 e) [ inl y ↦ absurd (omega (arith, same-number y, z)) | inr y ↦ y ]
+    | no e ↦ absurd (omega (arith, same-number (s .none .1 (λ j. e (s .points .0 (s .found .1 j)))), z))
+  ]
+
+  pub eleven-normal : {place : ℕ} → place ≡ queryPlace r → queryRefusal r .number ≡ tooShort 0 .number → (length word ≡ place) × NormalWord v t A B word
+  eleven-normal p z = (sym (p ∙ short-place r (eleven z)), s .normal (inr (eleven z)))
+    where
+      short-place : (x : Queried) → queryRefusal x ≡ tooShort (length word) → queryPlace x ≡ length word
+      short-place (queried.Word i k q) e = absurd (omega (arith, same-number e))
+      short-place (queried.Refused f) e = ap (λ (h : Refusal). h .place) e
+
   -- with the sign that is written
   pub zero-sign : {x : ℤ} (y : ℤ) → x ≡ signWritten r y → queryRefusal r .number ≡ 0 → x ≡ signNumber sign
   zero-sign y e z = e ∙ ap (λ (q : Queried). signWritten q y) (s .names (zero z))
@@ -88,6 +109,8 @@ module _ {v : ℕ} {t a b : List ℤ} {w : List ℕ} {out : List ℤ} {start : �
     asked = λ z. c .asked (inl (sym e ∙ z));
     letters = λ z. zero-letters (c .answered (c .asked (inl (sym e ∙ z)))) p (sym e ∙ z);
     product = λ z. zero-product (c .answered (c .asked (inl (sym e ∙ z)))) p (sym e ∙ z);
+    normal = λ z. zero-normal (c .answered (c .asked (inl (sym e ∙ z)))) p (sym e ∙ z);
+    short = λ z q. eleven-normal (c .answered q) p (sym e ∙ z);
   }
 
   pub sign-says : (n place : ℕ) (x y : ℤ) → n ≡ queryRefusal r .number → place ≡ queryPlace r → x ≡ signWritten r y → SignSays v t a b start n place x out'
@@ -113,6 +136,8 @@ module _ {order : Order} {k n : ℕ} {a b : List ℤ} {w : List ℕ} {out : List
         y .found .0 (inl (zero (y .claim) (sym e ∙ z)));
     letters = λ z v t g. zero-letters (c .answered (c .asked (inl (sym e ∙ z)) .0) v t g .claim) p (sym e ∙ z);
     product = λ z v t g. zero-product (c .answered (c .asked (inl (sym e ∙ z)) .0) v t g .claim) p (sym e ∙ z);
+    normal = λ z v t g. zero-normal (c .answered (c .asked (inl (sym e ∙ z)) .0) v t g .claim) p (sym e ∙ z);
+    short = λ z q v t g. eleven-normal (c .answered q v t g .claim) p (sym e ∙ z);
   }
 
   pub named-sign-says : (number place : ℕ) (x y : ℤ) → number ≡ queryRefusal r .number → place ≡ queryPlace r → x ≡ signWritten r y

@@ -1,5 +1,5 @@
 -- WHAT A NUMBER 0 TELLS: the call was not refused, so what its answer means holds. In order: no answer is refused with the number 0
--- (`generated-above`, `tabled-above`, `widthed-above`, `cusped-above`, `import-above`, `import-length-above`, `figured-above`); what a call that made something means
+-- (`generated-above`, `tabled-above`, `widthed-above`, `cusped-above`, `import-above`, `import-length-above`, `figured-above`); the number that stands for the genus is 0 (`genus-given`); what a call that made something means
 -- (`zero-means`).
 -- Assumes nothing.
 use mathlib.Core.Path.{_≡_, refl, sym, ap, subst, _∙_}
@@ -28,9 +28,10 @@ use Rattle.sameness.specs.Same.{samenessBy, samenessFor, samenessOf, samenessRe
 use Rattle.sameness.specs.declared.Sameness.{Sameness}
 use Rattle.sameness.specs.declared.Sameness.the-variants as sameness
 use Rattle.coset.specs.Tables.{indexOf}
+use Rattle.figures.specs.declared.FigureRecord.{FigureRecord}
 use Rattle.coset.specs.declared.Figured.{Figured}
 use Rattle.coset.specs.declared.Figured.the-variants as figured
-use Rattle.coset.specs.Answer.{roomFor, tabledOf, roomOne, widthsOf, widthedOf, figuresOf, figuredBy, figuredOf}
+use Rattle.coset.specs.Answer.{roomFor, tabledOf, roomOne, widthsOf, widthedOf, figuresOf, figuredBy, figuredOf, Meaning}
 use Rattle.cusp_record.specs.Answer.{roomForBoth, cuspedOf}
 use Rattle.import_rule.specs.Order.{Order}
 use Rattle.import_rule.specs.Symbol as rule
@@ -42,7 +43,7 @@ use Rattle.congruence.specs.Cosets.{familyS, familyR}
 use Rattle.named_groups.specs.Group.{familyOf, groupCheck}
 use Rattle.named_groups.specs.Answer.{roomTwo, namedTablesOf, namedSymbolBy}
 use Rattle.named_groups.proofs.Checked.{group-numbers}
-use Rattle.engine.specs.Exported.{filledPlace, samenessPlace}
+use Rattle.engine.specs.Exported.{filledPlace, samenessPlace, figureNumber}
 
 -- ---- numbers above 0
 
@@ -98,6 +99,18 @@ module _ (v : ℕ) (t : List ℤ) (work : ℕ) where
       go : (c : Checked) → Among 1 7 c → AboveFigured (figuredBy c work (figured.Made (figuresOf v t)))
       go (Refused f) h = omega (arith, h .0)
       go Accepted h = by-length (ltb work workLength)
+
+  -- the figures of an answer are the symbol's, and the genus among them is a number
+  pub genus-given : (f : FigureRecord) → figured.Made f ≡ figuredOf v t work → Meaning v t → figureNumber (f .genus) ≡ 0
+  genus-given f e m = ap (λ (x : FigureRecord). figureNumber (x .genus)) (go (symbolCheck v t) e) ∙ ap figureNumber (m .genus .is)
+    where
+      by-length : (b : Bool) → figured.Made f ≡ pick b (figured.Refused (tooShort workLength)) (figured.Made (figuresOf v t)) → f ≡ figuresOf v t
+      by-length true q = let z : _≡_ {A = ℕ} 0 1 = cc in absurd (omega arith)
+      by-length false q = cc
+
+      go : (c : Checked) → figured.Made f ≡ figuredBy c work (figured.Made (figuresOf v t)) → f ≡ figuresOf v t
+      go (Refused r) q = let z : _≡_ {A = ℕ} 0 1 = cc in absurd (omega arith)
+      go Accepted q = by-length (ltb work workLength) q
 
 grown-above : (g : rule.Ruled) → AboveIn (grownOf g)
 grown-above (rule.made v t) = tt

@@ -11,12 +11,16 @@
 --   figureNumbers                   the eight numbers: index, e2, e3, cusps, then number and value of the genus, then of the level
 --   figuresLeft                     these; or all as it was
 --   previewPlace                    place, or how many cusps there would be
+--   GenusGiven out                  the number that stands for the genus among the eight is 0, so that the genus itself stands behind it: 18 is never
+--                                   written
 --   drawingPlace v                  place, or the number of sides
 --   boxLeft                         the four floats of the box: left, right, bottom, top; or all as it was
+use mathlib.Core.Path.{_≡_}
 use mathlib.Core.List.{List, [], _∷_}
 use Prim.Native.Nat.{ℕ, _+_}
 use lib.Ieee.{Float}
 use lib.IntN.{ℤ}
+use lib.ListN.{getD}
 use Rattle.refusal.specs.declared.Filled.{Filled}
 use Rattle.refusal.specs.declared.Filled.the-variants as filled
 use Rattle.sameness.specs.declared.Sameness.{Sameness}
@@ -72,6 +76,9 @@ figuresLeft (figured.Refused f) out = out
 abbrev pub previewPlace : Figured → ℕ
 previewPlace (figured.Made f) = f .cusps
 previewPlace (figured.Refused f) = f .place
+
+abbrev pub GenusGiven : List ℕ → Type 0
+GenusGiven out = getD out 4 18 ≡ 0
 
 -- ---- drawings
 

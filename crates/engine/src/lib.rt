@@ -37,7 +37,7 @@ ghost use Rattle.import_table.specs.Answer.{ruledLeft};
 ghost use Rattle.named_groups.specs.Group.{familyOf, groupCheck};
 ghost use Rattle.named_groups.specs.Answer.{namedTablesOf, NamedTables, namedRule, namedSymbolBy, NamedSymbol, ruledWord, namedQueryBy, namedQueryWork};
 ghost use Rattle.named_groups.specs.Claim.{NamedClaim, NamedQuerySays, NamedSignSays};
-ghost use Rattle.engine.specs.Exported.{filledPlace, queryPlace, signWritten, samenessPlace, figuresLeft, drawingPlace, boxLeft};
+ghost use Rattle.engine.specs.Exported.{filledPlace, queryPlace, signWritten, samenessPlace, figuresLeft, GenusGiven, drawingPlace, boxLeft};
 
 mod answers;
 pub mod cosets;
@@ -141,7 +141,8 @@ pub extern "C" fn farey_cusps(
     said.number
 }
 
-// The figures: index, e2, e3, cusps, then number and value of the genus, then of the level.
+// The figures: index, e2, e3, cusps, then number and value of the genus, then of the level. The number of the genus is always 0: the genus of a symbol
+// is never refused.
 #[no_mangle]
 pub extern "C" fn farey_figures(
     v: usize,
@@ -155,6 +156,7 @@ pub extern "C" fn farey_figures(
     ensures { λ n. ⌜ now (w .exit) ≡ workAfter (symbolCheck v (now (t .entry))) (now (w .entry)) ⌝ }
     ensures { λ n. ⌜ now (out .exit) ≡ figuresLeft (figuredOf v (now (t .entry)) (length (now (w .entry)))) (now (out .entry)) ⌝ }
     ensures { λ n. ⌜ (n ≡ 0 → Meaning v (now (t .entry))) ⌝ }
+    ensures { λ n. ⌜ (n ≡ 0 → GenusGiven (now (out .exit))) ⌝ }
 {
     let answer = coset::figures(v, t, w);
     match answer {

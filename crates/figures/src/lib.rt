@@ -95,7 +95,8 @@ pub enum Figure {
     Refused(Refusal),
 }
 
-// The genus formula; 18 where it gives no whole number from 0.
+// The genus formula; 18 where it gives no whole number from 0, which tables of S and R never bring about (the crate `genus`): the case stands for any
+// four counts, of which this function asks nothing else.
 fn genus_of(index: usize, e2: usize, e3: usize, cusps: usize) -> Figure
     requires { ⌜ (index < 4294967296) × (e2 < 4294967296) × (e3 < 4294967296) × (cusps < 4294967296) ⌝ }
     ensures { λ r. ⌜ r ≡ genusOf index e2 e3 cusps ⌝ }

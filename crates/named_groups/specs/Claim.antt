@@ -8,7 +8,8 @@
 --   NamedClaim               a word, or 'none', is answered only where the query gets past those checks and the rule gives a symbol, and 11 only there or
 --                            for the work space; and there this is what it answers. Where the rule gives none, the answer is 16
 --   NamedQuerySays           by what the exported call returns, its number and the place or the word's length: 10 means that the query got past its checks and
---                            B A⁻¹ doesn't meet the condition; 0 that it does, and that the letters from the start place on are a product that takes A to B
+--                            B A⁻¹ doesn't meet the condition; 0 that it does, and that the letters from the start place on are a product that takes A to B,
+--                            its normal form; and 11, where the query gets past its checks and the rule gives a symbol, tells the length of that form
 --   NamedSignSays            what the exported call with a sign says of it where it returns 0: it is 1 or -1, and those letters times A are that times B
 use mathlib.Core.Path.{_≡_}
 use mathlib.Core.Logic.{_⊎_, _↔_}
@@ -28,7 +29,7 @@ use Rattle.congruence.specs.declared.Family.{Family}
 use Rattle.import_rule.specs.Order.{Order}
 use Rattle.import_rule.specs.Symbol.{made, over}
 use Rattle.word.specs.Answer.{foundWord, foundSign, partOf, queryRefusal}
-use Rattle.word.specs.Claim.{Found, Answered, ShortWork, SignSays}
+use Rattle.word.specs.Claim.{Found, NormalWord, Answered, ShortWork, SignSays}
 use Rattle.word.specs.declared.Queried.{Queried}
 use Rattle.named_groups.specs.Group.{familyOf, NamedGroup}
 use Rattle.named_groups.specs.Answer.{namedRule, NamedSymbol}
@@ -66,6 +67,9 @@ pub record NamedQuerySays (order : Order) (k n : ℕ) (a b : List ℤ) (w : List
   pub some : number ≡ 0 → Meets (familyOf k) n (ofList b ⊗ adj (ofList a))
   pub letters : number ≡ 0 → (v : ℕ) (t : List ℤ) → namedRule order k n ≡ made v t → IsWord (length (generators v t)) (partOf out' start place)
   pub product : number ≡ 0 → (v : ℕ) (t : List ℤ) → namedRule order k n ≡ made v t → valueOf (generators v t) (partOf out' start place) ⊗ ofList a ≈ ofList b
+  pub normal : number ≡ 0 → (v : ℕ) (t : List ℤ) → namedRule order k n ≡ made v t → NormalWord v t (ofList a) (ofList b) (partOf out' start place)
+  pub short : number ≡ tooShort 0 .number → NamedAsked k n a b w → (v : ℕ) (t : List ℤ) → namedRule order k n ≡ made v t
+      → (length (foundWord v t (ofList a) (ofList b)) ≡ place) × NormalWord v t (ofList a) (ofList b) (foundWord v t (ofList a) (ofList b))
 
 abbrev pub NamedSignSays : (order : Order) (k n : ℕ) (a b : List ℤ) (start number place : ℕ) (sign : ℤ) (out' : List ℤ) → Type 0
 NamedSignSays order k n a b start number place sign out' =

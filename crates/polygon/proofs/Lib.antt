@@ -12,6 +12,7 @@ pub mod Steps
 pub mod Promise
 pub mod Near
 pub mod Start
+pub mod Followed
 pub mod Polygon
 pub mod Tests
 pub mod Letters

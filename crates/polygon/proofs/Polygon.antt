@@ -25,11 +25,11 @@ use Rattle.polygon.specs.Step.{oddAt, real, Real, stepS, turnQ, written,
 use Rattle.polygon.specs.Walk.{arrives, followed}
 use Rattle.polygon.specs.Theorem.{Walks, Polygon}
 use Rattle.basics.proofs.Count.{count-eq}
-use Rattle.polygon.proofs.Framed.{Framed, wrote-word, wrote-short, run-real, walk, home, found, stabiliser, cosets}
+use Rattle.polygon.proofs.Framed.{Near, Framed, wrote-word, wrote-short, run-real, walk, home, found, stabiliser, cosets}
 use Rattle.polygon.proofs.Flip.{Cutting, cutting, order-three, real-corner, real-face, real-in}
 use Rattle.polygon.proofs.Steps.{involution, closed}
 use Rattle.polygon.proofs.Promise.{units, promise, letters, short, made}
-use Rattle.polygon.proofs.Near.{root}
+use Rattle.polygon.proofs.Near.{joined, by-frames}
 use Rattle.polygon.proofs.Start.{upright, round, begin, start-real, start-frame, origin-real}
 
 -- ---- the index
@@ -74,9 +74,9 @@ module _ (v : ℕ) (t : List ℤ) (ok : IsSymbol v t) where
     short = short v t ok C;
     promise = promise v t ok C;
     made = made v t ok C;
-    root = root v t ok C .at;
-    root-real = root v t ok C .counts;
-    near = root v t ok C .near;
+    root = startOf v t;
+    root-real = start-real v t ok C;
+    near = λ p. joined v t ok C (Near (stepS v t) (turnQ v) (C .frame)) (by-frames v t ok C) (startOf v t) p (start-real v t ok C);
   }
 
   abbrev start : ℕ

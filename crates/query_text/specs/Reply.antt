@@ -15,7 +15,8 @@
 --   replyOf longer text             the bytes for a text, or for one with more than the 65,536 bytes that fit into the buffer
 --   ReplyLeaves ..                  what the call leaves in every lent space but that of the bytes
 --   Replied ns bytes ..             what the bytes mean where the numbers of the text are ns: they are the line of the query's answer, and of that
---                                   answer the claim holds, so that `refused 10 0` means that there is no such product, and the letters are one, with that sign
+--                                   answer the claim holds, so that `refused 10 0` means that there is no such product, and the letters are one, the
+--                                   only reduced one and the shortest, with that sign
 --   ReplyMeans ..                   that holds for every text whose numbers are a symbol's and a pair's
 use mathlib.Core.Path.{_≡_}
 use mathlib.Core.Bool.{Bool, true, false}

@@ -1,8 +1,8 @@
--- THE CLAIM (specs/Claim.antt), from what the crates `polygon` and `signs` promise of an accepted symbol: its steps, frames
--- and start, and the signs.
+-- THE CLAIM (specs/Claim.antt), from what the crates `polygon`, `signs` and `normal_forms` promise of an accepted symbol: its steps, frames
+-- and start, the signs, and the only reduced word.
 --
--- In order: the walk comes home exactly where a word exists (`joined-home`, `home-product`, with its sign `home-exact`), and where A and B lead to the same point
--- (`joined-same`, `same-joined`); the word's letters, its length (`letters-of`, `bound-of`, `sixteen-of`); the word in its place (`part-placed`);
+-- In order: the walk comes home exactly where a word exists (`joined-home`, `home-product`, the normal form `home-normal`, with its sign `home-exact`),
+-- and where A and B lead to the same point (`joined-same`, `same-joined`); the word's letters, its length (`letters-of`, `bound-of`, `sixteen-of`); the word in its place (`part-placed`);
 -- the three answers (`absent`, `fitting`, `too-short`); the claim (`answered`).
 --
 -- Why: a product W of generators has W A ≈ B exactly where W ≈ B A⁻¹, so such a product exists exactly where B A⁻¹ is in H, and H is the
@@ -33,13 +33,14 @@ use Rattle.polygon.specs.Theorem.{Polygon}
 use Rattle.polygon.proofs.SymbolFacts.{length-generators, count-most}
 use Rattle.signs.specs.Sign.{withSign}
 use Rattle.signs.proofs.Query.{signs}
+use Rattle.normal_forms.proofs.Forms.{normal-forms}
 use Rattle.coset.specs.Tables.{tableS, tableR}
 use Rattle.coset.specs.Theorem.{leads}
 use Rattle.coset.proofs.Answer.{meaning}
 use Rattle.refusal.specs.Refusal.{noWord, tooShort}
 use Rattle.refusal.specs.declared.Refusal.{Refusal}
 use Rattle.word.specs.Answer.{placed, closes, foundWord, foundSign, wordFits, wordOrShort, foundOf, wordLeft, partOf}
-use Rattle.word.specs.Claim.{Joined, Fits, Answered}
+use Rattle.word.specs.Claim.{Joined, Fits, NormalWord, Answered}
 use Rattle.word.specs.declared.Queried.{Queried}
 use Rattle.word.specs.declared.Queried.the-variants as queried
 use Rattle.word.proofs.Turned.{followed-length}
@@ -89,16 +90,30 @@ module _ {v : ℕ} {t : List ℤ} (ok : IsSymbol v t) (A B : Mat) (d : det A ≡
 
   -- ---- the walk comes home exactly where a word exists
 
+  -- a word that takes A to B has the value B A⁻¹
+  joined-value : (j : Joined v t A B) → X ≈ valueOf (generators v t) (j .word)
+  joined-value j =
+      let W = valueOf (generators v t) (j .word) in
+      ≈-sym (≈-right (adj A) (j .is)) ∙≈ inl (⊗-assoc W A (adj A) ∙ ap (λ (m : Mat). W ⊗ m) (⊗-adj A d) ∙ ⊗-idr W)
+
   joined-home : Joined v t A B → closes v t A B ≡ true
   unfolding closes
-  joined-home j =
-      let W = valueOf (generators v t) (j .word) in
-      let is : X ≈ W = ≈-sym (≈-right (adj A) (j .is)) ∙≈ inl (⊗-assoc W A (adj A) ∙ ap (λ (m : Mat). W ⊗ m) (⊗-adj A d) ∙ ⊗-idr W) in
-      eq-eqb (walkEnds v t X) (startOf v t) (g .stabiliser X X-unit .0 (record { word = j .word; letters = j .letters; is = is }))
+  joined-home j = eq-eqb (walkEnds v t X) (startOf v t) (g .stabiliser X X-unit .0 (record { word = j .word; letters = j .letters; is = joined-value j }))
 
   home-product : closes v t A B ≡ true → valueOf (generators v t) word ⊗ A ≈ B
   unfolding closes foundWord
   home-product h = ≈-right A (≈-sym (g .found X X-unit (eqb-true (walkEnds v t X) (startOf v t) h))) ∙≈ inl X-times
+
+  -- it is the normal form
+  home-normal : closes v t A B ≡ true → NormalWord v t A B word
+  unfolding closes foundWord
+  home-normal h =
+      let f = normal-forms v t ok .walk X X-unit (eqb-true (walkEnds v t X) (startOf v t) h) in
+      record {
+        reduced = f .reduced;
+        only = λ j r. f .only (j .word) (j .letters) r (joined-value j);
+        shortest = λ j. f .shortest (j .word) (j .letters) (joined-value j);
+      }
 
   -- with its sign
   home-exact : closes v t A B ≡ true → valueOf (generators v t) word ⊗ A ≡ withSign sign B
@@ -158,6 +173,7 @@ module _ {v : ℕ} {t : List ℤ} (ok : IsSymbol v t) (A B : Mat) (d : det A ≡
           points = ((λ f. elim f [ inl z ↦ absurd (omega (arith, same-number z)) | inr z ↦ absurd (omega (arith, same-number z)) ]), (λ e. absurd (no (same-joined e))));
           letters = λ f. letters-of;
           product = λ f. elim f [ inl z ↦ absurd (omega (arith, same-number z)) | inr z ↦ absurd (omega (arith, same-number z)) ];
+          normal = λ f. elim f [ inl z ↦ absurd (omega (arith, same-number z)) | inr z ↦ absurd (omega (arith, same-number z)) ];
           exact = λ f. elim f [ inl z ↦ absurd (omega (arith, same-number z)) | inr z ↦ absurd (omega (arith, same-number z)) ];
           none = ((λ z. no), (λ z. refl));
           returned = ((λ z. absurd (omega (arith, same-number z))), (λ z. absurd (no (z .0))));
@@ -178,6 +194,7 @@ module _ {v : ℕ} {t : List ℤ} (ok : IsSymbol v t) (A B : Mat) (d : det A ≡
           points = ((λ z. joined-same j), (λ e. inl refl));
           letters = λ z. letters-of;
           product = λ z. home-product h;
+          normal = λ z. home-normal h;
           exact = λ z. home-exact h;
           none = ((λ z. absurd (omega (arith, same-number z))), (λ n. absurd (n j)));
           returned = ((λ z. (j, f)), (λ z. refl));
@@ -197,6 +214,7 @@ module _ {v : ℕ} {t : List ℤ} (ok : IsSymbol v t) (A B : Mat) (d : det A ≡
           points = ((λ z. joined-same j), (λ e. inr refl));
           letters = λ z. letters-of;
           product = λ z. home-product h;
+          normal = λ z. home-normal h;
           exact = λ z. home-exact h;
           none = ((λ z. absurd (omega (arith, same-number z))), (λ n. absurd (n j)));
           returned = ((λ z. absurd (omega (arith, same-number z))), (λ z. clash (yes-fits (z .1)) k));

@@ -32,7 +32,8 @@ use Rattle.word.specs.Answer.{placed, closes, foundWord, foundSign, word
 use Rattle.word.specs.Claim.{Asked}
 use Rattle.word.specs.Inner.Ready.{lettersAlong, signAlongWalk, endOf, WalkReady, PairReady}
 use Rattle.word.specs.declared.Queried.the-variants as queried
-use Rattle.word.proofs.Turned.{followed-unit, followed-small}
+use Rattle.polygon.proofs.Followed.{followed-unit}
+use Rattle.word.proofs.Turned.{followed-small}
 
 -- ---- the matrix that is followed
 

@@ -1,13 +1,12 @@
--- Following S⁻¹ m S instead of m: it has determinant 1, small entries, and a word with at most two letters more.
+-- Following S⁻¹ m S instead of m: it has small entries, and a word with at most two letters more.
 --
--- In order: a word doesn't get longer where it is made alternating (`length-reduce`); the matrix that is followed (`followed-turned`,
--- `followed-upright`, `followed-unit`, `followed-small`); its word (`followed-length`).
+-- In order: a word doesn't get longer where it is made alternating (`length-reduce`); the matrix that is followed (`followed-small`); its word
+-- (`followed-length`).
 --
 -- Why: the word of m between two letters S has that matrix, and it becomes alternating by crossing out.
 -- Assumes nothing.
-use mathlib.Core.Path.{_≡_, refl, sym, _∙_, ap, subst}
+use mathlib.Core.Path.{_≡_, refl, ap}
 use mathlib.Core.Logic.{inl, inr}
-use mathlib.Core.Bool.{true, false}
 use mathlib.Core.List.{List, [], _∷_, _++_}
 use Prim.Native.Nat.{ℕ, suc, _+_, _*_, _^_, _≤_}
 use native.Mathlib.Omega.{arith}
@@ -18,14 +17,13 @@ use Rattle.matrix.specs.Matrix.{Mat, _⊗_, neg, adj, det, matS, _≈_}
 use Rattle.matrix.specs.Words.{Letter, S, Q, P, value}
 use Rattle.matrix.specs.Euclid.{wordOf}
 use Rattle.matrix.specs.Bounds.{Small}
-use Rattle.matrix.proofs.Matrix.{⊗-idr, det-adj, det-letter, det-one, ≈-sym, _∙≈_, ≈-both}
+use Rattle.matrix.proofs.Matrix.{⊗-idr, ≈-sym, _∙≈_, ≈-both}
 use Rattle.matrix.proofs.Bounds.{small-more, small-adj, small-⊗}
 use Rattle.matrix.proofs.Action.{pre, reduce, reduce-alternating, reduce-value, value-++}
 use Rattle.matrix.proofs.Uniqueness.{uniqueness}
 use Rattle.matrix.proofs.Existence.{existence}
-use Rattle.basics.proofs.Choice.{either, pick-true, pick-false}
-use Rattle.polygon.specs.Step.{turned}
 use Rattle.polygon.specs.Walk.{followed}
+use Rattle.polygon.proofs.Followed.{followed-by, around-unit}
 
 -- ---- crossing out
 
@@ -48,26 +46,6 @@ length-reduce [] = omega arith
 length-reduce (x ∷ l) = omega (arith, length-pre x (reduce l), length-reduce l)
 
 -- ---- the matrix that is followed
-
-module _ (v : ℕ) (t : List ℤ) (m : Mat) where
-  pub followed-turned : turned v t ≡ true → adj matS ⊗ (m ⊗ matS) ≡ followed v t m
-  unfolding followed
-  followed-turned e = sym (pick-true (turned v t) (adj matS ⊗ (m ⊗ matS)) m e)
-
-  pub followed-upright : turned v t ≡ false → m ≡ followed v t m
-  unfolding followed
-  followed-upright e = sym (pick-false (turned v t) (adj matS ⊗ (m ⊗ matS)) m e)
-
--- what holds of m and of S⁻¹ m S holds of the matrix that is followed
-module _ (v : ℕ) (t : List ℤ) (m : Mat) (F : Mat → Type 0) where
-  pub followed-by : F (adj matS ⊗ (m ⊗ matS)) → F m → F (followed v t m)
-  followed-by f g = elim (either (turned v t)) [ inl e ↦ subst F (followed-turned v t m e) f | inr e ↦ subst F (followed-upright v t m e) g ]
-
-around-unit : (m : Mat) → det m ≡ pos 1 → det (adj matS ⊗ (m ⊗ matS)) ≡ pos 1
-around-unit m d = det-one (adj matS) (m ⊗ matS) (det-adj matS ∙ det-letter S) (det-one m matS d (det-letter S))
-
-pub followed-unit : (v : ℕ) (t : List ℤ) (m : Mat) → det m ≡ pos 1 → det (followed v t m) ≡ pos 1
-followed-unit v t m d = followed-by v t m (λ (n : Mat). det n ≡ pos 1) (around-unit m d) d
 
 pub S-small : Small 1 matS
 unfolding matS

@@ -8,10 +8,13 @@
 --   Joined v t m n          some product of the symbol's generators and their inverses, of whatever length, times m is n up to sign
 --   Fits start n room       the start place isn't past the end, and at least n letters lie from there to the end
 --   Found word r            a word is found: it is returned, or refused with 11 and its true length, by the word space
+--   NormalWord v t m n w    w is the normal form of what takes m to n up to sign (request 2026-12): it is reduced, it is the only reduced word in the
+--                           generators and their inverses that does so, and no word that does so is shorter
 --   Answered                the claim, in these parts:
 --     found                 a word is found exactly when some product of generators and inverses times A is B up to sign
 --     points                and exactly when A and B lead from point 0 to the same point of the coset tables of S and R: the same right coset
 --     letters, product      the word found is such a product, with the letter j for generator j and -j for its inverse
+--     normal                IT IS THE ONLY REDUCED WORD for B A⁻¹ up to sign, and no word for it is shorter; so the length told with 11 is the shortest
 --     exact                 WITH ITS SIGN: the word times A is the sign times B, where plus stands for 1 and minus for -1; an equation of matrices
 --     none                  otherwise the answer is 10, place 0, and only then: 'none' means that there is no such product
 --     returned, short       the word found is returned exactly when it fits, and otherwise refused with 11 and its true length
@@ -23,7 +26,8 @@
 --   Claim                   a word, or 'none', is answered only where the query gets to its walk, and 11 only there or for the work space; and
 --                           where it gets there, this is what it answers
 --   QuerySays               the same by what the exported call returns, its number n and the place or the word's length: 10 means that the query
---                           got to its walk and there is no such product; 0 that the letters from the start place on are such a product
+--                           got to its walk and there is no such product; 0 that the letters from the start place on are such a product, its
+--                           normal form; and 11, where the query gets to its walk, tells the length of that form
 --   scaled z m              the matrix m with every entry multiplied by z
 --   SignSays                what the exported call with a sign says of it where it returns 0: it is 1 or -1, and those letters times A are that times B
 use mathlib.Core.Path.{_≡_}
@@ -43,6 +47,7 @@ use Rattle.pairing.specs.Generator.{generators}
 use Rattle.pairing.specs.Subgroup.{IsWord, valueOf}
 use Rattle.polygon.specs.Theorem.{SameCoset}
 use Rattle.signs.specs.Sign.{withSign}
+use Rattle.normal_forms.specs.Reduced.{Reduced}
 use Rattle.coset.specs.Tables.{tableS, tableR}
 use Rattle.coset.specs.Theorem.{leads}
 use Rattle.word.specs.Answer.{placed, queryRefusal, foundWord, foundSign, partOf}
@@ -67,11 +72,17 @@ pub record Fits (start n room : ℕ) : Type 0 where
 abbrev pub Found : List ℤ → Queried → Type 0
 Found word r = (queryRefusal r ≡ noRefusal) ⊎ (queryRefusal r ≡ tooShort (length word))
 
+pub record NormalWord (v : ℕ) (t : List ℤ) (m n : Mat) (w : List ℤ) : Type 0 where
+  pub reduced : Reduced v t w
+  pub only : (j : Joined v t m n) → Reduced v t (j .word) → j .word ≡ w
+  pub shortest : (j : Joined v t m n) → length w ≤ length (j .word)
+
 pub record Answered (v : ℕ) (t : List ℤ) (A B : Mat) (word : List ℤ) (sign : Bool) (out : List ℤ) (start : ℕ) (r : Queried) (out' : List ℤ) : Type 0 where
   pub found : Found word r ↔ Joined v t A B
   pub points : Found word r ↔ (leads (tableS v t) (tableR v t) A ≡ leads (tableS v t) (tableR v t) B)
   pub letters : Found word r → IsWord (length (generators v t)) word
   pub product : Found word r → valueOf (generators v t) word ⊗ A ≈ B
+  pub normal : Found word r → NormalWord v t A B word
   pub exact : Found word r → valueOf (generators v t) word ⊗ A ≡ withSign sign B
   pub none : (queryRefusal r ≡ noWord) ↔ (Joined v t A B → ⊥)
   pub returned : (queryRefusal r ≡ noRefusal) ↔ (Joined v t A B × Fits start (length word) (length out))
@@ -96,6 +107,9 @@ pub record QuerySays (v : ℕ) (t a b : List ℤ) (w : List ℕ) (start n place 
   pub asked : n ≡ 0 → Asked v t a b w
   pub letters : n ≡ 0 → IsWord (length (generators v t)) (partOf out' start place)
   pub product : n ≡ 0 → valueOf (generators v t) (partOf out' start place) ⊗ ofList a ≈ ofList b
+  pub normal : n ≡ 0 → NormalWord v t (ofList a) (ofList b) (partOf out' start place)
+  pub short : n ≡ tooShort 0 .number → Asked v t a b w
+      → (length (foundWord v t (ofList a) (ofList b)) ≡ place) × NormalWord v t (ofList a) (ofList b) (foundWord v t (ofList a) (ofList b))
 
 abbrev pub scaled : ℤ → Mat → Mat
 scaled z m = mat (z *ℤ m .a) (z *ℤ m .b) (z *ℤ m .c) (z *ℤ m .d)

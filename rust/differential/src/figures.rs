@@ -1,9 +1,8 @@
 //! `figures`: index, e2, e3, cusps, genus and level; refusals 1 to 7, 11 for
 //! the work space.
 //!
-//! 17 makes the level alone unavailable. 18 would make the genus so, but isn't known to
-//! happen: the cosets of a symbol that passes the checks make up a surface, and
-//! a surface's genus is a whole number from 0.
+//! 17 makes the level alone unavailable. 18 would make the genus so, and never comes:
+//! the engine promises a genus for every symbol that passes the checks.
 
 use farey::calls;
 use reference::coset::Cosets;

@@ -27,7 +27,8 @@ pub struct Generator {
     pub matrix: [i64; 4],
 }
 
-/// The figures; genus and level each have a refusal of their own, 18 and 17.
+/// The figures. The level has a refusal of its own, 17. So has the genus, 18, but
+/// the engine promises that the genus of a symbol is a number.
 #[derive(Clone, Debug, PartialEq, Eq)]
 pub struct Figures {
     pub index: usize,
@@ -420,7 +421,10 @@ impl Symbol {
     /// A word in the generators whose value times a is b or -b, with the sign that
     /// tells which; or `None`: then there is no such word, of whatever length.
     /// Whether there is one is judged up to sign: one for b is one for -b, with
-    /// the other sign. Refusals 8 and 9.
+    /// the other sign. It is the only reduced word that does so, and none is
+    /// shorter: a word is reduced when no generator stands beside its own inverse,
+    /// an even one never follows itself and is never inverted, and no odd letter
+    /// follows an equal one. Refusals 8 and 9.
     ///
     /// ```
     /// use farey::{Symbol, Word};

@@ -1,11 +1,12 @@
--- `farey_figures` meets its contract: in each arm, what the answer says gives the number, the place and the eight numbers. Assumes nothing.
+-- `farey_figures` meets its contract: in each arm, what the answer says gives the number, the place and the eight numbers, the genus
+-- among them. Assumes nothing.
 use mathlib.Core.Path.{_≡_, sym, ap, subst, _∙_}
 use native.Mathlib.Omega.{arith}
 use lib.ListN.{length}
 use Rattle.coset.specs.Answer.{figuredRefusal}
 use Rattle.coset.specs.declared.Figured.{Figured}
 use Rattle.engine.specs.Exported.{figuresLeft}
-use Rattle.engine.proofs.Zero.{AboveFigured, figured-above}
+use Rattle.engine.proofs.Zero.{AboveFigured, figured-above, genus-given}
 use borrow.Author.Needs.{needs}
 use Rattle.engine.proofs.farey_figures.Statement.{statement}
 use Rattle.engine.proofs.farey_figures.Tie as tie
@@ -35,7 +36,7 @@ returns c =
       ap (λ (x : Figured). figuredRefusal x .number) k,
       (
         ap (λ (x : Figured). figuredRefusal x .place) k,
-        (q .ensures .1 .0, (ap (λ (x : Figured). figuresLeft x (s .args .out .now)) k, λ z. absurd (omega (arith, above, z)))),
+        (q .ensures .1 .0, (ap (λ (x : Figured). figuresLeft x (s .args .out .now)) k, (λ z. absurd (omega (arith, above, z)), λ z. absurd (omega (arith, above, z))))),
       ),
     )
 
@@ -51,7 +52,7 @@ returns-2 c =
       ap (λ (x : Figured). figuredRefusal x .number) k,
       (
         ap (λ (x : Figured). figuredRefusal x .place) k,
-        (q .ensures .1 .0, (c .of-figures .ensures ∙ ap (λ (x : Figured). figuresLeft x (s .args .out .now)) k, λ z. q .ensures .1 .1 (told .0 .0) (told .1))),
+        (q .ensures .1 .0, (c .of-figures .ensures ∙ ap (λ (x : Figured). figuresLeft x (s .args .out .now)) k, (λ z. means, λ z. given))),
       ),
     )
 

@@ -8,7 +8,8 @@ use lib.IntN.{ℤ}
 use Rattle.matrix.specs.Matrix.{Mat, _⊗_, adj, matS, ofList, toList}
 use Rattle.matrix.specs.Bounds.{Small, ProductFits}
 use Rattle.matrix.proofs.Bounds.{small-more, small-adj, small-⊗, room}
-use Rattle.word.proofs.Turned.{S-small, followed-turned, followed-upright}
+use Rattle.polygon.proofs.Followed.{followed-turned, followed-upright}
+use Rattle.word.proofs.Turned.{S-small}
 use Rattle.word.proofs.Finding.{between-room, between-small}
 use borrow.Author.Needs.{needs}
 use Rattle.word.proofs.matrix_between.Statement.{statement}

@@ -1,0 +1,33 @@
+-- THE GENUS IS A NUMBER FOR EVERYONE: refusal 18 is the genus of no accepted symbol, and of no tables of S and R that a builder takes or gives. The
+-- proof is `genera`, in proofs/Genus.antt.
+--
+--   SymbolGenus v t    the genus among the figures of a symbol is a number
+--   Genera             the theorem, in these parts:
+--     symbols          for each symbol that the checks 1 to 7 accept, whoever made it
+--     pairs            for each pair of tables that the checks 12 to 15 accept, as given
+--     imports, wide    for each symbol that an import gives, by the rule and by the wide rule
+--     families         for the tables of Γ0(n), Γ1(n) and Γ(n)
+use mathlib.Core.Path.{_≡_}
+use mathlib.Core.List.{List}
+use Prim.Native.Nat.{ℕ, _<_}
+use lib.IntN.{ℤ}
+use Rattle.refusal.specs.declared.Checked.the-variants.{Accepted}
+use Rattle.refusal.specs.declared.Filled.the-variants.{Made}
+use Rattle.symbol.specs.Check.{symbolCheck}
+use Rattle.genus.specs.Genus.{HasGenus, TablesGenus}
+use Rattle.coset.specs.Answer.{figuresOf}
+use Rattle.congruence.specs.Cosets.{familyS, familyR}
+use Rattle.congruence.specs.declared.Family.{Family}
+use Rattle.import_table.specs.Answer.{ruledTable}
+use Rattle.permutations.specs.Check.{pairCheck}
+use Rattle.permutations.specs.Import.{ruleFor, wideRuleFor, importOf, importWideOf}
+
+abbrev pub SymbolGenus : ℕ → List ℤ → Type 0
+SymbolGenus v t = HasGenus (figuresOf v t .genus)
+
+pub record Genera : Type 0 where
+  pub symbols : (v : ℕ) (t : List ℤ) → symbolCheck v t ≡ Accepted → SymbolGenus v t
+  pub pairs : (s r : List ℕ) → pairCheck s r ≡ Accepted → TablesGenus s r
+  pub imports : (s r : List ℕ) (work room v : ℕ) → importOf s r work room ≡ Made v → SymbolGenus v (ruledTable (ruleFor s r))
+  pub wide : (s r : List ℕ) (work room v : ℕ) → importWideOf s r work room ≡ Made v → SymbolGenus v (ruledTable (wideRuleFor s r))
+  pub families : (f : Family) (n : ℕ) → 0 < n → TablesGenus (familyS f n) (familyR f n)
