@@ -4,9 +4,9 @@
  * farey_query, farey_named_signed_query for farey_named_query and farey_named_signed_query_wide for farey_named_query_wide: the same word,
  * with the sign that tells which of the two it gives.
  *
- * Link with libengine.a, or with libfarey.so (./farey library), on x86-64 Linux. The code of every function below is proved to do what
- * its comment says, and is then compiled (docs/HANDBOOK.md says what is assumed there), for every input that keeps these rules of C's
- * side, which nothing can check:
+ * Link with libengine.a, or with libfarey.so (./farey library), on x86-64 Linux. The code of every function below is proved to answer and
+ * to leave what its comment says, though not how often it does something on the way, and is then compiled (docs/HANDBOOK.md says what is
+ * assumed there), for every input that keeps these rules of C's side, which nothing can check:
  *   - a pointer with a length points to that many numbers of its type, aligned; where the length is 0 it may be anything, NULL too;
  *     the other pointers point to what their comment says, and none of them is NULL;
  *   - no two spaces that are lent for writing overlap, and none overlaps what is lent for reading;
@@ -44,7 +44,9 @@
  *    8  a matrix entry over 1,000,000 in size                                               0 to 3 in A, 4 to 7 in B
  *    9  a determinant other than 1                                                          0 for A, 1 for B
  *   10  none: no product of generators and inverses takes A to B                            0
- *   11  a space is too short                                                                the length that it needs; for a drawing, in sides
+ *   11  a space is too short                                                                the length that it needs; for a drawing, in sides;
+ *                                                                                           for lines, in whole lines (of four in
+ *                                                                                           farey_sheet, of two in farey_same_cosets)
  *       in farey_sheet also: entries that are no pairs, or over 2,048                       2,048
  *       in farey_same_cosets also: entries that are no pairs                                the next multiple of 8
  *   12  an index not from 1 to 3,066, or tables unequal in length                           0
@@ -77,8 +79,8 @@ extern "C" {
 #endif
 
 /* Stack that is enough for every call, in bytes, with what it calls in turn. This is measured and not proved, on x86-64: the symbols and
- * queries of named groups, which keep two tables and a symbol there, take under 65,536, farey_same, which keeps two tables, under 20,000,
- * the other calls under 10,000, on the largest inputs, by a thread whose stack was filled beforehand (rust/differential/tests/stack.rs, which the gate runs). A call that the dynamic
+ * queries of named groups, which keep two tables and a symbol there, take under 65,536, farey_preview, which keeps a symbol, under 30,000, farey_same, which
+ * keeps two tables, under 20,000, the other calls under 10,000, on the largest inputs, by a thread whose stack was filled beforehand (rust/differential/tests/stack.rs, which the gate runs). A call that the dynamic
  * linker has to look up at its first use (memset) may take some thousand more, once. */
 #define FAREY_STACK 98304
 /* The length of the work space. */
@@ -202,7 +204,7 @@ uint64_t farey_exchange(size_t v, const int64_t *t, size_t t_len, int64_t x, int
 
 /* The figures that that symbol would have; no symbol is written. out points to eight numbers, as those of farey_figures; widths: the widths of its cusps, as
  * those of farey_widths. Both are what these calls give of the table that farey_exchange makes. Refused: 1 to 7, then 23, then 11 for work, then 11 for widths;
- * 17 and 18 in out, each for its own figure. Count: the number of cusps. */
+ * 17 in out, for the level alone; the genus is always there. Count: the number of cusps. */
 uint64_t farey_preview(size_t v, const int64_t *t, size_t t_len, int64_t x, int64_t y, uint16_t *work, size_t work_len, uint32_t *widths, size_t widths_len,
                        uint64_t *out, size_t *place);
 

@@ -69,12 +69,12 @@ int main(void)
     say("query without work", number, place);
     number = farey_sheet(2, t, 7, NULL, 0, NULL, 0, NULL, 0, NULL, 0, &place);
     say("sheet without work", number, place);
+    number = farey_preview(3, g, 10, 1, 2, NULL, 0, NULL, 0, figures, &place);
+    say("preview without work", number, place);
     number = farey_same_coset(2, t, 7, one, one, NULL, 0, &place);
     say("same coset without work", number, place);
     number = farey_same_cosets(2, t, 7, NULL, 0, NULL, 0, NULL, 0, &place);
     say("same cosets without work", number, place);
-    number = farey_preview(3, g, 10, 1, 2, NULL, 0, NULL, 0, figures, &place);
-    say("preview without work", number, place);
     number = farey_same(2, t, 7, 2, t, 7, NULL, 0, &place);
     say("same without work", number, place);
     number = farey_named_tables(FAREY_GAMMA0, 2, NULL, 0, NULL, 0, NULL, 0, &place);

@@ -73,6 +73,14 @@ fn main() -> Result<(), Refusal> {
             Err(refusal) => println!("refused {} {}", refusal.number, refusal.place),
         }
     }
+    // The same pairs, yes or no without a word; and one of them by itself.
+    for answer in symbol.same_cosets(&[(one, six), (one, other), (one, [2, 0, 0, 1])]) {
+        match answer {
+            Ok(shared) => println!("coset {}", yes_or_no(shared)),
+            Err(refusal) => println!("refused {} {}", refusal.number, refusal.place),
+        }
+    }
+    println!("coset {}", yes_or_no(symbol.same_coset(&one, &six)?));
     let relabelled = Symbol::new(&[(-1, 1), (0, 1), (1, 1)], &[-2, -3, 4, 4])?;
     println!("same {}", yes_or_no(symbol.is_same(&relabelled)));
     // The rule that splits the leftmost open side: whichever symbol it finds, it

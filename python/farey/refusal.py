@@ -17,7 +17,7 @@ SENTENCES: Dict[int, str] = {
     8: "matrix entry {place} is over 1,000,000 in size; 0 to 3 are those of A, 4 to 7 those of B",
     9: "the determinant of matrix {place} isn't 1; 0 is A, 1 is B",
     10: "there is no word: no product of generators and inverses takes A to B",
-    11: "a space is too short: it needs {place}, for a drawing in sides; or the entries of a sheet are no pairs of eight, or more than 2,048",
+    11: "a space is too short: it needs {place}, for a drawing in sides, for a line table in lines, each of four numbers in a sheet; or the entries of a sheet are no pairs of eight, or more than 2,048",
     12: "the index isn't from 1 to 3,066, or the tables differ in length",
     13: "entry {place} is no point or is equal to an earlier one; it is one of S, or of R if S has no such fault",
     14: "S twice or R three times moves point {place}",

@@ -541,6 +541,58 @@ class Symbol:
             answers += self._sheet(entries[start : start + library.SHEET])
         return answers
 
+    def normal_form(self, M: Matrix) -> Optional[Word]:
+        """The only reduced word in the generators whose product is M or -M, or None where
+        M isn't in H up to sign. No word for M is shorter. It is the word of `word` from the
+        identity to M, with its `sign`: the product of the letters is `sign` times M.
+
+        A word is reduced when no generator stands beside its own inverse, an even one
+        never follows itself and is never inverted, and no letter of an odd one follows an
+        equal one. That each element of H has exactly one such word up to sign, and that this
+        is it and the shortest, is proved. Refusals 8 and 9, as `in`.
+
+        >>> H = Symbol([0, 1], [1, -2, 1])
+        >>> H.normal_form((1, 0, 2, 1)), H.normal_form((-1, -3, 0, -1)), H.normal_form((0, -1, 1, 0))
+        ([2, 1], [1, 1, 1], None)
+        """
+        entries = matrix(M, "M")
+        if entries not in self:
+            return None
+        return self.word(_IDENTITY, entries)
+
+    def reduce(self, word: Sequence[int]) -> Word:
+        """The only reduced word with the product of the given letters up to sign, as
+        `normal_form` has it for that product, however large its entries are. The product of
+        its letters is its `sign` times that of the given ones.
+
+        Letter by letter: what is put behind its inverse cancels, an even generator is its
+        own inverse up to sign, and an odd letter behind an equal one becomes its
+        inverse. That this rule gives the reduced word up to sign is proved; these
+        lines, which follow it, and the sign are tested. A ValueError where something is no letter.
+
+        >>> H = Symbol([0, 1], [1, -2, 1])
+        >>> H.reduce([1, 2, 2, -1, 1, -2]), H.reduce([2, 2]), H.reduce([2, 2]).sign
+        ([1, 2], [], -1)
+        """
+        kinds = [generator.kind for generator in self.generators]
+        reduced: List[int] = []
+        sign = 1
+        for place, letter in enumerate(integers(word, "word")):
+            if not 1 <= abs(letter) <= len(kinds):
+                raise ValueError(f"word[{place}] is {shown(letter)}, and a letter from 1 to {len(kinds)}, or its negative, is wanted")
+            even, odd = kinds[abs(letter) - 1] == "even", kinds[abs(letter) - 1] == "odd"
+            if even and letter < 0:
+                letter, sign = -letter, -sign
+            last = reduced[-1] if reduced else 0
+            if last == (letter if even else -letter):
+                reduced.pop()
+                sign = -sign if even else sign
+            elif odd and last == letter:
+                reduced[-1] = -letter
+            else:
+                reduced.append(letter)
+        return Word(reduced, sign)
+
     def same_coset(self, A: Matrix, B: Matrix) -> bool:
         """Whether A and B share a right coset of H: True exactly where `word` would give
         a word, False where it would give None. No word is made, and long runs of T
@@ -571,58 +623,6 @@ class Symbol:
         library.call("farey_same_cosets", self._v, self._space, spaces[0], library.work(), spaces[1])
         lines = spaces[1][:]
         return [place == 1 if number == 0 else Refusal(number, place) for number, place in zip(lines[::2], lines[1::2])]
-
-    def normal_form(self, M: Matrix) -> Optional[Word]:
-        """The only reduced word in the generators whose product is M or -M, or None where
-        M isn't in H up to sign. No word for M is shorter. It is the word of `word` from the
-        identity to M, with its `sign`: the product of the letters is `sign` times M.
-
-        A word is reduced when no generator stands beside its own inverse, an even one
-        never follows itself and is never inverted, and no letter of an odd one follows an
-        equal one. That each element of H has exactly one such word up to sign, and that this
-        is it and the shortest, is proved. Refusals 8 and 9, as `in`.
-
-        >>> H = Symbol([0, 1], [1, -2, 1])
-        >>> H.normal_form((1, 0, 2, 1)), H.normal_form((-1, -3, 0, -1)), H.normal_form((0, -1, 1, 0))
-        ([2, 1], [1, 1, 1], None)
-        """
-        entries = matrix(M, "M")
-        if entries not in self:
-            return None
-        return self.word(_IDENTITY, entries)
-
-    def reduce(self, word: Sequence[int]) -> Word:
-        """The only reduced word with the product of the given letters up to sign, as
-        `normal_form` has it for that product, however large its entries are. The product of
-        its letters is its `sign` times that of the given ones.
-
-        Letter by letter: what is put behind its inverse cancels, an even generator is its
-        own inverse up to sign, and an odd letter behind an equal one becomes its
-        inverse. That this rule gives the reduced word is proved; these lines, which
-        follow it, are tested. A ValueError where something is no letter.
-
-        >>> H = Symbol([0, 1], [1, -2, 1])
-        >>> H.reduce([1, 2, 2, -1, 1, -2]), H.reduce([2, 2]), H.reduce([2, 2]).sign
-        ([1, 2], [], -1)
-        """
-        kinds = [generator.kind for generator in self.generators]
-        reduced: List[int] = []
-        sign = 1
-        for place, letter in enumerate(integers(word, "word")):
-            if not 1 <= abs(letter) <= len(kinds):
-                raise ValueError(f"word[{place}] is {shown(letter)}, and a letter from 1 to {len(kinds)}, or its negative, is wanted")
-            even, odd = kinds[abs(letter) - 1] == "even", kinds[abs(letter) - 1] == "odd"
-            if even and letter < 0:
-                letter, sign = -letter, -sign
-            last = reduced[-1] if reduced else 0
-            if last == (letter if even else -letter):
-                reduced.pop()
-                sign = -sign if even else sign
-            elif odd and last == letter:
-                reduced[-1] = -letter
-            else:
-                reduced.append(letter)
-        return Word(reduced, sign)
 
     def why_none(self, A: Matrix, B: Matrix) -> Evidence:
         """Evidence that no word takes A to B, for `farey.evidence.check`: the

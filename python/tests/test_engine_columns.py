@@ -46,6 +46,10 @@ class Recorder:
                 recorder.takes(("named tables", family, N))
                 return loaded.farey_named_tables(family, N, *rest)
 
+            def farey_same_coset(self, v, t, t_len, a, b, *rest):
+                recorder.takes(("same coset", tuple(t[:t_len]), tuple(a), tuple(b)))
+                return loaded.farey_same_coset(v, t, t_len, a, b, *rest)
+
             def farey_signed_query(self, v, t, t_len, a, b, *rest):
                 recorder.takes(("query", tuple(t[:t_len]), tuple(a), tuple(b)))
                 return loaded.farey_signed_query(v, t, t_len, a, b, *rest)
@@ -68,6 +72,10 @@ class Recorder:
             def word(self, A, B):
                 recorder.takes(("word", self.vertices, A, B))
                 return super().word(A, B)
+
+            def __contains__(self, M):
+                recorder.takes(("in", self.vertices, M))
+                return super().__contains__(M)
 
             @property
             def S(self):
@@ -96,16 +104,18 @@ class EnginesColumns(Tool):
             ("named symbol", 0, 990),
             *[("query", table, by_hand.I, member) for member in MEMBERS],
             ("tables", table),
+            ("same coset", table, by_hand.I, MEMBERS[1]),
             ("import", *pair),
             ("named tables", 0, 990),
             ("gamma0", 990),
             *[("word", H.vertices, by_hand.I, member) for member in MEMBERS],
             ("S", H.vertices, H.pairings),
+            ("in", H.vertices, MEMBERS[1]),
             ("made", *pair),
             ("tables by name", "gamma0", 990),
         ]
         # five of each; the medians are 3, 30, 300 .. seconds, no least, mean or last one. At the start the tables and a symbol are made
-        first = [kinds[11], kinds[10]]
+        first = [kinds[13], kinds[12]]
         times = {kind: [part * 10.0**i for part in (4, 1, 3, 70, 2)] for i, kind in enumerate(kinds)}
         for kind in first:
             times[kind].insert(0, 999.0)

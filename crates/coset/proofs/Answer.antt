@@ -35,6 +35,7 @@ use Rattle.coset.specs.declared.Figured.{Figured}
 use Rattle.coset.specs.declared.Figured.the-variants as figured
 use Rattle.coset.proofs.TableFigures.{table-figures}
 use Rattle.coset.proofs.OddSides.{odd-sides}
+use Rattle.coset.proofs.EvenSides.{even-sides}
 use Rattle.coset.proofs.Genus.{symbol-genus}
 use Rattle.coset.proofs.Theorem.{size-is, cosets-are, maps, injective-S, injective-R}
 
@@ -94,6 +95,7 @@ meaning {v} {t} ok =
       cusps = k;
       figures =
           table-figures (indexOf v t) (tableS v t) (tableR v t) (tableT v t) (sym (c .size-S)) (c .permutations .T) k;
+      even-sides = even-sides v t ok g;
       odd-sides = odd-sides v t g;
       genus = symbol-genus v t g;
     }

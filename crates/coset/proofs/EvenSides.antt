@@ -1,8 +1,5 @@
 -- In the tables of a symbol S fixes as many points as the symbol has even sides: `even-sides`.
 -- Why: S goes to the other side of an edge, or out through a free side to its partner, which is another side; it stays only under an even side.
---
---   evenAt v t i    whether side i is even
---
 -- Assumes nothing.
 use mathlib.Core.Path.{_≡_, sym, _∙_, ap}
 use mathlib.Core.Bool.{Bool, true, false}
@@ -26,11 +23,9 @@ use Rattle.polygon.proofs.Flip.{cutting, real-in}
 use Rattle.polygon.proofs.Steps.{Beyond, crosses, even-side, free-side, beyond, step-face, under-real}
 use Rattle.figures.specs.Cusps.{fixedPoints}
 use Rattle.coset.specs.Tables.{tableS}
+use Rattle.coset.specs.Answer.{evenAt}
 use Rattle.coset.proofs.Theorem.{names}
 use Rattle.coset.proofs.FixedPoints.{FaceOf, fixed-sides}
-
-abbrev pub evenAt : ℕ → List ℤ → ℕ → Bool
-evenAt v t i = eqZ (pairingEntry v t i) (negsuc 1)
 
 -- only -2 stands for an even side
 even-entry : (v : ℕ) (x : ℤ) → pairingOf v x ≡ Even → eqZ x (negsuc 1) ≡ true

@@ -4,20 +4,21 @@
 --   tabledOf v t work a b c the refusals 1 to 7, then the work space, then the result spaces, or the number of cosets
 --   columnLeft r table out  what the call leaves in one result space: the table at its front, or all as it was
 --   roomOne, widthsOf, widthedOf     the same for the widths of the cusps, in one result space
---   figuresOf v t           the figures of the symbol's tables: index, e2, e3, cusps, genus (18 for itself), level (17 for itself)
+--   figuresOf v t           the figures of the symbol's tables: index, e2, e3, cusps, genus, level (17 for itself)
 --   figuredRefusal a        the refusal that the answer of `figures` is
 --   figuredOf v t work      the refusals 1 to 7, then the work space, or the figures
 --   Meaning v t             the symbol is one; its polygon is cut into Farey triangles, and the steps over these keep their promise; its tables are
 --                           those of the right cosets of H; its cusps are the cycles of T, and its widths, genus and level what docs/CONVENTIONS.md says;
---                           its e3 is the number of its odd sides
+--                           its e2 is the number of its even sides and its e3 that of its odd sides;
 --                           its genus is a number, never refusal 18
 --   TablesMean, FiguresMean an answer that is no refusal means this
 use mathlib.Core.Path.{_≡_}
+use mathlib.Core.Bool.{Bool}
 use mathlib.Core.List.{List, _++_}
 use Prim.Native.Nat.{ℕ, _+_, _≤_}
 use lib.Dec.{ltb}
 use lib.ListN.{length, drop}
-use lib.IntN.{ℤ}
+use lib.IntN.{ℤ, negsuc}
 use Rattle.basics.specs.Choice.{pick}
 use Rattle.basics.specs.Count.{count}
 use Rattle.workspace.specs.Space.{workLength}
@@ -27,7 +28,8 @@ use Rattle.refusal.specs.declared.Checked.{Checked}
 use Rattle.refusal.specs.declared.Checked.the-variants.{Accepted, Refused}
 use Rattle.refusal.specs.declared.Filled.{Filled}
 use Rattle.refusal.specs.declared.Filled.the-variants as filled
-use Rattle.symbol.specs.Check.{symbolCheck}
+use Rattle.symbol.specs.Table.{pairingEntry}
+use Rattle.symbol.specs.Check.{eqZ, symbolCheck}
 use Rattle.symbol.specs.Symbol.{IsSymbol}
 use Rattle.pairing.specs.Generator.{byWork}
 use Rattle.polygon.specs.Step.{oddAt}
@@ -85,12 +87,17 @@ figuredRefusal (figured.Refused f) = f
 
 -- ---- what an answer means
 
+-- whether side i is even
+abbrev pub evenAt : ℕ → List ℤ → ℕ → Bool
+evenAt v t i = eqZ (pairingEntry v t i) (negsuc 1)
+
 pub record Meaning (v : ℕ) (t : List ℤ) : Type 0 where
   pub symbol : IsSymbol v t
   pub polygon : Polygon v t
   pub cosets : Cosets v t (tableS v t) (tableR v t) (tableT v t)
   pub cusps : Cusps (tableT v t)
   pub figures : TableFigures (tableS v t) (tableR v t) (tableT v t) (figuresOf v t)
+  pub even-sides : figuresOf v t .e2 ≡ count (evenAt v t) (v + 1)
   pub odd-sides : figuresOf v t .e3 ≡ count (oddAt v t) (v + 1)
   pub genus : HasGenus (figuresOf v t .genus)
 

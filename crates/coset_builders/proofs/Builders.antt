@@ -19,8 +19,8 @@ use Rattle.import_rule.specs.Symbol.{ruledBy}
 use Rattle.import_table.specs.Answer.{ruledTable}
 use Rattle.permutations.specs.Check.{Passport}
 use Rattle.permutations.specs.Import.{importBy, Symbolised}
-use Rattle.permutations.proofs.Accepted.{image-in}
 use Rattle.permutations.proofs.Accepted as pairs
+use Rattle.permutations.proofs.Pair.{passport-S, passport-R}
 use Rattle.permutations.proofs.Means.{made-means}
 use Rattle.cusp_record.proofs.Record.{then-permutes, coset-record}
 use Rattle.cusp_record.proofs.Answer.{cusp-meaning}
@@ -32,22 +32,8 @@ recorded p q e = coset-record (record { S = p; R = q; T = then-permutes p q e })
 symbol-recorded : {v : ℕ} {t : List ℤ} → IsSymbol v t → SymbolRecorded v t
 symbol-recorded ok = cusp-meaning ok .rule
 
--- the tables of a passport are permutations
-module _ (s r : List ℕ) (g : Passport s r) where
-  pub passport-S : Permutes s
-  passport-S = record {
-    low = λ j h. rw (← image-in s j 0 h) (g .points-S j h);
-    one = λ j k h i e. g .one-S j k h i (image-in s j 0 h ∙ e ∙ sym (image-in s k 0 i));
-  }
-
-  pub passport-R : Permutes r
-  passport-R = record {
-    low = λ j h. rw (← image-in r j 0 h) (g .points-R j h);
-    one = λ j k h i e. g .one-R j k h i (image-in r j 0 h ∙ e ∙ sym (image-in r k 0 i));
-  }
-
-  passport-recorded : Recorded s r
-  passport-recorded = recorded passport-S passport-R (g .even)
+passport-recorded : (s r : List ℕ) → Passport s r → Recorded s r
+passport-recorded s r g = recorded (passport-S s r g) (passport-R s r g) (g .even)
 
 -- the symbol's tables are the given ones renumbered
 imported : {s r : List ℕ} {v : ℕ} {t : List ℤ} → Symbolised s r v t → Imported s r v t

@@ -1,88 +1,47 @@
 -- WHAT THE NUMBER OF A QUERY TELLS (`query-says`; on a group with a name, `named-says`): 10 that there is no such product, 0 that the word is one and
 -- the normal form, 11 the length of that; and with it the sign (`sign-says`, `named-sign-says`).
 -- Assumes nothing.
-use mathlib.Core.Path.{_≡_, refl, sym, ap, subst, _∙_}
-use mathlib.Core.Logic.{_⊎_, inl, inr}
-use mathlib.Core.Bool.{Bool, true, false}
-use mathlib.Core.List.{List, [], _∷_}
+use mathlib.Core.Path.{_≡_, sym, ap, subst, _∙_}
+use mathlib.Core.Logic.{inl, inr}
+use mathlib.Core.Bool.{Bool}
+use mathlib.Core.List.{List}
 use Prim.Native.Nat.{ℕ}
 use native.Mathlib.Omega.{arith}
-use native.Mathlib.Decide.{ℕ-discrete}
 use lib.ListN.{length}
-use lib.IntN.{ℤ, pos, negsuc, negℤ, _*ℤ_}
-use Rattle.matrix.specs.Matrix.{Mat, mat, ofList, neg, _⊗_, _≈_}
-use Rattle.matrix.proofs.Integer.{one-*}
-use Rattle.matrix.proofs.Ring.{con, var, _⊙_, ⊖_, ring}
+use lib.IntN.{ℤ}
+use Rattle.matrix.specs.Matrix.{Mat, ofList, _⊗_, _≈_}
 use Rattle.signs.specs.Sign.{withSign}
 use Rattle.pairing.specs.Generator.{generators}
 use Rattle.pairing.specs.Subgroup.{IsWord, valueOf}
-use Rattle.coset.specs.Tables.{tableS, tableR}
-use Rattle.coset.specs.Theorem.{leads}
-use Rattle.refusal.specs.Refusal.{noRefusal, noWord, tooShort}
+use Rattle.refusal.specs.Refusal.{tooShort}
 use Rattle.refusal.specs.declared.Refusal.{Refusal}
 use Rattle.import_rule.specs.Order.{Order}
 use Rattle.named_groups.specs.Claim.{NamedClaim, NamedQuerySays, NamedSignSays}
 use Rattle.word.specs.Answer.{queryRefusal, foundSign, signNumber, partOf}
-use Rattle.word.specs.Claim.{Asked, NormalWord, Answered, Joined, Claim, QuerySays, scaled, SignSays}
+use Rattle.word.specs.Claim.{NormalWord, Answered, Claim, QuerySays, scaled, SignSays}
 use Rattle.word.specs.declared.Queried.{Queried}
 use Rattle.word.specs.declared.Queried.the-variants as queried
 use Rattle.word.proofs.Claim.{same-number}
+use Rattle.sheets.proofs.Said.{unit-of, with-scaled, ten-none, zero, eleven}
 use Rattle.engine.specs.Exported.{queryPlace, signWritten}
 
--- a sign as a number, and in front of a matrix
-by-entries : {a b c d e f g h : ℤ} → a ≡ e → b ≡ f → c ≡ g → d ≡ h → mat a b c d ≡ mat e f g h
-by-entries i j k l = cc
-
-sign-unit : (s : Bool) → (signNumber s ≡ pos 1) ⊎ (signNumber s ≡ negsuc 0)
-sign-unit true = inl refl
-sign-unit false = inr refl
-
-unit-of : {x : ℤ} (s : Bool) → x ≡ signNumber s → (x ≡ pos 1) ⊎ (x ≡ negsuc 0)
-unit-of s e = elim (sign-unit s) [ inl f ↦ inl (e ∙ f) | inr f ↦ inr (e ∙ f) ]
-
-with-scaled : (s : Bool) (m : Mat) → withSign s m ≡ scaled (signNumber s) m
-unfolding neg
-with-scaled true m = let e : (z : ℤ) → z ≡ pos 1 *ℤ z = λ z. sym (one-* z) in by-entries (e (m .a)) (e (m .b)) (e (m .c)) (e (m .d))
-with-scaled false m =
-    let e : (z : ℤ) → negℤ z ≡ negsuc 0 *ℤ z = λ z. ring (z ∷ []) (⊖ var 0) (con (negsuc 0) ⊙ var 0) tt in
-    by-entries (e (m .a)) (e (m .b)) (e (m .c)) (e (m .d))
-
--- a number 0 under the claim is no refusal, and the word stands where the answer says
+-- under a number 0 the word stands where the answer says
 module _ {v : ℕ} {t : List ℤ} {A B : Mat} {word : List ℤ} {sign : Bool} {out : List ℤ} {start : ℕ} {r : Queried} {out' : List ℤ}
     (s : Answered v t A B word sign out start r out') where
-  pub zero : queryRefusal r .number ≡ 0 → queryRefusal r ≡ noRefusal
-  zero z = go r refl
-    where
-      go : (x : Queried) → r ≡ x → queryRefusal r ≡ noRefusal
-      go (queried.Word i k q) e = ap queryRefusal e
-      go (queried.Refused f) e =
-          let never : Joined v t A B → ⊥ = λ j. elim (s .found .1 j) [
-            | inl y ↦ (let q = sym e ∙ s .names y in let u : _≡_ {A = ℕ} 0 1 = cc in absurd (omega arith))
-            | inr y ↦ absurd (omega (arith, same-number y, z))
-          ] in
-          absurd (omega (arith, same-number (s .none .1 never), z))
-
   pub stands-at : {place : ℕ} → place ≡ queryPlace r → queryRefusal r .number ≡ 0 → word ≡ partOf out' start place
-  stands-at p z = sym (s .stands (zero z) .1) ∙ ap (λ (m : ℕ). partOf out' start m) (sym (p ∙ ap queryPlace (s .names (zero z))))
+  stands-at p z = sym (s .stands (zero s z) .1) ∙ ap (λ (m : ℕ). partOf out' start m) (sym (p ∙ ap queryPlace (s .names (zero s z))))
 
   pub zero-letters : {place : ℕ} → place ≡ queryPlace r → queryRefusal r .number ≡ 0 → IsWord (length (generators v t)) (partOf out' start place)
-  zero-letters p z = subst (IsWord (length (generators v t))) (stands-at p z) (s .letters (inl (zero z)))
+  zero-letters p z = subst (IsWord (length (generators v t))) (stands-at p z) (s .letters (inl (zero s z)))
 
   pub zero-product : {place : ℕ} → place ≡ queryPlace r → queryRefusal r .number ≡ 0 → valueOf (generators v t) (partOf out' start place) ⊗ A ≈ B
-  zero-product p z = subst (λ (x : List ℤ). valueOf (generators v t) x ⊗ A ≈ B) (stands-at p z) (s .product (inl (zero z)))
+  zero-product p z = subst (λ (x : List ℤ). valueOf (generators v t) x ⊗ A ≈ B) (stands-at p z) (s .product (inl (zero s z)))
 
   pub zero-normal : {place : ℕ} → place ≡ queryPlace r → queryRefusal r .number ≡ 0 → NormalWord v t A B (partOf out' start place)
-  zero-normal p z = subst (NormalWord v t A B) (stands-at p z) (s .normal (inl (zero z)))
-
-  -- a number 11 is that of a word which doesn't fit
-  pub eleven : queryRefusal r .number ≡ tooShort 0 .number → queryRefusal r ≡ tooShort (length word)
-  eleven z = elim (ℕ-discrete (leads (tableS v t) (tableR v t) A) (leads (tableS v t) (tableR v t) B)) [
-    | yes e ↦ elim (s .points .1 e) [ inl y ↦ absurd (omega (arith, same-number y, z)) | inr y ↦ y ]
-    | no e ↦ absurd (omega (arith, same-number (s .none .1 (λ j. e (s .points .0 (s .found .1 j)))), z))
-  ]
+  zero-normal p z = subst (NormalWord v t A B) (stands-at p z) (s .normal (inl (zero s z)))
 
   pub eleven-normal : {place : ℕ} → place ≡ queryPlace r → queryRefusal r .number ≡ tooShort 0 .number → (length word ≡ place) × NormalWord v t A B word
-  eleven-normal p z = (sym (p ∙ short-place r (eleven z)), s .normal (inr (eleven z)))
+  eleven-normal p z = (sym (p ∙ short-place r (eleven s z)), s .normal (inr (eleven s z)))
     where
       short-place : (x : Queried) → queryRefusal x ≡ tooShort (length word) → queryPlace x ≡ length word
       short-place (queried.Word i k q) e = absurd (omega (arith, same-number e))
@@ -90,17 +49,13 @@ module _ {v : ℕ} {t : List ℤ} {A B : Mat} {word : List ℤ} {sign : Bool} {o
 
   -- with the sign that is written
   pub zero-sign : {x : ℤ} (y : ℤ) → x ≡ signWritten r y → queryRefusal r .number ≡ 0 → x ≡ signNumber sign
-  zero-sign y e z = e ∙ ap (λ (q : Queried). signWritten q y) (s .names (zero z))
+  zero-sign y e z = e ∙ ap (λ (q : Queried). signWritten q y) (s .names (zero s z))
 
   pub zero-exact : {place : ℕ} {x : ℤ} (y : ℤ) → place ≡ queryPlace r → x ≡ signWritten r y → queryRefusal r .number ≡ 0
       → valueOf (generators v t) (partOf out' start place) ⊗ A ≡ scaled x B
   zero-exact y p e z =
-      subst (λ (l : List ℤ). valueOf (generators v t) l ⊗ A ≡ withSign sign B) (stands-at p z) (s .exact (inl (zero z)))
+      subst (λ (l : List ℤ). valueOf (generators v t) l ⊗ A ≡ withSign sign B) (stands-at p z) (s .exact (inl (zero s z)))
       ∙ with-scaled sign B ∙ ap (λ (q : ℤ). scaled q B) (sym (zero-sign y e z))
-
-  -- a number 10 is 'none'
-  pub ten-none : queryRefusal r .number ≡ noWord .number → Joined v t A B → ⊥
-  ten-none z j = elim (s .found .1 j) [ inl y ↦ absurd (omega (arith, same-number y, z)) | inr y ↦ absurd (omega (arith, same-number y, z)) ]
 
 module _ {v : ℕ} {t a b : List ℤ} {w : List ℕ} {out : List ℤ} {start : ℕ} {r : Queried} {out' : List ℤ} (c : Claim v t a b w out start r out') where
   pub query-says : (n place : ℕ) → n ≡ queryRefusal r .number → place ≡ queryPlace r → QuerySays v t a b w start n place out'

@@ -73,12 +73,12 @@ abbrev pub figuresLeft : Figured → List ℕ → List ℕ
 figuresLeft (figured.Made f) out = figureNumbers f
 figuresLeft (figured.Refused f) out = out
 
+abbrev pub GenusGiven : List ℕ → Type 0
+GenusGiven out = getD out 4 18 ≡ 0
+
 abbrev pub previewPlace : Figured → ℕ
 previewPlace (figured.Made f) = f .cusps
 previewPlace (figured.Refused f) = f .place
-
-abbrev pub GenusGiven : List ℕ → Type 0
-GenusGiven out = getD out 4 18 ≡ 0
 
 -- ---- drawings
 

@@ -10,7 +10,7 @@ ghost use Rattle.coset.specs.Answer.{columnLeft, widthsOf, figuredRefusal};
 ghost use Rattle.partner_exchange.specs.Exchange.{exchanged};
 ghost use Rattle.partner_exchange.specs.Theorem.{Trade};
 ghost use Rattle.partner_exchange.specs.Answer.{exchangeCheck, exchangeOf, symbolLeft, previewOf, previewedWidths, PreviewMeaning};
-ghost use Rattle.engine.specs.Exported.{filledPlace, figuresLeft, previewPlace};
+ghost use Rattle.engine.specs.Exported.{filledPlace, figuresLeft, GenusGiven, previewPlace};
 
 // The symbol with the second sides of the labels x and y exchanged, from the front of out.
 #[no_mangle]
@@ -50,6 +50,7 @@ pub extern "C" fn farey_preview(
     ensures { λ n. ⌜ now (widths .exit) ≡ columnLeft (previewedWidths v (now (t .entry)) x y (length (now (w .entry))) (length (now (widths .entry)))) (widthsOf v (exchanged v (now (t .entry)) x y)) (now (widths .entry)) ⌝ }
     ensures { λ n. ⌜ now (out .exit) ≡ figuresLeft (previewOf v (now (t .entry)) x y (length (now (w .entry))) (length (now (widths .entry)))) (now (out .entry)) ⌝ }
     ensures { λ n. ⌜ (n ≡ 0 → PreviewMeaning v (now (t .entry)) x y (length (now (w .entry))) (previewOf v (now (t .entry)) x y (length (now (w .entry))) (length (now (widths .entry))))) ⌝ }
+    ensures { λ n. ⌜ (n ≡ 0 → GenusGiven (now (out .exit))) ⌝ }
 {
     let answer = partner_exchange::preview(v, t, x, y, w, widths);
     match answer {

@@ -41,7 +41,7 @@ ghost use Rattle.engine.specs.Exported.{filledPlace, queryPlace, signWri
 
 mod answers;
 pub mod cosets;
-mod exchanging;
+pub mod exchanging;
 
 // The checks of a symbol: refusals 1 to 7.
 #[no_mangle]
@@ -298,7 +298,7 @@ pub extern "C" fn farey_sheet(
     ensures { λ n. ⌜ now (out .exit) ≡ lettersAfter (sheetOf v (now (t .entry)) (length (now (p .entry))) (length (now (w .entry))) (length (now (lines .entry))))
         (spaceAt v (now (t .entry)) (now (p .entry)) (length (now (w .entry))) (now (out .entry)) (pairsIn (now (p .entry))) .letters) (now (out .entry)) ⌝ }
     ensures { λ n. ⌜ SheetMeans v (now (t .entry)) (now (p .entry)) (now (w .entry)) (now (out .entry))
-        (sheetOf v (now (t .entry)) (length (now (p .entry))) (length (now (w .entry))) (length (now (lines .entry)))) (now (out .exit)) ⌝ }
+        (sheetOf v (now (t .entry)) (length (now (p .entry))) (length (now (w .entry))) (length (now (lines .entry)))) (now (lines .exit)) (now (out .exit)) ⌝ }
 {
     let said = of_filled(sheets::sheet(v, t, p, w, lines, out));
     *place = said.place;

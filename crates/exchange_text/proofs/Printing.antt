@@ -36,8 +36,8 @@ use Rattle.partner_exchange.specs.Theorem.{Trade}
 use Rattle.partner_exchange.specs.Answer.{exchangeCheck, symbolRoom, exchangeOf, symbolLeft}
 use Rattle.partner_exchange.proofs.Theorem.{trades}
 use Rattle.partner_exchange.proofs.Answered.{exchangeable, made-vertices}
-use Rattle.exchange_text.specs.Answer.{exchangeMade, exchangeLines, exchangeTable, exchangeCountIn, exchangeSymbolIn, firstLabelIn, secondLabelIn, byLabelCount, exchangeLinesTo, exchangeTableTo}
-use Rattle.exchange_text.specs.Answer.{exchangeFormat, exchangeLinesBy, exchangeTableBy, exchangedText, ExchangeLeaves, ExchangePrinted, ExchangePrintMeans}
+use Rattle.exchange_text.specs.Answer.{exchangeMade, exchangeLines, exchangeTable, exchangeCount, exchangeSymbol, firstLabel, secondLabel, whereCounted, exchangeLinesOf, tableTo}
+use Rattle.exchange_text.specs.Answer.{exchangeFormat, exchangeLinesBy, tableBy, exchangedText, ExchangeLeaves, ExchangePrinted, ExchangePrintMeans}
 
 module _ (v : ℕ) (t : List ℤ) (x y : ℤ) (r : Filled) (room : ℕ) (h : room ≡ 3070) (e : r ≡ exchangeOf v t x y room) where
   pub made-is : r ≡ exchangeMade v t x y
@@ -55,26 +55,26 @@ pub asked-as : {X : Type 0} {v v' : ℕ} {t t' : List ℤ} {x x' y y' : ℤ} (f 
 asked-as f e g h k = cc
 
 module _ (ns : List ℤ) where
-  few : {X : Type 0} (x y : X) → length ns < 4 → x ≡ byLabelCount ns x y
+  few : {X : Type 0} (x y : X) → length ns < 4 → x ≡ whereCounted ns x y
   few x y h = sym (pick-true (ltb (length ns) 4) x y (lt-ltb (length ns) 4 h))
 
-  enough : {X : Type 0} (x y : X) → 4 ≤ length ns → y ≡ byLabelCount ns x y
+  enough : {X : Type 0} (x y : X) → 4 ≤ length ns → y ≡ whereCounted ns x y
   enough x y h = sym (pick-false (ltb (length ns) 4) x y (le-ltb (length ns) 4 h))
 
-  pub few-lines : length ns < 4 → refusalLine badVertexCount ≡ exchangeLinesTo ns
-  unfolding exchangeLinesTo
+  pub few-lines : length ns < 4 → refusalLine badVertexCount ≡ exchangeLinesOf ns
+  unfolding exchangeLinesOf
   few-lines h = few _ _ h
 
-  pub few-table : (table : List ℤ) → length ns < 4 → table ≡ exchangeTableTo ns table
-  unfolding exchangeTableTo
+  pub few-table : (table : List ℤ) → length ns < 4 → table ≡ tableTo ns table
+  unfolding tableTo
   few-table table h = few _ _ h
 
-  pub enough-lines : 4 ≤ length ns → exchangeLines (exchangeCountIn ns) (exchangeSymbolIn ns) (firstLabelIn ns) (secondLabelIn ns) ≡ exchangeLinesTo ns
-  unfolding exchangeLinesTo
+  pub enough-lines : 4 ≤ length ns → exchangeLines (exchangeCount ns) (exchangeSymbol ns) (firstLabel ns) (secondLabel ns) ≡ exchangeLinesOf ns
+  unfolding exchangeLinesOf
   enough-lines h = enough _ _ h
 
-  pub enough-table : (table : List ℤ) → 4 ≤ length ns → exchangeTable (exchangeCountIn ns) (exchangeSymbolIn ns) (firstLabelIn ns) (secondLabelIn ns) table ≡ exchangeTableTo ns table
-  unfolding exchangeTableTo
+  pub enough-table : (table : List ℤ) → 4 ≤ length ns → exchangeTable (exchangeCount ns) (exchangeSymbol ns) (firstLabel ns) (secondLabel ns) table ≡ tableTo ns table
+  unfolding tableTo
   enough-table table h = enough _ _ h
 
 pub lines-by : (longer : Bool) (text : List ℕ) (r : Reading) → r ≡ inputOf longer exchangeFormat text 3073 → exchangeLinesBy r (numbers (pieces text)) ≡ exchangedText longer text
@@ -82,21 +82,21 @@ unfolding exchangedText
 lines-by longer text r e = ap (λ (x : Reading). exchangeLinesBy x (numbers (pieces text))) e
 
 pub leaves-by : {longer : Bool} {text : List ℕ} {ns table ns' table' : List ℤ} (r : Reading) → r ≡ inputOf longer exchangeFormat text 3073
-    → ns' ≡ leftBy r (numbers (pieces text)) ns → table' ≡ exchangeTableBy r (numbers (pieces text)) table → ExchangeLeaves longer text ns table ns' table'
+    → ns' ≡ leftBy r (numbers (pieces text)) ns → table' ≡ tableBy r (numbers (pieces text)) table → ExchangeLeaves longer text ns table ns' table'
 leaves-by {longer} {text} {ns} {table} r e a b = record {
   numbers-left = a ∙ ap (λ (x : Reading). leftBy x (numbers (pieces text)) ns) e;
-  table-left = b ∙ ap (λ (x : Reading). exchangeTableBy x (numbers (pieces text)) table) e;
+  table-left = b ∙ ap (λ (x : Reading). tableBy x (numbers (pieces text)) table) e;
 }
 
 -- ---- what the bytes mean
 
 pub print-means : (longer : Bool) (text bytes : List ℕ) → bytes ≡ exchangedText longer text → ExchangePrintMeans longer text bytes
-unfolding exchangedText exchangeLinesTo exchangeLines
+unfolding exchangedText exchangeLinesOf exchangeLines
 print-means longer text bytes b k n four e made =
-    let v = exchangeCountIn read in
-    let t = exchangeSymbolIn read in
-    let x = firstLabelIn read in
-    let y = secondLabelIn read in
+    let v = exchangeCount read in
+    let t = exchangeSymbol read in
+    let x = firstLabel read in
+    let y = secondLabel read in
     let m = made-vertices v t x y 3070 n made in
     let z : n ≡ v = m .1 in
     let trade = trades (exchangeable v t x y (m .0)) in

@@ -13,7 +13,7 @@ ghost use mathlib.Core.Path.{_≡_};
 ghost use Prim.Native.Nat.{_≤_};
 ghost use lib.ListN.{length, take};
 ghost use Rattle.text_line.specs.Line.{Puts};
-ghost use Rattle.exchange_text.specs.Answer.{exchangeLines, exchangeTable, exchangeLinesTo, exchangeTableTo, exchangedText, ExchangeLeaves, ExchangePrintMeans};
+ghost use Rattle.exchange_text.specs.Answer.{exchangeLines, exchangeTable, exchangeLinesOf, tableTo, exchangedText, ExchangeLeaves, ExchangePrintMeans};
 
 // The lines for a symbol and two labels: the exchanged symbol, or the refusal.
 fn exchange_lines(v: usize, t: &[i64], x: i64, y: i64, table: &mut [i64], out: &mut [u8]) -> usize
@@ -34,8 +34,8 @@ fn exchange_lines(v: usize, t: &[i64], x: i64, y: i64, table: &mut [i64], out: &
 // The same for the numbers of a text.
 fn exchange_numbers(ns: &[i64], table: &mut [i64], out: &mut [u8]) -> usize
     requires { ⌜ (length (now table) ≡ 3070) × (65536 ≤ length (now out)) ⌝ }
-    ensures { λ e. ⌜ Puts (exchangeLinesTo (now (ns .entry))) 0 e (now (out .entry)) (now (out .exit)) ⌝ }
-    ensures { λ e. ⌜ now (table .exit) ≡ exchangeTableTo (now (ns .entry)) (now (table .entry)) ⌝ }
+    ensures { λ e. ⌜ Puts (exchangeLinesOf (now (ns .entry))) 0 e (now (out .entry)) (now (out .exit)) ⌝ }
+    ensures { λ e. ⌜ now (table .exit) ≡ tableTo (now (ns .entry)) (now (table .entry)) ⌝ }
 {
     let k = ns.len();
     if k < 4 {

@@ -34,7 +34,7 @@ use Rattle.numbering.proofs.Those.{those-yes, those-no, those-few, those-le}
 use Rattle.figures.proofs.Cusps.{cycles-last, cycles-length, cusp-new, cusp-old, cusps-are}
 use Rattle.figures.proofs.LevelOf.{lcm-some, lcm-from-le, fitting-yes, fitting-no, value-fits, refused-over}
 use Rattle.numbering.proofs.Space.{entries-length, entries-at, entries-push, entries-set, within-refl, within-trans, within-entries}
-use Rattle.numbering.proofs.Marks.{listed-length, sparse-set}
+use Rattle.numbering.proofs.Listing.{listed-length, sparse-set}
 
 -- ---- `mark_cycle`: so many steps from x have been listed, and the next point is y
 pub record Walk (n x c₀ : ℕ) (w₀ w : List ℕ) (c y : ℕ) : Type 0 where

@@ -17,7 +17,7 @@ use lib.IntN.{pos, _-ℤ_}
 use Rattle.import_rule.specs.Side.{vertex, limit}
 use Rattle.import_walk.specs.Inner.Work.{LABEL, HELD, DONE, TODO, cellPlace, endAt, pointAt, cellSet}
 use Rattle.import_walk.proofs.Cells.{number-same, cell-length, cell-other, cell-num, cell-den, cell-pt}
-use Rattle.import_walk.proofs.Walking.{vertex-eq}
+use Rattle.import_walk.proofs.Held.{vertex-eq}
 use Rattle.import_queue.specs.Inner.Cells.{LINK, QUEUE, linkAt, heldAt, queueAt, heldBy, linked, queued}
 
 pub held-long : (w : List ℕ) (m a b x y : ℕ) → length (heldBy w m a b x y) ≡ length w

@@ -15,7 +15,8 @@ use Rattle.import_rule.specs.Inner.Placed.{Placed, placedSide, pts}
 use Rattle.import_rule.proofs.Member.{In, in-left, in-right, in-either, Apart}
 use Rattle.import_rule.proofs.Split.{in-pts, pt-of}
 use Rattle.import_walk.specs.Inner.Work.{TODO, cellPlace, endAt, pointAt}
-use Rattle.import_walk.proofs.Walking.{placed-eq, snoc}
+use Rattle.import_walk.proofs.Held.{placed-eq}
+use Rattle.import_walk.proofs.Walking.{snoc}
 use Rattle.import_queue.specs.Inner.Cells.{linkAt, queueAt, Linked, endOr, alongFrom}
 
 -- ---- links

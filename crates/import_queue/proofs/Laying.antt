@@ -17,7 +17,7 @@ use lib.IntN.{pos, _-ℤ_}
 use Rattle.import_rule.specs.Side.{minusInfinity, limit}
 use Rattle.import_walk.specs.Inner.Work.{DONE, TODO, cellPlace, twoCells, endAt, pointAt, lastIn, doneIn, movedIn}
 use Rattle.import_walk.proofs.Cells.{number-same, cell-length, cell-other, cell-num, cell-den, cell-pt}
-use Rattle.import_walk.proofs.Walking.{vertex-eq, placed-eq}
+use Rattle.import_walk.proofs.Held.{vertex-eq, placed-eq}
 use Rattle.import_queue.specs.Inner.Cells.{LINK, linkAt, Linked, Chain, Rowed, endOr, alongFrom, Counted, Laid}
 use Rattle.import_queue.proofs.Along.{linked-to}
 

@@ -19,7 +19,7 @@ use Rattle.import_queue.proofs.Serving.{Serving, serving-split}
 use Rattle.import_walk.specs.Inner.Work.{TODO, cellPlace, twoCells, endAt, pointAt, closedIn}
 use Rattle.import_walk.proofs.Decode.{sum-code}
 use Rattle.import_walk.proofs.Turn.{within-tells}
-use Rattle.import_walk.proofs.Walking.{vertex-eq, placed-eq}
+use Rattle.import_walk.proofs.Held.{vertex-eq, placed-eq}
 use Rattle.import_queue.specs.Inner.Cells.{linkAt, heldAt, queueAt, Linked, endOr, alongFrom, lowNum, cellSumNum, cellSumDen, fitsCell, splitCell}
 use Rattle.import_queue.proofs.Along.{linked-low, linked-put, end-same, along-same, along-two}
 use Rattle.import_queue.proofs.Along.{side-in, in-put, long-put, apart-put, queueFrom, queue-more}

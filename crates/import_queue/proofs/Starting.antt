@@ -21,7 +21,8 @@ use Rattle.import_rule.proofs.Theorem.{Started, started}
 use Rattle.import_queue.proofs.Serving.{Serving, serving-start}
 use Rattle.import_walk.specs.Inner.Work.{LABEL, HELD, DONE, TODO, cellPlace, endAt, pointAt, startIn, Ground}
 use Rattle.import_walk.proofs.Cells.{number-same}
-use Rattle.import_walk.proofs.Walking.{vertex-eq, Walking}
+use Rattle.import_walk.proofs.Held.{vertex-eq}
+use Rattle.import_walk.proofs.Walking.{Walking}
 use Rattle.import_walk.proofs.Begin.{walk-start, start-sides}
 use Rattle.import_queue.specs.Inner.Cells.{LINK, QUEUE, linkAt, heldAt, queueAt, Linked, Three, begun}
 use Rattle.import_queue.proofs.Along.{along-same, queueFrom}

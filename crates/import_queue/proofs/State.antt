@@ -24,7 +24,7 @@ use Rattle.import_rule.proofs.Split.{Closed, pt-of}
 use Rattle.import_queue.proofs.Serving.{Serving, serving-size, serving-room, serving-side, serving-drop, serving-over}
 use Rattle.import_walk.specs.Inner.Work.{LABEL, TODO, cellPlace, twoCells, endAt, pointAt, closedIn}
 use Rattle.import_walk.proofs.Decode.{diff-below, fits-code}
-use Rattle.import_walk.proofs.Walking.{vertex-eq, HeldIn, held-closed, held-open}
+use Rattle.import_walk.proofs.Held.{vertex-eq, HeldIn, held-closed, held-open}
 use Rattle.import_queue.specs.Inner.Cells.{linkAt, heldAt, queueAt, Linked, endOr, alongFrom, lowNum}
 use Rattle.import_queue.specs.Inner.Cells.{lowDen, cellSumDen, fitsCell, Counted, AtCell}
 use Rattle.import_queue.proofs.Stores.{low-none, low-some}

@@ -10,6 +10,7 @@ pub mod Start
 pub mod Small
 pub mod Order
 pub mod Visit
+pub mod Sides
 pub mod Rounds
 pub mod Theorem
 pub mod Ends

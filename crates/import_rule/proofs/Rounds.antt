@@ -3,93 +3,33 @@
 --   mk B s, mks B l     sides with the marks that their points say among sides with the points B
 --   Fit C l rows        the rows are the placed sides l, of which some have the mark that their point says already
 --
--- In order: rows and sides; marks by points; which marked rows are open (`opens-marked`) and their split (`split-marked`); what a round needs
+-- In order: marks by points; which marked rows are open (`opens-marked`) and their split (`split-marked`); what a round needs
 -- (`ready`) and leaves (`visits-mark`); after a split (`fit-step`); the law (`rounds-are`).
 -- Assumes nothing.
 use mathlib.Core.Path.{_≡_, refl, sym, _∙_, ap}
 use mathlib.Core.Logic.{_⊎_, inl, inr}
 use mathlib.Core.Bool.{Bool, true, false, not}
 use mathlib.Core.List.{List, [], _∷_, _++_}
-use Prim.Native.Nat.{ℕ, zero, suc, _+_, _*_, _<_, _≤_}
+use Prim.Native.Nat.{ℕ, zero, suc, _+_}
 use native.Mathlib.Omega.{arith}
-use native.Mathlib.Decide.{ℕ-discrete}
 use lib.Dec.{eqb}
 use lib.ListN.{length}
-use lib.IntN.{pos}
-use Rattle.matrix.specs.Matrix.{det}
 use Rattle.basics.specs.Choice.{pick}
-use Rattle.basics.proofs.Choice.{pick-true, pick-false, either, clash}
-use Rattle.import_rule.specs.Side.{Interval, intervalFrame, mediant, lower, upper, fits}
+use Rattle.basics.proofs.Choice.{pick-true, pick-false, clash}
+use Rattle.import_rule.specs.Side.{Interval, mediant, fits}
 use Rattle.import_rule.specs.Order.{Order, Chosen, none, this, chosenBy}
-use Rattle.import_rule.specs.Rule.{Mark, unpaired, even, odd, free, Row, row, isOpen, Grown, finished}
+use Rattle.import_rule.specs.Rule.{unpaired, even, odd, free, Row, row, isOpen, Grown, finished}
 use Rattle.import_rule.specs.Rule.{refused, opens, splitAt, fitsAt, cameAfter, goOn, least, pointOf, visitAll, rounds}
 use Rattle.import_rule.specs.Inner.Placed as model
 use Rattle.import_rule.specs.Inner.Placed.{Placed, bare, pts, Grew, growBy, opensAt, lowerAt, upperAt, isClosed, markOf, rowsOf}
-use Rattle.import_rule.proofs.Member.{In, in-left, in-right, in-either, Apart, in-is}
-use Rattle.import_rule.proofs.Lead.{Turning, Leads}
-use Rattle.import_rule.proofs.Split.{framed, Closed, AllClosed, closed-true, closed-false, true-closed, false-closed, in-pts, Pt, pt-of}
-use Rattle.import_rule.proofs.Split.{of-pt, split-from, beside-in, Beside, Turn, t0, t1, t2, turnX}
+use Rattle.import_rule.proofs.Member.{In, in-left, in-right, in-either, in-is}
+use Rattle.import_rule.proofs.Lead.{Turning}
+use Rattle.import_rule.proofs.Split.{Closed, AllClosed, closed-true, closed-false, true-closed, false-closed, in-pts, pt-of}
+use Rattle.import_rule.proofs.Split.{split-from, beside-in, Beside, Turn, t1, t2, turnX}
 use Rattle.import_rule.proofs.Kept.{Inv, step, not-old, moved, stays, corner-pt, corner-free}
 use Rattle.import_rule.proofs.Order.{Rest, Cut, outcome-by, cut-by, came-long}
 use Rattle.import_rule.proofs.Visit.{pt, points, settle, settles, Vacant, Ready, visits-settle}
-
--- ---- rows and sides
-
-abbrev pub sidesOf : List Row → List Interval
-sidesOf [] = []
-sidesOf (r ∷ rs) = r .side ∷ sidesOf rs
-
-abbrev pub bares : List Placed → List Interval
-bares [] = []
-bares (u ∷ l) = bare u ∷ bares l
-
-abbrev pub opened : List Placed → List Row
-opened [] = []
-opened (u ∷ l) = row (bare u) unpaired ∷ opened l
-
-sides-++ : (l r : List Row) → sidesOf (l ++ r) ≡ sidesOf l ++ sidesOf r
-sides-++ [] r = refl
-sides-++ (x ∷ l) r = ap (λ (y : List Interval). x .side ∷ y) (sides-++ l r)
-
-bares-++ : (l r : List Placed) → bares (l ++ r) ≡ bares l ++ bares r
-bares-++ [] r = refl
-bares-++ (x ∷ l) r = ap (λ (y : List Interval). bare x ∷ y) (bares-++ l r)
-
-sides-opened : (l : List Placed) → sidesOf (opened l) ≡ bares l
-sides-opened [] = refl
-sides-opened (u ∷ l) = ap (λ (y : List Interval). bare u ∷ y) (sides-opened l)
-
-in-sides : (r : Row) (rs : List Row) → In r rs → In (r .side) (sidesOf rs)
-in-sides r [] h = h
-in-sides r (x ∷ rs) (inl e) = inl (ap (λ (y : Row). y .side) e)
-in-sides r (x ∷ rs) (inr h) = inr (in-sides r rs h)
-
-in-opened : (u : Placed) (l : List Placed) → In u l → In (row (bare u) unpaired) (opened l)
-in-opened u [] h = h
-in-opened u (x ∷ l) (inl e) = inl (ap (λ (y : Placed). row (bare y) unpaired) e)
-in-opened u (x ∷ l) (inr h) = inr (in-opened u l h)
-
-all-open : (r : Row) (l : List Placed) → In r (opened l) → isOpen (r .mark) ≡ true
-all-open r [] h = absurd h
-all-open r (x ∷ l) (inl e) = ap (λ (y : Row). isOpen (y .mark)) e
-all-open r (x ∷ l) (inr h) = all-open r l h
-
--- the placed side of a row
-pub record Owner (s : Interval) (l : List Placed) : Type 0 where
-  pub side : Placed
-  pub among : In side l
-  pub is : s ≡ bare side
-
-in-bares : (s : Interval) (l : List Placed) → In s (bares l) → Owner s l
-in-bares s [] h = absurd h
-in-bares s (u ∷ l) (inl e) = record { side = u; among = inl refl; is = e }
-in-bares s (u ∷ l) (inr h) = let k = in-bares s l h in record { side = k .side; among = inr (k .among); is = k .is }
-
-open-is : (m : Mark) → isOpen m ≡ true → m ≡ unpaired
-open-is unpaired e = refl
-open-is even e = clash e refl
-open-is odd e = clash e refl
-open-is (free x) e = clash e refl
+use Rattle.import_rule.proofs.Sides.{sidesOf, bares, opened, sides-++, bares-++, sides-opened, in-sides, in-opened, all-open, Owner, in-bares, open-is}
 
 module _ (σ κ : ℕ → ℕ) where
   -- ---- marks by points

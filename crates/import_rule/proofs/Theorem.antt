@@ -32,7 +32,8 @@ use Rattle.import_rule.proofs.Finished.{finished-precisely}
 use Rattle.import_rule.proofs.Start.{Kept, left0, right0, start1, start2, keep, inv-1, inv-2, kept-1, kept-2}
 use Rattle.import_rule.proofs.Small.{smallTable, S-point, Q-point, T-point, conjugate-point, precisely-1, precisely-2}
 use Rattle.import_rule.proofs.Order.{ends-by}
-use Rattle.import_rule.proofs.Rounds.{opened, marked, ruled, rounds-are, fit-start, marked-closed}
+use Rattle.import_rule.proofs.Sides.{opened}
+use Rattle.import_rule.proofs.Rounds.{marked, ruled, rounds-are, fit-start, marked-closed}
 
 -- two tests that pass together are one
 pub same-test : (a b : Bool) → (a ≡ true → b ≡ true) → (b ≡ true → a ≡ true) → a ≡ b

@@ -29,7 +29,7 @@ use Rattle.import_table.specs.Inner.Writing.{tableWritten, largeBy, HasR
 use Rattle.import_table.specs.Answer.{orderBy, grownOf, ruledTable, ruledLeft}
 use Rattle.import_rule.proofs.Lead.{Turning, turning}
 use Rattle.import_rule.proofs.Theorem.{rule-is}
-use Rattle.import_walk.proofs.Walking.{length-done}
+use Rattle.import_walk.proofs.Held.{length-done}
 
 pub ground : (s r w w' : List ℕ) → Pair s r → 32768 ≤ length w → w' ≡ zeros (length w) → Large s r → Ground s r w'
 ground s r w w' p h e l = record {

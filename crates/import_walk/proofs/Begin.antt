@@ -26,7 +26,8 @@ use Rattle.import_rule.proofs.Theorem.{Started, started}
 use Rattle.import_rule.proofs.Going.{Going, going-start}
 use Rattle.import_walk.proofs.Cells.{cell-length, cell-other, cell-num, cell-den, cell-pt}
 use Rattle.import_walk.proofs.Decode.{diff-above, diff-below}
-use Rattle.import_walk.proofs.Walking.{Same, vertex-eq, end-same, point-same, placed-eq, HeldIn, Walking, walk-size, walk-end, turn-of, length-done}
+use Rattle.import_walk.proofs.Held.{Same, vertex-eq, end-same, point-same, placed-eq, HeldIn, length-done}
+use Rattle.import_walk.proofs.Walking.{Walking, walk-size, walk-end, turn-of}
 
 -- ---- three sides
 

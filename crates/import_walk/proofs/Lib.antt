@@ -2,5 +2,6 @@
 pub mod Cells
 pub mod Turn
 pub mod Decode
+pub mod Held
 pub mod Walking
 pub mod Begin

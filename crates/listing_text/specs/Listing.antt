@@ -15,7 +15,8 @@
 --   listingWork, listingTable       what the call leaves in the work space and in the space for generators, by the answer of `read_input`
 --   ListingLeaves ..                what it leaves in every lent space but that of the bytes
 --   Listed v t bytes                what the bytes mean for a symbol: they are the lines of its figures, generators and tables; the tables are those
---                                   of the cosets of H and the figures are the tables' (`Meaning`); each generator has determinant 1 (`Generates`)
+--                                   of the cosets of H and the figures are the tables' (`Meaning`), so that the genus is a number in its line; each generator has
+--                                   determinant 1 (`Generates`)
 --   ListingMeans ..                 that holds for every text whose numbers are a symbol's
 use mathlib.Core.Path.{_≡_}
 use mathlib.Core.Bool.{Bool}

@@ -26,6 +26,7 @@ symbol-named f n g v t y =
       index = sym (y .index) ∙ a .size-S;
       S-table = y .S-table ∙ numbered-S a;
       R-table = y .R-table ∙ numbered-R a;
+      passport = y .passport;
       vertices = y .vertices;
       thirds = y .thirds ∙ a .size-R;
     }

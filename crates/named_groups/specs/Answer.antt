@@ -10,8 +10,8 @@
 --   ruledWord                the word that the walk over that symbol writes
 --   namedQueryWork           what a query leaves in the work space: zeros where it got past the length check, else all as it was
 --   NamedTablesMean, NamedSymbolMeans     what an answer that is no refusal means: the tables are those of the right cosets of the group, numbered
---                            by the rule; the symbol generates precisely the matrices that meet the condition, its own tables are these, and it has
---                            (index - e3)/3 + 1 vertices, where 3 divides index - e3
+--                            by the rule; the symbol generates precisely the matrices that meet the condition, its own tables are these, which pass 12
+--                            to 15, and it has (index - e3)/3 + 1 vertices, where 3 divides index - e3
 use mathlib.Core.Path.{_≡_}
 use mathlib.Core.Logic.{_↔_}
 use mathlib.Core.List.{List, []}
@@ -36,6 +36,7 @@ use Rattle.congruence.specs.Cosets.{familyS, familyR, CosetsOf}
 use Rattle.congruence.specs.declared.Family.{Family}
 use Rattle.import_rule.specs.Order.{Order, leftmost, longestOpen}
 use Rattle.import_rule.specs.Symbol.{Ruled, made, over, ruledBy}
+use Rattle.permutations.specs.Check.{Passport}
 use Rattle.permutations.specs.Import.{neededVertices, grownWithin}
 use Rattle.word.specs.Answer.{passes, foundWord, foundOf, byCheck, byEntries, byDeterminants, queryByWork}
 use Rattle.word.specs.declared.Queried.{Queried}
@@ -73,6 +74,7 @@ pub record NamedSymbol (f : Family) (n v : ℕ) (t : List ℤ) : Type 0 where
   pub index : indexOf v t ≡ familyIndex f n
   pub S-table : tableS v t ≡ familyS f n
   pub R-table : tableR v t ≡ familyR f n
+  pub passport : Passport (familyS f n) (familyR f n)
   pub vertices : v ≡ neededVertices (familyR f n)
   pub thirds : 3 * (v - 1) + fixedPoints (familyR f n) ≡ familyIndex f n
 

@@ -15,7 +15,7 @@ use Rattle.basics.proofs.Choice.{either, clash}
 use Rattle.symbol.specs.declared.Pairing.{Pairing}
 use Rattle.symbol.proofs.Choice.{eqZ-true, eq-eqZ}
 use Rattle.normal_forms.specs.Reduced.{letterKind, Inverted, letterAt, Reduced}
-use Rattle.normal_forms.specs.Reduce.{isEven, isOdd, plain}
+use Rattle.normal_forms.specs.Reduce.{evenKind, oddKind, plain}
 use Rattle.normal_forms.proofs.Put.{Kinds, isPlain, apart, fine, fine-by, fine-plain, fine-meets, fine-rest, plain-even, other-plain, inverse-even, inverse-other, apart-by, apart-inverse, apart-odd, even-is, odd-is}
 use Rattle.normal_forms.proofs.Side.{kinds}
 
@@ -39,27 +39,27 @@ module _ (kind : ℤ → Pairing) where
       fine-by kind a (b ∷ w) (p 0 (omega arith)) (q 0 (omega arith)) (gathered (b ∷ w) (λ i h. p (suc i) (omega arith)) (λ i h. q (suc i) (omega arith)))
 
   -- a plain letter of an even generator isn't inverted
-  plain-upright : (z : ℤ) → isPlain kind z ≡ true → isEven (kind z) ≡ true → Inverted z → ⊥
+  plain-upright : (z : ℤ) → isPlain kind z ≡ true → evenKind (kind z) ≡ true → Inverted z → ⊥
   plain-upright (pos n) p e i = i
   plain-upright (negsuc n) p e i = let z : _≡_ {A = ℕ} 0 1 = cc (eqZ-true (plain kind (negsuc n)) (negsuc n) p, plain-even kind (negsuc n) e) in omega arith
 
-  upright-plain : (z : ℤ) → (isEven (kind z) ≡ true → Inverted z → ⊥) → isPlain kind z ≡ true
-  upright-plain z n = elim (either (isEven (kind z))) [ inl e ↦ by z e (n e) | inr e ↦ other-plain kind z e ]
+  upright-plain : (z : ℤ) → (evenKind (kind z) ≡ true → Inverted z → ⊥) → isPlain kind z ≡ true
+  upright-plain z n = elim (either (evenKind (kind z))) [ inl e ↦ by z e (n e) | inr e ↦ other-plain kind z e ]
     where
-      by : (z : ℤ) → isEven (kind z) ≡ true → (Inverted z → ⊥) → isPlain kind z ≡ true
+      by : (z : ℤ) → evenKind (kind z) ≡ true → (Inverted z → ⊥) → isPlain kind z ≡ true
       by (pos n) e f = eq-eqZ (plain kind (pos n)) (pos n) (plain-even kind (pos n) e)
       by (negsuc n) e f = absurd (f tt)
 
   -- beside a plain letter stands no letter -a, also where a is even
   apart-negative : Kinds kind → (a b : ℤ) → isPlain kind a ≡ true → isPlain kind b ≡ true → apart kind a b ≡ true → b ≡ negℤ a → ⊥
-  apart-negative K a b p q m e = elim (either (isEven (kind a))) [
+  apart-negative K a b p q m e = elim (either (evenKind (kind a))) [
     | inr o ↦ apart-inverse kind a b m (e ∙ sym (inverse-other kind a o))
     | inl o ↦ by a p o (rw e at q)
   ]
     where
-      by : (a : ℤ) → isPlain kind a ≡ true → isEven (kind a) ≡ true → isPlain kind (negℤ a) ≡ true → ⊥
-      by (pos zero) p o q = clash o (ap isEven (K .none))
-      by (pos (suc n)) p o q = plain-upright (negsuc n) q (ap isEven (K .negative (pos (suc n))) ∙ o) tt
+      by : (a : ℤ) → isPlain kind a ≡ true → evenKind (kind a) ≡ true → isPlain kind (negℤ a) ≡ true → ⊥
+      by (pos zero) p o q = clash o (ap evenKind (K .none))
+      by (pos (suc n)) p o q = plain-upright (negsuc n) q (ap evenKind (K .negative (pos (suc n))) ∙ o) tt
       by (negsuc n) p o q = plain-upright (negsuc n) p o tt
 
 module _ (v : ℕ) (t : List ℤ) where
@@ -70,9 +70,9 @@ module _ (v : ℕ) (t : List ℤ) where
   fine-reduced w f =
       record {
         beside-inverse = λ i h. apart-negative kindOf (kinds v t) (letterAt w i) (letterAt w (suc i)) (each i (omega arith)) (each (suc i) h) (next i h);
-        even-repeated = λ i h e z. apart-inverse kindOf (letterAt w i) (letterAt w (suc i)) (next i h) (z ∙ sym (inverse-even kindOf (letterAt w i) (ap isEven e)));
-        even-inverted = λ i h e. plain-upright kindOf (letterAt w i) (each i h) (ap isEven e);
-        odd-repeated = λ i h o. apart-odd kindOf (letterAt w i) (letterAt w (suc i)) (next i h) (ap isOdd o);
+        even-repeated = λ i h e z. apart-inverse kindOf (letterAt w i) (letterAt w (suc i)) (next i h) (z ∙ sym (inverse-even kindOf (letterAt w i) (ap evenKind e)));
+        even-inverted = λ i h e. plain-upright kindOf (letterAt w i) (each i h) (ap evenKind e);
+        odd-repeated = λ i h o. apart-odd kindOf (letterAt w i) (letterAt w (suc i)) (next i h) (ap oddKind o);
       }
     where
       each : (i : ℕ) → i < length w → isPlain kindOf (letterAt w i) ≡ true
@@ -85,7 +85,7 @@ module _ (v : ℕ) (t : List ℤ) where
   reduced-fine w r = gathered kindOf w
       (λ i h. upright-plain kindOf (letterAt w i) (λ e. r .even-inverted i h (even-is (kindOf (letterAt w i)) e)))
       (λ i h. apart-by kindOf (letterAt w i) (letterAt w (suc i))
-      (λ z. elim (either (isEven (kindOf (letterAt w i)))) [
+      (λ z. elim (either (evenKind (kindOf (letterAt w i)))) [
         | inl e ↦ r .even-repeated i h (even-is (kindOf (letterAt w i)) e) (z ∙ inverse-even kindOf (letterAt w i) e)
         | inr e ↦ r .beside-inverse i h (z ∙ inverse-other kindOf (letterAt w i) e)
       ])

@@ -31,7 +31,7 @@ use Rattle.polygon.proofs.Steps as steps
 use Rattle.polygon.proofs.Steps.{turn-in, closed}
 use Rattle.polygon.proofs.Promise.{silent-Q, silent-P, written-Q, written-P}
 use Rattle.normal_forms.specs.Reduced.{letterKind}
-use Rattle.normal_forms.specs.Reduce.{isOdd, plain, inverse, put, puts}
+use Rattle.normal_forms.specs.Reduce.{oddKind, plain, inverse, put, puts}
 use Rattle.normal_forms.proofs.Put.{both, odd, isPlain, fine, inverse-inverse, inverse-plain, inverse-other, odd-only, odd-plain, put-undo, put-twice, puts-fine}
 use Rattle.normal_forms.proofs.Side.{kinds, kind-of, outward, far, across}
 use Rattle.normal_forms.proofs.Writing.{inside, through, crossing, silent-over, written-out, odd-face}
@@ -133,7 +133,7 @@ module _ (v : ℕ) (t : List ℤ) (ok : IsSymbol v t) (C : Cutting v t) where
 
   -- the letter of the outer face i is odd
   odd-at : (p i : ℕ) → p ≡ outer v i → Real v t p → odd (kindOf v t) (pos (generatorNumber v t i)) ≡ true
-  odd-at p i e r = let o = odd-face v t ok C p i e r in ap isOdd (kind-of v t ok i (pos (generatorNumber v t i)) (o .0) refl ∙ o .1)
+  odd-at p i e r = let o = odd-face v t ok C p i e r in ap oddKind (kind-of v t ok i (pos (generatorNumber v t i)) (o .0) refl ∙ o .1)
 
   twice : (h : List ℤ) (p : ℕ) → fine (kindOf v t) h ≡ true → Real v t p
       → puts (kindOf v t) (puts (kindOf v t) h (written v t Q p)) (written v t Q (turnQ v p)) ≡ puts (kindOf v t) h (written v t P p)

@@ -20,7 +20,7 @@ use Rattle.symbol.specs.Check.{eqZ}
 use Rattle.symbol.specs.declared.Pairing.{Pairing}
 use Rattle.symbol.specs.declared.Pairing.the-variants.{Even, Odd, Free, Bad}
 use Rattle.symbol.proofs.Choice.{eqZ-true, eq-eqZ, eqZ-refl}
-use Rattle.normal_forms.specs.Reduce.{isEven, isOdd, plain, inverse, put, puts}
+use Rattle.normal_forms.specs.Reduce.{evenKind, oddKind, plain, inverse, put, puts}
 
 -- a generator and its inverse are of one kind, and 0 is no letter
 pub record Kinds (kind : ℤ → Pairing) : Type 0 where
@@ -38,19 +38,19 @@ differ x y n = elim (either (eqZ x y)) [ inl e ↦ absurd (n (eqZ-true x y e)) |
 pub differs : (x y : ℤ) → eqZ x y ≡ false → x ≡ y → ⊥
 differs x y e p = clash (eq-eqZ x y p) e
 
-pub odd-only : (k : Pairing) → isOdd k ≡ true → isEven k ≡ false
+pub odd-only : (k : Pairing) → oddKind k ≡ true → evenKind k ≡ false
 odd-only Even e = clash e refl
 odd-only Odd e = refl
 odd-only (Free l) e = clash e refl
 odd-only Bad e = clash e refl
 
-pub even-is : (k : Pairing) → isEven k ≡ true → k ≡ Even
+pub even-is : (k : Pairing) → evenKind k ≡ true → k ≡ Even
 even-is Even e = refl
 even-is Odd e = clash e refl
 even-is (Free l) e = clash e refl
 even-is Bad e = clash e refl
 
-pub odd-is : (k : Pairing) → isOdd k ≡ true → k ≡ Odd
+pub odd-is : (k : Pairing) → oddKind k ≡ true → k ≡ Odd
 odd-is Even e = clash e refl
 odd-is Odd e = refl
 odd-is (Free l) e = clash e refl
@@ -64,10 +64,10 @@ self-negative (negsuc n) e = let z : _≡_ {A = ℕ} 0 1 = cc in absurd (omega a
 
 module _ (kind : ℤ → Pairing) where
   abbrev pub even : ℤ → Bool
-  even a = isEven (kind a)
+  even a = evenKind (kind a)
 
   abbrev pub odd : ℤ → Bool
-  odd a = isOdd (kind a)
+  odd a = oddKind (kind a)
 
   abbrev pub isPlain : ℤ → Bool
   isPlain a = eqZ (plain kind a) a
@@ -168,7 +168,7 @@ module _ (kind : ℤ → Pairing) where
 
   module _ (K : Kinds kind) where
     even-negative : (a : ℤ) → even (negℤ a) ≡ even a
-    even-negative a = ap isEven (K .negative a)
+    even-negative a = ap evenKind (K .negative a)
 
     pub inverse-inverse : (a : ℤ) → inverse kind (inverse kind a) ≡ a
     inverse-inverse a = elim (either (even a)) [
@@ -187,10 +187,10 @@ module _ (kind : ℤ → Pairing) where
     odd-inverse a o = inverse-other a (odd-only (kind a) o)
 
     odd-negative : (a : ℤ) → odd a ≡ true → odd (negℤ a) ≡ true
-    odd-negative a o = ap isOdd (K .negative a) ∙ o
+    odd-negative a o = ap oddKind (K .negative a) ∙ o
 
     odd-moves : (a : ℤ) → odd a ≡ true → a ≡ negℤ a → ⊥
-    odd-moves a o e = clash o (ap (λ (x : ℤ). isOdd (kind x)) (self-negative a e) ∙ ap isOdd (K .none))
+    odd-moves a o e = clash o (ap (λ (x : ℤ). oddKind (kind x)) (self-negative a e) ∙ ap oddKind (K .none))
 
     pub apart-sym : (a b : ℤ) → apart a b ≡ true → apart b a ≡ true
     apart-sym a b e = apart-by b a

@@ -33,7 +33,7 @@ use Rattle.pairing.proofs.Facts.{map-at}
 use Rattle.polygon.specs.Step.{oddAt}
 use Rattle.polygon.proofs.SymbolFacts.{Mate, Kind, even, odd, free, kind, count-less}
 use Rattle.normal_forms.specs.Reduced.{letterKind}
-use Rattle.normal_forms.specs.Reduce.{isEven, isOdd, inverse}
+use Rattle.normal_forms.specs.Reduce.{evenKind, oddKind, inverse}
 use Rattle.normal_forms.proofs.Put.{Kinds, isPlain, plain-even, other-plain, inverse-even, inverse-other, self-negative}
 
 module _ (v : ℕ) (t : List ℤ) where
@@ -153,10 +153,10 @@ module _ (v : ℕ) (t : List ℤ) where
     -- ---- out through a side, and in again
 
     unfoldable pub outward : ℕ → ℤ
-    outward i = pick (isEven (pairingAt v t i)) (pos (generatorNumber v t i)) (pick (isLeader v t i) (negℤ (pos (generatorNumber v t i))) (pos (generatorNumber v t i)))
+    outward i = pick (evenKind (pairingAt v t i)) (pos (generatorNumber v t i)) (pick (isLeader v t i) (negℤ (pos (generatorNumber v t i))) (pos (generatorNumber v t i)))
 
     unfoldable pub far : ℕ → ℕ
-    far i = pick (isEven (pairingAt v t i)) i (partner v t i)
+    far i = pick (evenKind (pairingAt v t i)) i (partner v t i)
 
     pub outward-even : (i : ℕ) → pairingAt v t i ≡ Even → outward i ≡ pos (generatorNumber v t i)
     unfolding outward
@@ -165,7 +165,7 @@ module _ (v : ℕ) (t : List ℤ) where
     pub outward-free : (i l : ℕ) → pairingAt v t i ≡ Free l → outward i ≡ pick (isLeader v t i) (negℤ (pos (generatorNumber v t i))) (pos (generatorNumber v t i))
     unfolding outward
     outward-free i l k =
-        ap (λ (x : Pairing). pick (isEven x) (pos (generatorNumber v t i)) (pick (isLeader v t i) (negℤ (pos (generatorNumber v t i))) (pos (generatorNumber v t i)))) k
+        ap (λ (x : Pairing). pick (evenKind x) (pos (generatorNumber v t i)) (pick (isLeader v t i) (negℤ (pos (generatorNumber v t i))) (pos (generatorNumber v t i)))) k
 
     pub far-even : (i : ℕ) → pairingAt v t i ≡ Even → far i ≡ i
     unfolding far
@@ -177,7 +177,7 @@ module _ (v : ℕ) (t : List ℤ) where
 
     pub outward-size : (i : ℕ) → natAbs (outward i) ≡ generatorNumber v t i
     unfolding outward
-    outward-size i = by (isEven (pairingAt v t i)) (isLeader v t i)
+    outward-size i = by (evenKind (pairingAt v t i)) (isLeader v t i)
       where
         by : (b c : Bool) → natAbs (pick b (pos (generatorNumber v t i)) (pick c (negℤ (pos (generatorNumber v t i))) (pos (generatorNumber v t i)))) ≡ generatorNumber v t i
         by true c = refl
@@ -191,19 +191,19 @@ module _ (v : ℕ) (t : List ℤ) where
       pub low : far i ≤ v
       pub not-odd : oddAt v t (far i) ≡ false
       pub plain : isPlain (letterKind v t) (outward i) ≡ true
-      pub even-or-free : isOdd (letterKind v t (outward i)) ≡ false
+      pub even-or-free : oddKind (letterKind v t (outward i)) ≡ false
       pub back : outward (far i) ≡ inverse (letterKind v t) (outward i)
 
     across-even : (i : ℕ) → i ≤ v → pairingAt v t i ≡ Even → oddAt v t i ≡ false → Across i
     across-even i h k o =
         let f = far-even i k in
-        let e = ap isEven (outward-kind i h ∙ k) in
+        let e = ap evenKind (outward-kind i h ∙ k) in
         let z = outward-even i k in
         record {
           low = omega arith;
           not-odd = ap (oddAt v t) f ∙ o;
           plain = eq-eqZ _ (outward i) (plain-even (letterKind v t) (outward i) e ∙ ap (λ (x : ℤ). pos (natAbs x)) z ∙ sym z);
-          even-or-free = ap isOdd (outward-kind i h ∙ k);
+          even-or-free = ap oddKind (outward-kind i h ∙ k);
           back = ap outward f ∙ sym (inverse-even (letterKind v t) (outward i) e);
         }
 
@@ -245,12 +245,12 @@ module _ (v : ℕ) (t : List ℤ) where
     across-free i l h k o m =
         let f = far-free i l k in
         let w = m .within in
-        let e = ap isEven (outward-kind i h ∙ k) in
+        let e = ap evenKind (outward-kind i h ∙ k) in
         record {
           low = omega arith;
           not-odd = ap (oddAt v t) f ∙ ap (λ (x : ℤ). eqZ x (negsuc 2)) (m .same) ∙ o;
           plain = other-plain (letterKind v t) (outward i) e;
-          even-or-free = ap isOdd (outward-kind i h ∙ k);
+          even-or-free = ap oddKind (outward-kind i h ∙ k);
           back = ap outward f ∙ mate-number i l k m .1 ∙ sym (inverse-other (letterKind v t) (outward i) e);
         }
 
@@ -298,6 +298,6 @@ module _ (v : ℕ) (t : List ℤ) where
         go (even a b) (odd c d) = clash d p
         go (free l a b m) (odd c d) = clash d p
         go (even a b) (even c d) = sym (head-self i (leader-by i Even a)) ∙ heads ∙ head-self k (leader-by k Even c)
-        go (even a b) (free l c d m) = clash (ap isEven a) (ap isEven (same ∙ c))
-        go (free l a b m) (even c d) = clash (ap isEven c) (ap isEven (sym same ∙ a))
+        go (even a b) (free l c d m) = clash (ap evenKind a) (ap evenKind (same ∙ c))
+        go (free l a b m) (even c d) = clash (ap evenKind c) (ap evenKind (sym same ∙ a))
         go (free l a b m) (free r c d q) = mates l r a c m q (isLeader v t i) (isLeader v t k) refl refl

@@ -25,7 +25,7 @@ use Rattle.pairing.proofs.Facts.{frame-det}
 use Rattle.polygon.proofs.SymbolFacts.{leader, number-leads}
 use Rattle.polygon.proofs.Promise.{units}
 use Rattle.normal_forms.specs.Reduced.{generatorKinds, letterKind}
-use Rattle.normal_forms.specs.Reduce.{isEven, isOdd, plain, inverse, put, puts}
+use Rattle.normal_forms.specs.Reduce.{evenKind, oddKind, plain, inverse, put, puts}
 use Rattle.normal_forms.proofs.Put.{Meeting, cancels, merges, stays, meeting, put-stays, put-cancels, put-merges, inverse-even, inverse-other, plain-even, plain-other, even-is, odd-is}
 use Rattle.normal_forms.proofs.Side.{kinds, kind-negative, kind-of}
 
@@ -103,7 +103,7 @@ module _ (v : ℕ) (t : List ℤ) (ok : IsSymbol v t) where
         (let s = standing j h in
         let g = generator-is j Even s e in
         inl (ap (λ (k : Mat). k ⊗ k) g) ∙≈ even-square (frameAt v t (s .side)) (frame-det v t ok (s .side) (s .low)))
-    | no h ↦ clash (ap isEven e) (ap isEven (no-kind j (omega arith)))
+    | no h ↦ clash (ap evenKind e) (ap evenKind (no-kind j (omega arith)))
   ]
 
   square-odd : (j : ℕ) → kindOf (pos (suc j)) ≡ Odd → at j ⊗ at j ≡ adj (at j)
@@ -112,7 +112,7 @@ module _ (v : ℕ) (t : List ℤ) (ok : IsSymbol v t) where
         (let s = standing j h in
         let g = generator-is j Odd s e in
         ap (λ (k : Mat). k ⊗ k) g ∙ odd-square (frameAt v t (s .side)) (frame-det v t ok (s .side) (s .low)) ∙ ap adj (sym g))
-    | no h ↦ clash (ap isOdd e) (ap isOdd (no-kind j (omega arith)))
+    | no h ↦ clash (ap oddKind e) (ap oddKind (no-kind j (omega arith)))
   ]
 
   -- ---- letters
@@ -135,7 +135,7 @@ module _ (v : ℕ) (t : List ℤ) (ok : IsSymbol v t) where
 
   -- an even letter has one value up to sign, inverted or not
   letter-even : (z : ℤ) → kindOf z ≡ Even → (mat z ⊗ mat z ≈ 𝟙) × (mat (pos (natAbs z)) ≈ mat z)
-  letter-even (pos zero) e = clash (ap isEven e) (ap isEven (kinds v t .none))
+  letter-even (pos zero) e = clash (ap evenKind e) (ap evenKind (kinds v t .none))
   letter-even (pos (suc j)) e = (square-even j e, ≈-refl)
   letter-even (negsuc j) e =
       let s = square-even j (sym (upright j) ∙ e) in
@@ -143,18 +143,18 @@ module _ (v : ℕ) (t : List ℤ) (ok : IsSymbol v t) where
       (≈-both o o ∙≈ s, ≈-sym o)
 
   letter-odd : (z : ℤ) → kindOf z ≡ Odd → mat z ⊗ mat z ≡ mat (negℤ z)
-  letter-odd (pos zero) e = clash (ap isOdd e) (ap isOdd (kinds v t .none))
+  letter-odd (pos zero) e = clash (ap oddKind e) (ap oddKind (kinds v t .none))
   letter-odd (pos (suc j)) e = square-odd j e
   letter-odd (negsuc j) e = inverse-square (at j) (square-odd j (sym (upright j) ∙ e))
 
   letter-plain : (z : ℤ) → mat (plain kindOf z) ≈ mat z
-  letter-plain z = elim (either (isEven (kindOf z))) [
+  letter-plain z = elim (either (evenKind (kindOf z))) [
     | inl e ↦ inl (ap mat (plain-even kindOf z e)) ∙≈ letter-even z (even-is (kindOf z) e) .1
     | inr e ↦ inl (ap mat (plain-other kindOf z e))
   ]
 
   letter-inverse : (a : ℤ) → mat (inverse kindOf a) ⊗ mat a ≈ 𝟙
-  letter-inverse a = elim (either (isEven (kindOf a))) [
+  letter-inverse a = elim (either (evenKind (kindOf a))) [
     | inl e ↦ inl (ap (λ (x : ℤ). mat x ⊗ mat a) (inverse-even kindOf a e)) ∙≈ letter-even a (even-is (kindOf a) e) .0
     | inr e ↦ inl (ap (λ (x : ℤ). mat x ⊗ mat a) (inverse-other kindOf a e) ∙ letter-negative a)
   ]

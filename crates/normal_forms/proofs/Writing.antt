@@ -35,7 +35,7 @@ use Rattle.polygon.proofs.Flip.{inner, outside, place, Cutting, real-odd, turn-
 use Rattle.polygon.proofs.Steps.{Beyond, crosses, even-side, free-side, beyond, written-S, step-face}
 use Rattle.polygon.proofs.Promise.{silent-Q, silent-P, written-Q, written-P}
 use Rattle.normal_forms.specs.Reduced.{letterKind}
-use Rattle.normal_forms.specs.Reduce.{isEven, isOdd, inverse}
+use Rattle.normal_forms.specs.Reduce.{evenKind, oddKind, inverse}
 use Rattle.normal_forms.proofs.Put.{apart, both, differs, apart-by, inverse-even, inverse-other, isPlain, other-plain}
 use Rattle.normal_forms.proofs.Side.{kind-negative, outward, far, outward-even, outward-free, far-even, far-free, kind-of, odd-once, outward-once, across}
 
@@ -155,19 +155,19 @@ module _ (v : ℕ) (t : List ℤ) (ok : IsSymbol v t) (C : Cutting v t) where
 
   pub data Clash (z y : ℤ) : Type 0 where
     cancel : y ≡ inverse kindOf z → Clash z y
-    merge : isOdd (kindOf z) ≡ true → y ≡ z → Clash z y
+    merge : oddKind (kindOf z) ≡ true → y ≡ z → Clash z y
 
   pub clashes : (z y : ℤ) → apart kindOf z y ≡ false → Clash z y
   clashes z y f = elim (either (eqZ y (inverse kindOf z))) [
     | inl e ↦ cancel (eqZ-true y (inverse kindOf z) e)
-    | inr e ↦ elim (either (isOdd (kindOf z) && eqZ y z)) [
-      | inl g ↦ merge (and-left (isOdd (kindOf z)) (eqZ y z) g) (eqZ-true y z (and-right (isOdd (kindOf z)) (eqZ y z) g))
+    | inr e ↦ elim (either (oddKind (kindOf z) && eqZ y z)) [
+      | inl g ↦ merge (and-left (oddKind (kindOf z)) (eqZ y z) g) (eqZ-true y z (and-right (oddKind (kindOf z)) (eqZ y z) g))
       | inr g ↦ clash (apart-by kindOf z y (differs y (inverse kindOf z) e) (λ o q. clash (both o (eq-eqZ y z q)) g)) f
     ]
   ]
 
   inverse-same : (z : ℤ) → (kindOf (inverse kindOf z) ≡ kindOf z) × (natAbs (inverse kindOf z) ≡ natAbs z)
-  inverse-same z = elim (either (isEven (kindOf z))) [
+  inverse-same z = elim (either (evenKind (kindOf z))) [
     | inl e ↦ (let n = inverse-even kindOf z e in (ap kindOf n, ap natAbs n))
     | inr e ↦ (let n = inverse-other kindOf z e in (ap kindOf n ∙ kind-negative v t z, ap natAbs n ∙ abs-neg z))
   ]
@@ -177,13 +177,13 @@ module _ (v : ℕ) (t : List ℤ) (ok : IsSymbol v t) (C : Cutting v t) where
   alike z y (cancel e) = (ap kindOf e ∙ inverse-same z .0, ap natAbs e ∙ inverse-same z .1)
   alike z y (merge o e) = (ap kindOf e, ap natAbs e)
 
-  written-odd : (x : Letter) (p : ℕ) (z : ℤ) → Writing x p z → isOdd (kindOf z) ≡ isTurn x
-  written-odd x p z (out i h n s e g a) = ap (λ (y : ℤ). isOdd (kindOf y)) a ∙ across v t ok i h n .even-or-free ∙ sym s
-  written-odd x p z (face i h k s e g a) = ap isOdd (kind-of v t ok i z h a ∙ k) ∙ sym s
+  written-odd : (x : Letter) (p : ℕ) (z : ℤ) → Writing x p z → oddKind (kindOf z) ≡ isTurn x
+  written-odd x p z (out i h n s e g a) = ap (λ (y : ℤ). oddKind (kindOf y)) a ∙ across v t ok i h n .even-or-free ∙ sym s
+  written-odd x p z (face i h k s e g a) = ap oddKind (kind-of v t ok i z h a ∙ k) ∙ sym s
 
   pub written-plain : (x : Letter) (p : ℕ) (z : ℤ) → Writing x p z → isPlain kindOf z ≡ true
   written-plain x p z (out i h n s e g a) = ap (isPlain kindOf) a ∙ across v t ok i h n .plain
-  written-plain x p z (face i h k s e g a) = other-plain kindOf z (ap isEven (kind-of v t ok i z h a ∙ k))
+  written-plain x p z (face i h k s e g a) = other-plain kindOf z (ap evenKind (kind-of v t ok i z h a ∙ k))
 
   pub meet : (x y : Letter) (p q : ℕ) (z z' : ℤ) → Writing x p z → Writing y q z' → apart kindOf z z' ≡ false → (q ≡ goes v t x p) × (alternate x y ≡ false)
   meet x y p q z z' a b f = (go a b c, no-turn x y one-turn)
@@ -192,7 +192,7 @@ module _ (v : ℕ) (t : List ℤ) (ok : IsSymbol v t) (C : Cutting v t) where
       c = clashes z z' f
 
       one-turn : isTurn x ≡ isTurn y
-      one-turn = sym (written-odd x p z a) ∙ sym (ap isOdd (alike z z' c .0)) ∙ written-odd y q z' b
+      one-turn = sym (written-odd x p z a) ∙ sym (ap oddKind (alike z z' c .0)) ∙ written-odd y q z' b
 
       go : Writing x p z → Writing y q z' → Clash z z' → q ≡ goes v t x p
       go (out i h n s e g w) (out k h' n' s' e' g' w') (cancel l) =

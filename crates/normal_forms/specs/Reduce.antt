@@ -1,7 +1,7 @@
 -- A WORD IS REDUCED LETTER BY LETTER. An even generator is its own inverse up to sign, and the square of an odd one is its inverse up to sign; so a
 -- letter that is put behind a reduced word cancels with the last letter, or merges with it, or stays beside it.
 --
---   isEven k, isOdd k     whether the pairing k is Even, or Odd
+--   evenKind k, oddKind k     whether the pairing k is Even, or Odd
 --   plain kind z          the letter z, and for -j with an even generator j the letter j
 --   inverse kind a        the letter of the inverse: a itself where a is even, else -a
 --   put kind h a          the letter a put behind the word whose letters are h, listed from the last one to the first
@@ -19,28 +19,28 @@ use Rattle.symbol.specs.declared.Pairing.{Pairing}
 use Rattle.symbol.specs.declared.Pairing.the-variants.{Even, Odd, Free, Bad}
 use Rattle.normal_forms.specs.Reduced.{letterKind}
 
-abbrev pub isEven : Pairing → Bool
-isEven Even = true
-isEven Odd = false
-isEven (Free l) = false
-isEven Bad = false
+abbrev pub evenKind : Pairing → Bool
+evenKind Even = true
+evenKind Odd = false
+evenKind (Free l) = false
+evenKind Bad = false
 
-abbrev pub isOdd : Pairing → Bool
-isOdd Even = false
-isOdd Odd = true
-isOdd (Free l) = false
-isOdd Bad = false
+abbrev pub oddKind : Pairing → Bool
+oddKind Even = false
+oddKind Odd = true
+oddKind (Free l) = false
+oddKind Bad = false
 
 module _ (kind : ℤ → Pairing) where
   unfoldable pub plain : ℤ → ℤ
-  plain z = pick (isEven (kind z)) (pos (natAbs z)) z
+  plain z = pick (evenKind (kind z)) (pos (natAbs z)) z
 
   unfoldable pub inverse : ℤ → ℤ
-  inverse a = pick (isEven (kind a)) a (negℤ a)
+  inverse a = pick (evenKind (kind a)) a (negℤ a)
 
   unfoldable pub put : List ℤ → ℤ → List ℤ
   put [] a = a ∷ []
-  put (b ∷ h) a = pick (eqZ b (inverse a)) h (pick (isOdd (kind a) && eqZ b a) (negℤ a ∷ h) (a ∷ b ∷ h))
+  put (b ∷ h) a = pick (eqZ b (inverse a)) h (pick (oddKind (kind a) && eqZ b a) (negℤ a ∷ h) (a ∷ b ∷ h))
 
   abbrev pub puts : List ℤ → List ℤ → List ℤ
   puts h [] = h

@@ -8,7 +8,8 @@
 --   NormalForms v t      [proofs/Forms.antt, normal-forms]   the theorem, for every accepted symbol:
 --     walk            of a matrix whose walk comes home, the word that the walk writes is the normal form
 --     H IS THE FREE PRODUCT of the cyclic groups that its generators generate, of order 2 for an even one, 3 for an odd one and infinite for a free
---     one: reduced words and elements of H up to sign correspond one to one.
+--     one: reduced words and elements of H up to sign correspond one to one, and the reduced word of a product comes from its factors' words by the rule
+--     of Reduce.antt, by which an even letter twice and an odd one three times leave nothing.
 --     element         every element of H has a normal form, which is the walk's word
 --     word            every reduced word is the walk's word of its own value, which is an element of H
 --     apart           two reduced words with one value up to sign are the same word

@@ -7,6 +7,7 @@ pub mod Numbered
 pub mod Over
 pub mod Those
 pub mod Space
+pub mod Listing
 pub mod Marks
 pub mod Filled
 pub mod Instances

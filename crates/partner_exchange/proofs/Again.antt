@@ -10,7 +10,7 @@ use lib.IntN.{ℤ}
 use Rattle.symbol.specs.Table.{pairingEntry}
 use Rattle.partner_exchange.specs.Exchange.{withLabel, exchanged}
 use Rattle.partner_exchange.specs.Theorem.{TwoSides}
-use Rattle.partner_exchange.proofs.Labelled.{at-first, at-last, labelled-length, restored}
+use Rattle.partner_exchange.proofs.Labelled.{at-first, at-last, withLabel-length, restored}
 use Rattle.partner_exchange.proofs.Trade.{Pair, exchanged-is, a-d, b-c, b-d, straight-x, turned-x, straight-y, turned-y, free-after, symbol-after}
 
 -- a pair of which each label's first side stands before the other's second one
@@ -77,7 +77,7 @@ module _ (v : ℕ) (t : List ℤ) (x y : ℤ) (a b c d : ℕ) (p : Pair v t x y 
       let l = p .sides-y .ordered in
       let m = p .sides-x .within in
       let n = p .sides-y .within in
-      let long = labelled-length v t b d x y ∙ p .symbol .long in
+      let long = withLabel-length v t b d x y ∙ p .symbol .long in
       let twice : exchanged v u x y ≡ t = ap (λ (r : List ℤ). exchanged v r x y) (sym once) ∙ e in (
         elim (decLt a d) [
           | yes h ↦ h

@@ -37,8 +37,8 @@ module _ (v : ℕ) (t : List ℤ) (b d : ℕ) (x y : ℤ) where
       ∙ getD-set-other (withLabel v t b y) (2 * v + d) (2 * v + b) x (pos 0) (λ e. p (omega arith))
       ∙ getD-set-same t (2 * v + b) y (pos 0) h
 
-  pub labelled-length : length u ≡ length t
-  labelled-length = length-set (withLabel v t b y) (2 * v + d) x ∙ length-set t (2 * v + b) y
+  pub withLabel-length : length u ≡ length t
+  withLabel-length = length-set (withLabel v t b y) (2 * v + d) x ∙ length-set t (2 * v + b) y
 
   -- a label that a side has already
   same-label : (i : ℕ) (z : ℤ) → pairingEntry v t i ≡ z → withLabel v t i z ≡ t

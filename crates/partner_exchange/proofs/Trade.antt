@@ -25,7 +25,7 @@ use Rattle.symbol.proofs.Vertices.{frame-same}
 use Rattle.partner_exchange.specs.Exchange.{secondSide, withLabel, exchanged}
 use Rattle.partner_exchange.specs.Theorem.{TwoSides}
 use Rattle.partner_exchange.proofs.Sides.{fails, second-is, two-counted}
-use Rattle.partner_exchange.proofs.Labelled.{kept-vertex, kept, at-first, at-last, labelled-length}
+use Rattle.partner_exchange.proofs.Labelled.{kept-vertex, kept, at-first, at-last, withLabel-length}
 
 -- two labels of a symbol, with their sides
 pub record Pair (v : ℕ) (t : List ℤ) (x y : ℤ) (a b c d : ℕ) : Type 0 where
@@ -199,7 +199,7 @@ module _ (v : ℕ) (t : List ℤ) (x y : ℤ) (a b c d : ℕ) (p : Pair v t x y 
       record {
         some = ok .some;
         most = ok .most;
-        long = labelled-length v t b d x y ∙ ok .long;
+        long = withLabel-length v t b d x y ∙ ok .long;
         numers = λ i h. rw (same-vertex (2 * i) (omega arith)) (ok .numers i h);
         denoms = λ i h. rw (den i h) (ok .denoms i h);
         neighbours = λ i h. ap det (frame-same v u t same-vertex i h) ∙ ok .neighbours i h;

@@ -1,5 +1,6 @@
 -- Why the calls answer and leave what they do, in reading order.
 pub mod Accepted
+pub mod Pair
 pub mod Renumbered
 pub mod Vertices
 pub mod Means

@@ -31,6 +31,7 @@ use Rattle.import_rule.proofs.Theorem.{rule-precisely}
 use Rattle.permutations.specs.Check.{pairCheck, Passport}
 use Rattle.permutations.specs.Import.{neededLength, grownWithin, importBy, importTable, Symbolised, ImportMeans, Booked}
 use Rattle.permutations.proofs.Accepted.{accepted, permuting-of}
+use Rattle.permutations.proofs.Pair.{thirds-needed}
 use Rattle.permutations.proofs.Renumbered.{index-is, renumbered-S, renumbered-R}
 use Rattle.permutations.proofs.Vertices.{maps, thirds-are, vertices-are}
 
@@ -106,6 +107,7 @@ pub booked : (s r : List ℕ) → Passport s r → Booked s r (neededLength r)
 booked s r p = record {
   passport = p;
   needed = refl;
+  thirds = thirds-needed s r p;
   takes = λ order v t e.
       let n = needed-is order s r v t p e in
       (n, n ∙ sym (ruled-means order s r v t p e .precisely .symbol .long));

@@ -16,9 +16,9 @@
 --                        divides index - e3 (`thirds`); its index is the number of points, and its own coset tables are the given permutations,
 --                        renumbered by the listing's rule
 --   importLengthOf s r   the answer of `import_length`: the refusals 12 to 15, or the length of the symbol's table
---   LengthMeans s r a    an answer n that is no refusal means this (`Booked`): the pair is a passport, and for imports by every order, with the work space
---                        that they ask for: into a space of n numbers or more the symbol's table goes, of just n numbers, or the answer is 16; a shorter
---                        space is refused with 11 and n
+--   LengthMeans s r a    an answer n that is no refusal means this (`Booked`): the pair is a passport, and 3 divides index - e3, whether or not a symbol
+--                        is made (`thirds`); and for imports by every order, with the work space that they ask for: into a space of n numbers or more
+--                        the symbol's table goes, of just n numbers, or the answer is 16; a shorter space is refused with 11 and n
 use mathlib.Core.Path.{_≡_}
 use mathlib.Core.List.{List}
 use Prim.Native.Nat.{ℕ, _+_, _-_, _*_, _/_, _≤_, _<_}
@@ -100,6 +100,7 @@ importLengthOf s r = filledBy (pairCheck s r) (Made (neededLength r))
 pub record Booked (s r : List ℕ) (n : ℕ) : Type 0 where
   pub passport : Passport s r
   pub needed : n ≡ neededLength r
+  pub thirds : 3 * (neededVertices r - 1) + fixedPoints r ≡ length r
   pub takes : (order : Order) (v : ℕ) (t : List ℤ) → ruledBy order s r ≡ made v t → (n ≡ 3 * v + 1) × (n ≡ length t)
   pub enough : (order : Order) (work room : ℕ) → workLength ≤ work → n ≤ room → importBy order s r work room ≡ grownOf (ruledBy order s r)
   pub fewer : (order : Order) (work room : ℕ) → workLength ≤ work → room < n → importBy order s r work room ≡ Refused (tooShort n)

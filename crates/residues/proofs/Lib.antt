@@ -2,5 +2,6 @@
 -- tell cosets apart; the images of entries.
 pub mod Products
 pub mod Signs
+pub mod Rows
 pub mod Keys
 pub mod Images

@@ -1,4 +1,4 @@
--- WHETHER A AND B SHARE A COSET (docs/CONVENTIONS.md, 16), by the definitions of the pair query itself (word/specs/Answer.antt, Claim.antt): yes precisely
+-- WHETHER A AND B SHARE A COSET (docs/CONVENTIONS.md, 17), by the definitions of the pair query itself (word/specs/Answer.antt, Claim.antt): yes precisely
 -- where the query would find a word, given enough space, and no where it gives 10.
 --
 --   Shared                  the answer: yes, no, or a refusal

@@ -1,4 +1,4 @@
--- WHICH OF MANY PAIRS SHARE A COSET, against one symbol (docs/CONVENTIONS.md, 16). Pairs lie one after another, eight entries each, as in a sheet
+-- WHICH OF MANY PAIRS SHARE A COSET, against one symbol (docs/CONVENTIONS.md, 17). Pairs lie one after another, eight entries each, as in a sheet
 -- (sheets/specs/Sheet.antt), and there may be any number of them.
 --
 --   ragged n                whether n entries are no number of whole pairs

@@ -28,7 +28,7 @@ pub enum Sameness {
 }
 
 // The table of n entries at `off`, kept at the front of out.
-fn keep(w: &[u16], off: usize, n: usize, out: &mut [u16])
+pub fn keep(w: &[u16], off: usize, n: usize, out: &mut [u16])
     requires { ⌜ (off ≤ 32768) × (off + n ≤ length (now w)) × (n ≤ length (now out)) ⌝ }
     ensures { λ _. ⌜ now (out .exit) ≡ entries off n (now (w .entry)) ++ drop n (now (out .entry)) ⌝ }
 {

@@ -17,7 +17,8 @@ use Rattle.matrix.specs.Matrix.{nth}
 use Rattle.text_line.specs.Line.{natural, line, refusedWord, Puts}
 use Rattle.text_line.proofs.Placing.{puts-as, puts-none, puts-then, puts-same}
 use Rattle.query_text.specs.Reply.{wordHead}
-use Rattle.sheet_text.specs.Inner.Table.{lineIn, isWord, namedWord, printedRow, used, printedRows, usedTo}
+use Rattle.sheets.specs.Sheet.{lineIn}
+use Rattle.sheet_text.specs.Inner.Table.{isWord, namedWord, printedRow, used, printedRows, usedTo}
 
 sign-back : (s b : Bool) → b ≡ not s → s ≡ not b
 sign-back true b e = ap not (sym e)

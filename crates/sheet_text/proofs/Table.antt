@@ -1,56 +1,36 @@
 -- The line table of a sheet that is made, printed line by line: the lines that the program `query` would write.
---     never-zero                  no answer of a query is a refusal with the number 0, by its claim
 --     line-said, used-said        the line of an answer, and the letters that it names
---     line-there                  the line i of the table is that of the answer for the pair i
 --     lines-printed               the first lines of the table
 --     used-next                   and they name just the letters before the place where the next word starts
 --     lines-room                  so that there is room for them
 -- Assumes nothing.
-use mathlib.Core.Path.{_≡_, refl, sym, _∙_, ap, subst}
-use mathlib.Core.Logic.{_⊎_, inl, inr}
+use mathlib.Core.Path.{_≡_, refl, _∙_, ap}
 use mathlib.Core.Bool.{Bool, true, false}
-use mathlib.Core.List.{List, [], _∷_, _++_, append-assoc}
+use mathlib.Core.List.{List, [], _∷_, _++_}
 use Prim.Native.Nat.{ℕ, zero, suc, _+_, _*_, _≤_, _<_}
-use native.Mathlib.Decide.{decLt}
 use native.Mathlib.Omega.{arith}
 use lib.Dec.{eqb}
-use lib.IntN.{ℤ, pos}
-use lib.ListN.{length, take, drop}
-use lib.Seq.{take-at, drop-at}
+use lib.IntN.{ℤ}
+use lib.ListN.{length}
 use borrow.Author.Tests.{ne-eqb}
 use Rattle.basics.specs.Choice.{pick}
-use Rattle.basics.proofs.Choice.{pick-true, pick-false}
+use Rattle.basics.proofs.Choice.{pick-false}
 use Rattle.matrix.specs.Matrix.{ofList}
-use Rattle.refusal.specs.Refusal.{noRefusal, noWord, tooShort}
 use Rattle.refusal.specs.declared.Refusal.{Refusal}
 use Rattle.workspace.specs.Space.{workLength}
 use Rattle.text_line.specs.Line.{natural, line, refusedWord, refusalLine}
-use Rattle.word.specs.Answer.{queryRefusal, foundWord, queryOf, partOf}
-use Rattle.word.specs.Claim.{Claim, Joined}
+use Rattle.word.specs.Answer.{foundWord, partOf}
 use Rattle.word.specs.declared.Queried.{Queried}
 use Rattle.word.specs.declared.Queried.the-variants as queried
-use Rattle.word.proofs.Claim.{same-number}
 use Rattle.query_text.specs.Reply.{said, wordHead, lettersLent}
-use Rattle.sheets.specs.Sheet.{matrixA, matrixB, wordEnd, spaceAt, answerAt, lineOf, linesTo}
-use Rattle.sheets.proofs.Lines.{length-line, length-lines}
+use Rattle.sheets.specs.Sheet.{matrixA, matrixB, wordEnd, spaceAt, answerAt, lineOf, linesTo, lineIn}
+use Rattle.sheets.proofs.Lines.{line-there}
+use Rattle.sheets.proofs.Said.{never-zero}
 use Rattle.sheets.proofs.Spaces.{kept, word-stood, line-means}
 use Rattle.sheet_text.specs.Printed.{pairLine, pairLines}
-use Rattle.sheet_text.specs.Inner.Table.{lineIn, namedWord, printedRow, used, printedRows, usedTo, LinesRoom}
+use Rattle.sheet_text.specs.Inner.Table.{printedRow, used, printedRows, usedTo, LinesRoom}
 
 -- ---- an answer
-
--- Why: with the number 0 the query got to its walk; it then answers a word, 11 or 10
-pub never-zero : {v : ℕ} {t a b : List ℤ} {w : List ℕ} {out : List ℤ} {start : ℕ} {out' : List ℤ} (r : Queried) (f : Refusal)
-    → Claim v t a b w out start r out' → r ≡ queried.Refused f → f .number ≡ 0 → ⊥
-never-zero {v} {t} {a} {b} {w} {out} {start} {out'} r f c e z =
-    let is : queryRefusal r ≡ f = ap queryRefusal e in
-    let number : queryRefusal r .number ≡ 0 = same-number is ∙ z in
-    let k = c .answered (c .asked (inl number)) in
-    let apart : Joined v t (ofList a) (ofList b) → ⊥ = λ j. elim (k .found .1 j) [
-      | inl h ↦ let x = sym e ∙ k .names h in let y : _≡_ {A = ℕ} 0 1 = cc in absurd (omega arith)
-      | inr h ↦ omega (arith, same-number h, number)
-    ] in
-    omega (arith, same-number (k .none .1 apart), number)
 
 module _ (r : Queried) (l letters : List ℤ) (stands : (s n : ℕ) (sign : Bool) → r ≡ queried.Word s n sign → partOf letters s n ≡ l)
     (some-number : (f : Refusal) → r ≡ queried.Refused f → f .number ≡ 0 → ⊥) where
@@ -76,35 +56,6 @@ module _ (r : Queried) (l letters : List ℤ) (stands : (s n : ℕ) (sign : Bool
   pub used-said : (start : ℕ) → ((s n : ℕ) (sign : Bool) → r ≡ queried.Word s n sign → (s ≡ start) × (n ≡ length l))
       → start + used (lineOf r) letters ≡ wordEnd r start
   used-said start h = used-by r refl start h
-
--- ---- the table
-
-module _ (v : ℕ) (t p : List ℤ) (work : ℕ) (out : List ℤ) where
-  line-last : (i : ℕ) (rest : List ℤ) → lineIn (linesTo v t p work out (suc i) ++ rest) i ≡ lineOf (answerAt v t p work out i)
-  unfolding linesTo
-  line-last i rest =
-      let front = linesTo v t p work out i in
-      let here = lineOf (answerAt v t p work out i) in
-      ap (λ (x : List ℤ). take 4 (drop (4 * i) x)) (append-assoc front here rest)
-      ∙ ap (take 4) (drop-at front (here ++ rest) (4 * i) (length-lines v t p work out i))
-      ∙ take-at here rest 4 (length-line (answerAt v t p work out i))
-
-  line-step : (n i : ℕ) (rest : List ℤ) → i < n → ((r : List ℤ) → lineIn (linesTo v t p work out n ++ r) i ≡ lineOf (answerAt v t p work out i))
-      → lineIn (linesTo v t p work out (suc n) ++ rest) i ≡ lineOf (answerAt v t p work out i)
-  unfolding linesTo
-  line-step n i rest h k =
-      let front = linesTo v t p work out n in
-      let here = lineOf (answerAt v t p work out n) in
-      ap (λ (x : List ℤ). take 4 (drop (4 * i) x)) (append-assoc front here rest) ∙ k (here ++ rest)
-
-  pub line-there : (n i : ℕ) (rest : List ℤ) → i < n → lineIn (linesTo v t p work out n ++ rest) i ≡ lineOf (answerAt v t p work out i)
-  line-there zero i rest h = absurd (omega arith)
-  line-there (suc n) i rest h = elim (decLt i n) [
-    | yes l ↦ line-step n i rest l (λ r. line-there n i r l)
-    | no l ↦
-        let e : n ≡ i = omega arith in
-        subst (λ (m : ℕ). lineIn (linesTo v t p work out (suc m) ++ rest) i ≡ lineOf (answerAt v t p work out i)) (sym e) (line-last i rest)
-  ]
 
 -- ---- the table that a sheet of n pairs leaves, and its word space
 

@@ -1,6 +1,9 @@
--- Why a sheet answers what it does, in reading order: how long a word can be, one pair, the word space from pair to pair, the lines, the whole sheet.
+-- Why a sheet answers what it does, in reading order: how long a word can be, one pair, the word space from pair to pair, the lines, what
+-- the number of a query tells and what a line says, the whole sheet.
 pub mod Long
 pub mod Single
 pub mod Spaces
 pub mod Lines
+pub mod Said
+pub mod Says
 pub mod Whole

@@ -1,9 +1,11 @@
--- The lines of a sheet, one after another: four stores are a line (`four-stores`); the lines of the first i pairs, with one more (`lines-more`); and the
--- same for all that the loop over the pairs holds (`Going`, `going-none`, `going-more`). Assumes nothing.
+-- The lines of a sheet, one after another: four stores are a line (`four-stores`); the lines of the first i pairs, with one more (`lines-more`); the line i
+-- of them is that of the answer for the pair i (`line-there`); and what the loop over the pairs holds (`Going`, `going-none`, `going-more`).
+-- Assumes nothing.
 use mathlib.Core.Path.{_≡_, refl, sym, _∙_, ap, subst}
 use mathlib.Core.Bool.{Bool}
-use mathlib.Core.List.{List, [], _∷_, _++_}
-use Prim.Native.Nat.{ℕ, zero, suc, _+_, _*_, _≤_}
+use mathlib.Core.List.{List, [], _∷_, _++_, append-assoc}
+use Prim.Native.Nat.{ℕ, zero, suc, _+_, _*_, _≤_, _<_}
+use native.Mathlib.Decide.{decLt}
 use native.Mathlib.Omega.{arith}
 use lib.ListN.{length, set, take, drop, length-append}
 use lib.Seq.{sets-eq, take-at, drop-at, drop-drop}
@@ -15,7 +17,7 @@ use Rattle.refusal.specs.declared.Refusal.{Refusal}
 use Rattle.word.specs.Answer.{four, foundWord, signNumber, queryOf, wordLeft}
 use Rattle.word.specs.declared.Queried.{Queried}
 use Rattle.word.specs.declared.Queried.the-variants as queried
-use Rattle.sheets.specs.Sheet.{matrixA, matrixB, wordEnd, WordSpace, spaceAt, answerAt, lineOf, linesTo}
+use Rattle.sheets.specs.Sheet.{matrixA, matrixB, wordEnd, WordSpace, spaceAt, answerAt, lineOf, linesTo, lineIn}
 use Rattle.sheets.specs.Inner.Pairs.{pairOf, lineAt}
 use Rattle.sheets.proofs.Single.{single, part-A, part-B}
 
@@ -56,6 +58,30 @@ module _ (v : ℕ) (t p : List ℤ) (work : ℕ) (out : List ℤ) where
       ∙ ap (λ (k : ℕ). drop k lines) count in
       let before : take (4 * i) lines' ≡ front i = ap (take (4 * i)) e ∙ take-at (front i) (drop (4 * i) lines) (4 * i) (length-lines i) in
       ap (λ (x : List ℤ). x ++ line ++ drop (4 * i + 4) lines') before ∙ ap (λ (x : List ℤ). front i ++ line ++ x) behind
+
+  line-last : (i : ℕ) (rest : List ℤ) → lineIn (front (suc i) ++ rest) i ≡ lineOf (answerAt v t p work out i)
+  unfolding linesTo
+  line-last i rest =
+      let here = lineOf (answerAt v t p work out i) in
+      ap (λ (x : List ℤ). take 4 (drop (4 * i) x)) (append-assoc (front i) here rest)
+      ∙ ap (take 4) (drop-at (front i) (here ++ rest) (4 * i) (length-lines i))
+      ∙ take-at here rest 4 (length-line (answerAt v t p work out i))
+
+  line-step : (n i : ℕ) (rest : List ℤ) → i < n → ((r : List ℤ) → lineIn (front n ++ r) i ≡ lineOf (answerAt v t p work out i))
+      → lineIn (front (suc n) ++ rest) i ≡ lineOf (answerAt v t p work out i)
+  unfolding linesTo
+  line-step n i rest h k =
+      let here = lineOf (answerAt v t p work out n) in
+      ap (λ (x : List ℤ). take 4 (drop (4 * i) x)) (append-assoc (front n) here rest) ∙ k (here ++ rest)
+
+  pub line-there : (n i : ℕ) (rest : List ℤ) → i < n → lineIn (front n ++ rest) i ≡ lineOf (answerAt v t p work out i)
+  line-there zero i rest h = absurd (omega arith)
+  line-there (suc n) i rest h = elim (decLt i n) [
+    | yes l ↦ line-step n i rest l (λ r. line-there n i r l)
+    | no l ↦
+        let e : n ≡ i = omega arith in
+        subst (λ (m : ℕ). lineIn (front (suc m) ++ rest) i ≡ lineOf (answerAt v t p work out i)) (sym e) (line-last i rest)
+  ]
 
 -- ---- what the loop over the pairs holds before the pair i, from `lines` and `out` on
 

@@ -2,12 +2,12 @@
 -- Assumes nothing.
 use mathlib.Core.Path.{_≡_, sym, _∙_, ap, subst}
 use mathlib.Core.Bool.{true, false}
-use mathlib.Core.List.{List}
+use mathlib.Core.List.{List, _++_}
 use mathlib.Core.Logic.{inl, inr}
-use Prim.Native.Nat.{ℕ, _/_, _≤_, _<_}
+use Prim.Native.Nat.{ℕ, _*_, _/_, _≤_, _<_}
 use native.Mathlib.Omega.{arith}
 use lib.Dec.{ltb}
-use lib.ListN.{length}
+use lib.ListN.{length, drop}
 use lib.IntN.{ℤ}
 use borrow.Author.Tests.{lt-ltb, le-ltb}
 use Rattle.basics.specs.Choice.{pick}
@@ -22,9 +22,10 @@ use Rattle.refusal.specs.declared.Filled.the-variants as filled
 use Rattle.symbol.specs.Check.{symbolCheck}
 use Rattle.pairing.specs.Generator.{byWork, workAfter}
 use Rattle.coset.specs.Answer.{roomOne}
-use Rattle.sheets.specs.Sheet.{pairsIn, badCount, sheetCheck, spaceAt, sheetOf, lettersAfter}
+use Rattle.sheets.specs.Sheet.{pairsIn, badCount, sheetCheck, spaceAt, linesTo, sheetOf, linesLeft, lettersAfter}
 use Rattle.sheets.specs.Meaning.{SheetMeans}
 use Rattle.sheets.proofs.Spaces.{line-means}
+use Rattle.sheets.proofs.Says.{line-says}
 
 -- ---- the ways out, for n entries
 
@@ -77,29 +78,40 @@ module _ (v : ℕ) (t : List ℤ) (n : ℕ) where
 -- ---- what the answer means
 
 module _ (v : ℕ) (t p : List ℤ) (w : List ℕ) (out : List ℤ) where
-  pub means-refused : (f : Refusal) (out' : List ℤ) → SheetMeans v t p w out (filled.Refused f) out'
-  means-refused f out' = record {
+  pub means-refused : (f : Refusal) (lines' out' : List ℤ) → SheetMeans v t p w out (filled.Refused f) lines' out'
+  means-refused f lines' out' = record {
     pairs = λ k e. let z : _≡_ {A = ℕ} 0 1 = cc in absurd (omega arith);
     lines = λ k e. let z : _≡_ {A = ℕ} 0 1 = cc in absurd (omega arith);
+    says = λ k e. let z : _≡_ {A = ℕ} 0 1 = cc in absurd (omega arith);
   }
+
+  abbrev table : List ℤ
+  table = linesTo v t p (length w) out (pairsIn p)
 
   abbrev last : List ℤ
   last = spaceAt v t p (length w) out (pairsIn p) .letters
 
-  means-made : SheetMeans v t p w out (filled.Made (pairsIn p)) last
-  means-made = record {
+  means-made : (rest : List ℤ) → SheetMeans v t p w out (filled.Made (pairsIn p)) (table ++ rest) last
+  means-made rest = record {
     pairs = λ k e. let z : k ≡ pairsIn p = cc in z;
     lines = λ k e i h. let z : k ≡ pairsIn p = cc in line-means v t p w out (pairsIn p) i (omega arith);
+    says = λ k e i h. let z : k ≡ pairsIn p = cc in line-says v t p w out (pairsIn p) rest i (omega arith);
   }
 
-  abbrev Means : Filled → Type 0
-  Means r = SheetMeans v t p w out r (lettersAfter r last out)
+  module _ (lines : List ℤ) where
+    abbrev Means : Filled → Type 0
+    Means r = SheetMeans v t p w out r (linesLeft r table lines) (lettersAfter r last out)
 
-  means-room : (a : ℕ) → Means (roomOne (pairsIn p) a)
-  means-room a = elim (either (ltb a (pairsIn p))) [
-    | inl e ↦ subst Means (sym (pick-true (ltb a (pairsIn p)) (filled.Refused (tooShort (pairsIn p))) (filled.Made (pairsIn p)) e)) (means-refused (tooShort (pairsIn p)) out)
-    | inr e ↦ subst Means (sym (pick-false (ltb a (pairsIn p)) (filled.Refused (tooShort (pairsIn p))) (filled.Made (pairsIn p)) e)) means-made
-  ]
+    means-room : (a : ℕ) → Means (roomOne (pairsIn p) a)
+    means-room a = elim (either (ltb a (pairsIn p))) [
+      | inl e ↦ subst Means (sym (pick-true (ltb a (pairsIn p)) (filled.Refused (tooShort (pairsIn p))) (filled.Made (pairsIn p)) e))
+          (means-refused (tooShort (pairsIn p)) lines out)
+      | inr e ↦ subst Means (sym (pick-false (ltb a (pairsIn p)) (filled.Refused (tooShort (pairsIn p))) (filled.Made (pairsIn p)) e))
+          (means-made (drop (4 * pairsIn p) lines))
+    ]
 
-  pub means : (a : ℕ) (r : Filled) (out' : List ℤ) → r ≡ roomOne (pairsIn p) a → out' ≡ lettersAfter r last out → SheetMeans v t p w out r out'
-  means a r out' e f = subst (λ (o : List ℤ). SheetMeans v t p w out r o) (sym f) (subst Means (sym e) (means-room a))
+    pub means : (a : ℕ) (r : Filled) (lines' out' : List ℤ) → r ≡ roomOne (pairsIn p) a → lines' ≡ linesLeft r table lines → out' ≡ lettersAfter r last out
+        → SheetMeans v t p w out r lines' out'
+    means a r lines' out' e q f =
+        subst (λ (l : List ℤ). SheetMeans v t p w out r l out') (sym q)
+        (subst (SheetMeans v t p w out r (linesLeft r table lines)) (sym f) (subst Means (sym e) (means-room a)))

@@ -11,13 +11,14 @@
 --   answerAt .. i             THE ANSWER FOR THE PAIR i: that of the single query in this word space, from where the next word starts
 --   lineOf r                  the line of an answer: 0, the word's start, its length, and 1 or -1 for its sign; or the refusal, its place, 0 and 0
 --   linesTo .. i              the lines of the first i pairs, one after another
+--   lineIn lines i            the line of the pair i in a line table: four numbers, from place 4i on
 --   sheetOf v t n work lines  the answer of the sheet: its checks, then the work space, then the line table, counted in whole lines; or how many lines
 --   linesLeft, lettersAfter   what the call leaves in the line table and in the word space
 use mathlib.Core.Bool.{Bool, not, _||_}
 use mathlib.Core.List.{List, [], _∷_, _++_}
 use Prim.Native.Nat.{ℕ, zero, suc, _+_, _*_, _/_, _%_}
 use lib.Dec.{ltb, eqb}
-use lib.ListN.{length, drop}
+use lib.ListN.{length, take, drop}
 use lib.IntN.{ℤ, pos}
 use Rattle.basics.specs.Choice.{pick}
 use Rattle.matrix.specs.Matrix.{ofList}
@@ -85,6 +86,9 @@ lineOf (queried.Refused f) = pos (f .number) ∷ pos (f .place) ∷ pos 0 ∷ po
 unfoldable pub linesTo : (v : ℕ) (t p : List ℤ) (work : ℕ) (out : List ℤ) → ℕ → List ℤ
 linesTo v t p work out zero = []
 linesTo v t p work out (suc i) = linesTo v t p work out i ++ lineOf (answerAt v t p work out i)
+
+abbrev pub lineIn : List ℤ → ℕ → List ℤ
+lineIn lines i = take 4 (drop (4 * i) lines)
 
 -- ---- the answer of the sheet, and what it leaves
 

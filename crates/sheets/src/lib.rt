@@ -194,7 +194,7 @@ pub fn sheet(
     ensures { λ r. ⌜ now (w .exit) ≡ workAfter (sheetCheck v (now (t .entry)) (length (now (p .entry)))) (now (w .entry)) ⌝ }
     ensures { λ r. ⌜ now (lines .exit) ≡ linesLeft r (linesTo v (now (t .entry)) (now (p .entry)) (length (now (w .entry))) (now (out .entry)) (pairsIn (now (p .entry)))) (now (lines .entry)) ⌝ }
     ensures { λ r. ⌜ now (out .exit) ≡ lettersAfter r (spaceAt v (now (t .entry)) (now (p .entry)) (length (now (w .entry))) (now (out .entry)) (pairsIn (now (p .entry))) .letters) (now (out .entry)) ⌝ }
-    ensures { λ r. ⌜ SheetMeans v (now (t .entry)) (now (p .entry)) (now (w .entry)) (now (out .entry)) r (now (out .exit)) ⌝ }
+    ensures { λ r. ⌜ SheetMeans v (now (t .entry)) (now (p .entry)) (now (w .entry)) (now (out .entry)) r (now (lines .exit)) (now (out .exit)) ⌝ }
 {
     if is_bad_count(p.len()) {
         return Filled::Refused(Refusal {

@@ -32,14 +32,14 @@ use Rattle.cusp_record.specs.Inner.Fill.{CUSPS, STEPS, cuspEntry, AtCusp, OnCus
 use Rattle.cusp_record.proofs.Record.{k-low, steps-low, in-order, cusp-at, steps-at}
 use Rattle.cusp_record.proofs.Fill.{at-fits}
 use Rattle.t_runs.specs.Runs.{Guided}
-use Rattle.t_runs.specs.Inner.Places.{TURN, END, WIDTH, heldTurns, heldS, cuspAt, Prepared, TurnSource, EndSource, TurnsEntered, EndsTo, EndsFrame, SymbolPlaces}
+use Rattle.t_runs.specs.Inner.Places.{TURN, END, WIDTH, heldTurns, heldS, cuspAt, Prepared, TurnSource, EndSource, TurnsAt, EndsTo, EndsFrame, SymbolPlaces}
 
 -- ---- S by place
 
 pub record Turning (s u : List ℕ) (n : ℕ) (w₀ w : List ℕ) (y : ℕ) : Type 0 where
   pub source : TurnSource s u n w
   pub frame : ChangedWithin TURN T-TABLE w₀ w
-  pub turns : TurnsEntered s u y w
+  pub turns : TurnsAt s u y w
   pub done : y ≤ n
 
 pub turning-start : {s u : List ℕ} {n : ℕ} {w : List ℕ} → TurnSource s u n w → Turning s u n w w 0
@@ -91,7 +91,7 @@ turning-more {s} {u} {n} {w₀} {w} {y} g h {v} e =
       done = omega arith;
     }
 
-pub turning-end : {s u : List ℕ} {n : ℕ} {w₀ w : List ℕ} {y : ℕ} → Turning s u n w₀ w y → n ≤ y → TurnsEntered s u n w × ChangedWithin TURN T-TABLE w₀ w
+pub turning-end : {s u : List ℕ} {n : ℕ} {w₀ w : List ℕ} {y : ℕ} → Turning s u n w₀ w y → n ≤ y → TurnsAt s u n w × ChangedWithin TURN T-TABLE w₀ w
 turning-end {n = n} {y = y} g h = let e : y ≡ n = omega (arith, g .done) in (rw e at (g .turns), g .frame)
 
 -- ---- the cusp of a place
@@ -284,7 +284,7 @@ module _ {v : ℕ} {t : List ℤ} (ok : IsSymbol v t) {w₀ w : List ℕ} {n : �
   }
 
   -- S by place has been entered
-  module _ {w1 : List ℕ} (a : TurnsEntered (heldS n w) (heldT n w) n w1 × ChangedWithin TURN T-TABLE w w1) where
+  module _ {w1 : List ℕ} (a : TurnsAt (heldS n w) (heldT n w) n w1 × ChangedWithin TURN T-TABLE w w1) where
     abbrev e : EndSource u n w
     e = end-source-by
 
@@ -318,9 +318,9 @@ module _ {v : ℕ} {t : List ℤ} (ok : IsSymbol v t) {w₀ w : List ℕ} {n : �
       ends : EndsTo u n w2
       ends = rw T1 at (b .0)
 
-      turns : TurnsEntered s u n w2
+      turns : TurnsAt s u n w2
       turns =
-          let first : TurnsEntered s u n w1 = rw (r .S-is, r .T-is) at (a .0) in
+          let first : TurnsAt s u n w1 = rw (r .S-is, r .T-is) at (a .0) in
           record { turn-is = λ j h. b .1 .above (TURN + j) (omega arith) ∙ first .turn-is j h }
 
       pub symbol-places : SymbolPlaces v t w₀ w2 n

@@ -18,7 +18,7 @@ use Rattle.matrix.proofs.Integer.{abs-neg, abs-*, abs-+, one-*}
 use Rattle.matrix.proofs.Ring.{Exp, con, var, _⊕_, _⊙_, ⊖_, ring, MExp, lit, const, _⊛_, ∼_, ringM, detᵉ, det-val}
 use Rattle.matrix.proofs.Matrix.{det-⊗, det-letter, det-≈, _∙≈_}
 use Rattle.t_runs.specs.Runs.{power}
-use Rattle.t_runs.specs.Inner.Rows.{signed, notNegative, bothOrNone, rows, leftOf, LIMIT, RestSound, Subtracts}
+use Rattle.t_runs.specs.Inner.Rows.{signed, notNegative, bothOrNone, rows, leftOf, LIMIT, SoundRest, Subtracts}
 use Rattle.t_runs.specs.declared.Rest.{Rest}
 
 -- ---- powers of T
@@ -112,7 +112,7 @@ lower-low k r z p y d l a =
     let right = abs-* z (signed k (pos p)) ∙ ap (λ (i : ℕ). natAbs z * i) (abs-signed k (pos p)) in
     no-larger r p (natAbs y) (natAbs z) LIMIT (omega (arith, e, left, right)) l a (omega arith)
 
-module _ {n : ℕ} {a : Rest} (s : RestSound n a) (h : 0 < a .r) where
+module _ {n : ℕ} {a : Rest} (s : SoundRest n a) (h : 0 < a .r) where
   abbrev m : ℤ
   m = a .y -ℤ pos (a .p / a .r) *ℤ a .z
 

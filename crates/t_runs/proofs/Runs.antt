@@ -21,7 +21,7 @@ use Rattle.cusp_record.specs.Record.{cuspPlace}
 use Rattle.cusp_record.proofs.Record.{place-zero}
 use Rattle.t_runs.specs.Runs.{power, runsValue, Guided, Arrived}
 use Rattle.t_runs.specs.Inner.Places.{TURN, heldTurns, runPlace, Prepared}
-use Rattle.t_runs.specs.Inner.Rows.{signed, notNegative, rows, leftOf, LIMIT, RestSound, RestWhole, Next}
+use Rattle.t_runs.specs.Inner.Rows.{signed, notNegative, rows, leftOf, LIMIT, SoundRest, WholeRest, Next}
 use Rattle.t_runs.specs.declared.Rest.{Rest}
 use Rattle.t_runs.proofs.Rows.{det-power, run-is, abs-signed, left-unit, left-low, last-is, sign-size, first-rows}
 use Rattle.t_runs.proofs.Places.{size-u, run-low, run-leads}
@@ -37,11 +37,11 @@ det-runs (q ∷ l) = det-one (runsValue l) (power q ⊗ matS) (det-runs l) (det-
 
 -- ---- the beginning
 
-module _ {n : ℕ} {w : List ℕ} (g : Prepared n w) {m : Mat} {a : Rest} (x : RestWhole m a) where
+module _ {n : ℕ} {w : List ℕ} (g : Prepared n w) {m : Mat} {a : Rest} (x : WholeRest m a) where
   begin : leftOf a ≈ m
   begin = rw (x .agree-is, x .p-is, x .y-is, x .r-is, x .z-is) (first-rows (m .a) (m .b) (m .c) (m .d))
 
-  pub whole-sound : Small LIMIT m → det m ≡ pos 1 → RestSound n a
+  pub whole-sound : Small LIMIT m → det m ≡ pos 1 → SoundRest n a
   whole-sound s d = record {
     low = omega (arith, x .at-is, g .some);
     unit = det-≈ begin ∙ d;
@@ -60,7 +60,7 @@ module _ {n : ℕ} {w : List ℕ} (g : Prepared n w) {m : Mat} {a : Rest} (x : R
 
 -- ---- a run
 
-module _ {n : ℕ} {w : List ℕ} (g : Prepared n w) {a b : Rest} (s : RestSound n a) (h : 0 < a .r) (x : Next n w a b) where
+module _ {n : ℕ} {w : List ℕ} (g : Prepared n w) {a b : Rest} (s : SoundRest n a) (h : 0 < a .r) (x : Next n w a b) where
   abbrev q : ℤ
   q = signed (a .agree) (pos (a .p / a .r))
 
@@ -73,7 +73,7 @@ module _ {n : ℕ} {w : List ℕ} (g : Prepared n w) {a b : Rest} (s : RestSound
   pub next-less : b .r < a .r
   next-less = rw (x .r-is) (mod-lt (a .p) h)
 
-  pub next-sound : RestSound n b
+  pub next-sound : SoundRest n b
   next-sound = record {
     low = rw (x .at-is) (g .turn-low y y-low);
     unit = rw (x .agree-is, x .p-is, x .y-is, x .r-is, x .z-is) (left-unit s h);
@@ -104,7 +104,7 @@ module _ {n : ℕ} {w : List ℕ} (g : Prepared n w) {a b : Rest} (s : RestSound
 
 -- ---- the end
 
-pub arrived : {n : ℕ} {w : List ℕ} {m : Mat} {a : Rest} → RestSound n a → a .r ≡ 0 → Follows n w m a
+pub arrived : {n : ℕ} {w : List ℕ} {m : Mat} {a : Rest} → SoundRest n a → a .r ≡ 0 → Follows n w m a
     → Arrived (heldTurns n w) (heldT n w) m (runPlace (heldT n w) (notNegative (a .y)) (natAbs (a .y)) (a .at))
 arrived {n} {w} {m} {a} s r f lead e =
     let M = runsValue (f .runs) in

@@ -7,7 +7,6 @@
 --   Guided turns u lead   THE TABLES FOLLOW `lead`, which says for each matrix of determinant 1 to which point it leads: one more T is a step in the table u
 --                         of T, and one more S a look in the table `turns`, which has for each place the place of the S image; the identity leads to 0
 --   Arrived turns u m y   y is the place to which the matrix m leads, whatever `lead` these tables follow
---   placeOf v t m         the place of the point to which m leads in the coset tables of a symbol
 use mathlib.Core.Path.{_≡_}
 use mathlib.Core.List.{List, [], _∷_}
 use Prim.Native.Nat.{ℕ, _<_}
@@ -15,8 +14,6 @@ use lib.ListN.{length}
 use lib.IntN.{ℤ, pos}
 use Rattle.matrix.specs.Matrix.{Mat, mat, _⊗_, 𝟙, det, matS, matT, _≈_}
 use Rattle.numbering.specs.Table.{imageAt, Permutes}
-use Rattle.coset.specs.Tables.{tableS, tableR, tableT}
-use Rattle.coset.specs.Theorem.{leads}
 use Rattle.cusp_record.specs.Record.{cuspPlace}
 
 unfoldable pub power : ℤ → Mat
@@ -36,6 +33,3 @@ pub record Guided (turns u : List ℕ) (lead : Mat → ℕ) : Type 0 where
 
 abbrev pub Arrived : (turns u : List ℕ) → Mat → ℕ → Type 0
 Arrived turns u m y = (lead : Mat → ℕ) → Guided turns u lead → y ≡ cuspPlace u (lead m)
-
-abbrev pub placeOf : ℕ → List ℤ → Mat → ℕ
-placeOf v t m = cuspPlace (tableT v t) (leads (tableS v t) (tableR v t) m)

@@ -13,7 +13,7 @@ ghost use Rattle.symbol.specs.Symbol.{IsSymbol};
 ghost use Rattle.figures.specs.Inner.Scan.{heldT};
 ghost use Rattle.t_runs.specs.Runs.{Arrived};
 ghost use Rattle.t_runs.specs.Inner.Places.{heldTurns, stepsOn, runPlace, InCusp, alongCusp, Prepared, SymbolPlaces};
-ghost use Rattle.t_runs.specs.Inner.Rows.{signed, notNegative, bothOrNone, LIMIT, RestSound, Subtracts, RestWhole, Next};
+ghost use Rattle.t_runs.specs.Inner.Rows.{signed, notNegative, bothOrNone, LIMIT, SoundRest, Subtracts, WholeRest, Next};
 
 mod tables;
 
@@ -131,7 +131,7 @@ fn subtract(y: i64, q: u32, z: i64) -> i64
 // All of the matrix m, at point 0.
 fn all_of(m: [i64; 4]) -> Rest
     requires { ⌜ Small LIMIT (ofList m) ⌝ }
-    ensures { λ r. ⌜ RestWhole (ofList m) r ⌝ }
+    ensures { λ r. ⌜ WholeRest (ofList m) r ⌝ }
 {
     let a = m[0];
     let b = m[1];
@@ -149,7 +149,7 @@ fn all_of(m: [i64; 4]) -> Rest
 
 // One run of T, and S.
 fn turn(w: &[u16], n: usize, a: Rest) -> Rest
-    requires { ⌜ Prepared n (now w) × RestSound n a × (0 < a .r) ⌝ }
+    requires { ⌜ Prepared n (now w) × SoundRest n a × (0 < a .r) ⌝ }
     ensures { λ b. ⌜ Next n (now (w .entry)) a b ⌝ }
 {
     let q = a.p / a.r;
@@ -168,7 +168,7 @@ fn turn(w: &[u16], n: usize, a: Rest) -> Rest
 
 // The last run of T.
 fn finish(w: &[u16], n: usize, a: Rest) -> usize
-    requires { ⌜ Prepared n (now w) × RestSound n a ⌝ }
+    requires { ⌜ Prepared n (now w) × SoundRest n a ⌝ }
     ensures { λ r. ⌜ r ≡ runPlace (heldT n (now (w .entry))) (notNegative (a .y)) (natAbs (a .y)) (a .at) ⌝ }
 {
     let y = a.y;

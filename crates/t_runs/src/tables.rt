@@ -14,12 +14,12 @@ ghost use Prim.Native.Nat.{_<_};
 ghost use Rattle.numbering.specs.Inner.Space.{ChangedWithin, T-TABLE};
 ghost use Rattle.figures.specs.Inner.Scan.{heldT};
 ghost use Rattle.cusp_record.specs.Inner.Fill.{OnCusp};
-ghost use Rattle.t_runs.specs.Inner.Places.{TURN, heldS, cuspAt, TurnSource, EndSource, TurnsEntered, EndsTo, EndsFrame};
+ghost use Rattle.t_runs.specs.Inner.Places.{TURN, heldS, cuspAt, TurnSource, EndSource, TurnsAt, EndsTo, EndsFrame};
 
 // For each place, the place to which S leads.
 pub fn enter_turns(w: &mut [u16], n: usize)
     requires { ⌜ TurnSource (heldS n (now w)) (heldT n (now w)) n (now w) ⌝ }
-    ensures { λ _. ⌜ TurnsEntered (heldS n (now (w .entry))) (heldT n (now (w .entry))) n (now (w .exit)) ⌝ }
+    ensures { λ _. ⌜ TurnsAt (heldS n (now (w .entry))) (heldT n (now (w .entry))) n (now (w .exit)) ⌝ }
     ensures { λ _. ⌜ ChangedWithin TURN T-TABLE (now (w .entry)) (now (w .exit)) ⌝ }
 {
     let mut y: usize = 0;

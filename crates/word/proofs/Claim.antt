@@ -110,6 +110,8 @@ module _ {v : ℕ} {t : List ℤ} (ok : IsSymbol v t) (A B : Mat) (d : det A ≡
   home-normal h =
       let f = normal-forms v t ok .walk X X-unit (eqb-true (walkEnds v t X) (startOf v t) h) in
       record {
+        letters = f .letters;
+        takes = home-product h;
         reduced = f .reduced;
         only = λ j r. f .only (j .word) (j .letters) r (joined-value j);
         shortest = λ j. f .shortest (j .word) (j .letters) (joined-value j);

@@ -8,8 +8,8 @@
 --   Joined v t m n          some product of the symbol's generators and their inverses, of whatever length, times m is n up to sign
 --   Fits start n room       the start place isn't past the end, and at least n letters lie from there to the end
 --   Found word r            a word is found: it is returned, or refused with 11 and its true length, by the word space
---   NormalWord v t m n w    w is the normal form of what takes m to n up to sign (request 2026-12): it is reduced, it is the only reduced word in the
---                           generators and their inverses that does so, and no word that does so is shorter
+--   NormalWord v t m n w    w is the normal form of what takes m to n up to sign (request 2026-12): a word in the generators and their inverses that does so,
+--                           reduced, the only reduced word that does so, and no word that does so is shorter
 --   Answered                the claim, in these parts:
 --     found                 a word is found exactly when some product of generators and inverses times A is B up to sign
 --     points                and exactly when A and B lead from point 0 to the same point of the coset tables of S and R: the same right coset
@@ -73,6 +73,8 @@ abbrev pub Found : List ℤ → Queried → Type 0
 Found word r = (queryRefusal r ≡ noRefusal) ⊎ (queryRefusal r ≡ tooShort (length word))
 
 pub record NormalWord (v : ℕ) (t : List ℤ) (m n : Mat) (w : List ℤ) : Type 0 where
+  pub letters : IsWord (length (generators v t)) w
+  pub takes : valueOf (generators v t) w ⊗ m ≈ n
   pub reduced : Reduced v t w
   pub only : (j : Joined v t m n) → Reduced v t (j .word) → j .word ≡ w
   pub shortest : (j : Joined v t m n) → length w ≤ length (j .word)

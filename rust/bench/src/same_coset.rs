@@ -41,7 +41,7 @@ impl Steps {
         let mut x = 0;
         while c != 0 {
             // (a b; c d) is T^q S (c d; qc - a, qd - b).
-            let q = a.div_euclid(c);
+            let q = a / c;
             x = self.s[self.run(x, q) as usize];
             (a, b, c, d) = (c, d, q * c - a, q * d - b);
         }

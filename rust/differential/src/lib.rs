@@ -48,7 +48,7 @@ use reference::random::Rng;
 pub type Call = (&'static str, fn(&mut Rng) -> Outcome);
 
 /// All calls.
-pub const CALLS: [Call; 23] = [
+pub const CALLS: [Call; 25] = [
     ("check", check::case),
     ("generators", generators::case),
     ("figures", figures::case),
@@ -70,10 +70,10 @@ pub const CALLS: [Call; 23] = [
     ("named_signed_query", named::signed_query_case),
     ("named_signed_query_wide", named::signed_query_wide_case),
     ("sheet", sheet::case),
-    ("same_coset", same_coset::case),
-    ("same_cosets", same_coset::many_case),
     ("exchange", exchange::case),
     ("preview", exchange::preview_case),
+    ("same_coset", same_coset::case),
+    ("same_cosets", same_coset::many_case),
 ];
 
 /// Makes every call once for each case: the counts of each, in the order of

@@ -23,7 +23,7 @@
 //! | `sheet`        | a sheet of pairs: single queries in one word space              |
 //! | `permutations` | checks 12 to 16, from two permutations to a symbol, two rules   |
 //! | `congruence`   | Γ0(N), Γ1(N), Γ(N): condition, index, permutations; 20 and 21   |
-//! | `report`       | the whole output of the seven programs                          |
+//! | `report`       | the whole output of the eight programs                          |
 //! | `random`       | test symbols, pairs, matrices and texts, sound and damaged      |
 
 #![forbid(unsafe_code)]

@@ -1,4 +1,4 @@
-//! The whole output of the seven programs, from the bytes of standard input.
+//! The whole output of the eight programs, from the bytes of standard input.
 
 use std::fmt::{Display, Write};
 

@@ -542,8 +542,16 @@ fn a_refusal_is_passed_on() {
     let Some(farey) = farey() else {
         return;
     };
-    for name in ["listing", "query", "sheet", "import", "import-wide", "draw"] {
-        for line in ["refused 15 2\n", "refused 19 65536\n", "refused 22 0\n"] {
+    for name in [
+        "listing",
+        "query",
+        "sheet",
+        "import",
+        "import-wide",
+        "exchange",
+        "draw",
+    ] {
+        for line in ["refused 15 2\n", "refused 19 65536\n", "refused 23 0\n"] {
             let came = run_on(&farey, name, line.as_bytes());
             assert_eq!(text(&came.stdout), line);
             assert_eq!(text(&came.stderr), "");
@@ -552,7 +560,7 @@ fn a_refusal_is_passed_on() {
         // A refusal of the engine has a number that has a sentence.
         let read: [&[u8]; 10] = [
             b"refused 0 0\n",
-            b"refused 23 0\n",
+            b"refused 24 0\n",
             b"refused 999 7\n",
             b"refused 015 2\n",
             b"refused 15 02\n",

@@ -255,7 +255,7 @@ fn refusals_have_their_sentences() {
 #[test]
 fn refusals_are_met() {
     for row in rows(&handbook()) {
-        // No text has refusal 2, and no symbol with refusal 18 is known.
+        // No text has refusal 2, and no symbol has refusal 18.
         if row.number == 2 || row.number == 18 {
             assert_eq!(row.answer, "");
             continue;

@@ -361,8 +361,8 @@ fn one_word_space() {
     }
 }
 
-/// The longest text of a full sheet, with one byte between two numbers and none
-/// longer than it can be, fits: 256 pairs against 1,023 vertices.
+/// The longest text of a full sheet whose numbers are in range, with one byte behind
+/// each number, fits: 256 pairs against 1,023 vertices.
 #[test]
 fn the_longest_sheet_fits() {
     let Some(program) = Program::named_by("SHEET_PROGRAM") else {
@@ -377,7 +377,10 @@ fn the_longest_sheet_fits() {
         "-1000000 ".repeat(ENTRIES * MOST),
     ]
     .concat();
-    assert!(text.len() < MAX_TEXT, "{}", text.len());
+    // 5 for v, 23 for each vertex, 5 for each of the 1,024 pairings, 9 for each entry.
+    assert_eq!(text.len(), 5 + 23 * 1_023 + 5 * 1_024 + 9 * 2_048);
+    assert_eq!(text.len(), 47_086);
+    assert!(text.len() < MAX_TEXT);
     // It is read to its end, and its symbol is none: vertex 0 isn't reduced.
     let expected = sheet(text.as_bytes());
     assert!(!expected.starts_with("refused 19") && !expected.starts_with("refused 11"));

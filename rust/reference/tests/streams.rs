@@ -9,7 +9,7 @@
 //! | a reader that is gone  | the system's signal ends it, unless it is ignored: then as a write    |
 //! | nothing, but a pause   | the answer to the whole text                                          |
 //!
-//! Each test is made of each of the seven programs (`LISTING_PROGRAM`,
+//! Each test is made of each of the eight programs (`LISTING_PROGRAM`,
 //! `QUERY_PROGRAM`, `SHEET_PROGRAM`, `IMPORT_PROGRAM`, `IMPORT_WIDE_PROGRAM`,
 //! `NAMED_PROGRAM`, `SAME_PROGRAM`, `EXCHANGE_PROGRAM`) and of `./farey` with each of their names
 //! (`FAREY_PROGRAM`), whose exit status isn't 0 then. A program of the engine has no exit status of
@@ -93,7 +93,7 @@ impl Subject {
             fn(&[u8]) -> String,
             &'static str,
         );
-        let rows: [Row; 7] = [
+        let rows: [Row; 8] = [
             (
                 "LISTING_PROGRAM",
                 "listing",
@@ -193,6 +193,8 @@ impl Subject {
                 let pair = pieces.join(" ");
                 match self.name {
                     "import" | "import-wide" => pair,
+                    // An import numbers its free labels from 1 on.
+                    "exchange" => import(pair.as_bytes()) + "1 2\n",
                     _ => import(pair.as_bytes()),
                 }
             }

@@ -1,8 +1,10 @@
 -- `farey_figures` meets its contract: in each arm, what the answer says gives the number, the place and the eight numbers, the genus
 -- among them. Assumes nothing.
 use mathlib.Core.Path.{_≡_, sym, ap, subst, _∙_}
+use mathlib.Core.List.{List}
+use Prim.Native.Nat.{ℕ}
 use native.Mathlib.Omega.{arith}
-use lib.ListN.{length}
+use lib.ListN.{length, getD}
 use Rattle.coset.specs.Answer.{figuredRefusal}
 use Rattle.coset.specs.declared.Figured.{Figured}
 use Rattle.engine.specs.Exported.{figuresLeft}
@@ -48,11 +50,15 @@ returns-2 c =
     let q = c .before .before .before .before .before .before .figures in
     let s = c .before .before .before .before .before .before .before .before .before in
     let told = c .before .before .answer2 .given in
-    let k = sym (told .1) ∙ q .ensures .0 in (
+    let k = sym (told .1) ∙ q .ensures .0 in
+    let f = told .0 .0 in
+    let means = q .ensures .1 .1 f (told .1) in
+    let given = genus-given (s .args .v) (s .args .t .now) (length (s .args .w .now)) f k means in
+    let all = c .of-figures .ensures in (
       ap (λ (x : Figured). figuredRefusal x .number) k,
       (
         ap (λ (x : Figured). figuredRefusal x .place) k,
-        (q .ensures .1 .0, (c .of-figures .ensures ∙ ap (λ (x : Figured). figuresLeft x (s .args .out .now)) k, (λ z. means, λ z. given))),
+        (q .ensures .1 .0, (all ∙ ap (λ (x : Figured). figuresLeft x (s .args .out .now)) k, (λ z. means, λ z. ap (λ (l : List ℕ). getD l 4 18) all ∙ given))),
       ),
     )
 

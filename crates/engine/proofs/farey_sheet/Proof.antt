@@ -45,7 +45,7 @@ returns c =
             l .0 ∙ ap (λ (r : Filled). linesLeft r (linesTo v t p n O (pairsIn p)) (s .args .lines .now)) e,
             (
               l .1 .0 ∙ ap (λ (r : Filled). lettersAfter r (spaceAt v t p n O (pairsIn p) .letters) O) e,
-              subst (λ (r : Filled). SheetMeans v t p (s .args .w .now) O r (q .last .1 .1 .1 .1 .1 .0)) e (l .1 .1),
+              subst (λ (r : Filled). SheetMeans v t p (s .args .w .now) O r (q .last .1 .1 .1 .1 .0) (q .last .1 .1 .1 .1 .1 .0)) e (l .1 .1),
             ),
           ),
         ),

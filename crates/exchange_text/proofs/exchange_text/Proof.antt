@@ -12,7 +12,7 @@ use Rattle.text.specs.declared.Reading.{Reading}
 use Rattle.text.specs.declared.Reading.the-variants.{Numbers, Refused}
 use Rattle.text.proofs.Handed.{Handed, input-on, front-entries}
 use Rattle.text_line.proofs.Placing.{puts-as}
-use Rattle.exchange_text.specs.Answer.{exchangeLinesTo, exchangeTableTo, exchangeFormat}
+use Rattle.exchange_text.specs.Answer.{exchangeLinesOf, tableTo, exchangeFormat}
 use Rattle.exchange_text.proofs.Printing.{lines-by, leaves-by}
 use borrow.Author.Needs.{needs}
 use Rattle.exchange_text.proofs.exchange_text.Statement.{statement}
@@ -112,8 +112,8 @@ returns-2 c =
     let b = s d in
     let x = Numbers (k d) in
     let e = l .exchange-numbers .ensures in (
-      puts-as (ap exchangeLinesTo (front d) ∙ lines-by (b .args .longer) (b .args .text .now) x (counted d)) (e .0),
-      leaves-by x (counted d) (kept-numbers d) (e .1 ∙ ap (λ (m : List ℤ). exchangeTableTo m (b .args .table .now)) (front d)),
+      puts-as (ap exchangeLinesOf (front d) ∙ lines-by (b .args .longer) (b .args .text .now) x (counted d)) (e .0),
+      leaves-by x (counted d) (kept-numbers d) (e .1 ∙ ap (λ (m : List ℤ). tableTo m (b .args .table .now)) (front d)),
     )
 
 pub exchange-text-spec : {M : Type 1} → statement M

@@ -5,7 +5,7 @@ use borrow.Author.Needs.{needs}
 use mathlib.Core.Path.{_∙_}
 use Prim.Native.Nat.{_-_}
 use native.Mathlib.Omega.{arith}
-use Rattle.numbering.proofs.Marks.{push-room}
+use Rattle.numbering.proofs.Listing.{push-room}
 use Rattle.figures.proofs.Scan.{Walk, walk-start, walk-fresh, walk-more, walk-end}
 use Rattle.figures.proofs.mark_cycle.Statement.{statement}
 use Rattle.figures.proofs.mark_cycle.Tie as tie

@@ -3,7 +3,7 @@
 use borrow.Author.Needs.{needs}
 use mathlib.Core.Path.{sym, _∙_}
 use borrow.Author.Tests.{ltb-true, ltb-false}
-use Rattle.numbering.proofs.Marks.{enter-old, enter-new}
+use Rattle.numbering.proofs.Listing.{enter-old, enter-new}
 use Rattle.numbering.proofs.enter.Statement.{statement}
 use Rattle.numbering.proofs.enter.Tie as tie
 

@@ -2,7 +2,7 @@
 -- Assumes nothing.
 use borrow.Author.Needs.{needs}
 use native.Mathlib.Omega.{arith}
-use Rattle.numbering.proofs.Marks.{has-no, has-by}
+use Rattle.numbering.proofs.Listing.{has-no, has-by}
 use Rattle.numbering.proofs.has.Statement.{statement}
 use Rattle.numbering.proofs.has.Tie as tie
 

@@ -4,7 +4,7 @@
 use mathlib.Core.Path.{_∙_}
 use native.Mathlib.Omega.{arith}
 use Prim.Native.Nat.{_-_}
-use Rattle.numbering.proofs.Marks.{Part, number-fresh, part-start, part-visit, part-more, part-end, numbered-from}
+use Rattle.numbering.proofs.Listing.{Part, number-fresh, part-start, part-visit, part-more, part-end, numbered-from}
 use Rattle.numbering.proofs.number.Statement.{statement}
 use Rattle.numbering.proofs.number.Tie as tie
 

@@ -3,7 +3,7 @@
 use borrow.Author.Needs.{needs}
 use native.Mathlib.Omega.{arith}
 use lib.ListN.{length-set}
-use Rattle.numbering.proofs.Marks.{push-room, pushed}
+use Rattle.numbering.proofs.Listing.{push-room, pushed}
 use Rattle.numbering.proofs.push.Statement.{statement}
 use Rattle.numbering.proofs.push.Tie as tie
 

@@ -3,7 +3,7 @@
 use borrow.Author.Needs.{needs}
 use native.Mathlib.Omega.{arith}
 use Rattle.numbering.specs.Inner.Space.{SIGMA, RHO}
-use Rattle.numbering.proofs.Marks.{marked-then, visit-low, visit-image, visit-σ-low, visit-ρ-low}
+use Rattle.numbering.proofs.Listing.{marked-then, visit-low, visit-image, visit-σ-low, visit-ρ-low}
 use Rattle.numbering.proofs.visit_at.Statement.{statement}
 use Rattle.numbering.proofs.visit_at.Tie as tie
 

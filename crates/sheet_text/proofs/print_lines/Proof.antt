@@ -9,7 +9,8 @@ use lib.IntN.{ℤ}
 use lib.ListN.{length, take, drop, length-drop}
 use lib.Seq.{length-take-le}
 use Rattle.text_line.proofs.Placing.{puts-as}
-use Rattle.sheet_text.specs.Inner.Table.{lineIn, used, printedRows, usedTo}
+use Rattle.sheets.specs.Sheet.{lineIn}
+use Rattle.sheet_text.specs.Inner.Table.{used, printedRows, usedTo}
 use Rattle.sheet_text.proofs.Printing.{Printing, printing-none, printing-more}
 use borrow.Author.Needs.{needs}
 use Rattle.sheet_text.proofs.print_lines.Statement.{statement}

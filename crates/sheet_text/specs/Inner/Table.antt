@@ -1,7 +1,6 @@
 -- How the line table of a sheet is printed, and the slices that the program lends.
 --
---   lineIn lines i            the line i of the table: four numbers
---   isWord line               its first number is 0: it names a word
+--   isWord line               of a line of the table, its first number is 0: it names a word
 --   namedWord line letters    the letters that it then names in the word space
 --   printedRow line letters   the bytes for it
 --   used line letters         how many letters of the word space it names
@@ -16,17 +15,15 @@ use Prim.Native.Nat.{ℕ, zero, suc, _+_, _*_, _≤_}
 use lib.Dec.{eqb}
 use lib.IntN.{ℤ, pos, natAbs}
 use lib.Signed.{ltZ}
-use lib.ListN.{length, take, drop}
+use lib.ListN.{length}
 use Rattle.basics.specs.Choice.{pick}
 use Rattle.matrix.specs.Matrix.{nth}
 use Rattle.workspace.specs.Space.{workLength}
 use Rattle.text_line.specs.Line.{natural, line, refusedWord}
 use Rattle.word.specs.Answer.{partOf}
 use Rattle.query_text.specs.Reply.{wordHead, lettersLent, countIn}
+use Rattle.sheets.specs.Sheet.{lineIn}
 use Rattle.sheet_text.specs.Printed.{linesLent}
-
-abbrev pub lineIn : List ℤ → ℕ → List ℤ
-lineIn lines i = take 4 (drop (4 * i) lines)
 
 abbrev pub isWord : List ℤ → Bool
 isWord l = eqb (natAbs (nth l 0)) 0

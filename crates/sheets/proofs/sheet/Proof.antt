@@ -20,7 +20,7 @@ returns c =
     let s = c .before .before .before in
     let a = s .args in
     let k = by-count (a .v) (a .t .now) (length (a .p .now)) (a .w .now) (length (a .lines .now)) (sym (c .before .is-bad-count .ensures) ∙ c .if1 .taken) in
-    (k .0, (k .1, (refl, (refl, means-refused (a .v) (a .t .now) (a .p .now) (a .w .now) (a .out .now) _ _))))
+    (k .0, (k .1, (refl, (refl, means-refused (a .v) (a .t .now) (a .p .now) (a .w .now) (a .out .now) _ _ _))))
 
 check-requires : tie.Need-check-requires
 check-requires c κs = search needs
@@ -47,7 +47,7 @@ returns-2 c =
     let e = c .before in
     let a = st e .args in
     let k = by-work (a .v) (a .t .now) (length (a .p .now)) (a .w .now) (length (a .lines .now)) (counted e) (ok e) (c .if2 .taken) in
-    (k .0, (k .1, (refl, (refl, means-refused (a .v) (a .t .now) (a .p .now) (a .w .now) (a .out .now) _ _))))
+    (k .0, (k .1, (refl, (refl, means-refused (a .v) (a .t .now) (a .p .now) (a .w .now) (a .out .now) _ _ _))))
 
 fill-requires : tie.Need-fill-requires
 fill-requires c κs =
@@ -63,7 +63,7 @@ returns-3 c =
     let counted = sym (h .before .before .is-bad-count .ensures) ∙ h .before .if1 .left in
     let b = by-symbol (a .v) (a .t .now) (length (a .p .now)) (a .w .now) (length (a .lines .now)) counted
     (k .checked .given .0 .0) (sym (h .check .ensures .returned) ∙ k .checked .given .1) in
-    (b .0, (b .1, (refl, (refl, means-refused (a .v) (a .t .now) (a .p .now) (a .w .now) (a .out .now) _ _))))
+    (b .0, (b .1, (refl, (refl, means-refused (a .v) (a .t .now) (a .p .now) (a .w .now) (a .out .now) _ _ _))))
 
 same-length : tie.Need-same-length
 same-length c = search needs
@@ -87,7 +87,7 @@ returns-4 c =
         g .1 .0 ∙ k .1,
         (
           g .1 .1 .0,
-          (g .1 .1 .1, means (a .v) (a .t .now) (a .p .now) (a .w .now) (a .out .now) (length (a .lines .now) / 4) (f .result) _ (g .0) (g .1 .1 .1)),
+          (g .1 .1 .1, means (a .v) (a .t .now) (a .p .now) (a .w .now) (a .out .now) (a .lines .now) (length (a .lines .now) / 4) (f .result) _ _ (g .0) (g .1 .1 .0) (g .1 .1 .1)),
         ),
       ),
     )

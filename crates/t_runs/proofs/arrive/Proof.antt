@@ -4,14 +4,14 @@ use mathlib.Core.Path.{_≡_, _∙_}
 use Prim.Native.Nat.{_<_}
 use native.Mathlib.Omega.{arith}
 use Rattle.matrix.specs.Matrix.{Mat, ofList}
-use Rattle.t_runs.specs.Inner.Rows.{RestSound}
+use Rattle.t_runs.specs.Inner.Rows.{SoundRest}
 use Rattle.t_runs.proofs.Runs.{Follows, whole-sound, whole-follows, next-less, next-sound, next-follows, arrived}
 use borrow.Author.Needs.{needs}
 use Rattle.t_runs.proofs.arrive.Statement.{statement}
 use Rattle.t_runs.proofs.arrive.Tie as tie
 
 abbrev Inv-loop : tie.InvT-loop
-Inv-loop w n a₀ a = RestSound n a × ((m : Mat) → Follows n w m a₀ → Follows n w m a)
+Inv-loop w n a₀ a = SoundRest n a × ((m : Mat) → Follows n w m a₀ → Follows n w m a)
 
 abbrev μ-loop : tie.MeasureT-loop
 μ-loop w n a₀ a = a .r

@@ -15,7 +15,7 @@
 --   heldS n w              the table of S
 --   TurnSource s u n w     what TURN is made from, by the tables s of S and u of T: that of S, the points by cusps, and the place of each
 --   EndSource u n w        what END and WIDTH are made from: the points by cusps, their cusps and steps, and the widths
---   TurnsEntered s u y w   TURN is right below the place y
+--   TurnsAt s u y w        TURN is right below the place y
 --   EndsTo u y w           END and WIDTH are right below the place y
 --   EndsFrame w w'         the tables from ORDER on are as they were
 --   SymbolPlaces v t w w' n     the tables by place of a symbol's n cosets
@@ -105,7 +105,7 @@ pub record EndsFrame (w w' : List ℕ) : Type 0 where
   pub same : length w' ≡ length w
   pub above : (i : ℕ) → ORDER ≤ i → getD w' i 0 ≡ getD w i 0
 
-pub record TurnsEntered (s u : List ℕ) (y : ℕ) (w : List ℕ) : Type 0 where
+pub record TurnsAt (s u : List ℕ) (y : ℕ) (w : List ℕ) : Type 0 where
   pub turn-is : (j : ℕ) → j < y → getD w (TURN + j) 0 ≡ cuspPlace u (imageAt s (cuspEntry u j))
 
 pub record EndsTo (u : List ℕ) (y : ℕ) (w : List ℕ) : Type 0 where
@@ -117,4 +117,4 @@ pub record SymbolPlaces (v : ℕ) (t : List ℤ) (w w' : List ℕ) (n : ℕ) : T
   pub same : length w' ≡ length w
   pub prepared : Prepared n w'
   pub T-is : heldT n w' ≡ tableT v t
-  pub turns : TurnsEntered (tableS v t) (tableT v t) n w'
+  pub turns : TurnsAt (tableS v t) (tableT v t) n w'

@@ -6,9 +6,9 @@
 --   rows k p y r z        the matrix with the rows (p y) and (r z), the second one negated unless k holds
 --   leftOf a              the matrix that is left
 --   LIMIT                 no entry of a pair of matrices is larger in size (docs/CONVENTIONS.md, 8), and so is none of what is left
---   RestSound n a         the place is one, the matrix that is left has determinant 1, and its entries are within the limit
+--   SoundRest n a             the place is one, the matrix that is left has determinant 1, and its entries are within the limit
 --   Subtracts y q z       y - q z can be formed
---   RestWhole m a         a is all of the matrix m, at point 0
+--   WholeRest m a             a is all of the matrix m, at point 0
 --   Next n w a b          b is what is left of a after one run of T and S
 use mathlib.Core.Path.{_≡_}
 use mathlib.Core.Bool.{Bool, true, false, not}
@@ -42,7 +42,7 @@ leftOf a = rows (a .agree) (a .p) (a .y) (a .r) (a .z)
 abbrev pub LIMIT : ℕ
 LIMIT = 1000000
 
-pub record RestSound (n : ℕ) (a : Rest) : Type 0 where
+pub record SoundRest (n : ℕ) (a : Rest) : Type 0 where
   pub low : a .at < n
   pub unit : det (leftOf a) ≡ pos 1
   pub p-low : a .p ≤ LIMIT
@@ -54,7 +54,7 @@ pub record Subtracts (y : ℤ) (q : ℕ) (z : ℤ) : Type 0 where
   pub factor : q < 2 ^ 32
   pub within : natAbs y + q * natAbs z < 2 ^ 63
 
-pub record RestWhole (m : Mat) (a : Rest) : Type 0 where
+pub record WholeRest (m : Mat) (a : Rest) : Type 0 where
   pub p-is : a .p ≡ natAbs (m .a)
   pub y-is : a .y ≡ signed (notNegative (m .a)) (m .b)
   pub r-is : a .r ≡ natAbs (m .c)

@@ -1,13 +1,17 @@
--- `farey_preview` meets its contract: in each arm, what the answer says gives the number, the place, the eight numbers and the widths. Assumes nothing.
+-- `farey_preview` meets its contract: in each arm, what the answer says gives the number, the place, the eight numbers, the genus
+-- among them, and the widths. Assumes nothing.
 use mathlib.Core.Path.{_≡_, sym, ap, subst, _∙_}
+use mathlib.Core.List.{List}
+use Prim.Native.Nat.{ℕ}
 use native.Mathlib.Omega.{arith}
-use lib.ListN.{length}
+use lib.ListN.{length, getD}
 use mir.Facts.{toZ-ofZ}
 use Rattle.coset.specs.Answer.{figuredRefusal}
 use Rattle.coset.specs.declared.Figured.{Figured}
+use Rattle.partner_exchange.specs.Exchange.{exchanged}
 use Rattle.partner_exchange.specs.Answer.{PreviewMeaning}
 use Rattle.engine.specs.Exported.{figuresLeft, previewPlace}
-use Rattle.engine.proofs.Zero.{AboveFigured}
+use Rattle.engine.proofs.Zero.{AboveFigured, genus-given}
 use Rattle.engine.proofs.Exchanged.{preview-above}
 use borrow.Author.Needs.{needs}
 use Rattle.engine.proofs.exchanging.farey_preview.Statement.{statement}
@@ -47,7 +51,7 @@ returns c =
       ap (λ (r : Figured). figuredRefusal r .number) k,
       (
         ap previewPlace k,
-        (p .1 .0, (p .1 .1 .0, (ap (λ (r : Figured). figuresLeft r (s .args .out .now)) k, λ z. absurd (omega (arith, above, z))))),
+        (p .1 .0, (p .1 .1 .0, (ap (λ (r : Figured). figuresLeft r (s .args .out .now)) k, (λ z. absurd (omega (arith, above, z)), λ z. absurd (omega (arith, above, z)))))),
       ),
     )
 
@@ -68,7 +72,11 @@ returns-2 c =
     let y = s .args .y in
     let work = length (s .args .w .now) in
     let p = rw (toZ-ofZ (s .fits .x), toZ-ofZ (s .fits .y)) at (q .ensures) in
-    let k = sym (told .1) ∙ p .0 in (
+    let k = sym (told .1) ∙ p .0 in
+    let f = told .0 .0 in
+    let means = p .1 .1 .1 f (told .1) in
+    let given = genus-given v (exchanged v t x y) work f (sym (told .1) ∙ means .as-asked) (means .means) in
+    let all = c .of-figures .ensures in (
       ap (λ (r : Figured). figuredRefusal r .number) k,
       (
         ap previewPlace k,
@@ -77,8 +85,11 @@ returns-2 c =
           (
             p .1 .1 .0,
             (
-              c .of-figures .ensures ∙ ap (λ (r : Figured). figuresLeft r (s .args .out .now)) k,
-              λ z. subst (λ (r : Figured). PreviewMeaning v t x y work r) (p .0) (p .1 .1 .1 (told .0 .0) (told .1)),
+              all ∙ ap (λ (r : Figured). figuresLeft r (s .args .out .now)) k,
+              (
+                λ z. subst (λ (r : Figured). PreviewMeaning v t x y work r) (p .0) means,
+                λ z. ap (λ (l : List ℕ). getD l 4 18) all ∙ given,
+              ),
             ),
           ),
         ),

@@ -1,5 +1,5 @@
 -- `least` is the smaller of two points: x where x < y, else y. Assumes nothing.
-use Rattle.import_table.proofs.Written.{least-yes, least-no}
+use Rattle.import_table.proofs.Stored.{least-yes, least-no}
 use borrow.Author.Needs.{needs}
 use Rattle.import_table.proofs.write.least.Statement.{statement}
 use Rattle.import_table.proofs.write.least.Tie as tie

@@ -1,6 +1,6 @@
 -- `numerator` undoes the 10⁹ that numerators are kept with: a number of 32 bits less 10⁹ is a signed one of 64 (`numerator-fits`).
 -- Assumes nothing.
-use Rattle.import_table.proofs.Written.{numerator-fits, numerator-is}
+use Rattle.import_table.proofs.Stored.{numerator-fits, numerator-is}
 use borrow.Author.Needs.{needs}
 use Rattle.import_table.proofs.write.numerator.Statement.{statement}
 use Rattle.import_table.proofs.write.numerator.Tie as tie

@@ -1,5 +1,5 @@
 -- `signed` keeps the value of x, which is far below 2⁶³. Assumes nothing.
-use Rattle.import_table.proofs.Written.{signed-is}
+use Rattle.import_table.proofs.Stored.{signed-is}
 use borrow.Author.Needs.{needs}
 use Rattle.import_table.proofs.write.signed.Statement.{statement}
 use Rattle.import_table.proofs.write.signed.Tie as tie

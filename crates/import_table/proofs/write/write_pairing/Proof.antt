@@ -1,6 +1,6 @@
 -- `write_pairing` has four cases, by the point m of the side: S fixes it, -2; Q fixes it, -3; else the smaller of m and its S image is the
 -- label, which gets the next number (`pair-new`) or has one (`pair-old`). Assumes nothing.
-use Rattle.import_table.proofs.Written.{least-low, pair-new, pair-old}
+use Rattle.import_table.proofs.Stored.{least-low, pair-new, pair-old}
 use mathlib.Core.Path.{_≡_, refl, sym, _∙_, ap}
 use Prim.Native.Nat.{_≤_, _<_}
 use native.Mathlib.Omega.{arith}

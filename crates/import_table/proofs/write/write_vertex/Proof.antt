@@ -1,6 +1,6 @@
 -- `write_vertex` reads the right end of side i among the sides done, and stores its numerator at 2 i and its denominator behind it
 -- (`vertex-stored`). Assumes nothing.
-use Rattle.import_table.proofs.Written.{vertex-stored}
+use Rattle.import_table.proofs.Stored.{vertex-stored}
 use Prim.Native.Nat.{_+_, _*_}
 use mathlib.Core.Path.{_≡_, refl, sym, _∙_, ap}
 use Rattle.matrix.proofs.Bounds.{kept}

@@ -1,6 +1,6 @@
 -- `write_vertices` writes v vertices. The loop's invariant: the entries of the first i, and then what stood there (`vertices-more`).
 -- Assumes nothing.
-use Rattle.import_table.proofs.Written.{vertices-more, vertices-length}
+use Rattle.import_table.proofs.Stored.{vertices-more, vertices-length}
 use mathlib.Core.Path.{_≡_, refl, sym, _∙_, ap}
 use native.Mathlib.Omega.{arith}
 use native.Mathlib.Numerals.{add-one}
