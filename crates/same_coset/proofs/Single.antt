@@ -36,7 +36,8 @@ use Rattle.word.specs.declared.Queried.the-variants as queried
 use Rattle.word.proofs.Claim.{same-number, answered}
 use Rattle.word.proofs.Order.{gets, asked-found}
 use Rattle.same_coset.specs.Answer.{sharedBy, enough, sameCosetOf, sharedRefusal, sharedPlace, CosetMeans, SharedSays}
-use Rattle.same_coset.specs.Inner.Ready.{OneMatrix, yesNo, Shares}
+use Rattle.same_coset.specs.Inner.Ready.{yesNo, Shares}
+use Rattle.t_runs.specs.Inner.Rows.{OneMatrix}
 use Rattle.same_coset.specs.declared.Shared.{Shared}
 use Rattle.same_coset.specs.declared.Shared.the-variants as shared
 

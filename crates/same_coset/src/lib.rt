@@ -7,7 +7,7 @@ use refusal::MATRIX_ENTRY;
 use refusal::Refusal;
 use refusal::TOO_SHORT;
 use symbol::check;
-use t_runs::arrive;
+use t_runs::arrive_both;
 use t_runs::prepare;
 use word::judge;
 ghost use mathlib.Core.Path.{_≡_};
@@ -17,8 +17,9 @@ ghost use Rattle.word.specs.Answer.{queryWork};
 ghost use Rattle.word.specs.Claim.{Asked};
 ghost use Rattle.word.specs.Answer.{foundOf};
 ghost use Rattle.t_runs.specs.Inner.Places.{Prepared};
+ghost use Rattle.t_runs.specs.Inner.Rows.{OneMatrix};
 ghost use Rattle.same_coset.specs.Answer.{sharedBy, enough, sameCosetOf, CosetMeans};
-ghost use Rattle.same_coset.specs.Inner.Ready.{OneMatrix, yesNo, Shares};
+ghost use Rattle.same_coset.specs.Inner.Ready.{yesNo, Shares};
 
 pub mod pairs;
 
@@ -35,9 +36,8 @@ fn share(w: &[u16], n: usize, a: [i64; 4], b: [i64; 4]) -> bool
     requires { ⌜ Prepared n (now w) × OneMatrix a × OneMatrix b ⌝ }
     ensures { λ r. ⌜ Shares n (now (w .entry)) a b r ⌝ }
 {
-    let x = arrive(w, n, a);
-    let y = arrive(w, n, b);
-    x == y
+    let places = arrive_both(w, n, a, b);
+    places.first == places.second
 }
 
 // Yes or no.

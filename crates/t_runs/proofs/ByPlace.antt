@@ -5,34 +5,33 @@
 use mathlib.Core.Path.{_≡_, refl, sym, ap, _∙_}
 use mathlib.Core.Logic.{_≢_, _⊎_, inl, inr}
 use mathlib.Core.List.{List}
-use Prim.Native.Nat.{ℕ, zero, suc, _+_, _-_, _≤_, _<_}
+use Prim.Native.Nat.{ℕ, zero, _+_, _-_, _≤_, _<_}
 use native.Mathlib.Omega.{arith}
 use native.Mathlib.Decide.{ℕ-discrete}
 use lib.ListN.{length, getD, set, length-set}
 use lib.Seq.{getD-set-other, getD-set-same}
 use lib.IntN.{ℤ, pos}
-use Rattle.matrix.specs.Matrix.{Mat, 𝟙, _⊗_, det, matS, _≈_}
+use Rattle.matrix.specs.Matrix.{Mat, det, _≈_}
 use Rattle.matrix.specs.Action as action
-use Rattle.matrix.proofs.Matrix.{det-𝟙, det-one, det-letter}
 use Rattle.matrix.specs.Words.{S}
 use Rattle.matrix.proofs.Uniqueness.{wordOf-≈}
-use Rattle.numbering.specs.Table.{imageAt, Permutes}
-use Rattle.numbering.specs.Inner.Space.{WORK, ROOM, S-TABLE, WIDTHS, NUMBER, ORDER, R-TABLE, T-TABLE, ChangedWithin}
+use Rattle.numbering.specs.Table.{imageAt}
+use Rattle.numbering.specs.Inner.Space.{ROOM, S-TABLE, WIDTHS, NUMBER, ORDER, T-TABLE, ChangedWithin}
 use Rattle.numbering.proofs.Find.{none-below}
-use Rattle.numbering.proofs.Space.{entries-at, entries-same, entries-set, entries-length, within-refl, within-set, within-entries}
+use Rattle.numbering.proofs.Space.{entries-at, entries-same, entries-set, within-refl, within-set}
 use Rattle.symbol.specs.Symbol.{IsSymbol}
-use Rattle.figures.specs.Cusps.{times, cusps}
+use Rattle.figures.specs.Cusps.{cusps}
 use Rattle.figures.specs.Inner.Scan.{heldT}
-use Rattle.coset.specs.Tables.{indexOf, tableS, tableR, tableT}
+use Rattle.coset.specs.Tables.{tableS, tableR, tableT}
 use Rattle.coset.specs.Theorem.{byTableQ, leads, Cosets}
 use Rattle.coset.proofs.Answer.{meaning}
 use Rattle.cusp_record.specs.Record.{cuspWidth, cuspOf, cuspSteps, cuspPlace, cuspFirst}
 use Rattle.cusp_record.specs.declared.Cusp.{Cusp}
-use Rattle.cusp_record.specs.Inner.Fill.{CUSPS, STEPS, cuspEntry, AtCusp, OnCusp, SymbolRecord}
+use Rattle.cusp_record.specs.Inner.Fill.{CUSPS, STEPS, cuspEntry, OnCusp, SymbolRecord}
 use Rattle.cusp_record.proofs.Record.{k-low, steps-low, in-order, cusp-at, steps-at}
 use Rattle.cusp_record.proofs.Fill.{at-fits}
 use Rattle.t_runs.specs.Runs.{Guided}
-use Rattle.t_runs.specs.Inner.Places.{TURN, END, WIDTH, heldTurns, heldS, cuspAt, Prepared, TurnSource, EndSource, TurnsAt, EndsTo, EndsFrame, SymbolPlaces}
+use Rattle.t_runs.specs.Inner.Places.{TURN, END, WIDTH, heldTurns, heldS, cuspAt, TurnSource, EndSource, TurnsAt, EndsTo, EndsFrame, SymbolPlaces}
 
 -- ---- S by place
 
@@ -363,7 +362,7 @@ guided {v} {t} {w} {w'} {n} ok g =
     let low : (m : Mat) → det m ≡ pos 1 → leads s (tableR v t) m < length u = λ m d. omega (arith, c .low m d, c .size-T) in
     let by : Guided (heldTurns n w') u (leads s (tableR v t)) = record {
       permutes = p;
-      low = low;
+      point-low = low;
       zero = c .zero;
       by-S = λ m d.
           let x = leads s (tableR v t) m in
@@ -371,6 +370,6 @@ guided {v} {t} {w} {w'} {n} ok g =
           let yl : y < n = omega (arith, o .place-low x (low m d), c .size-T, g .index) in
           ap (cuspPlace u) (c .by-S m d) ∙ sym (entries-at TURN n w' y yl ∙ g .turns .turn-is y yl ∙ ap (λ (i : ℕ). cuspPlace u (imageAt s i)) (o .at-place x (low m d)));
       by-T = c .by-T;
-      sign = leads-≈ s (tableR v t);
+      up-to-sign = leads-≈ s (tableR v t);
     } in
     rw (g .T-is) by

@@ -1,5 +1,7 @@
--- Why the crate `t_runs` answers what it does, in reading order: powers of T and the rows that are left, runs in their cusps, the invariant, the tables by
--- place, the coset tables of a symbol.
+-- Why the crate `t_runs` answers what it does, in reading order: powers of T, division to the nearest multiple, the rows that remain of a matrix, signed
+-- numbers, runs in their cusps, the invariant, the tables by place, the coset tables of a symbol.
+pub mod Powers
+pub mod Nearest
 pub mod Rows
 pub mod Signed
 pub mod Places

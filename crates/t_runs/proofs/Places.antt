@@ -3,7 +3,7 @@
 -- steps onward as end a round (`power-leads`).
 -- In order: places of a prepared work space; j steps along a cusp; where T^q leads.
 -- Assumes nothing.
-use mathlib.Core.Path.{_≡_, refl, sym, ap, _∙_}
+use mathlib.Core.Path.{_≡_, sym, ap, _∙_}
 use mathlib.Core.Bool.{Bool, true, false}
 use mathlib.Core.List.{List}
 use Prim.Native.Nat.{ℕ, zero, suc, _+_, _-_, _%_, _≤_, _<_}
@@ -12,7 +12,7 @@ use native.Mathlib.Omega.{arith}
 use native.Mathlib.Decide.{decLt}
 use lib.Dec.{ltb}
 use lib.ListN.{length, getD}
-use lib.IntN.{ℤ, pos, negsuc, negℤ, +ℤ-invl}
+use lib.IntN.{pos, negℤ, +ℤ-invl}
 use borrow.Author.Tests.{lt-ltb, le-ltb}
 use Rattle.basics.proofs.Choice.{pick-true, pick-false}
 use Rattle.matrix.specs.Matrix.{Mat, _⊗_, 𝟙, det, matT}
@@ -20,17 +20,17 @@ use Rattle.matrix.proofs.Matrix.{⊗-assoc, ⊗-idr, det-one}
 use Rattle.numbering.specs.Table.{imageAt, Permutes}
 use Rattle.numbering.specs.Inner.Space.{ROOM, T-TABLE}
 use Rattle.numbering.proofs.Space.{entries-length}
-use Rattle.figures.specs.Cusps.{times, cusps}
+use Rattle.figures.specs.Cusps.{times}
 use Rattle.figures.specs.Inner.Scan.{heldT}
 use Rattle.figures.proofs.Cycle.{times-last, times-low}
 use Rattle.cusp_record.specs.Record.{cuspWidth, cuspOf, cuspSteps, cuspPlace, cuspFirst, InCuspOrder}
 use Rattle.cusp_record.specs.Inner.Fill.{cuspEntry}
 use Rattle.cusp_record.proofs.Cycles.{times-rest, times-back}
 use Rattle.cusp_record.proofs.Record.{width-some, fits, k-low, steps-low, round, in-order}
-use Rattle.t_runs.specs.Runs.{power, Guided}
+use Rattle.t_runs.specs.Runs.{powerT, Guided}
 use Rattle.t_runs.specs.Inner.Places.{END, WIDTH, cuspAt, stepsOn, runPlace, InCusp, alongCusp, Prepared}
 use Rattle.t_runs.specs.Inner.Rows.{signed}
-use Rattle.t_runs.proofs.Rows.{det-power, power-+, power-0, power-suc}
+use Rattle.t_runs.proofs.Powers.{det-powerT, powerT-+, powerT-0, powerT-suc}
 
 pub steps-most : (onward : Bool) (q d : ℕ) → 0 < d → stepsOn onward q d ≤ d
 steps-most true q d h = omega (arith, mod-lt q {m = d} h)
@@ -127,35 +127,35 @@ module _ {n : ℕ} {w : List ℕ} (g : Prepared n w) where
 -- ---- where T^q leads
 
 module _ {turns u : List ℕ} {lead : Mat → ℕ} (g : Guided turns u lead) (m : Mat) (d : det m ≡ pos 1) where
-  by-steps : (m : Mat) → det m ≡ pos 1 → (n : ℕ) → lead (m ⊗ power (pos n)) ≡ times u n (lead m)
+  by-steps : (m : Mat) → det m ≡ pos 1 → (n : ℕ) → lead (m ⊗ powerT (pos n)) ≡ times u n (lead m)
   unfolding times
-  by-steps m d zero = ap (λ (k : Mat). lead (m ⊗ k)) power-0 ∙ ap lead (⊗-idr m)
+  by-steps m d zero = ap (λ (k : Mat). lead (m ⊗ k)) powerT-0 ∙ ap lead (⊗-idr m)
   by-steps m d (suc n) =
-      ap (λ (k : Mat). lead (m ⊗ k)) (power-suc n) ∙ ap lead (sym (⊗-assoc m (power (pos n)) matT))
-      ∙ g .by-T (m ⊗ power (pos n)) (det-one m (power (pos n)) d (det-power (pos n)))
+      ap (λ (k : Mat). lead (m ⊗ k)) (powerT-suc n) ∙ ap lead (sym (⊗-assoc m (powerT (pos n)) matT))
+      ∙ g .by-T (m ⊗ powerT (pos n)) (det-one m (powerT (pos n)) d (det-powerT (pos n)))
       ∙ ap (imageAt u) (by-steps m d n) ∙ sym (times-last u n (lead m))
 
   -- n steps onward undo T^-n
-  undone : (n : ℕ) → times u n (lead (m ⊗ power (negℤ (pos n)))) ≡ lead m
+  undone : (n : ℕ) → times u n (lead (m ⊗ powerT (negℤ (pos n)))) ≡ lead m
   undone n =
-      let b = power (negℤ (pos n)) in
-      let e : b ⊗ power (pos n) ≡ 𝟙 = power-+ (negℤ (pos n)) (pos n) ∙ ap power (+ℤ-invl (pos n)) ∙ power-0 in
-      sym (by-steps (m ⊗ b) (det-one m b d (det-power (negℤ (pos n)))) n)
-      ∙ ap lead (⊗-assoc m b (power (pos n)) ∙ ap (λ (i : Mat). m ⊗ i) e ∙ ⊗-idr m)
+      let b = powerT (negℤ (pos n)) in
+      let e : b ⊗ powerT (pos n) ≡ 𝟙 = powerT-+ (negℤ (pos n)) (pos n) ∙ ap powerT (+ℤ-invl (pos n)) ∙ powerT-0 in
+      sym (by-steps (m ⊗ b) (det-one m b d (det-powerT (negℤ (pos n)))) n)
+      ∙ ap lead (⊗-assoc m b (powerT (pos n)) ∙ ap (λ (i : Mat). m ⊗ i) e ∙ ⊗-idr m)
 
   abbrev c : ℕ
   c = cuspWidth u (cuspOf u (lead m))
 
-  power-leads : (onward : Bool) (q : ℕ) → lead (m ⊗ power (signed onward (pos q))) ≡ times u (stepsOn onward q c) (lead m)
-  power-leads true q = by-steps m d q ∙ times-rest u c (lead m) (round (g .permutes) (lead m) (g .low m d)) q
+  power-leads : (onward : Bool) (q : ℕ) → lead (m ⊗ powerT (signed onward (pos q))) ≡ times u (stepsOn onward q c) (lead m)
+  power-leads true q = by-steps m d q ∙ times-rest u c (lead m) (round (g .permutes) (lead m) (g .point-low m d)) q
   power-leads false q =
-      let b = power (negℤ (pos q)) in
-      let l = g .low m d in
+      let b = powerT (negℤ (pos q)) in
+      let l = g .point-low m d in
       times-back (g .permutes) l c q (lead (m ⊗ b)) (width-some (g .permutes) (cuspOf u (lead m)) (k-low (g .permutes) (lead m) l))
-      (round (g .permutes) (lead m) l) (g .low (m ⊗ b) (det-one m b d (det-power (negℤ (pos q))))) (undone q)
+      (round (g .permutes) (lead m) l) (g .point-low (m ⊗ b) (det-one m b d (det-powerT (negℤ (pos q))))) (undone q)
 
-  pub run-leads : (onward : Bool) (q : ℕ) → runPlace u onward q (cuspPlace u (lead m)) ≡ cuspPlace u (lead (m ⊗ power (signed onward (pos q))))
+  pub run-leads : (onward : Bool) (q : ℕ) → runPlace u onward q (cuspPlace u (lead m)) ≡ cuspPlace u (lead (m ⊗ powerT (signed onward (pos q))))
   unfolding runPlace
   run-leads onward q =
-      let there = in-order (g .permutes) .at-place (lead m) (g .low m d) in
+      let there = in-order (g .permutes) .at-place (lead m) (g .point-low m d) in
       rw there (ap (cuspPlace u) (sym (power-leads onward q)))

@@ -1,118 +1,144 @@
--- The invariant of `arrive`: the runs so far times what is left is the matrix, up to sign, and the place so far is where the runs so far lead.
--- In order: the beginning (`whole-sound`, `whole-follows`); a run (`next-sound`, `next-less`, `next-follows`); the end (`arrived`).
+-- The invariant: the runs so far, times what remains, are the matrix up to sign, and the place so far is where these runs lead (`RemainsOf`).
+-- In order: the whole matrix (`whole-sound`, `whole-remains`); one run (`run-less`, `run-sound`, `run-remains`, and all of it in `later`); the test of two; the last
+-- run (`arrived`).
 -- Assumes nothing.
 use mathlib.Core.Path.{_≡_, refl, sym, ap, _∙_}
 use mathlib.Core.Logic.{inl}
-use mathlib.Core.Bool.{Bool, not}
+use mathlib.Core.Bool.{Bool, true, false, not}
 use mathlib.Core.List.{List, [], _∷_}
-use Prim.Native.Nat.{ℕ, _+_, _/_, _%_, _≤_, _<_}
-use native.Mathlib.Nat.{mod-lt}
+use Prim.Native.Nat.{ℕ, zero, suc, _<_}
 use native.Mathlib.Omega.{arith}
-use lib.ListN.{length, getD}
-use lib.IntN.{ℤ, pos, natAbs, _-ℤ_, _*ℤ_}
-use Rattle.matrix.specs.Matrix.{Mat, _⊗_, 𝟙, det, matS, _≈_}
+use lib.Dec.{ltb, eqb}
+use lib.IntN.{ℤ, pos, natAbs}
+use lib.Signed.{nonNeg}
+use borrow.Author.Tests.{lt-ltb, ne-eqb}
+use Rattle.basics.specs.Choice.{pick}
+use Rattle.matrix.specs.Matrix.{Mat, _⊗_, det, matS, _≈_}
 use Rattle.matrix.specs.Bounds.{Small}
 use Rattle.matrix.specs.Words.{S}
 use Rattle.matrix.proofs.Matrix.{⊗-assoc, ⊗-idl, det-𝟙, det-one, det-letter, det-≈, _∙≈_, ≈-left}
 use Rattle.numbering.specs.Table.{imageAt}
+use Rattle.numbering.proofs.Find.{true-false}
 use Rattle.numbering.proofs.Space.{entries-at}
 use Rattle.figures.specs.Inner.Scan.{heldT}
 use Rattle.cusp_record.specs.Record.{cuspPlace}
 use Rattle.cusp_record.proofs.Record.{place-zero}
-use Rattle.t_runs.specs.Runs.{power, runsValue, Guided, Arrived}
+use Rattle.t_runs.specs.Runs.{powerT, runsValue, Arrived}
 use Rattle.t_runs.specs.Inner.Places.{TURN, heldTurns, runPlace, Prepared}
-use Rattle.t_runs.specs.Inner.Rows.{signed, notNegative, rows, leftOf, LIMIT, SoundRest, WholeRest, Next}
-use Rattle.t_runs.specs.declared.Rest.{Rest}
-use Rattle.t_runs.proofs.Rows.{det-power, run-is, abs-signed, left-unit, left-low, last-is, sign-size, first-rows}
+use Rattle.t_runs.specs.Inner.Rows.{signed, partialQuotient, rowPair, remainingMatrix, LIMIT, SoundRemaining, WholeRemaining, AfterRun, RemainsOf, RemainsLater}
+use Rattle.t_runs.specs.declared.Remaining.{Remaining}
+use Rattle.t_runs.proofs.Powers.{det-powerT}
+use Rattle.t_runs.proofs.Nearest.{remainder-less}
+use Rattle.t_runs.proofs.Rows.{run-is, abs-signed, after-unit, signed-right-low, last-is, sign-size, whole-rows}
 use Rattle.t_runs.proofs.Places.{size-u, run-low, run-leads}
-
-pub record Follows (n : ℕ) (w : List ℕ) (m : Mat) (a : Rest) : Type 0 where
-  pub runs : List ℤ
-  pub value : runsValue runs ⊗ leftOf a ≈ m
-  pub there : Arrived (heldTurns n w) (heldT n w) (runsValue runs) (a .at)
 
 det-runs : (l : List ℤ) → det (runsValue l) ≡ pos 1
 det-runs [] = det-𝟙
-det-runs (q ∷ l) = det-one (runsValue l) (power q ⊗ matS) (det-runs l) (det-one (power q) matS (det-power q) (det-letter S))
+det-runs (q ∷ l) = det-one (runsValue l) (powerT q ⊗ matS) (det-runs l) (det-one (powerT q) matS (det-powerT q) (det-letter S))
 
--- ---- the beginning
+-- ---- the whole matrix
 
-module _ {n : ℕ} {w : List ℕ} (g : Prepared n w) {m : Mat} {a : Rest} (x : WholeRest m a) where
-  begin : leftOf a ≈ m
-  begin = rw (x .agree-is, x .p-is, x .y-is, x .r-is, x .z-is) (first-rows (m .a) (m .b) (m .c) (m .d))
+module _ {n : ℕ} {w : List ℕ} (g : Prepared n w) {m : Mat} {x : Remaining} (all : WholeRemaining m x) where
+  all-remains : remainingMatrix x ≈ m
+  all-remains = rw (all .aligned-is, all .a-is, all .b-is, all .c-is, all .d-is) (whole-rows (m .a) (m .b) (m .c) (m .d))
 
-  pub whole-sound : Small LIMIT m → det m ≡ pos 1 → SoundRest n a
-  whole-sound s d = record {
-    low = omega (arith, x .at-is, g .some);
-    unit = det-≈ begin ∙ d;
-    p-low = omega (arith, x .p-is, s .in-a);
-    y-low = omega (arith, ap natAbs (x .y-is), abs-signed (notNegative (m .a)) (m .b), s .in-b);
-    r-low = omega (arith, x .r-is, s .in-c);
-    z-low = omega (arith, ap natAbs (x .z-is), abs-signed (notNegative (m .c)) (m .d), s .in-d);
+  pub whole-sound : Small LIMIT m → det m ≡ pos 1 → SoundRemaining n x
+  whole-sound small unit = record {
+    place-low = omega (arith, all .place-is, g .some);
+    unit = det-≈ all-remains ∙ unit;
+    a-low = omega (arith, all .a-is, small .in-a);
+    b-low = omega (arith, ap natAbs (all .b-is), abs-signed (nonNeg (m .a)) (m .b), small .in-b);
+    c-low = omega (arith, all .c-is, small .in-c);
+    d-low = omega (arith, ap natAbs (all .d-is), abs-signed (nonNeg (m .c)) (m .d), small .in-d);
   }
 
-  pub whole-follows : Follows n w m a
-  whole-follows = record {
+  pub whole-remains : RemainsOf n w m x
+  whole-remains = record {
     runs = [];
-    value = inl (⊗-idl (leftOf a)) ∙≈ begin;
-    there = λ lead e. x .at-is ∙ sym (ap (cuspPlace (heldT n w)) (e .zero) ∙ place-zero (e .permutes) (omega (arith, size-u g, g .some)));
+    value = inl (⊗-idl (remainingMatrix x)) ∙≈ all-remains;
+    there = λ lead e. all .place-is ∙ sym (ap (cuspPlace (heldT n w)) (e .zero) ∙ place-zero (e .permutes) (omega (arith, size-u g, g .some)));
   }
 
--- ---- a run
+-- ---- one run
 
-module _ {n : ℕ} {w : List ℕ} (g : Prepared n w) {a b : Rest} (s : SoundRest n a) (h : 0 < a .r) (x : Next n w a b) where
-  abbrev q : ℤ
-  q = signed (a .agree) (pos (a .p / a .r))
+pub none-yet : {n : ℕ} {w : List ℕ} {x : Remaining} → SoundRemaining n x → RemainsLater n w x x
+none-yet s = record { sound = s; remains = λ m f. f }
 
-  abbrev y : ℕ
-  y = runPlace (heldT n w) (a .agree) (a .p / a .r) (a .at)
+module _ {n : ℕ} {w : List ℕ} (g : Prepared n w) {x y : Remaining} (s : SoundRemaining n x) (some : 0 < x .c) (r : AfterRun n w x y) where
+  abbrev q : ℕ
+  q = partialQuotient (x .a) (x .c)
 
-  y-low : y < n
-  y-low = run-low g (a .at) (s .low) (a .agree) (a .p / a .r)
+  abbrev run : Mat
+  run = powerT (signed (x .aligned) (pos q))
 
-  pub next-less : b .r < a .r
-  next-less = rw (x .r-is) (mod-lt (a .p) h)
+  abbrev before-S : ℕ
+  before-S = runPlace (heldT n w) (x .aligned) q (x .place)
 
-  pub next-sound : SoundRest n b
-  next-sound = record {
-    low = rw (x .at-is) (g .turn-low y y-low);
-    unit = rw (x .agree-is, x .p-is, x .y-is, x .r-is, x .z-is) (left-unit s h);
-    p-low = rw (x .p-is) (s .r-low);
-    y-low = rw (x .y-is) (s .z-low);
-    r-low = omega (arith, next-less, s .r-low);
-    z-low = rw (x .z-is) (left-low s h);
+  before-S-low : before-S < n
+  before-S-low = run-low g (x .place) (s .place-low) (x .aligned) q
+
+  pub run-less : y .c < x .c
+  run-less = rw (r .c-is) (remainder-less (x .a) (x .c) some)
+
+  pub run-sound : SoundRemaining n y
+  run-sound = record {
+    place-low = rw (r .place-is) (g .turn-low before-S before-S-low);
+    unit = rw (r .aligned-is, r .a-is, r .b-is, r .c-is, r .d-is) (after-unit s some);
+    a-low = omega (arith, r .a-is, s .c-low);
+    b-low = rw (r .b-is) (s .d-low);
+    c-low = omega (arith, run-less, s .c-low);
+    d-low = rw (r .d-is) (signed-right-low s some);
   }
 
-  step : power q ⊗ (matS ⊗ leftOf b) ≈ leftOf a
-  step = rw (x .agree-is, x .p-is, x .y-is, x .r-is, x .z-is) (run-is (a .agree) (a .p) (a .y) (a .r) (a .z))
+  run-back : run ⊗ (matS ⊗ remainingMatrix y) ≈ remainingMatrix x
+  run-back =
+      rw (r .aligned-is, r .a-is, r .b-is, r .c-is, r .d-is)
+      (run-is (x .aligned) (x .a) (x .b) (x .c) (x .d) some)
 
-  pub next-follows : {m : Mat} → Follows n w m a → Follows n w m b
-  next-follows f =
-      let l = f .runs in
-      let M = runsValue l in
-      let k = M ⊗ power q in
+  pub run-remains : {m : Mat} → RemainsOf n w m x → RemainsOf n w m y
+  run-remains f =
+      let so-far = runsValue (f .runs) in
+      let unit = det-runs (f .runs) in
+      let z = remainingMatrix y in
       record {
-        runs = q ∷ l;
-        value = inl (⊗-assoc M (power q ⊗ matS) (leftOf b) ∙ ap (λ (i : Mat). M ⊗ i) (⊗-assoc (power q) matS (leftOf b))) ∙≈ ≈-left M step ∙≈ f .value;
+        runs = signed (x .aligned) (pos q) ∷ f .runs;
+        value = inl (⊗-assoc so-far (run ⊗ matS) z ∙ ap (λ (i : Mat). so-far ⊗ i) (⊗-assoc run matS z)) ∙≈ ≈-left so-far run-back ∙≈ f .value;
         there = λ lead e.
             let u = heldT n w in
-            let at : y ≡ cuspPlace u (lead k) =
-            ap (runPlace u (a .agree) (a .p / a .r)) (f .there lead e) ∙ run-leads e M (det-runs l) (a .agree) (a .p / a .r) in
-            x .at-is ∙ sym (entries-at TURN n w y y-low) ∙ ap (imageAt (heldTurns n w)) at
-            ∙ sym (e .by-S k (det-one M (power q) (det-runs l) (det-power q))) ∙ ap (λ (i : Mat). cuspPlace u (lead i)) (⊗-assoc M (power q) matS);
+            let here : before-S ≡ cuspPlace u (lead (so-far ⊗ run)) =
+            ap (runPlace u (x .aligned) q) (f .there lead e) ∙ run-leads e so-far unit (x .aligned) q in
+            r .place-is ∙ sym (entries-at TURN n w before-S before-S-low) ∙ ap (imageAt (heldTurns n w)) here
+            ∙ sym (e .by-S (so-far ⊗ run) (det-one so-far run unit (det-powerT (signed (x .aligned) (pos q)))))
+            ∙ ap (λ (i : Mat). cuspPlace u (lead i)) (⊗-assoc so-far run matS);
       }
 
--- ---- the end
+  pub later : {x₀ : Remaining} → RemainsLater n w x₀ x → RemainsLater n w x₀ y
+  later l = record { sound = run-sound; remains = λ m f. run-remains (l .remains m f) }
 
-pub arrived : {n : ℕ} {w : List ℕ} {m : Mat} {a : Rest} → SoundRest n a → a .r ≡ 0 → Follows n w m a
-    → Arrived (heldTurns n w) (heldT n w) m (runPlace (heldT n w) (notNegative (a .y)) (natAbs (a .y)) (a .at))
-arrived {n} {w} {m} {a} s r f lead e =
-    let M = runsValue (f .runs) in
+-- ---- the test of two
+
+pub second-test : (c d : ℕ) → 0 < c → not (eqb d 0) ≡ pick (ltb 0 c) (ltb 0 d) false
+second-test c zero h = rw (lt-ltb 0 c h) refl
+second-test c (suc d) h = let k : 0 < suc d = omega arith in rw (lt-ltb 0 c h, lt-ltb 0 (suc d) k, ne-eqb (suc d) 0 (λ e. omega arith)) refl
+
+pub both-left : (c d : ℕ) {b : Bool} → b ≡ pick (ltb 0 c) (ltb 0 d) false → b ≡ true → (0 < c) × (0 < d)
+both-left zero d e t = true-false (sym (sym t ∙ e)) refl
+both-left (suc c) zero e t = let h : 0 < suc c = omega arith in true-false (sym (sym t ∙ e)) (rw (lt-ltb 0 (suc c) h) refl)
+both-left (suc c) (suc d) e t = (omega arith, omega arith)
+
+-- ---- the last run
+
+pub arrived : {n : ℕ} {w : List ℕ} {m : Mat} {x : Remaining} → SoundRemaining n x → x .c ≡ 0 → RemainsOf n w m x
+    → Arrived (heldTurns n w) (heldT n w) m (runPlace (heldT n w) (nonNeg (x .b)) (natAbs (x .b)) (x .place))
+arrived {n} {w} {m} {x} s none f lead e =
+    let so-far = runsValue (f .runs) in
     let u = heldT n w in
-    let last : leftOf a ≡ power (a .y) =
-    ap (λ (i : ℕ). rows (a .agree) (a .p) (a .y) i (a .z)) r ∙ last-is (a .agree) (a .p) (a .y) (a .z) (rw r at (s .unit)) in
-    ap (runPlace u (notNegative (a .y)) (natAbs (a .y))) (f .there lead e)
-    ∙ run-leads e M (det-runs (f .runs)) (notNegative (a .y)) (natAbs (a .y))
-    ∙ ap (λ (i : ℤ). cuspPlace u (lead (M ⊗ power i))) (sign-size (a .y))
-    ∙ ap (λ (i : Mat). cuspPlace u (lead (M ⊗ i))) (sym last)
-    ∙ ap (cuspPlace u) (e .sign (M ⊗ leftOf a) m (f .value))
+    let b = x .b in
+    let last : remainingMatrix x ≡ powerT b =
+    ap (λ (i : ℕ). rowPair (x .aligned) (x .a) b i (x .d)) none
+    ∙ last-is (x .aligned) (x .a) b (x .d) (rw none at (s .unit)) in
+    ap (runPlace u (nonNeg b) (natAbs b)) (f .there lead e)
+    ∙ run-leads e so-far (det-runs (f .runs)) (nonNeg b) (natAbs b)
+    ∙ ap (λ (i : ℤ). cuspPlace u (lead (so-far ⊗ powerT i))) (sign-size b)
+    ∙ ap (λ (i : Mat). cuspPlace u (lead (so-far ⊗ i))) (sym last)
+    ∙ ap (cuspPlace u) (e .up-to-sign (so-far ⊗ remainingMatrix x) m (f .value))

@@ -1,6 +1,5 @@
 -- What the inner functions of the crate ask for, and give.
 --
---   OneMatrix m          m can be followed: its entries are from -1,000,000 to 1,000,000, and its determinant is 1
 --   yesNo k              yes or no
 --   Shares n w a b r     r is whether a and b lead to one point, in the coset tables of whatever symbol has its tables by place in w
 --   pairShared v t a b   the answer for a pair where the symbol is accepted and the work space is long enough: 8, 9, yes or no
@@ -30,10 +29,6 @@ use Rattle.same_coset.specs.Answer.{sharedBy, enough}
 use Rattle.same_coset.specs.Pairs.{ragged, cosetLines}
 use Rattle.same_coset.specs.declared.Shared.{Shared}
 use Rattle.same_coset.specs.declared.Shared.the-variants as shared
-
-pub record OneMatrix (m : List ℤ) : Type 0 where
-  pub entries : Small 1000000 (ofList m)
-  pub unit : det (ofList m) ≡ pos 1
 
 abbrev pub yesNo : Bool → Shared
 yesNo k = pick k shared.Yes shared.No

@@ -5,8 +5,8 @@ use borrow.Author.Needs.{needs}
 use Rattle.t_runs.proofs.finish.Statement.{statement}
 use Rattle.t_runs.proofs.finish.Tie as tie
 
-is-from-zero-requires : tie.Need-is-from-zero-requires
-is-from-zero-requires c κs = search needs
+is-nonnegative-requires : tie.Need-is-nonnegative-requires
+is-nonnegative-requires c κs = search needs
 
 size-requires : tie.Need-size-requires
 size-requires c κs = search needs
@@ -17,8 +17,8 @@ slide-requires c κs = search needs
 returns : tie.Need-returns
 returns c =
     let s = c .before .before .before .before .before in
-    let a = s .args .a in
-    c .slide .ensures ∙ rw (c .before .before .is-from-zero .ensures, c .before .size .ensures, kept (a .y) (s .pre .1 .y-low))
+    let x = s .args .x in
+    c .slide .ensures ∙ rw (c .before .before .is-nonnegative .ensures, c .before .size .ensures, kept (x .b) (s .pre .1 .b-low))
 
 pub finish-spec : {M : Type 1} → statement M
-finish-spec = tie.close (tie.spec is-from-zero-requires size-requires slide-requires returns)
+finish-spec = tie.close (tie.spec is-nonnegative-requires size-requires slide-requires returns)

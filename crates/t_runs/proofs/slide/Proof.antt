@@ -35,22 +35,22 @@ index-requires-2 c κs = search needs
 steps-on-requires : tie.Need-steps-on-requires
 steps-on-requires c κs =
     let s = c .before .before .before .before .before in
-    rw (c .index2 .ensures) (width-low (s .pre .0) (s .args .y) (s .pre .1))
+    rw (c .index2 .ensures) (width-low (s .pre .0) (s .args .place) (s .pre .1))
 
 along-cusp-requires : tie.Need-along-cusp-requires
 along-cusp-requires c κs =
     let s = c .before .before .before .before .before .before in
-    let l = width-low (s .pre .0) (s .args .y) (s .pre .1) in
-    let d = getD (s .args .w .now) (WIDTH + s .args .y) 0 in
+    let l = width-low (s .pre .0) (s .args .place) (s .pre .1) in
+    let d = getD (s .args .w .now) (WIDTH + s .args .place) 0 in
     rw (c .steps-on .ensures, c .before .before .before .index .ensures, c .before .index2 .ensures)
-    (place-in (s .pre .0) (s .args .y) (s .pre .1), steps-most (s .args .onward) (s .args .q) d (l .0), l .1)
+    (place-in (s .pre .0) (s .args .place) (s .pre .1), steps-most (s .args .onward) (s .args .q) d (l .0), l .1)
 
 returns : tie.Need-returns
 returns c =
     let s = c .before .before .before .before .before .before .before in
     c .along-cusp .ensures
     ∙ rw (c .before .before .before .before .index .ensures, c .before .steps-on .ensures, c .before .before .index2 .ensures)
-    (slide-is (s .pre .0) (s .args .y) (s .pre .1) (s .args .onward) (s .args .q))
+    (slide-is (s .pre .0) (s .args .place) (s .pre .1) (s .args .onward) (s .args .q))
 
 pub slide-spec : {M : Type 1} → statement M
 slide-spec =

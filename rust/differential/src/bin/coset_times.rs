@@ -107,6 +107,7 @@ fn main() {
     ];
     let kinds = [
         "entries to 1,000,000",
+        "entries to 30,000",
         "entries to 1,000",
         "one long run of T",
     ];
@@ -124,6 +125,7 @@ fn main() {
             for _ in 0..count {
                 let pair = match kind {
                     "entries to 1,000,000" => [0; 2].map(|_| random(&mut rng, 1_000_000)),
+                    "entries to 30,000" => [0; 2].map(|_| random(&mut rng, 30_000)),
                     "entries to 1,000" => [0; 2].map(|_| random(&mut rng, 1_000)),
                     _ => long_run(&mut rng),
                 };

@@ -11,7 +11,8 @@ use Rattle.word.proofs.Order.{passed-small, asked}
 use Rattle.word.proofs.Refused.{Passed, passed-by}
 use Rattle.sheets.proofs.Single.{by-large, by-determinant, by-walk}
 use Rattle.same_coset.specs.Answer.{sharedBy, enough}
-use Rattle.same_coset.specs.Inner.Ready.{pairShared, LineFits, OneMatrix}
+use Rattle.same_coset.specs.Inner.Ready.{pairShared, LineFits}
+use Rattle.t_runs.specs.Inner.Rows.{OneMatrix}
 use Rattle.same_coset.proofs.Single.{other, found-is}
 use Rattle.same_coset.proofs.Lines.{fits-yes-no, fits-refused}
 use borrow.Author.Needs.{needs}
