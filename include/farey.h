@@ -49,6 +49,7 @@
  *                                                                                           farey_sheet, of two in farey_same_cosets)
  *       in farey_sheet also: entries that are no pairs, or over 2,048                       2,048
  *       in farey_same_cosets also: entries that are no pairs                                the next multiple of 8
+ *       in farey_tower also: over 64 entries                                                64
  *   12  an index not from 1 to 3,066, or tables unequal in length                           0
  *   13  an entry outside its table, or equal to an earlier one                              its index, S before R
  *   14  S twice or R three times moves a point                                              the first such point, S before R
@@ -60,6 +61,9 @@
  *   21  the index of the named group is over 3,066                                          0
  *   22  a vertex entry over 33,554,432 in size, too large for a drawing                      the entry's index
  *   23  a number that is no side's free label, or the other one again                       0 or 1: which of the two
+ *   24  an intersection with over 3,066 points                                              0
+ *   25  a tower's entry names one that isn't listed before it                               the entry, from 0
+ *   26  a tower's entry isn't contained in the one that it names                            the entry, from 0
  * 19 is for the programs, which read text.
  *
  * NAMED GROUPS are given by a family and an N from 1 to 1,000. A matrix (a b; c d) is in the group where it meets, modulo N, the condition
@@ -79,8 +83,9 @@ extern "C" {
 #endif
 
 /* Stack that is enough for every call, in bytes, with what it calls in turn. This is measured and not proved, on x86-64: the symbols and
- * queries of named groups, which keep two tables and a symbol there, take under 65,536, farey_preview, which keeps a symbol, under 30,000, farey_same, which
- * keeps two tables, under 20,000, the other calls under 10,000, on the largest inputs, by a thread whose stack was filled beforehand (rust/differential/tests/stack.rs, which the gate runs). A call that the dynamic
+ * queries of named groups, which keep two tables and a symbol there, take under 65,536, farey_intersection, which keeps four tables, under 40,000,
+ * farey_contains and farey_tower, which keep three, and farey_preview, which keeps a symbol, under 30,000, farey_same, which keeps two tables, under 20,000,
+ * the other calls under 10,000, on the largest inputs, by a thread whose stack was filled beforehand (rust/differential/tests/stack.rs, which the gate runs). A call that the dynamic
  * linker has to look up at its first use (memset) may take some thousand more, once. */
 #define FAREY_STACK 98304
 /* The length of the work space. */
@@ -97,6 +102,9 @@ extern "C" {
 #define FAREY_SHEET_LINES 1024
 /* A length that is enough for the table of S, and of R, of every named group. */
 #define FAREY_NAMED 3066
+/* A length that is enough for each table of every intersection, and the most entries of a tower. */
+#define FAREY_INTERSECTION 3066
+#define FAREY_TOWER 64
 
 /* The families of named groups. */
 #define FAREY_GAMMA0 0
@@ -195,6 +203,26 @@ uint64_t farey_same_cosets(size_t v, const int64_t *t, size_t t_len, const int64
  * 1 to 7 for the first, then for the second, then 11 for work. Count: 1 for yes, 0 for no. */
 uint64_t farey_same(size_t v, const int64_t *t, size_t t_len, size_t m, const int64_t *u, size_t u_len, uint16_t *work, size_t work_len,
                     size_t *place);
+
+/* Whether the subgroup of t contains that of u: yes precisely when every generator of u is, up to sign, a word in the generators of t and their inverses. It goes by
+ * the groups themselves and not by their index. Refused: 1 to 7 for t, then for u, then 11 for work. Count: 1 for yes, 0 for no. */
+uint64_t farey_contains(size_t v, const int64_t *t, size_t t_len, size_t m, const int64_t *u, size_t u_len, uint16_t *work, size_t work_len,
+                        size_t *place);
+
+/* The right cosets of the intersection of two symbols' subgroups, by the tables of S, R and T, each from the front of its space. The points are the pairs of
+ * cosets, one of each subgroup, that are reached from the pair of both subgroups themselves, which is point 0; they are numbered as the cosets of farey_tables. A
+ * matrix fixes point 0 precisely when it belongs to both subgroups, so that farey_import_wide makes a symbol of the intersection of s and r, unless it is refused
+ * with 16. Refused: 1 to 7 for t, then for u, then 11 for work, then 24, then 11 for s, r, k. Count: the number of points, which is the index of the intersection and
+ * how many entries are written to each space. */
+uint64_t farey_intersection(size_t v, const int64_t *t, size_t t_len, size_t m, const int64_t *u, size_t u_len, uint16_t *work, size_t work_len,
+                            uint32_t *s, size_t s_len, uint32_t *r, size_t r_len, uint32_t *k, size_t k_len, size_t *place);
+
+/* A tower of `count` symbols, at most 64, in one table t. For each entry, counted from 0: the entry before it that should contain it, or -1 for none; then v; then the
+ * symbol's table, which is the next 3v + 1 numbers or the fewer left, and for the last entry all that are left. The tower passes precisely when each claim is true, that is when
+ * the subgroup of each named entry contains that of the entry that names it, as farey_contains has it. Refused: 11 with place 64 for a 65th entry, ahead of
+ * everything; then 1 to 7 for each symbol in listing order, with places that count in its own table, and 2 with place 0 for an entry without v; then 25 for the first entry at
+ * fault; then 11 for work; then 26 for the first entry at fault. An empty tower passes, whatever t and work are, and leaves work as it was. Count: 0. */
+uint64_t farey_tower(size_t count, const int64_t *t, size_t t_len, uint16_t *work, size_t work_len, size_t *place);
 
 /* The symbol t in which the free labels x and y have exchanged partners: the first sides of both keep their labels, and the second ones trade them. out: the
  * table of that symbol, 3v + 1 numbers, from the front. It is a symbol, with the vertices, the index, e2 and e3 of t. Exchanged once more it is t exactly where

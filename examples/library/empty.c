@@ -25,6 +25,7 @@ int main(void)
 {
     static const int64_t t[7] = {0, 1, 1, 1, 1, -2, 1}, g[10] = {0, 1, 1, 1, 2, 1, 1, 2, 2, 1};
     static const uint32_t s[3] = {1, 0, 2}, r[3] = {2, 0, 1};
+    static const int64_t tower[6] = {-1, 1, 0, 1, -2, -3};
     static const int64_t pair[8] = {1, 0, 0, 1, 1, 0, 2, 1};
     static const int64_t one[4] = {1, 0, 0, 1}, lower[4] = {1, 0, 2, 1}, minus[4] = {-1, 0, 0, -1};
     int64_t generators[10], table[7], line[4], sign = 77;
@@ -41,6 +42,10 @@ int main(void)
     say("check without a table", number, place);
     number = farey_same(2, t, 7, 2, NULL, 0, work, FAREY_WORK, &place);
     say("same without a second table", number, place);
+    number = farey_contains(2, t, 7, 2, NULL, 0, work, FAREY_WORK, &place);
+    say("contains without a second table", number, place);
+    number = farey_tower(1, NULL, 0, work, FAREY_WORK, &place);
+    say("tower without a table", number, place);
     number = farey_exchange(3, NULL, 0, 1, 2, table, 7, &place);
     say("exchange without a table", number, place);
     number = farey_import(NULL, 0, NULL, 0, work, FAREY_WORK, table, 7, &place);
@@ -77,6 +82,12 @@ int main(void)
     say("same cosets without work", number, place);
     number = farey_same(2, t, 7, 2, t, 7, NULL, 0, &place);
     say("same without work", number, place);
+    number = farey_contains(2, t, 7, 3, g, 10, NULL, 0, &place);
+    say("contains without work", number, place);
+    number = farey_intersection(2, t, 7, 3, g, 10, NULL, 0, NULL, 0, NULL, 0, NULL, 0, &place);
+    say("intersection without work", number, place);
+    number = farey_tower(1, tower, 6, NULL, 0, &place);
+    say("tower without work", number, place);
     number = farey_named_tables(FAREY_GAMMA0, 2, NULL, 0, NULL, 0, NULL, 0, &place);
     say("named tables without work", number, place);
     number = farey_named_symbol(FAREY_GAMMA0, 2, NULL, 0, NULL, 0, &place);
@@ -109,6 +120,8 @@ int main(void)
     say("tables without room", number, place);
     number = farey_cusps(2, t, 7, work, FAREY_WORK, NULL, 0, columns[1], 3, &place);
     say("cusps without room for cusps", number, place);
+    number = farey_intersection(2, t, 7, 3, g, 10, work, FAREY_WORK, NULL, 0, NULL, 0, NULL, 0, &place);
+    say("intersection without room", number, place);
     number = farey_cusps(2, t, 7, work, FAREY_WORK, columns[0], 3, NULL, 0, &place);
     say("cusps without room for steps", number, place);
     number = farey_import(s, 3, r, 3, work, FAREY_WORK, NULL, 0, &place);
@@ -139,6 +152,10 @@ int main(void)
     say_signed("named signed query without room", number, place, sign);
     number = farey_named_signed_query_wide(FAREY_GAMMA0, 2, one, lower, work, FAREY_WORK, NULL, 0, 0, &sign, &place);
     say_signed("wide named signed query without room", number, place, sign);
+
+    /* An empty tower passes, with nothing at all. */
+    number = farey_tower(0, NULL, 0, NULL, 0, &place);
+    say("tower of nothing", number, place);
 
     /* A sheet without pairs, and one whose word has no room: that is told in its line. */
     number = farey_sheet(2, t, 7, NULL, 0, work, FAREY_WORK, NULL, 0, NULL, 0, &place);

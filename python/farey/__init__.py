@@ -7,6 +7,7 @@ and gives the results names. The package itself is tested and not proved.
 |----------------|-----------------------------------------------------------------|
 | `symbol`       | `Symbol`: a symbol and all that can be asked of it; `Word`      |
 | `named`        | `named_tables`: S and R of Γ0(N), Γ1(N) and Γ(N)                |
+| `subgroups`    | `tower`, and what `Symbol` asks of two subgroups: &, <=         |
 | `permutations` | `import_length`: how long a symbol's table will be              |
 | `refusal`      | `Refusal`: the exception, with number, place and sentence       |
 | `evidence`     | a check, without the engine, of the statement that no word is   |
@@ -33,7 +34,8 @@ from . import cycles, evidence
 from .named import named_tables
 from .permutations import import_length
 from .refusal import Refusal
+from .subgroups import tower
 from .symbol import Box, Cusp, Evidence, Generator, Preview, Side, Symbol, Word
 from . import systems  # stands on Symbol
 
-__all__ = ["Box", "Cusp", "Evidence", "Generator", "Preview", "Refusal", "Side", "Symbol", "Word", "cycles", "evidence", "import_length", "named_tables", "systems"]
+__all__ = ["Box", "Cusp", "Evidence", "Generator", "Preview", "Refusal", "Side", "Symbol", "Word", "cycles", "evidence", "import_length", "named_tables", "systems", "tower"]

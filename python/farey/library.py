@@ -34,6 +34,9 @@ DRAWING = 4096
 SHEET = 256
 #: A length that is enough for the tables of S and R of every named group.
 NAMED = 3066
+#: The same for the tables of every intersection, and the entries of a tower, at most.
+INTERSECTION = 3066
+TOWER = 64
 
 _SYMBOL = [c_size_t, POINTER(c_int64), c_size_t]
 _NAME = [c_uint64, c_uint64]
@@ -63,6 +66,9 @@ _PARAMETERS = {
     "farey_same_coset": _SYMBOL + 2 * [POINTER(c_int64)] + _WORK + _PLACE,
     "farey_same_cosets": _SYMBOL + _space(c_int64) + _WORK + _space(c_int64) + _PLACE,
     "farey_same": 2 * _SYMBOL + _WORK + _PLACE,
+    "farey_contains": 2 * _SYMBOL + _WORK + _PLACE,
+    "farey_intersection": 2 * _SYMBOL + _WORK + 3 * _space(c_uint32) + _PLACE,
+    "farey_tower": [c_size_t] + _space(c_int64) + _WORK + _PLACE,
     "farey_exchange": _SYMBOL + 2 * [c_int64] + _space(c_int64) + _PLACE,
     "farey_preview": _SYMBOL + 2 * [c_int64] + _WORK + _space(c_uint32) + [POINTER(c_uint64)] + _PLACE,
     "farey_drawing": _SYMBOL + _space(c_double) + [POINTER(c_double)] + _PLACE,

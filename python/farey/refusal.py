@@ -17,7 +17,7 @@ SENTENCES: Dict[int, str] = {
     8: "matrix entry {place} is over 1,000,000 in size; 0 to 3 are those of A, 4 to 7 those of B",
     9: "the determinant of matrix {place} isn't 1; 0 is A, 1 is B",
     10: "there is no word: no product of generators and inverses takes A to B",
-    11: "a space is too short: it needs {place}, for a drawing in sides, for a line table in lines, each of four numbers in a sheet; or the entries of a sheet are no pairs of eight, or more than 2,048",
+    11: "a space is too short: it needs {place}, for a drawing in sides, for a line table in lines, each of four numbers in a sheet; or the entries of a sheet are no pairs of eight, or more than 2,048; or a tower has more than 64 entries",
     12: "the index isn't from 1 to 3,066, or the tables differ in length",
     13: "entry {place} is no point or is equal to an earlier one; it is one of S, or of R if S has no such fault",
     14: "S twice or R three times moves point {place}",
@@ -30,6 +30,9 @@ SENTENCES: Dict[int, str] = {
     21: "the index of this group is over 3,066",
     22: "vertex entry {place} is over 33,554,432 in size, which is too large for a drawing",
     23: "number {place} of the two (0 or 1) is no side's free label, or is the other one again",
+    24: "the intersection has more than 3,066 points",
+    25: "entry {place} of the tower names one that isn't listed before it",
+    26: "entry {place} of the tower isn't contained in the one that it names",
 }
 
 

@@ -12,6 +12,7 @@ from .library import Fixed
 from .named import FAMILIES, level
 from .permutations import points
 from .refusal import Refusal
+from .subgroups import Subgroup
 
 _KINDS = {1: "free", 2: "even", 3: "odd"}
 _LOW, _HIGH = -(2**63), 2**63 - 1
@@ -130,9 +131,10 @@ class _Made(NamedTuple):
     found: Dict[str, Any]
 
 
-class Symbol:
+class Symbol(Subgroup):
     """An accepted Farey symbol, and the subgroup H that its generators generate.
-    Two are equal when their subgroups are.
+    Two are equal when their subgroups are, H <= K where K contains H, and H & K is the
+    intersection.
 
     `vertices` are the finite ones from left to right: pairs (numerator,
     denominator), Fractions or integers. `pairings` has one number more, for the

@@ -139,7 +139,7 @@ class Header(unittest.TestCase):
     def test_lengths(self):
         header = (by_hand.REPOSITORY / "include/farey.h").read_text("utf-8")
         lengths = {name: int(number) for name, number in re.findall(r"^#define FAREY_(\w+) (\d+)$", header, re.M)}
-        for name in ("WORK", "TABLE", "GENERATORS", "COSETS", "DRAWING", "NAMED"):
+        for name in ("WORK", "TABLE", "GENERATORS", "COSETS", "DRAWING", "NAMED", "INTERSECTION", "TOWER"):
             self.assertEqual(getattr(library, name), lengths[name])
         self.assertEqual(named.FAMILIES, {name.lower(): lengths[name] for name in ("GAMMA0", "GAMMA1", "GAMMA")})
 
@@ -175,7 +175,7 @@ class Form(unittest.TestCase):
             self.assertTrue(ast.get_docstring(ast.parse(file.read_text("utf-8"))), file.name)
         for name in farey.__all__:
             self.assertTrue(getattr(farey, name).__doc__, name)
-        public = [name for name in vars(farey.Symbol) if not name.startswith("_")]
+        public = [name for name in dir(farey.Symbol) if not name.startswith("_")]
         self.assertGreaterEqual(len(public), 17)
         for name in public:
             self.assertTrue(getattr(farey.Symbol, name).__doc__, name)

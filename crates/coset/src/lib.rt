@@ -30,7 +30,7 @@ ghost use Rattle.coset.specs.declared.Figured.the-variants as figured;
 pub mod arrange;
 
 // Copies the tables of n cosets, where there is room for all three.
-fn copy_tables(w: &[u16], n: usize, s: &mut [u32], r: &mut [u32], u: &mut [u32]) -> Filled
+pub fn copy_tables(w: &[u16], n: usize, s: &mut [u32], r: &mut [u32], u: &mut [u32]) -> Filled
     requires { ⌜ (n ≤ 4096) × (workLength ≤ length (now w)) ⌝ }
     ensures { λ a. ⌜ a ≡ roomFor n (length (now (s .entry))) (length (now (r .entry))) (length (now (u .entry))) ⌝ }
     ensures { λ a. ⌜ now (s .exit) ≡ columnLeft a (entries S-TABLE n (now (w .entry))) (now (s .entry)) ⌝ }

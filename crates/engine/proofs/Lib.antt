@@ -5,3 +5,5 @@ pub mod Imported
 pub mod Named
 pub mod Drawn
 pub mod Exchanged
+pub mod Compared
+pub mod CycleCalls

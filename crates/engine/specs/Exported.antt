@@ -1,12 +1,12 @@
 -- What the exported functions return and write, from the answers of the calls beneath them.
 --
 -- Each returns a number: 0, or that of the answer's refusal (`checkedRefusal`, `filledRefusal`, `figuredRefusal`, `queryRefusal`,
--- `samenessRefusal`, `drawingRefusal`). Through `place` it writes the refusal's place or, where it returns 0, a count.
+-- `samenessRefusal`, `inclusionRefusal`, `drawingRefusal`). Through `place` it writes the refusal's place or, where it returns 0, a count.
 --
 --   filledPlace                     place, or how many things were made: generators, cosets, cusps, vertices, numbers of a table
 --   queryPlace                      place, or how many letters the word has
 --   signWritten                     the sign of a word, 1 or -1, or what stood there where the call refuses
---   samenessPlace                   place, or 1 for yes and 0 for no
+--   samenessPlace, inclusionPlace   place, or 1 for yes and 0 for no
 --   figureNumber, figureValue       one figure: 0 and its value, or its refusal's number and 0
 --   figureNumbers                   the eight numbers: index, e2, e3, cusps, then number and value of the genus, then of the level
 --   figuresLeft                     these; or all as it was
@@ -25,6 +25,8 @@ use Rattle.refusal.specs.declared.Filled.{Filled}
 use Rattle.refusal.specs.declared.Filled.the-variants as filled
 use Rattle.sameness.specs.declared.Sameness.{Sameness}
 use Rattle.sameness.specs.declared.Sameness.the-variants as sameness
+use Rattle.inclusion.specs.declared.Inclusion.{Inclusion}
+use Rattle.inclusion.specs.declared.Inclusion.the-variants as inclusion
 use Rattle.figures.specs.declared.Figure.{Figure}
 use Rattle.figures.specs.declared.Figure.the-variants as figure
 use Rattle.figures.specs.declared.FigureRecord.{FigureRecord}
@@ -52,6 +54,11 @@ abbrev pub samenessPlace : Sameness → ℕ
 samenessPlace sameness.Yes = 1
 samenessPlace sameness.No = 0
 samenessPlace (sameness.Refused f) = f .place
+
+abbrev pub inclusionPlace : Inclusion → ℕ
+inclusionPlace inclusion.Yes = 1
+inclusionPlace inclusion.No = 0
+inclusionPlace (inclusion.Refused f) = f .place
 
 -- ---- figures
 

@@ -1,2 +1,3 @@
--- What the exported functions return.
+-- What the exported functions return, and what that says of cycle notation.
 pub mod Exported
+pub mod CycleCalls

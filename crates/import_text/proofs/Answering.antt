@@ -4,7 +4,9 @@
 --     few-numbers, enough-numbers       what the numbers of a text ask for
 --     asked-by, numbers-by              what a text asks for by the answer of `read_input`, and what is then left of the numbers
 --     handed-numbers                    the numbers handed on, where they stand
---     untouched, leaves-as, leaves      what is left in the other slices: nothing is changed; the same in other words; by the two tables
+--     read-refused                      what is asked where `read_tables` refuses
+--     tables-none, tables-some, tables-as    no tables are read; two tables; the same in other words
+--     untouched, leaves                 what is left in the other slices: nothing is changed; by the two tables
 --     lines-as                          the lines for what is asked, in other words
 -- Assumes nothing.
 use mathlib.Core.Path.{_≡_, refl, sym, ap, _∙_}
@@ -20,6 +22,8 @@ use borrow.Author.Tests.{lt-ltb, le-ltb}
 use Rattle.refusal.specs.Refusal.{pointCount}
 use Rattle.refusal.specs.declared.Refusal.{Refusal}
 use Rattle.refusal.specs.declared.Filled.{Filled}
+use Rattle.refusal.specs.declared.Filled.the-variants.{Made, Refused}
+use Rattle.refusal.proofs.Apart.{refused-made}
 use Rattle.workspace.specs.Space.{workLength}
 use Rattle.text.specs.Piece.{pieces, numbers}
 use Rattle.text.specs.Reading.{inputOf, leftBy}
@@ -33,7 +37,7 @@ use Rattle.import_rule.specs.Symbol.{ruledBy}
 use Rattle.permutations.specs.Import.{importBy, importTable, importWork}
 use Rattle.import_text.specs.Answer.{pointsFrom, Request, tables, refused, tablesIn, importFormat, requestBy, requestOf, madeOf, linesBy}
 use Rattle.import_text.specs.Answer.{importLines, linesFor, importedBy}
-use Rattle.import_text.specs.Spaces.{filled, numbersLeft, leftOfS, leftOfR, leftOfWork, leftOfTable, ImportLeaves}
+use Rattle.import_text.specs.Spaces.{filled, numbersLeft, leftOfS, leftOfR, tablesRead, TablesRead, leftOfWork, leftOfTable, ImportLeaves}
 
 pub front-is : (k : ℕ) (t out out' : List ℤ) → out' ≡ t ++ drop k out → length out' ≡ length out → k ≤ length out → take k out' ≡ t
 front-is k t out out' e l h =
@@ -75,23 +79,52 @@ pub handed-numbers : (k : ℕ) (ns out : List ℤ) → k ≤ length ns → take 
 unfolding leftBy
 handed-numbers k ns out h = take-at (take k ns) (drop k out) k (length-take-le k ns h)
 
--- ---- the other slices
+-- ---- the tables that are read
 
-pub untouched : (order : Order) (f : Refusal) (s r w : List ℕ) (t : List ℤ) → ImportLeaves order (refused f) s r w t s r w t
-untouched order f s r w t = record { for-S = refl; for-R = refl; work = refl; result = refl }
+made-same : {m n : ℕ} → Made m ≡ Made n → m ≡ n
+made-same e = cc
 
-pub leaves-as : {order : Order} {a b : Request} {s r w s' r' w' : List ℕ} {t t' : List ℤ} → a ≡ b → ImportLeaves order a s r w t s' r' w' t'
-    → ImportLeaves order b s r w t s' r' w' t'
-leaves-as {order} {a} {b} {s} {r} {w} {s'} {r'} {w'} {t} {t'} e l = rw (← e) l
+pub read-refused : (a : Request) (f : Refusal) → Refused f ≡ tablesRead a → refused f ≡ a
+read-refused (tables s r) f e = refused-made e
+read-refused (refused g) f e = ap refused (same e)
+  where
+    same : Refused f ≡ Refused g → f ≡ g
+    same q = cc
 
--- the code asks for tables S and R that are those of the numbers
-pub leaves : (order : Order) (S R S' R' s r w s' r' w' : List ℕ) (t t' : List ℤ) → S ≡ S' → R ≡ R' → s' ≡ filled S' s → r' ≡ filled R' r
-    → w' ≡ importWork (pairCheck S R) w
-    → t' ≡ importTable (ruledBy order S R) (madeOf order S R) t → ImportLeaves order (tables S' R') s r w t s' r' w' t'
-leaves order S R S' R' s r w s' r' w' t t' e f p q u v = record {
+pub tables-none : (f : Refusal) (s r : List ℕ) → TablesRead (refused f) s r (Refused f) s r
+tables-none f s r = record { answered = refl; for-S = refl; for-R = refl; most = λ n e. refused-made e; fronts = λ n e. refused-made e }
+
+pub tables-some : (n : ℕ) (S R s r s' r' : List ℕ) → length S ≡ n → n ≤ 3066 → s' ≡ filled S s → r' ≡ filled R r → take n s' ≡ S → take n r' ≡ R
+    → TablesRead (tables S R) s r (Made n) s' r'
+tables-some n S R s r s' r' l h p q u v = record {
+  answered = ap Made (sym l);
   for-S = p;
   for-R = q;
-  work = u ∙ ap (λ (x : List ℕ). importWork (pairCheck x R) w) e ∙ ap (λ (x : List ℕ). importWork (pairCheck S' x) w) f;
-  result = v ∙ ap (λ (x : List ℕ). importTable (ruledBy order x R) (madeOf order x R) t) e
-      ∙ ap (λ (x : List ℕ). importTable (ruledBy order S' x) (madeOf order S' x) t) f;
+  most = λ m e. omega (arith, made-same e);
+  fronts = λ m e. ap (λ (k : ℕ). tables (take k s') (take k r')) (sym (made-same e)) ∙ ap (λ (x : List ℕ). tables x (take n r')) u ∙ ap (tables S) v;
+}
+
+pub tables-as : {a b : Request} {s r s' r' : List ℕ} {x : Filled} → a ≡ b → TablesRead a s r x s' r' → TablesRead b s r x s' r'
+tables-as {a} {b} {s} {r} {s'} {r'} {x} e l = rw (← e) l
+
+-- ---- the other slices
+
+pub untouched : (order : Order) (a : Request) (f : Refusal) (s r w s' r' : List ℕ) (t : List ℤ) → refused f ≡ a → s' ≡ leftOfS a s → r' ≡ leftOfR a r
+    → ImportLeaves order a s r w t s' r' w t
+untouched order a f s r w s' r' t e p q = record {
+  for-S = p;
+  for-R = q;
+  work = ap (λ (x : Request). leftOfWork x w) e;
+  result = ap (λ (x : Request). leftOfTable order x t) e;
+}
+
+-- S and R are the tables that the text asks for
+pub leaves : (order : Order) (a : Request) (S R s r w s' r' w' : List ℕ) (t t' : List ℤ) → tables S R ≡ a → s' ≡ leftOfS a s → r' ≡ leftOfR a r
+    → w' ≡ importWork (pairCheck S R) w
+    → t' ≡ importTable (ruledBy order S R) (madeOf order S R) t → ImportLeaves order a s r w t s' r' w' t'
+leaves order a S R s r w s' r' w' t t' e p q u v = record {
+  for-S = p;
+  for-R = q;
+  work = u ∙ ap (λ (x : Request). leftOfWork x w) e;
+  result = v ∙ ap (λ (x : Request). leftOfTable order x t) e;
 }

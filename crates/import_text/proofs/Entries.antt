@@ -3,7 +3,7 @@
 --     small-natural, small-fits                    a number that becomes an entry as it is
 --     filled-none                                  no table at the front of a slice
 --     points-more                                  one entry more
---     part-length, part-filled, filled-take        a part of the numbers, and a table that is filled from it
+--     part-length, table-length, part-filled, filled-take    a part of the numbers, and a table that is filled from it
 -- Assumes nothing.
 use mathlib.Core.Path.{_≡_, refl, sym, ap, _∙_}
 use mathlib.Core.Bool.{Bool, true, false}
@@ -80,7 +80,7 @@ points-more ns out out' i h k e =
 pub part-length : (from k n : ℕ) (ns : List ℤ) → k ≡ n → from + n ≤ length ns → length (take k (drop from ns)) ≡ n
 part-length from k n ns e h = ap (λ (j : ℕ). length (take j (drop from ns))) e ∙ length-take-le n (drop from ns) (omega (arith, length-drop from ns))
 
-table-length : (from n : ℕ) (ns : List ℤ) → from + n ≤ length ns → length (pointsFrom from n ns) ≡ n
+pub table-length : (from n : ℕ) (ns : List ℤ) → from + n ≤ length ns → length (pointsFrom from n ns) ≡ n
 table-length from n ns h = length-map (take n (drop from ns)) tablePoint ∙ part-length from n n ns refl h
 
 pub part-filled : (from k n : ℕ) (ns : List ℤ) (out out' : List ℕ) → k ≡ n → out' ≡ filled (map tablePoint (take k (drop from ns))) out

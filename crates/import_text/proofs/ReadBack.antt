@@ -38,7 +38,7 @@ use Rattle.import_text.specs.ReadBack.{ReadBack, LinesReadBack, SymbolRe
 
 -- ---- what the lines say
 
-abbrev Each64 : List ℤ → Type 0
+abbrev pub Each64 : List ℤ → Type 0
 Each64 zs = (i : ℕ) → i < length zs → Inside64 (nth zs i)
 
 line-says : (z : ℤ) (zs : List ℤ) (u : List ℕ) (ys : List ℤ) → Inside64 z → Each64 zs → Says u ys → Says (decimalOf z ++ (spaced zs ++ (10 ∷ u))) (z ∷ (zs ++ ys))
@@ -48,18 +48,18 @@ line-says z (y ∷ zs) u ys h k s =
     let rest = line-says y zs u ys (k 0 (omega arith)) (λ i l. k (suc i) (omega arith)) s in
     rw (append-assoc (decimalOf y) (spaced zs) (10 ∷ u)) (says-number z 32 (decimalOf y ++ (spaced zs ++ (10 ∷ u))) (y ∷ (zs ++ ys)) h refl rest)
 
-number-line-says : (zs : List ℤ) (u : List ℕ) (ys : List ℤ) → 1 ≤ length zs → Each64 zs → Says u ys → Says (numberLine zs ++ u) (zs ++ ys)
+pub number-line-says : (zs : List ℤ) (u : List ℕ) (ys : List ℤ) → 1 ≤ length zs → Each64 zs → Says u ys → Says (numberLine zs ++ u) (zs ++ ys)
 unfolding numberLine
 number-line-says [] u ys n k s = absurd (omega arith)
 number-line-says (z ∷ zs) u ys n k s =
     rw (append-assoc (decimalOf z) (spaced zs ++ (10 ∷ [])) u, append-assoc (spaced zs) (10 ∷ []) u)
     (line-says z zs u ys (k 0 (omega arith)) (λ i l. k (suc i) (omega arith)) s)
 
-says-as : {t t' : List ℕ} {zs zs' : List ℤ} → t ≡ t' → zs ≡ zs' → Says t zs → Says t' zs'
+pub says-as : {t t' : List ℕ} {zs zs' : List ℤ} → t ≡ t' → zs ≡ zs' → Says t zs → Says t' zs'
 says-as {t} {t'} {zs} {zs'} e f s = rw (← e, ← f) s
 
 -- three lines, and three lists of numbers, one after another
-three : {A : Type 0} (a b c : List A) → a ++ (b ++ (c ++ [])) ≡ a ++ b ++ c
+pub three : {A : Type 0} (a b c : List A) → a ++ (b ++ (c ++ [])) ≡ a ++ b ++ c
 three {A} a b c = ap (λ (l : List A). a ++ (b ++ l)) (append-nil c) ∙ sym (append-assoc a b c)
 
 module _ (v : ℕ) (t : List ℤ) (low : 1 ≤ v) (high : v ≤ 1023) (long : length t ≡ 3 * v + 1) (each : Each64 t) where

@@ -21,8 +21,8 @@ ghost use Rattle.import_rule.specs.Order.{leftmost, longestOpen};
 ghost use Rattle.import_rule.specs.Symbol.{ruledBy};
 ghost use Rattle.import_table.specs.Answer.{orderBy};
 ghost use Rattle.permutations.specs.Import.{importTable, importWork};
-ghost use Rattle.import_text.specs.Answer.{numberLine, symbolLines, tablePoint, tablesIn, requestOf, madeOf, importLines, linesFor, importedBy};
-ghost use Rattle.import_text.specs.Spaces.{ImportSpaces, filled, numbersLeft, ImportLeaves};
+ghost use Rattle.import_text.specs.Answer.{numberLine, symbolLines, tablePoint, tablesIn, requestOf, madeOf, importLines, importedBy};
+ghost use Rattle.import_text.specs.Spaces.{ImportSpaces, filled, numbersLeft, TablesRead, ImportLeaves};
 ghost use Rattle.import_text.specs.ReadBack.{PrintMeans};
 
 // A line of numbers.
@@ -107,39 +107,57 @@ fn import_lines(
     }
 }
 
-// The lines for the numbers of a text: the index, and then the entries of S and of R.
-fn import_numbers(
-    numbers: &[i64],
-    wide: bool,
-    s: &mut [u32],
-    r: &mut [u32],
-    w: &mut [u16],
-    table: &mut [i64],
-    out: &mut [u8],
-) -> usize
-    requires { ⌜ (1 ≤ length (now numbers)) × (length (now numbers) ≤ 6133) × ImportSpaces (now s) (now r) (now w) (now table) (now out) ⌝ }
-    ensures { λ e. ⌜ Puts (linesFor (orderBy wide) (tablesIn (now (numbers .entry)))) 0 e (now (out .entry)) (now (out .exit)) ⌝ }
-    ensures { λ _. ⌜ ImportLeaves (orderBy wide) (tablesIn (now (numbers .entry))) (now (s .entry)) (now (r .entry)) (now (w .entry)) (now (table .entry)) (now (s .exit)) (now (r .exit)) (now (w .exit)) (now (table .exit)) ⌝ }
+// The tables of S and R in the numbers of a text, which are the index and then the entries of S and of R: how many points they have; or 12 where the
+// index stands alone.
+fn fill_tables(numbers: &[i64], s: &mut [u32], r: &mut [u32]) -> Filled
+    requires { ⌜ (1 ≤ length (now numbers)) × (length (now numbers) ≤ 6133) × (3066 ≤ length (now s)) × (3066 ≤ length (now r)) ⌝ }
+    ensures { λ a. ⌜ TablesRead (tablesIn (now (numbers .entry))) (now (s .entry)) (now (r .entry)) a (now (s .exit)) (now (r .exit)) ⌝ }
 {
     let k = numbers.len();
     if k < 3 {
-        return refusal_line(
-            Refusal {
-                number: POINT_COUNT,
-                place: 0,
-            },
-            out,
-        );
+        return Filled::Refused(Refusal {
+            number: POINT_COUNT,
+            place: 0,
+        });
     }
     let n = (k - 1) / 2;
     let middle = n + 1;
     let end = middle + n;
     fill_points(&numbers[1..middle], s);
     fill_points(&numbers[middle..end], r);
-    import_lines(&s[..n], &r[..n], wide, w, table, out)
+    Filled::Made(n)
 }
 
 // The same for a text, or for one that is longer than the buffer.
+pub fn read_tables(
+    text: &[u8],
+    longer: bool,
+    numbers: &mut [i64],
+    s: &mut [u32],
+    r: &mut [u32],
+) -> Filled
+    requires { ⌜ (length (now numbers) ≡ 6133) × (3066 ≤ length (now s)) × (3066 ≤ length (now r)) ⌝ }
+    ensures { λ _. ⌜ now (numbers .exit) ≡ numbersLeft longer (now (text .entry)) (now (numbers .entry)) ⌝ }
+    ensures { λ a. ⌜ TablesRead (requestOf longer (now (text .entry))) (now (s .entry)) (now (r .entry)) a (now (s .exit)) (now (r .exit)) ⌝ }
+{
+    let read = read_input(
+        text,
+        longer,
+        Format {
+            least: 1,
+            most: 3066,
+            each: 2,
+            more: 1,
+        },
+        numbers,
+    );
+    match read {
+        Reading::Refused(refusal) => Filled::Refused(refusal),
+        Reading::Numbers(k) => fill_tables(&numbers[..k], s, r),
+    }
+}
+
+// The lines for a text.
 fn import_text(
     text: &[u8],
     longer: bool,
@@ -156,20 +174,10 @@ fn import_text(
     ensures { λ _. ⌜ now (numbers .exit) ≡ numbersLeft longer (now (text .entry)) (now (numbers .entry)) ⌝ }
     ensures { λ _. ⌜ ImportLeaves (orderBy wide) (requestOf longer (now (text .entry))) (now (s .entry)) (now (r .entry)) (now (w .entry)) (now (table .entry)) (now (s .exit)) (now (r .exit)) (now (w .exit)) (now (table .exit)) ⌝ }
 {
-    let read = read_input(
-        text,
-        longer,
-        Format {
-            least: 1,
-            most: 3066,
-            each: 2,
-            more: 1,
-        },
-        numbers,
-    );
+    let read = read_tables(text, longer, numbers, s, r);
     match read {
-        Reading::Refused(refusal) => refusal_line(refusal, out),
-        Reading::Numbers(k) => import_numbers(&numbers[..k], wide, s, r, w, table, out),
+        Filled::Refused(refusal) => refusal_line(refusal, out),
+        Filled::Made(n) => import_lines(&s[..n], &r[..n], wide, w, table, out),
     }
 }
 

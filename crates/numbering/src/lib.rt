@@ -93,7 +93,7 @@ fn number(w: &mut [u16], start: usize, size: usize) -> usize
 }
 
 // The table at `to`: the n entries at a first, and then the table of m entries at b. It may take the place of the one at a.
-fn compose(w: &mut [u16], a: usize, b: usize, to: usize, n: usize, m: usize)
+pub fn compose(w: &mut [u16], a: usize, b: usize, to: usize, n: usize, m: usize)
     requires { ⌜ Composes a b to n m (now w) ⌝ }
     ensures { λ _. ⌜ now (w .exit) ≡ putTo (now (w .entry)) to (entries a n (now (w .entry)) thenTable entries b m (now (w .entry))) n ⌝ }
 {

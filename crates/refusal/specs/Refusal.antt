@@ -4,7 +4,7 @@
 --   Refusal            a number and a place
 --   noRefusal          none: the number 0, and the place 0
 --   refusal n p        the refusal with the number n at the place p
---   badVertexCount .. notFreeLabel  the refusals 1 to 23 by name, each at its place
+--   badVertexCount .. falseClaim  the refusals 1 to 26 by name, each at its place
 --   Checked            the answer of checks: accepted, or refused
 --   c orElse d         the first refusal of the two
 --   checkedRefusal     the refusal that an answer of checks is
@@ -133,6 +133,20 @@ tooLargeToDraw i = refusal 22 i
 -- a number that is no side's free label, or a label that is named again: which of the two numbers, 0 or 1
 abbrev pub notFreeLabel : ℕ → Refusal
 notFreeLabel i = refusal 23 i
+
+-- ---- whoever compares groups
+
+-- an intersection with more than 3,066 points
+abbrev pub largeIntersection : Refusal
+largeIntersection = refusal 24 0
+
+-- a tower's entry that names one not listed before it: the entry
+abbrev pub notListedBefore : ℕ → Refusal
+notListedBefore i = refusal 25 i
+
+-- a tower's claim that is false: the entry that makes it
+abbrev pub falseClaim : ℕ → Refusal
+falseClaim i = refusal 26 i
 
 -- ---- the answers of checks
 

@@ -69,6 +69,12 @@ pub const LARGE_INDEX: u64 = 21;
 pub const TOO_LARGE_TO_DRAW: u64 = 22;
 // Whoever exchanges partners.
 pub const NOT_FREE_LABEL: u64 = 23;
+// Whoever compares groups.
+pub const LARGE_INTERSECTION: u64 = 24;
+
+pub const NOT_LISTED_BEFORE: u64 = 25;
+
+pub const FALSE_CLAIM: u64 = 26;
 
 // The refusal that an answer of checks is.
 pub fn checked_refusal(answer: Checked) -> Refusal

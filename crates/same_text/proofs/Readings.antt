@@ -4,13 +4,16 @@
 --     second-told, second-left   the second's
 --     few, enough                whether the first text has more than v
 --     few-kept, enough-left      and what is then left where the second one's numbers are put
+--     counts, no-counts          the counts of the numbers that are handed on
 --     too-long                   a text that is too long
 --     not-longer                 a text that fits into the buffer
+--     line-as                    the line and the work space, by what the reading gives
 -- Assumes nothing.
 use mathlib.Core.Path.{_≡_, sym, ap, _∙_}
 use mathlib.Core.Bool.{Bool, true, false, _||_}
 use mathlib.Core.List.{List}
 use Prim.Native.Nat.{ℕ, _-_, _≤_, _<_}
+use native.Mathlib.Omega.{arith}
 use lib.Dec.{ltb}
 use lib.IntN.{ℤ}
 use lib.ListN.{length, take, drop}
@@ -18,14 +21,18 @@ use borrow.Author.Tests.{lt-ltb, le-ltb}
 use Rattle.basics.specs.Choice.{pick}
 use Rattle.basics.proofs.Choice.{pick-true, pick-false}
 use Rattle.refusal.specs.Refusal.{badText, badVertexCount}
+use Rattle.refusal.specs.declared.Refusal.{Refusal}
 use Rattle.text.specs.Piece.{pieces, numbers}
 use Rattle.text.specs.Reading.{textMost, readingOf, symbolFormat, leftBy}
 use Rattle.text.specs.declared.Reading.{Reading}
 use Rattle.text.specs.declared.Reading.the-variants as reading
-use Rattle.text_line.specs.Line.{refusalLine, Puts}
+use Rattle.text_line.specs.Line.{Puts}
 use Rattle.text_line.proofs.Placing.{puts-as}
 use Rattle.same_text.specs.Answer.{cutAt, firstText, secondText, firstReading, secondReading, numbersOf, TwoSymbols, none, bySecond, byFirst, twoSymbols}
 use Rattle.same_text.specs.Answer.{twoLines, sameBytes, unlessLonger, firstLeft, secondBy, secondLeft, workBy, SameLeaves}
+use Rattle.same_text.specs.Inner.TwoTexts.{symbolsBy, CountsWithin, ReadsTwo}
+use Rattle.same_text.specs.declared.TwoReading.{TwoReading}
+use Rattle.same_text.specs.declared.TwoReading.the-variants.{Numbers, Refused}
 use Rattle.same_text.proofs.Lines.{rest-part}
 
 -- ---- a text that isn't too long
@@ -47,14 +54,9 @@ module _ (t : List ℕ) (h : length t ≤ 65536) where
     unfolding secondLeft
     second-by ms = ap (λ (x : Reading). secondBy x t ms) e ∙ whole _ _
 
-    pub outcome : {a : TwoSymbols} {ns ms ns' ms' : List ℤ} {w w' out out' : List ℕ} {end : ℕ} → a ≡ byFirst t r → Puts (twoLines a) 0 end out out'
-        → ns' ≡ leftBy r (numbersOf (firstText t)) ns → ms' ≡ secondBy r t ms → w' ≡ workBy a w
-        → Puts (sameBytes false t) 0 end out out' × SameLeaves false t ns ms w ns' ms' w'
-    unfolding sameBytes
-    outcome {a} {ns} {ms} {ns'} {ms'} {w} f p i j k = (
-      puts-as (ap twoLines (f ∙ given-by)) p,
-      record { first = i ∙ first-by ns; second = j ∙ second-by ms; work = k ∙ ap (λ (x : TwoSymbols). workBy x w) (f ∙ given-by) },
-    )
+    pub outcome : {ns ms ns' ms' : List ℤ} (q : TwoReading) → symbolsBy q ns' ms' ≡ byFirst t r → ns' ≡ leftBy r (numbersOf (firstText t)) ns
+        → ms' ≡ secondBy r t ms → ((k j : ℕ) → q ≡ Numbers k j → CountsWithin k j) → ReadsTwo false t ns ms q ns' ms'
+    outcome {ns} {ms} q f i j w = record { first = i ∙ first-by ns; second = j ∙ second-by ms; gives = f ∙ given-by; within = w }
 
 -- ---- the readings, as the code makes them
 
@@ -100,6 +102,17 @@ module _ (t : List ℕ) (k : ℕ) where
     pub enough-left : (ms : List ℤ) → kept ms s ≡ secondBy (reading.Numbers k) t ms
     enough-left ms = ap (kept ms) e ∙ sym (pick-false (ltb k 2) ms (kept ms (secondReading t)) (le-ltb k 2 h))
 
+-- ---- the counts
+
+pub counts : {k j : ℕ} → CountsWithin k j → (k' j' : ℕ) → Numbers k j ≡ Numbers k' j' → CountsWithin k' j'
+counts {k} {j} w k' j' e =
+    let f : k ≡ k' = cc in
+    let g : j ≡ j' = cc in
+    record { some = omega (arith, w .some); most = omega (arith, w .most); some' = omega (arith, w .some'); most' = omega (arith, w .most') }
+
+pub no-counts : (f : Refusal) (k j : ℕ) → Refused f ≡ Numbers k j → CountsWithin k j
+no-counts f k j e = let z : _≡_ {A = ℕ} 0 1 = cc in absurd (omega arith)
+
 -- ---- any text
 
 module _ (longer : Bool) (t : List ℕ) where
@@ -107,15 +120,21 @@ module _ (longer : Bool) (t : List ℕ) where
     refused : {X : Type 0} (x y : X) → x ≡ unlessLonger longer t x y
     refused {X} x y = sym (ap (λ (b : Bool). pick b x y) h)
 
-    pub too-long : {ns ms : List ℤ} {w out out' : List ℕ} {end : ℕ} → Puts (refusalLine (badText textMost)) 0 end out out'
-        → Puts (sameBytes longer t) 0 end out out' × SameLeaves longer t ns ms w ns ms w
-    unfolding sameBytes twoSymbols firstLeft secondLeft
-    too-long {ns} {ms} {w} p = (
-      puts-as (ap twoLines (refused _ _)) p,
-      record { first = refused _ _; second = refused _ _; work = ap (λ (x : TwoSymbols). workBy x w) (refused (none (badText textMost)) _) },
-    )
+    pub too-long : {ns ms : List ℤ} → ReadsTwo longer t ns ms (Refused (badText textMost)) ns ms
+    unfolding twoSymbols firstLeft secondLeft
+    too-long {ns} {ms} = record { first = refused _ _; second = refused _ _; gives = refused _ _; within = no-counts (badText textMost) }
 
-  pub not-longer : longer ≡ false → {ns ms ns' ms' : List ℤ} {w w' out out' : List ℕ} {end : ℕ}
-      → Puts (sameBytes false t) 0 end out out' × SameLeaves false t ns ms w ns' ms' w'
-      → Puts (sameBytes longer t) 0 end out out' × SameLeaves longer t ns ms w ns' ms' w'
+  pub not-longer : longer ≡ false → {ns ms ns' ms' : List ℤ} {r : TwoReading} → ReadsTwo false t ns ms r ns' ms' → ReadsTwo longer t ns ms r ns' ms'
   not-longer e p = rw e p
+
+-- ---- what is then written and left
+
+pub line-as : {longer : Bool} {t : List ℕ} {ns ms ns' ms' : List ℤ} {r : TwoReading} → ReadsTwo longer t ns ms r ns' ms' → {q : TwoReading} → r ≡ q
+    → {w w' out out' : List ℕ} {end : ℕ} → Puts (twoLines (symbolsBy q ns' ms')) 0 end out out' → w' ≡ workBy (symbolsBy q ns' ms') w
+    → Puts (sameBytes longer t) 0 end out out' × SameLeaves longer t ns ms w ns' ms' w'
+unfolding sameBytes
+line-as {longer} {t} {ns} {ms} {ns'} {ms'} m e {w} p k =
+    let gives = sym (ap (λ (x : TwoReading). symbolsBy x ns' ms') e) ∙ m .gives in (
+      puts-as (ap twoLines gives) p,
+      record { first = m .first; second = m .second; work = k ∙ ap (λ (x : TwoSymbols). workBy x w) gives },
+    )

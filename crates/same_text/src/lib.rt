@@ -19,6 +19,14 @@ ghost use lib.ListN.{length, take};
 ghost use Rattle.workspace.specs.Space.{workLength};
 ghost use Rattle.text_line.specs.Line.{Puts};
 ghost use Rattle.same_text.specs.Answer.{samenessLine, inWhole, TwoSymbols, two, none, twoSymbols, twoLines, sameBytes, workBy, SameLeaves, SamePrintMeans};
+ghost use Rattle.same_text.specs.Inner.TwoTexts.{ReadsTwo};
+
+// What reading two symbols' texts gives.
+pub enum TwoReading {
+    // So many numbers of the first stand at the front of its slice, and so many of the second at the front of the other.
+    Numbers(usize, usize),
+    Refused(Refusal),
+}
 
 // The line for an answer.
 fn sameness_line(answer: Sameness, out: &mut [u8]) -> usize
@@ -55,17 +63,10 @@ fn moved(refusal: Refusal, at: usize) -> Refusal
     }
 }
 
-// What a text gets that isn't too long.
-fn same_texts(
-    text: &[u8],
-    one: &mut [i64],
-    other: &mut [i64],
-    w: &mut [u16],
-    out: &mut [u8],
-) -> usize
-    requires { ⌜ (length (now text) ≤ 65536) × (length (now one) ≡ 3071) × (length (now other) ≡ 3071) × (length (now w) ≡ workLength) × (50 ≤ length (now out)) ⌝ }
-    ensures { λ e. ⌜ Puts (sameBytes false (now (text .entry))) 0 e (now (out .entry)) (now (out .exit)) ⌝ }
-    ensures { λ _. ⌜ SameLeaves false (now (text .entry)) (now (one .entry)) (now (other .entry)) (now (w .entry)) (now (one .exit)) (now (other .exit)) (now (w .exit)) ⌝ }
+// What a text that isn't too long gives.
+fn read_texts(text: &[u8], one: &mut [i64], other: &mut [i64]) -> TwoReading
+    requires { ⌜ (length (now text) ≤ 65536) × (length (now one) ≡ 3071) × (length (now other) ≡ 3071) ⌝ }
+    ensures { λ r. ⌜ ReadsTwo false (now (text .entry)) (now (one .entry)) (now (other .entry)) r (now (one .exit)) (now (other .exit)) ⌝ }
 {
     let format = Format {
         least: 1,
@@ -76,27 +77,42 @@ fn same_texts(
     let at = part_end(text, format);
     let first = read(&text[..at], format, one);
     match first {
-        Reading::Refused(refusal) => refusal_line(refusal, out),
+        Reading::Refused(refusal) => TwoReading::Refused(refusal),
         Reading::Numbers(k) => {
             if k < 2 {
-                return refusal_line(
-                    Refusal {
-                        number: BAD_VERTEX_COUNT,
-                        place: 0,
-                    },
-                    out,
-                );
+                return TwoReading::Refused(Refusal {
+                    number: BAD_VERTEX_COUNT,
+                    place: 0,
+                });
             }
             let second = read(&text[at..], format, other);
             match second {
-                Reading::Refused(refusal) => refusal_line(moved(refusal, at), out),
-                Reading::Numbers(j) => same_numbers(&one[..k], &other[..j], w, out),
+                Reading::Refused(refusal) => TwoReading::Refused(moved(refusal, at)),
+                Reading::Numbers(j) => TwoReading::Numbers(k, j),
             }
         }
     }
 }
 
-// The same for any text, where `longer` says that more was sent than the program's buffer holds.
+// What any text gives, where `longer` says that more was sent than the program's buffer holds. For every program that reads two symbols.
+pub fn read_two(text: &[u8], longer: bool, one: &mut [i64], other: &mut [i64]) -> TwoReading
+    requires { ⌜ (length (now one) ≡ 3071) × (length (now other) ≡ 3071) ⌝ }
+    ensures { λ r. ⌜ ReadsTwo longer (now (text .entry)) (now (one .entry)) (now (other .entry)) r (now (one .exit)) (now (other .exit)) ⌝ }
+{
+    let refused = Refusal {
+        number: BAD_TEXT,
+        place: TEXT_MOST,
+    };
+    if longer {
+        return TwoReading::Refused(refused);
+    }
+    if TEXT_MOST < text.len() {
+        return TwoReading::Refused(refused);
+    }
+    read_texts(text, one, other)
+}
+
+// The line for a text, where the slices are long enough.
 fn same_input(
     text: &[u8],
     longer: bool,
@@ -109,17 +125,11 @@ fn same_input(
     ensures { λ e. ⌜ Puts (sameBytes longer (now (text .entry))) 0 e (now (out .entry)) (now (out .exit)) ⌝ }
     ensures { λ _. ⌜ SameLeaves longer (now (text .entry)) (now (one .entry)) (now (other .entry)) (now (w .entry)) (now (one .exit)) (now (other .exit)) (now (w .exit)) ⌝ }
 {
-    let refused = Refusal {
-        number: BAD_TEXT,
-        place: TEXT_MOST,
-    };
-    if longer {
-        return refusal_line(refused, out);
+    let reading = read_two(text, longer, one, other);
+    match reading {
+        TwoReading::Refused(refusal) => refusal_line(refusal, out),
+        TwoReading::Numbers(k, j) => same_numbers(&one[..k], &other[..j], w, out),
     }
-    if TEXT_MOST < text.len() {
-        return refusal_line(refused, out);
-    }
-    same_texts(text, one, other, w, out)
 }
 
 // What the program writes for the text, or for one that is longer than its buffer, from the front of `out`; where it ends. The arrays are the program's

@@ -1,5 +1,5 @@
-//! A yardstick: five of the engine's programs, and sameness and sheets of pairs as
-//! functions, once more in plain Rust, written for speed and without any proof. Whoever wants to
+//! A yardstick: five of the engine's programs, and sameness, intersections and sheets of
+//! pairs as functions, once more in plain Rust, written for speed and without any proof. Whoever wants to
 //! know what the engine's proofs cost in time compares with these.
 //!
 //! | module    | what it holds                                                    |
@@ -14,6 +14,7 @@
 //! | `same`    | whether two symbols generate the same subgroup, as a function    |
 //! | `sheet`   | many pairs against one symbol, whose tables are built once       |
 //! | `same_coset` | whether pairs share a coset, one T at a time                  |
+//! | `subgroups` | intersections and containment, as functions                    |
 //! | `inputs`  | texts to measure with                                            |
 //! | `timing`  | wall times of two programs, run by turns                         |
 //!
@@ -31,6 +32,7 @@ pub mod query;
 pub mod same;
 pub mod same_coset;
 pub mod sheet;
+pub mod subgroups;
 pub mod symbol;
 pub mod text;
 pub mod timing;

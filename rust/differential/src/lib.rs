@@ -34,6 +34,7 @@ pub mod same;
 pub mod same_coset;
 pub mod sheet;
 pub mod spaces;
+pub mod subgroups;
 pub mod symbols;
 pub mod tables;
 pub mod widths;
@@ -48,7 +49,7 @@ use reference::random::Rng;
 pub type Call = (&'static str, fn(&mut Rng) -> Outcome);
 
 /// All calls.
-pub const CALLS: [Call; 25] = [
+pub const CALLS: [Call; 28] = [
     ("check", check::case),
     ("generators", generators::case),
     ("figures", figures::case),
@@ -74,6 +75,9 @@ pub const CALLS: [Call; 25] = [
     ("preview", exchange::preview_case),
     ("same_coset", same_coset::case),
     ("same_cosets", same_coset::many_case),
+    ("contains", subgroups::contains_case),
+    ("intersection", subgroups::intersection_case),
+    ("tower", subgroups::tower_case),
 ];
 
 /// Makes every call once for each case: the counts of each, in the order of

@@ -50,10 +50,20 @@ fn reachable(call: &str) -> BTreeSet<Reason> {
         "import" | "import_wide" => [vec![(0, "")], plain(12..=16), spaces].concat(),
         "import_length" => [vec![(0, "")], plain(12..=15)].concat(),
         "query" | "signed_query" => [words(), plain(1..=10)].concat(),
-        "same" => {
+        "same" | "contains" => {
             let second = (1..=7).map(|number| (number, "second")).collect();
             let answers = vec![(0, "yes"), (0, "no")];
             [answers, symbol, second, vec![(11, "work")]].concat()
+        }
+        "intersection" => {
+            let second = (1..=7).map(|number| (number, "second")).collect();
+            let spaces = vec![(11, "work"), (11, "s"), (11, "r"), (11, "k")];
+            [vec![(0, ""), (24, "")], symbol, second, spaces].concat()
+        }
+        "tower" => {
+            let answers = vec![(0, ""), (0, "empty")];
+            let spaces = vec![(11, "entries"), (11, "work")];
+            [answers, symbol, plain(25..=26), spaces].concat()
         }
         "sheet" => {
             let answers = vec![(0, ""), (0, "a word without room")];
@@ -124,6 +134,7 @@ fn every_call_is_as_the_reference_has_it() {
     assert_eq!(calls["sheet"].largest, 256);
     assert!(calls["exchange"].largest >= 1_000);
     assert!(calls["same_cosets"].largest > 256);
+    assert_eq!(calls["intersection"].largest, 3_066);
     assert!(calls["widths"].largest >= 500);
     // More letters than the program lends.
     assert!(calls["query"].largest > 16_384);
@@ -133,7 +144,7 @@ fn every_call_is_as_the_reference_has_it() {
     assert!(calls["named_query_wide"].largest >= 300);
     // Over all calls each number but 19; 17 is met by a figure alone, and 18
     // by nothing.
-    for number in (1..=16).chain(20..=23) {
+    for number in (1..=16).chain(20..=26) {
         let count: usize = tallies.iter().map(|tally| tally.number(number)).sum();
         assert!(count >= LEAST, "refusal {number} only {count} times");
     }

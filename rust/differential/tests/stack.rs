@@ -210,6 +210,21 @@ fn calls_stay_within_the_stack_that_the_header_names() {
         measure("farey_same", &mut || {
             let _ = black_box(calls::same(v, &t, v, &t, &mut work));
         });
+        measure("farey_contains", &mut || {
+            let _ = black_box(calls::contains(v, &t, v, &t, &mut work));
+        });
+        // With itself, as many points as cosets: at most 3,066, or 24.
+        let [s, r, k] = &mut columns;
+        measure("farey_intersection", &mut || {
+            let _ = black_box(calls::intersection(v, &t, v, &t, &mut work, s, r, k));
+        });
+        // Each in the one before it.
+        let tower: Vec<i64> = (0..8)
+            .flat_map(|i| [&[i - 1, v as i64], &t[..]].concat())
+            .collect();
+        measure("farey_tower", &mut || {
+            let _ = black_box(calls::tower(8, &tower, &mut work));
+        });
         measure("farey_drawing", &mut || {
             let _ = black_box(calls::drawing(v, &t, &mut floats, &mut [0.0; 4]));
         });
@@ -280,7 +295,7 @@ fn calls_stay_within_the_stack_that_the_header_names() {
             }
         }
     }
-    assert_eq!(most.0.len(), 25);
+    assert_eq!(most.0.len(), 28);
     let promised = promised();
     println!("a thread by itself: {nothing}; FAREY_STACK: {promised}");
     for (call, bytes) in most.0 {

@@ -9,6 +9,9 @@
 
 use crate::refusal::Refusal;
 
+mod subgroups;
+pub use subgroups::{contains, intersection, tower, INTERSECTION, TOWER};
+
 /// The length of the work space.
 pub const WORK: usize = 32_768;
 /// Enough for every symbol's table.

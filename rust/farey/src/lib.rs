@@ -12,6 +12,7 @@
 //! | `refusal` | the error: number, place and a sentence                   |
 //! | `sheet`   | the words of many pairs                                   |
 //! | `same_coset` | whether two matrices share a coset, for one pair or many |
+//! | `subgroups` | containment, intersections and towers                  |
 //! | `symbol`  | symbols that own their tables, and what can be asked      |
 //!
 //! ```
@@ -29,11 +30,13 @@ pub mod family;
 pub mod refusal;
 pub mod same_coset;
 pub mod sheet;
+pub mod subgroups;
 pub mod symbol;
 
 pub use family::Family;
 pub use refusal::Refusal;
 pub use sheet::Answer;
+pub use subgroups::tower;
 pub use symbol::{
     Bounds, CosetCusps, Drawing, Figures, Generator, Kind, Shape, Side, Symbol, Tables, Word,
 };

@@ -17,13 +17,14 @@
 //! | `polygon`      | carrying an edge back into the polygon, with the letters used   |
 //! | `coset`        | tables of S, R, T and the figures drawn from them               |
 //! | `sameness`     | whether two symbols generate the same subgroup                  |
+//! | `subgroups`    | intersections, containment and towers; 24, 25, 26               |
 //! | `drawing`      | sides and box of a drawing, rounded by hand; 22                 |
 //! | `exchange`     | the partners of two labels exchanged; 23                        |
 //! | `word`         | pair queries: membership, the walk, a word's product and sign   |
 //! | `sheet`        | a sheet of pairs: single queries in one word space              |
 //! | `permutations` | checks 12 to 16, from two permutations to a symbol, two rules   |
 //! | `congruence`   | Γ0(N), Γ1(N), Γ(N): condition, index, permutations; 20 and 21   |
-//! | `report`       | the whole output of the eight programs                          |
+//! | `report`       | the whole output of the ten programs                            |
 //! | `random`       | test symbols, pairs, matrices and texts, sound and damaged      |
 
 #![forbid(unsafe_code)]
@@ -40,9 +41,12 @@ pub mod refusal;
 pub mod report;
 pub mod sameness;
 pub mod sheet;
+pub mod subgroups;
 pub mod symbol;
 pub mod text;
 pub mod word;
 
 pub use refusal::Refusal;
-pub use report::{exchange, import, import_wide, listing, named, query, same, sheet};
+pub use report::{
+    exchange, import, import_wide, intersection, listing, named, query, same, sheet, tower,
+};

@@ -1,4 +1,4 @@
-//! The whole output of the eight programs, from the bytes of standard input.
+//! The whole output of the ten programs, from the bytes of standard input.
 
 use std::fmt::{Display, Write};
 
@@ -9,8 +9,9 @@ use crate::permutations::{import_pair, Imported, Rule};
 use crate::refusal::Refusal;
 use crate::sameness::same_group;
 use crate::sheet::{answers, check_entries};
+use crate::subgroups;
 use crate::symbol::{Symbol, MAX_VERTICES};
-use crate::text::{numbers, symbol_and_more, two_symbols, Format, MAX_POINTS};
+use crate::text::{count_and_more, numbers, symbol_and_more, two_symbols, Format, MAX_POINTS};
 use crate::word::{pair_query, Found};
 
 /// The letters that the programs `query` and `sheet` lend.
@@ -209,4 +210,42 @@ fn try_same(text: &[u8]) -> Result<bool, Refusal> {
     let one = Symbol::from_numbers(&first)?;
     let other = Symbol::from_numbers(&second)?;
     Ok(same_group(&one, &other))
+}
+
+/// What the program `intersection` prints: the number of points, S and R, a line
+/// each, as the import programs read them.
+pub fn intersection(text: &[u8]) -> String {
+    match try_intersection(text) {
+        Ok([s, r, _]) => {
+            let mut out = format!("{}\n", s.len());
+            for table in [s, r] {
+                let pieces: Vec<String> = table.iter().map(u32::to_string).collect();
+                out.push_str(&pieces.join(" "));
+                out.push('\n');
+            }
+            out
+        }
+        Err(refusal) => format!("{refusal}\n"),
+    }
+}
+
+fn try_intersection(text: &[u8]) -> Result<subgroups::Tables, Refusal> {
+    let (first, second) = two_symbols(text)?;
+    let one = Symbol::from_numbers(&first)?;
+    let other = Symbol::from_numbers(&second)?;
+    subgroups::intersection(&one, &other)
+}
+
+/// What the program `tower` prints.
+pub fn tower(text: &[u8]) -> String {
+    match try_tower(text) {
+        Ok(()) => "passes\n".to_string(),
+        Err(refusal) => format!("{refusal}\n"),
+    }
+}
+
+fn try_tower(text: &[u8]) -> Result<(), Refusal> {
+    let (count, table) = count_and_more(text)?;
+    // The program lends work space enough.
+    subgroups::tower(count, &table, Ok(()))
 }

@@ -168,6 +168,20 @@ pub fn symbol_and_more(text: &[u8]) -> Result<(Vec<i64>, Vec<i64>), Refusal> {
     Ok((found, more))
 }
 
+/// A count, and the numbers behind it: as many as there are. A negative number is no
+/// count.
+pub fn count_and_more(text: &[u8]) -> Result<(usize, Vec<i64>), Refusal> {
+    if text.len() > MAX_TEXT {
+        return Err(Refusal::new(19, MAX_TEXT));
+    }
+    let found = pieces(text)?;
+    let Some((&(at, first), more)) = found.split_first() else {
+        return Err(Refusal::new(19, text.len()));
+    };
+    let count = usize::try_from(first).map_err(|_| Refusal::new(19, at))?;
+    Ok((count, more.iter().map(|&(_, number)| number).collect()))
+}
+
 #[cfg(test)]
 mod tests {
     use super::*;
@@ -299,6 +313,27 @@ mod tests {
         assert_eq!(both("1 0 1 -2 -3 1 0 0 1 1 0 0 9-"), refused(19, 26));
         assert_eq!(both("1 0 x"), refused(19, 4));
         assert_eq!(both(&"x".repeat(MAX_TEXT + 1)), refused(19, MAX_TEXT));
+    }
+
+    #[test]
+    fn a_count_and_more() {
+        let read = |text: &str| count_and_more(text.as_bytes());
+        let refused = |place: usize| Err(Refusal::new(19, place));
+        assert_eq!(read("0"), Ok((0, vec![])));
+        assert_eq!(read("-0 5"), Ok((0, vec![5])));
+        assert_eq!(read(" 1\r\n-1 007\n"), Ok((1, vec![-1, 7])));
+        assert_eq!(
+            read("9223372036854775807"),
+            Ok((1 << 63) - 1).map(|count| (count, vec![]))
+        );
+        assert_eq!(read(&"5 ".repeat(32_768)), Ok((5, vec![5; 32_767])));
+        assert_eq!(read(""), refused(0));
+        assert_eq!(read(" \n\r"), refused(3));
+        assert_eq!(read("1 -1 2x 3"), refused(5));
+        assert_eq!(read(&"5 ".repeat(32_769)), refused(MAX_TEXT));
+        // A piece that is no number goes before a count that is none.
+        assert_eq!(read("\n -1 1 0"), refused(2));
+        assert_eq!(read("-1 x"), refused(3));
     }
 
     #[test]

@@ -100,7 +100,7 @@ impl Folder {
         }
         folder.put(
             "crates.txt",
-            "low:\nlisting: low io\nquery: low\nsheet: low\nimport_wide: low\nnamed: low\nsame: low\n",
+            "low:\nlisting: low io\nquery: low\nsheet: low\nimport_wide: low\nnamed: low\nsame: low\nintersection: low\ntower: low\n",
         );
         folder.put("crates/low/src/lib.rt", "first");
         folder.put("crates/listing/src/main.rt", "");
@@ -409,6 +409,8 @@ fn refusals_are_explained() {
             Some("group") => vec![by_name(&farey, &text(&held))],
             Some("drawing") => vec![run_on(&farey, "draw", &held)],
             Some("exchange") => vec![run_on(&farey, "exchange", &held)],
+            Some("intersection") => vec![halves(&farey, &text(&held))],
+            Some("tower") => vec![run_on(&farey, "tower", &held)],
             _ => panic!("{}: no program reads this", path.display()),
         };
         for came in came {
@@ -421,6 +423,20 @@ fn refusals_are_explained() {
         seen += 1;
     }
     assert!(seen >= 19, "only {seen} examples");
+}
+
+/// `./farey intersection` with the two symbols of a text, three lines each, in two files.
+fn halves(farey: &Program, both: &str) -> Output {
+    let lines: Vec<&str> = both.lines().collect();
+    let [one, other] = [&lines[..3], &lines[3..]].map(|lines| lines.join("\n") + "\n");
+    let folder = Folder::new("halves");
+    over_files(
+        farey,
+        "intersection",
+        &folder,
+        one.as_bytes(),
+        other.as_bytes(),
+    )
 }
 
 /// `./farey` with the words for a text of the program `named`.
@@ -549,9 +565,10 @@ fn a_refusal_is_passed_on() {
         "import",
         "import-wide",
         "exchange",
+        "tower",
         "draw",
     ] {
-        for line in ["refused 15 2\n", "refused 19 65536\n", "refused 23 0\n"] {
+        for line in ["refused 15 2\n", "refused 19 65536\n", "refused 26 0\n"] {
             let came = run_on(&farey, name, line.as_bytes());
             assert_eq!(text(&came.stdout), line);
             assert_eq!(text(&came.stderr), "");
@@ -560,7 +577,7 @@ fn a_refusal_is_passed_on() {
         // A refusal of the engine has a number that has a sentence.
         let read: [&[u8]; 10] = [
             b"refused 0 0\n",
-            b"refused 24 0\n",
+            b"refused 28 0\n",
             b"refused 999 7\n",
             b"refused 015 2\n",
             b"refused 15 02\n",
@@ -657,6 +674,11 @@ fn wrong_words_are_refused() {
         &["same", "a", "b", "c"],
         &["listing", "a", "b"],
         &["Same", "a", "b"],
+        &["intersection"],
+        &["intersection", "examples/gamma0-2.txt"],
+        &["intersection", "a", "b", "c"],
+        &["tower", "examples/towers/gamma0.txt"],
+        &["towers"],
     ] {
         let came = Command::new(&farey).args(words).output();
         let came = came.expect("./farey starts");
@@ -682,13 +704,18 @@ fn a_dash_in_a_name() {
 
 /// `./farey same` in a folder, with two texts in files.
 fn same_of(farey: &Program, folder: &Folder, one: &[u8], other: &[u8]) -> Output {
+    over_files(farey, "same", folder, one, other)
+}
+
+/// `./farey` with the name of a program that is given two files.
+fn over_files(farey: &Program, name: &str, folder: &Folder, one: &[u8], other: &[u8]) -> Output {
     let paths = [folder.at("one text"), folder.at("-other")];
     for (path, held) in paths.iter().zip([one, other]) {
         fs::write(path, held).expect("a file can be written");
     }
     let mut command = farey.command();
     command.current_dir(&folder.0).stdin(Stdio::null());
-    command.args(["same", "one text", "-other"]);
+    command.args([name, "one text", "-other"]);
     command.output().expect("./farey starts")
 }
 
@@ -722,15 +749,22 @@ fn two_files() {
         (&" ".repeat(70_000), one),
         (one, &" ".repeat(70_000)),
     ] {
-        let came = same_of(&farey, &folder, first.as_bytes(), second.as_bytes());
-        let expected = reference::same(format!("{first}{second}").as_bytes());
-        assert_eq!(text(&came.stdout), expected, "{first:.40}, {second:.40}");
-        let said = match expected.strip_suffix('\n').expect("a whole line") {
-            line if line.starts_with("refused ") => explained(line),
-            _ => String::new(),
-        };
-        assert_eq!(text(&came.stderr), said, "{first:.40}, {second:.40}");
-        assert!(came.status.success());
+        for name in ["same", "intersection"] {
+            let came = over_files(&farey, name, &folder, first.as_bytes(), second.as_bytes());
+            let both = format!("{first}{second}");
+            let expected = match name {
+                "same" => reference::same(both.as_bytes()),
+                _ => reference::intersection(both.as_bytes()),
+            };
+            let texts = format!("{name} {first:.40}, {second:.40}");
+            assert_eq!(text(&came.stdout), expected, "{texts}");
+            let said = match expected.strip_suffix('\n').expect("a whole line") {
+                line if line.starts_with("refused ") => explained(line),
+                _ => String::new(),
+            };
+            assert_eq!(text(&came.stderr), said, "{texts}");
+            assert!(came.status.success());
+        }
     }
 }
 
@@ -766,10 +800,12 @@ fn a_refusal_in_a_file_is_passed_on() {
         (one, "refused 21 0\n", "refused 21 0\n"),
         ("refused 6 0\n", "refused 21 0\n", "refused 6 0\n"),
     ] {
-        let came = same_of(&farey, &folder, first.as_bytes(), second.as_bytes());
-        assert_eq!(text(&came.stdout), answer);
-        assert_eq!(text(&came.stderr), "");
-        assert!(came.status.success());
+        for name in ["same", "intersection"] {
+            let came = over_files(&farey, name, &folder, first.as_bytes(), second.as_bytes());
+            assert_eq!(text(&came.stdout), answer);
+            assert_eq!(text(&came.stderr), "");
+            assert!(came.status.success());
+        }
     }
 }
 
@@ -783,6 +819,7 @@ fn files_that_cannot_be_read() {
         ["same", "none", "held"],
         ["same", "held", "crates"],
         ["same", "", "held"],
+        ["intersection", "held", "none"],
     ] {
         let came = folder.command(&words).current_dir(&folder.0).output();
         let came = came.expect("./farey starts");
@@ -796,23 +833,27 @@ fn files_that_cannot_be_read() {
     assert_eq!(folder.asked(), 0);
 }
 
-/// The program of two files is that of the crate `same`, and it is given both.
+/// The program of two files is that of the crate `same` or `intersection`, and it is
+/// given both.
 #[test]
 fn the_crate_of_two_files() {
-    let folder = Folder::new("same");
-    folder.put("one", "2 0 1");
-    folder.put("other", "7 8\n");
-    let run = || {
-        let mut command = folder.command(&["same", "one", "other"]);
-        let came = command.current_dir(&folder.0).output();
-        text(&came.expect("./farey starts").stdout)
-    };
-    assert_eq!(run(), "first\n");
-    let asked = fs::read_to_string(folder.at("asked")).expect("rt was asked");
-    assert!(asked.lines().all(|line| line == "check same"), "{asked}");
-    stand_in(&folder, "same");
-    assert_eq!(run(), "2 0 1\n7 8\n");
-    assert_eq!(folder.proofs(), 1);
+    for name in ["same", "intersection"] {
+        let folder = Folder::new(name);
+        folder.put("one", "2 0 1");
+        folder.put("other", "7 8\n");
+        let run = || {
+            let mut command = folder.command(&[name, "one", "other"]);
+            let came = command.current_dir(&folder.0).output();
+            text(&came.expect("./farey starts").stdout)
+        };
+        assert_eq!(run(), "first\n");
+        let asked = fs::read_to_string(folder.at("asked")).expect("rt was asked");
+        let check = format!("check {name}");
+        assert!(asked.lines().all(|line| line == check), "{asked}");
+        stand_in(&folder, name);
+        assert_eq!(run(), "2 0 1\n7 8\n");
+        assert_eq!(folder.proofs(), 1);
+    }
 }
 
 /// Texts are kept for a moment in files that are gone afterwards.

@@ -17,7 +17,9 @@ use std::fs;
 use std::process::Command;
 
 use child::{farey, repository, Program};
-use reference::{exchange, import, import_wide, listing, named, query, same, sheet};
+use reference::{
+    exchange, import, import_wide, intersection, listing, named, query, same, sheet, tower,
+};
 
 /// A block between two fences: what stands behind the first one, and the lines.
 struct Block {
@@ -100,6 +102,8 @@ fn answers(program: &str, text: &[u8]) -> [String; 2] {
         "same" => ("SAME_PROGRAM", same),
         "sheet" => ("SHEET_PROGRAM", sheet),
         "exchange" => ("EXCHANGE_PROGRAM", exchange),
+        "intersection" => ("INTERSECTION_PROGRAM", intersection),
+        "tower" => ("TOWER_PROGRAM", tower),
         _ => panic!("there is no program {program}"),
     };
     let expected = reference(text);
@@ -116,9 +120,12 @@ fn asked(words: &str) -> (String, Vec<u8>) {
     if let Some((program, path)) = words.split_once(" < ") {
         return (program.to_string(), file(path));
     }
-    if let Some(paths) = words.strip_prefix("same ") {
-        let (one, other) = paths.split_once(' ').expect("two files");
-        return ("same".to_string(), [file(one), file(other)].concat());
+    for program in ["same", "intersection"] {
+        let behind = words.strip_prefix(program);
+        if let Some(paths) = behind.and_then(|behind| behind.strip_prefix(' ')) {
+            let (one, other) = paths.split_once(' ').expect("two files");
+            return (program.to_string(), [file(one), file(other)].concat());
+        }
     }
     let (family, n) = words.split_once(' ').expect("a family and N");
     let families = ["gamma0", "gamma1", "gamma"];
@@ -128,8 +135,8 @@ fn asked(words: &str) -> (String, Vec<u8>) {
 }
 
 /// The answers to a command `./farey PROGRAM < PATH`, `./farey FAMILY N` or
-/// `./farey same PATH PATH`, perhaps with `| ./farey PROGRAM` behind it: by the reference, by the programs,
-/// and by the command itself. `./farey` alone lists Γ0(2).
+/// `./farey same PATH PATH` (or `intersection`), perhaps with `| ./farey PROGRAM` behind it: by
+/// the reference, by the programs, and by the command itself. `./farey` alone lists Γ0(2).
 fn run(command: &str) -> [String; 3] {
     let whole = match command {
         "./farey" => "./farey listing < examples/gamma0-2.txt",
@@ -202,6 +209,8 @@ fn commands_print_what_is_shown() {
         "same",
         "sheet",
         "exchange",
+        "intersection",
+        "tower",
     ] {
         assert!(
             programs.iter().any(|name| name == program),
@@ -255,8 +264,8 @@ fn refusals_have_their_sentences() {
 #[test]
 fn refusals_are_met() {
     for row in rows(&handbook()) {
-        // No text has refusal 2, and no symbol has refusal 18.
-        if row.number == 2 || row.number == 18 {
+        // No symbol has refusal 18.
+        if row.number == 18 {
             assert_eq!(row.answer, "");
             continue;
         }
@@ -271,6 +280,8 @@ fn refusals_are_met() {
             "pair" => "import",
             "group" => "named",
             "exchange" => "exchange",
+            "intersection" => "intersection",
+            "tower" => "tower",
             _ => panic!("{}: no program reads this", row.example),
         };
         assert!(

@@ -9,13 +9,14 @@
 //! | a reader that is gone  | the system's signal ends it, unless it is ignored: then as a write    |
 //! | nothing, but a pause   | the answer to the whole text                                          |
 //!
-//! Each test is made of each of the eight programs (`LISTING_PROGRAM`,
+//! Each test is made of each of the ten programs (`LISTING_PROGRAM`,
 //! `QUERY_PROGRAM`, `SHEET_PROGRAM`, `IMPORT_PROGRAM`, `IMPORT_WIDE_PROGRAM`,
-//! `NAMED_PROGRAM`, `SAME_PROGRAM`, `EXCHANGE_PROGRAM`) and of `./farey` with each of their names
-//! (`FAREY_PROGRAM`), whose exit status isn't 0 then. A program of the engine has no exit status of
-//! its own to give. Of `./farey` with the programs `named` and `same`, for which it
-//! doesn't read standard input, it is the tests of writing. No answer of `same` is
-//! long enough to fill a pipe.
+//! `NAMED_PROGRAM`, `SAME_PROGRAM`, `EXCHANGE_PROGRAM`, `INTERSECTION_PROGRAM`,
+//! `TOWER_PROGRAM`) and of `./farey` with each of their names (`FAREY_PROGRAM`), whose exit
+//! status isn't 0 then. A program of the engine has no exit status of its own to give. Of
+//! `./farey` with the programs `named`, `same` and `intersection`, for which it doesn't read
+//! standard input, it is the tests of writing. No answer of `same` or `tower` is long
+//! enough to fill a pipe.
 
 mod child;
 
@@ -24,6 +25,7 @@ use std::io::{Read, Write};
 use std::os::fd::{AsRawFd, FromRawFd, OwnedFd};
 use std::os::unix::process::CommandExt;
 use std::os::unix::process::ExitStatusExt;
+use std::path::PathBuf;
 use std::process::{Child, Command, ExitStatus, Stdio};
 use std::thread;
 use std::time::{Duration, Instant};
@@ -32,7 +34,9 @@ use child::{farey, repository, shown, Program};
 use reference::random::pairs::shallow_pair;
 use reference::random::Rng;
 use reference::text::MAX_TEXT;
-use reference::{exchange, import, import_wide, listing, named, query, same, sheet};
+use reference::{
+    exchange, import, import_wide, intersection, listing, named, query, same, sheet, tower,
+};
 
 /// How long a program may take before it counts as hanging.
 const TIME_LIMIT: Duration = Duration::from_secs(120);
@@ -77,13 +81,14 @@ impl Subject {
     /// Those that have long answers.
     fn at_length() -> Vec<Subject> {
         let all = Subject::all().into_iter();
-        all.filter(|subject| subject.name != "same").collect()
+        all.filter(|subject| !matches!(subject.name, "same" | "tower"))
+            .collect()
     }
 
     /// `./farey` with a group's name or with the names of two files, which doesn't
     /// read standard input.
     fn reads_nothing(&self) -> bool {
-        self.by_script && matches!(self.name, "named" | "same")
+        self.by_script && matches!(self.name, "named" | "same" | "intersection")
     }
 
     fn all() -> Vec<Subject> {
@@ -93,7 +98,7 @@ impl Subject {
             fn(&[u8]) -> String,
             &'static str,
         );
-        let rows: [Row; 8] = [
+        let rows: [Row; 10] = [
             (
                 "LISTING_PROGRAM",
                 "listing",
@@ -132,6 +137,18 @@ impl Subject {
                 exchange,
                 "3\n0 1 1 1 2 1\n1 2 2 1\n1 2\n",
             ),
+            (
+                "INTERSECTION_PROGRAM",
+                "intersection",
+                intersection,
+                "2\n0 1 1 1\n1 -2 1\n2\n0 1 1 1\n-2 1 1\n",
+            ),
+            (
+                "TOWER_PROGRAM",
+                "tower",
+                tower,
+                "2\n-1\n2\n0 1 1 1\n1 -2 1\n0\n2\n-1 1 0 1\n1 -2 1\n",
+            ),
         ];
         let mut all = Vec::new();
         for by_script in [false, true] {
@@ -163,6 +180,7 @@ impl Subject {
                 examples.join("gamma0-2.txt"),
                 examples.join("gamma0-2-moved.txt"),
             ]),
+            (true, "intersection") => command.arg("intersection").args(coprime()),
             (true, name) => command.arg(name),
         };
         command.stderr(Stdio::piped());
@@ -187,6 +205,10 @@ impl Subject {
             // T to the power 3,000, in a group that has T for a generator.
             "query" | "sheet" => "2 0 1 1 1 1 -2 1 1 0 0 1 1 3000 0 1".to_string(),
             "named" => "0 990".to_string(),
+            "intersection" => {
+                let read = |path| std::fs::read_to_string(path).expect("an example can be read");
+                coprime().map(read).concat()
+            }
             _ => {
                 let pair = shallow_pair(&mut Rng::new(7), 1_000).numbers();
                 let pieces: Vec<String> = pair.iter().map(i64::to_string).collect();
@@ -226,6 +248,12 @@ impl Subject {
         assert_eq!(shown(&came.stdout), "\"\"", "{}, {on}", self.called());
         self.must_tell(came, on);
     }
+}
+
+/// Files with symbols of Γ(5), of index 60, and Γ1(7), of index 24, which meet in 1,440 points.
+fn coprime() -> [PathBuf; 2] {
+    let examples = repository().join("examples/named");
+    ["gamma-5.symbol", "gamma1-7.symbol"].map(|name| examples.join(name))
 }
 
 /// What a run brought about.

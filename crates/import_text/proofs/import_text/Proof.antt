@@ -1,32 +1,26 @@
--- `import_text` meets its contract: what the text asks for is known by the answer of `read_input`, and a text that is refused leaves the tables, the
--- work space and the result space as they were. Assumes nothing.
-use mathlib.Core.Path.{_≡_, sym, ap, _∙_}
+-- `import_text` meets its contract: the tables that the text asks for stand where the import reads them, and a refusal leaves the work space and the
+-- result space as they were. Assumes nothing.
+use mathlib.Core.Path.{_≡_, sym, _∙_}
 use mathlib.Core.Bool.{Bool}
-use native.Mathlib.Omega.{arith}
 use mathlib.Core.List.{List}
-use Prim.Native.Nat.{ℕ}
-use lib.IntN.{ℤ}
+use native.Mathlib.Omega.{arith}
+use Prim.Native.Nat.{ℕ, _≤_}
 use lib.ListN.{length, take}
 use lib.Seq.{length-take-le}
-use Rattle.text.specs.Piece.{pieces, numbers}
-use Rattle.text.specs.Reading.{inputOf, leftBy}
-use Rattle.text.specs.declared.Reading.{Reading}
-use Rattle.text.specs.declared.Reading.the-variants.{Numbers}
-use Rattle.text.proofs.Handed.{Handed, input-on}
 use Rattle.text_line.proofs.Placing.{puts-as}
-use Rattle.import_text.specs.Answer.{tablesIn, importFormat, requestBy, requestOf}
 use Rattle.import_rule.specs.Order.{Order}
 use Rattle.import_table.specs.Answer.{orderBy}
-use Rattle.import_text.specs.Spaces.{numbersLeft}
-use Rattle.import_text.proofs.Answering.{asked-by, numbers-by, lines-as, handed-numbers, untouched, leaves-as}
+use Rattle.import_text.specs.Answer.{Request, tables, requestOf}
+use Rattle.import_text.specs.Spaces.{TablesRead}
+use Rattle.import_text.proofs.Answering.{lines-as, read-refused, untouched, leaves}
 use borrow.Author.Needs.{needs}
 use Rattle.import_text.proofs.import_text.Statement.{statement}
 use Rattle.import_text.proofs.import_text.Tie as tie
 
--- after `read_input`: what the text asks for, and what is left of the numbers
-module _ (d : tie.After-read-input) where
+-- after `read_tables`
+module _ (d : tie.After-read-tables) where
   abbrev start : tie.Start
-  start = d .before .before .before .before .before .before .before
+  start = d .before .before .before .before .before .before .before .before .before
 
   abbrev text : List ℕ
   text = start .args .text .now
@@ -37,40 +31,34 @@ module _ (d : tie.After-read-input) where
   abbrev order : Order
   order = orderBy (start .args .wide)
 
-  told : d .read-input .result ≡ inputOf longer importFormat text 6133
-  told = d .read-input .ensures .0 ∙ ap (inputOf longer importFormat text) (start .pre .0)
+  abbrev asked : Request
+  asked = requestOf longer text
 
-  asks : (r : Reading) → d .read-input .result ≡ r → requestBy r (numbers (pieces text)) ≡ requestOf longer text
-  asks r e = asked-by longer text r (sym e ∙ told)
+  abbrev s' : List ℕ
+  s' = d .read-tables .last .1 .1 .1 .0
 
-  numbers-are : d .read-input .last .1 .1 .1 .0 ≡ numbersLeft longer text (start .args .numbers .now)
-  numbers-are = d .read-input .ensures .1 ∙ numbers-by longer text (d .read-input .result) told (start .args .numbers .now)
+  abbrev r' : List ℕ
+  r' = d .read-tables .last .1 .1 .1 .1 .0
 
--- the numbers that were read
+  left : TablesRead asked (start .args .s .now) (start .args .r .now) (d .read-tables .result) s' r'
+  left = d .read-tables .ensures .1
+
+-- the tables that were read
 module _ (k : tie.After-read2) where
-  abbrev called : tie.After-read-input
-  called = k .before .before .before
+  abbrev called : tie.After-read-tables
+  called = k .before .before .before .before .before .before .before
 
-  abbrev count : ℕ
-  count = k .read2 .given .0 .0
+  abbrev n : ℕ
+  n = k .read2 .given .0 .0
 
-  some-numbers : Handed (numbers (pieces (text called))) 6133 count
-  some-numbers = input-on (longer called) importFormat (text called) 6133 count (omega arith) (sym (k .read2 .given .1) ∙ told called)
+  few : n ≤ 3066
+  few = left called .most n (k .read2 .given .1)
 
-  abbrev stood : List ℤ
-  stood = called .read-input .last .1 .1 .1 .0
+  stand : tables (take n (s' called)) (take n (r' called)) ≡ asked called
+  stand = left called .fronts n (k .read2 .given .1)
 
-  handed : take count stood ≡ take count (numbers (pieces (text called)))
-  handed =
-      ap (take count) (called .read-input .ensures .1
-      ∙ ap (λ (x : Reading). leftBy x (numbers (pieces (text called))) (start called .args .numbers .now)) (k .read2 .given .1))
-      ∙ handed-numbers count (numbers (pieces (text called))) (start called .args .numbers .now) (some-numbers .there)
-
-  handed-length : length (take count stood) ≡ count
-  handed-length = ap length handed ∙ length-take-le count (numbers (pieces (text called))) (some-numbers .there)
-
-read-input-requires : tie.Need-read-input-requires
-read-input-requires c κs = search needs
+read-tables-requires : tie.Need-read-tables-requires
+read-tables-requires c κs = search needs
 
 enum-known-read : tie.Need-enum-known-read
 enum-known-read c = search needs
@@ -81,16 +69,24 @@ refusal-line-requires c κs = search needs
 enum-known-read-2 : tie.Need-enum-known-read-2
 enum-known-read-2 c = search needs
 
-slice-reshare-prefix-import-numbers : tie.Need-slice-reshare-prefix-import-numbers
-slice-reshare-prefix-import-numbers c = omega (arith, some-numbers (c .before) .fitting, start (called (c .before)) .pre .0)
+slice-reshare-prefix-import-lines : tie.Need-slice-reshare-prefix-import-lines
+slice-reshare-prefix-import-lines c = omega (arith, few (c .before), start (called (c .before)) .pre .1 .s-long)
 
-slice-aggregate-import-numbers : tie.Need-slice-aggregate-import-numbers
-slice-aggregate-import-numbers c = sym (handed-length (c .before .before))
+slice-aggregate-import-lines : tie.Need-slice-aggregate-import-lines
+slice-aggregate-import-lines c =
+    let k = c .before .before in
+    sym (length-take-le (n k) (s' (called k)) (omega (arith, few k, start (called k) .pre .1 .s-long)))
 
-import-numbers-requires : tie.Need-import-numbers-requires
-import-numbers-requires c κs =
-    let k = c .before .before .before .before .before .before .before in
-    (omega (arith, handed-length k, some-numbers k .some-one), omega (arith, handed-length k, some-numbers k .fitting), start (called k) .pre .1)
+slice-reshare-prefix-import-lines-2 : tie.Need-slice-reshare-prefix-import-lines-2
+slice-reshare-prefix-import-lines-2 c = let k = c .before .before in omega (arith, few k, start (called k) .pre .1 .r-long)
+
+slice-aggregate-import-lines-2 : tie.Need-slice-aggregate-import-lines-2
+slice-aggregate-import-lines-2 c =
+    let k = c .before .before .before in
+    sym (length-take-le (n k) (r' (called k)) (omega (arith, few k, start (called k) .pre .1 .r-long)))
+
+import-lines-requires : tie.Need-import-lines-requires
+import-lines-requires c κs = search needs
 
 same-length : tie.Need-same-length
 same-length c = search needs
@@ -98,26 +94,25 @@ same-length c = search needs
 same-length-2 : tie.Need-same-length-2
 same-length-2 c = search needs
 
-returns : tie.Need-returns
-returns c =
-    let k = c .before .before .before .before .before in
-    let d = k .before .before .before in
-    let s = start d in
-    let e = asks d _ (k .read .given .1) in (
-      puts-as (lines-as (longer d) (text d) (order d) e)
-          ((c .before .before) .refusal-line .ensures),
-      (
-        numbers-are d,
-        leaves-as e
-            (untouched (order d) _ (s .args .s .now) (s .args .r .now) (s .args .w .now) (s .args .table .now)),
-      ),
-    )
-
 same-length-3 : tie.Need-same-length-3
 same-length-3 c = search needs
 
 same-length-4 : tie.Need-same-length-4
 same-length-4 c = search needs
+
+returns : tie.Need-returns
+returns c =
+    let k = c .before .before .before .before .before in
+    let d = k .before .before .before .before .before .before .before in
+    let s = start d in
+    let f = k .read .given .0 .0 in
+    let e = read-refused (asked d) f (sym (k .read .given .1) ∙ left d .answered) in (
+      puts-as (lines-as (longer d) (text d) (order d) e) (c .before .before .refusal-line .ensures),
+      (
+        d .read-tables .ensures .0,
+        untouched (order d) (asked d) f (s .args .s .now) (s .args .r .now) (s .args .w .now) (s' d) (r' d) (s .args .table .now) e (left d .for-S) (left d .for-R),
+      ),
+    )
 
 same-length-5 : tie.Need-same-length-5
 same-length-5 c = search needs
@@ -131,32 +126,49 @@ same-length-7 c = search needs
 same-length-8 : tie.Need-same-length-8
 same-length-8 c = search needs
 
+same-length-9 : tie.Need-same-length-9
+same-length-9 c = search needs
+
+same-length-10 : tie.Need-same-length-10
+same-length-10 c = search needs
+
 returns-2 : tie.Need-returns-2
 returns-2 c =
-    let n = c .before .before .before .before .before .before .before .before .before in
-    let k = n .before .before .before .before .before .before .before .before in
+    let l = c .before .before .before .before .before in
+    let k = l .before .before .before .before .before .before .before in
     let d = called k in
-    let e = ap tablesIn (handed k) ∙ asks d (Numbers (count k)) (k .read2 .given .1) in
-    (puts-as (lines-as (longer d) (text d) (order d) e) (n .import-numbers .ensures .0), (numbers-are d, leaves-as e (n .import-numbers .ensures .1)))
+    let s = start d in
+    let p = l .import-lines .ensures in (
+      puts-as (lines-as (longer d) (text d) (order d) (stand k)) (p .0),
+      (
+        d .read-tables .ensures .0,
+        leaves (order d) (asked d) (take (n k) (s' d)) (take (n k) (r' d)) (s .args .s .now) (s .args .r .now) (s .args .w .now) (s' d) (r' d) _ (s .args .table .now) _
+            (stand k) (left d .for-S) (left d .for-R) (p .1 .0) (p .1 .1),
+      ),
+    )
 
 pub import-text-spec : {M : Type 1} → statement M
 import-text-spec =
     tie.close
     (tie.spec
-    read-input-requires
+    read-tables-requires
     enum-known-read
     refusal-line-requires
     enum-known-read-2
-    slice-reshare-prefix-import-numbers
-    slice-aggregate-import-numbers
-    import-numbers-requires
+    slice-reshare-prefix-import-lines
+    slice-aggregate-import-lines
+    slice-reshare-prefix-import-lines-2
+    slice-aggregate-import-lines-2
+    import-lines-requires
     same-length
     same-length-2
-    returns
     same-length-3
     same-length-4
+    returns
     same-length-5
     same-length-6
     same-length-7
     same-length-8
+    same-length-9
+    same-length-10
     returns-2)

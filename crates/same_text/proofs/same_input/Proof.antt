@@ -1,48 +1,101 @@
--- `same_input` meets its contract: a text that is too long is refused, and any other is `same_texts`'s. Assumes nothing.
-use mathlib.Core.Path.{ap, _∙_}
-use mathlib.Core.Bool.{Bool, _||_}
-use lib.Dec.{ltb}
+-- `same_input` meets its contract: each answer of `read_two` has its line (`line-as`). Assumes nothing.
+use mathlib.Core.Path.{_≡_, refl, sym}
+use mathlib.Core.List.{List}
+use Prim.Native.Nat.{ℕ, _≤_}
+use native.Mathlib.Omega.{arith}
+use lib.IntN.{ℤ}
 use lib.ListN.{length}
-use borrow.Author.Tests.{lt-ltb}
-use Rattle.text.specs.Reading.{textMost}
-use Rattle.same_text.proofs.Readings.{too-long, not-longer}
+use lib.Seq.{length-take-le}
+use Rattle.same_text.specs.Inner.TwoTexts.{CountsWithin}
+use Rattle.same_text.specs.declared.TwoReading.the-variants.{Numbers}
+use Rattle.same_text.proofs.Readings.{line-as}
 use borrow.Author.Needs.{needs}
 use Rattle.same_text.proofs.same_input.Statement.{statement}
 use Rattle.same_text.proofs.same_input.Tie as tie
 
+-- what was read
+module _ (r : tie.After-read-two) where
+  abbrev start : tie.Start
+  start = r .before .before .before .before .before .before
+
+  abbrev ones : List ℤ
+  ones = r .read-two .last .1 .1 .0
+
+  abbrev others : List ℤ
+  others = r .read-two .last .1 .1 .1 .0
+
+-- the numbers of two texts
+module _ (d : tie.After-reading2) where
+  abbrev read : tie.After-read-two
+  read = d .before .before .before .before
+
+  abbrev k : ℕ
+  k = d .reading2 .given .0 .0
+
+  abbrev j : ℕ
+  j = d .reading2 .given .0 .1 .0
+
+  told : read .read-two .result ≡ Numbers k j
+  told = d .reading2 .given .1
+
+  counted : CountsWithin k j
+  counted = read .read-two .ensures .within k j told
+
+  inside : k ≤ length (ones read)
+  inside = omega (arith, counted .most, d .before .before .before .one .given, start read .pre .0)
+
+  inside' : j ≤ length (others read)
+  inside' = omega (arith, counted .most', d .before .before .other .given, start read .pre .1)
+
+read-two-requires : tie.Need-read-two-requires
+read-two-requires c κs = search needs
+
+enum-known-reading : tie.Need-enum-known-reading
+enum-known-reading c = search needs
+
 refusal-line-requires : tie.Need-refusal-line-requires
 refusal-line-requires c κs = search needs
+
+enum-known-reading-2 : tie.Need-enum-known-reading-2
+enum-known-reading-2 c = search needs
+
+slice-reshare-prefix-same-numbers : tie.Need-slice-reshare-prefix-same-numbers
+slice-reshare-prefix-same-numbers c = inside (c .before)
+
+slice-aggregate-same-numbers : tie.Need-slice-aggregate-same-numbers
+slice-aggregate-same-numbers c = let d = c .before .before in sym (length-take-le (k d) (ones (read d)) (inside d))
+
+slice-reshare-prefix-same-numbers-2 : tie.Need-slice-reshare-prefix-same-numbers-2
+slice-reshare-prefix-same-numbers-2 c = inside' (c .before .before)
+
+slice-aggregate-same-numbers-2 : tie.Need-slice-aggregate-same-numbers-2
+slice-aggregate-same-numbers-2 c = let d = c .before .before .before in sym (length-take-le (j d) (others (read d)) (inside' d))
+
+same-numbers-requires : tie.Need-same-numbers-requires
+same-numbers-requires c κs =
+    let d = c .before .before .before .before .before in
+    let s = start (read d) in (
+      omega (arith, length-take-le (k d) (ones (read d)) (inside d), counted d .some),
+      omega (arith, length-take-le (j d) (others (read d)) (inside' d), counted d .some'),
+      s .pre .2,
+      s .pre .3,
+    )
 
 same-length : tie.Need-same-length
 same-length c = search needs
 
-returns : tie.Need-returns
-returns c =
-    let l = c .before .before in
-    let d = l .before .before in
-    let s = d .before .before .before .before in
-    too-long (s .args .longer) (s .args .text .now) (ap (λ (b : Bool). b || ltb textMost (length (s .args .text .now))) (d .if1 .taken)) (l .refusal-line .ensures)
-
-refusal-line-requires-2 : tie.Need-refusal-line-requires-2
-refusal-line-requires-2 c κs = search needs
-
 same-length-2 : tie.Need-same-length-2
 same-length-2 c = search needs
 
-returns-2 : tie.Need-returns-2
-returns-2 c =
-    let l = c .before .before in
-    let d = l .before .before in
-    let s = d .before .before .before .before .before in
-    too-long (s .args .longer) (s .args .text .now)
-    (ap (λ (b : Bool). b || ltb textMost (length (s .args .text .now))) (d .before .if1 .left) ∙ lt-ltb textMost (length (s .args .text .now)) (d .if2 .taken))
-    (l .refusal-line2 .ensures)
-
-same-texts-requires : tie.Need-same-texts-requires
-same-texts-requires c κs = search needs
-
 same-length-3 : tie.Need-same-length-3
 same-length-3 c = search needs
+
+returns : tie.Need-returns
+returns c =
+    let l = c .before .before in
+    let a = l .before .before .before in
+    let r = a .before .before .before .before in
+    line-as (r .read-two .ensures) (a .reading .given .1) (l .refusal-line .ensures) refl
 
 same-length-4 : tie.Need-same-length-4
 same-length-4 c = search needs
@@ -53,26 +106,34 @@ same-length-5 c = search needs
 same-length-6 : tie.Need-same-length-6
 same-length-6 c = search needs
 
-returns-3 : tie.Need-returns-3
-returns-3 c =
-    let l = c .before .before .before .before .before .before in
-    let e = l .before .before .before .before .before .before in
-    let s = e .before .before .before .before in
-    not-longer (s .args .longer) (s .args .text .now) (e .if1 .left) (l .same-texts .ensures)
+same-length-7 : tie.Need-same-length-7
+same-length-7 c = search needs
+
+returns-2 : tie.Need-returns-2
+returns-2 c =
+    let z = c .before .before .before .before in
+    let d = z .before .before .before .before .before .before in
+    line-as (read d .read-two .ensures) (told d) (z .same-numbers .ensures .0) (z .same-numbers .ensures .1)
 
 pub same-input-spec : {M : Type 1} → statement M
 same-input-spec =
     tie.close
     (tie.spec
+    read-two-requires
+    enum-known-reading
     refusal-line-requires
+    enum-known-reading-2
+    slice-reshare-prefix-same-numbers
+    slice-aggregate-same-numbers
+    slice-reshare-prefix-same-numbers-2
+    slice-aggregate-same-numbers-2
+    same-numbers-requires
     same-length
-    returns
-    refusal-line-requires-2
     same-length-2
-    returns-2
-    same-texts-requires
     same-length-3
+    returns
     same-length-4
     same-length-5
     same-length-6
-    returns-3)
+    same-length-7
+    returns-2)

@@ -9,6 +9,7 @@
 //! | `matrices` | matrices of determinant 1, pairs with and without a word   |
 //! | `pairs`    | permutation pairs, with faults 12 to 15                    |
 //! | `twins`    | a second symbol, of the same group or of another           |
+//! | `towers`   | two symbols, subgroups and towers of them                  |
 //! | `cases`    | whole texts for the programs                               |
 
 pub mod cases;
@@ -17,6 +18,7 @@ pub mod faults;
 pub mod matrices;
 pub mod pairs;
 pub mod rng;
+pub mod towers;
 pub mod twins;
 
 pub use cases::{import_case, listing_case, query_case, same_case};

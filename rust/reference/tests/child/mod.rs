@@ -51,6 +51,9 @@ pub fn farey() -> Option<Program> {
             &["import-wide"],
             &["gamma0", "1"],
             &["same", "/dev/null", "/dev/null"],
+            &["exchange"],
+            &["intersection", "/dev/null", "/dev/null"],
+            &["tower"],
         ] {
             let came = script.command().args(words).stdin(Stdio::null()).output();
             let came = came.expect("./farey starts");

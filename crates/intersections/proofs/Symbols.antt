@@ -1,0 +1,219 @@
+-- Two symbols: what was kept of their tables is what the walk asks (`walks`); what it lists are the tables of the intersection (`Common`, `listed-common`), and
+-- so is what is given (`gives`, `room-is`, `left-…`).
+-- Why: behind the tables that were kept stand zeros, as past the end of a list; so both are the same maps, and have the same numbering.
+-- Assumes nothing.
+use mathlib.Core.Path.{_≡_, sym, _∙_, ap, fun-ext}
+use mathlib.Core.List.{List, _++_}
+use Prim.Native.Nat.{ℕ, _+_, _*_, _≤_, _<_}
+use native.Mathlib.Omega.{arith}
+use native.Mathlib.Decide.{decLt}
+use lib.ListN.{length, getD, drop, length-append, length-drop, List·getD-eq-default}
+use lib.Seq.{getD-drop}
+use lib.IntN.{ℤ}
+use Rattle.refusal.specs.declared.Filled.{Filled}
+use Rattle.workspace.specs.Space.{workLength, entries}
+use Rattle.symbol.specs.Symbol.{IsSymbol}
+use Rattle.pairing.specs.Generator.{generators}
+use Rattle.pairing.specs.Subgroup.{InH}
+use Rattle.numbering.specs.Order.{orderOf, Maps}
+use Rattle.numbering.specs.Table.{imageAt, renamed, _thenTable_, Permutes}
+use Rattle.numbering.specs.Inner.Space.{S-TABLE, R-TABLE}
+use Rattle.numbering.proofs.Space.{entries-length}
+use Rattle.coset.specs.Tables.{tableS, tableR, indexOf}
+use Rattle.coset.specs.Answer.{columnLeft}
+use Rattle.coset.specs.Inner.Work.{Arranged}
+use Rattle.coset.proofs.Answer.{Made, made}
+use Rattle.congruence.specs.Cosets.{CosetsOf}
+use Rattle.sameness.proofs.Symbols.{symbol-cosets}
+use Rattle.subgroup_pairs.specs.Pairs.{both, pairsReached, pairsS, pairsR}
+use Rattle.subgroup_pairs.specs.Symbols.{commonCosets, commonS, commonR, commonT, CommonSubgroup}
+use Rattle.subgroup_pairs.proofs.Pairs.{S-low, R-low, some-points, maps}
+use Rattle.subgroup_pairs.proofs.Symbols.{common-subgroup}
+use Rattle.inclusion.proofs.Tables.{padded}
+use Rattle.intersections.specs.Answer.{fewRoom, commonRoom}
+use Rattle.intersections.specs.Inner.Pairs.{PairTables, WalkPairs, PairsListed, GiveTables}
+use Rattle.intersections.proofs.Given.{given-large}
+
+-- ---- tables that were kept, with zeros behind
+
+kept-as : (s l table empty : List ℕ) (k : ℕ) → ((j : ℕ) → getD empty j 0 ≡ 0) → s ≡ l ++ drop k empty → l ≡ table → imageAt s ≡ imageAt table
+kept-as s l table empty k none e f = fun-ext (λ y.
+    ap (λ (m : List ℕ). getD m y 0) e ∙ padded l (drop k empty) (λ j. getD-drop k empty j 0 ∙ none (k + j)) y ∙ ap (λ (m : List ℕ). getD m y 0) f)
+
+kept-size : (s empty w : List ℕ) (off k : ℕ) → length empty ≡ 4096 → off + k ≤ length w → k ≤ 4096 → s ≡ entries off k w ++ drop k empty → length s ≡ 4096
+kept-size s empty w off k size long few e =
+    ap length e ∙ omega (arith, length-append (entries off k w) (drop k empty), entries-length off k w long, length-drop k empty)
+
+-- an image in a permutation's table, or 0 past its end
+image-small : (l : List ℕ) → Permutes l → length l ≤ 4096 → (y : ℕ) → imageAt l y < 4096
+image-small l p few y = elim (decLt y (length l)) [
+  | yes h ↦ omega (arith, p .low y h)
+  | no h ↦ omega (arith, List·getD-eq-default l 0 {n = y} (omega arith))
+]
+
+-- ---- maps that are the same have the same pairs
+
+module _ (n k : ℕ) {f g h i f' g' h' i' : ℕ → ℕ} (ef : f ≡ f') (eg : g ≡ g') (eh : h ≡ h') (ei : i ≡ i') where
+  maps-as : Maps (both k f' h') (both k g' i') 0 (n * k) → Maps (both k f h) (both k g i) 0 (n * k)
+  maps-as m = rw (ef, eg, eh, ei) m
+
+  order-as : orderOf (both k f h) (both k g i) 0 (n * k) ≡ orderOf (both k f' h') (both k g' i') 0 (n * k)
+  order-as = rw (ef, eg, eh, ei)
+
+  renamed-S-as : renamed (orderOf (both k f h) (both k g i) 0 (n * k)) (both k f h) ≡ renamed (orderOf (both k f' h') (both k g' i') 0 (n * k)) (both k f' h')
+  renamed-S-as = rw (ef, eg, eh, ei)
+
+  renamed-R-as : renamed (orderOf (both k f h) (both k g i) 0 (n * k)) (both k g i) ≡ renamed (orderOf (both k f' h') (both k g' i') 0 (n * k)) (both k g' i')
+  renamed-R-as = rw (ef, eg, eh, ei)
+
+module _ (n k : ℕ) (a b c d s r s' r' : List ℕ) (ea : imageAt a ≡ imageAt s) (eb : imageAt b ≡ imageAt r) (ec : imageAt c ≡ imageAt s') (ed : imageAt d ≡ imageAt r') where
+  reached-as : pairsReached n k a b c d ≡ pairsReached n k s r s' r'
+  unfolding pairsReached
+  reached-as = order-as n k ea eb ec ed
+
+  S-as : pairsS n k a b c d ≡ pairsS n k s r s' r'
+  unfolding pairsReached pairsS
+  S-as = renamed-S-as n k ea eb ec ed
+
+  R-as : pairsR n k a b c d ≡ pairsR n k s r s' r'
+  unfolding pairsReached pairsR
+  R-as = renamed-R-as n k ea eb ec ed
+
+-- ---- two symbols, and what was kept of their tables
+
+at : (s l : List ℕ) → imageAt s ≡ imageAt l → (y : ℕ) → imageAt s y ≡ imageAt l y
+at s l e y = ap (λ (f : ℕ → ℕ). f y) e
+
+pub record Common (v : ℕ) (t : List ℤ) (v' : ℕ) (t' : List ℤ) (w : List ℕ) (count : ℕ) : Type 0 where
+  pub large : 3066 < count → 3066 < length (commonCosets v t v' t')
+  pub points : count ≤ 3066 → count ≡ length (commonCosets v t v' t')
+  pub S-is : count ≤ 3066 → entries S-TABLE count w ≡ commonS v t v' t'
+  pub R-is : count ≤ 3066 → entries R-TABLE count w ≡ commonR v t v' t'
+
+module _ {v : ℕ} {t : List ℤ} {v' : ℕ} {t' : List ℤ} (ok : IsSymbol v t) (ok' : IsSymbol v' t') (a b c d : List ℕ)
+    (ea : imageAt a ≡ imageAt (tableS v t)) (eb : imageAt b ≡ imageAt (tableR v t)) (ec : imageAt c ≡ imageAt (tableS v' t')) (ed : imageAt d ≡ imageAt (tableR v' t')) where
+  abbrev n : ℕ
+  n = indexOf v t
+
+  abbrev k : ℕ
+  k = indexOf v' t'
+
+  one : CosetsOf (InH (generators v t)) n (tableS v t) (tableR v t)
+  one = symbol-cosets v t ok
+
+  other : CosetsOf (InH (generators v' t')) k (tableS v' t') (tableR v' t')
+  other = symbol-cosets v' t' ok'
+
+  pair-tables : n ≤ 4096 → k ≤ 4096 → length a ≡ 4096 → length b ≡ 4096 → length c ≡ 4096 → length d ≡ 4096 → PairTables n k a b c d
+  pair-tables few few' za zb zc zd = record {
+    some = some-points other;
+    few = few';
+    size-a = za;
+    size-b = zb;
+    size-c = zc;
+    size-d = zd;
+    low-a = λ x. omega (arith, at a (tableS v t) ea x, image-small (tableS v t) (one .permutes-S) (omega (arith, one .size-S)) x);
+    low-b = λ x. omega (arith, at b (tableR v t) eb x, image-small (tableR v t) (one .permutes-R) (omega (arith, one .size-R)) x);
+    low-c = λ y h. omega (arith, at c (tableS v' t') ec y, S-low other y h);
+    low-d = λ y h. omega (arith, at d (tableR v' t') ed y, R-low other y h);
+    maps = maps-as n k ea eb ec ed (maps one other);
+  }
+
+  cosets-are : pairsReached n k a b c d ≡ commonCosets v t v' t'
+  unfolding commonCosets
+  cosets-are = reached-as n k a b c d (tableS v t) (tableR v t) (tableS v' t') (tableR v' t') ea eb ec ed
+
+  S-are : pairsS n k a b c d ≡ commonS v t v' t'
+  unfolding commonS
+  S-are = S-as n k a b c d (tableS v t) (tableR v t) (tableS v' t') (tableR v' t') ea eb ec ed
+
+  R-are : pairsR n k a b c d ≡ commonR v t v' t'
+  unfolding commonR
+  R-are = R-as n k a b c d (tableS v t) (tableR v t) (tableS v' t') (tableR v' t') ea eb ec ed
+
+  common : PairTables n k a b c d → {w w' : List ℕ} {count : ℕ} → PairsListed w a b c d w' count → Common v t v' t' w' count
+  common p l = record {
+    large = λ h. rw cosets-are at (l .large n k p h);
+    points = λ h. l .points n k p h ∙ ap length cosets-are;
+    S-is = λ h. l .S-is n k p h ∙ S-are;
+    R-is = λ h. l .R-is n k p h ∙ R-are;
+  }
+
+-- ---- the same from what was arranged and kept
+
+module _ {v : ℕ} {t : List ℤ} {v' : ℕ} {t' : List ℤ} {k m : ℕ} {w w' : List ℕ} (ok : IsSymbol v t) (ok' : IsSymbol v' t') (r : Arranged t v w k) (r' : Arranged t' v' w' m)
+    (empty : List ℕ) (none : (j : ℕ) → getD empty j 0 ≡ 0) {a b c d : List ℕ} (ea : a ≡ entries S-TABLE k w ++ drop k empty) (eb : b ≡ entries R-TABLE k w ++ drop k empty)
+    (ec : c ≡ entries S-TABLE m w' ++ drop m empty) (ed : d ≡ entries R-TABLE m w' ++ drop m empty)
+    (size : length empty ≡ 4096) where
+  arranged : Made t v w k
+  arranged = made ok r
+
+  arranged' : Made t' v' w' m
+  arranged' = made ok' r'
+
+  kept-a : imageAt a ≡ imageAt (tableS v t)
+  kept-a = kept-as a (entries S-TABLE k w) (tableS v t) empty k none ea (arranged .S-is)
+
+  kept-b : imageAt b ≡ imageAt (tableR v t)
+  kept-b = kept-as b (entries R-TABLE k w) (tableR v t) empty k none eb (arranged .R-is)
+
+  kept-c : imageAt c ≡ imageAt (tableS v' t')
+  kept-c = kept-as c (entries S-TABLE m w') (tableS v' t') empty m none ec (arranged' .S-is)
+
+  kept-d : imageAt d ≡ imageAt (tableR v' t')
+  kept-d = kept-as d (entries R-TABLE m w') (tableR v' t') empty m none ed (arranged' .R-is)
+
+  both-tables : PairTables (indexOf v t) (indexOf v' t') a b c d
+  both-tables =
+      let few = arranged .few in
+      let few' = arranged' .few in
+      let i = arranged .index in
+      let i' = arranged' .index in
+      let long = r .long in
+      let long' = r' .long in
+      pair-tables ok ok' a b c d kept-a kept-b kept-c kept-d (omega arith) (omega arith)
+      (kept-size a empty w S-TABLE k size (omega arith) few ea) (kept-size b empty w R-TABLE k size (omega arith) few eb)
+      (kept-size c empty w' S-TABLE m size (omega arith) few' ec) (kept-size d empty w' R-TABLE m size (omega arith) few' ed)
+
+  pub walks : WalkPairs w' a b c d
+  walks = record { long = r' .long; points = indexOf v t; modulus = indexOf v' t'; tables = both-tables }
+
+  pub listed-common : {u : List ℕ} {count : ℕ} → PairsListed w' a b c d u count → Common v t v' t' u count
+  listed-common l = common ok ok' a b c d kept-a kept-b kept-c kept-d both-tables l
+
+-- ---- what is given of them
+
+module _ {v : ℕ} {t : List ℤ} {v' : ℕ} {t' : List ℤ} (ok : IsSymbol v t) (ok' : IsSymbol v' t') {w : List ℕ} {count : ℕ} (m : Common v t v' t' w count) where
+  group : CommonSubgroup v t v' t'
+  group = common-subgroup v t v' t' ok ok'
+
+  pub gives : workLength ≤ length w → GiveTables w count
+  gives long = record {
+    long = long;
+    low = λ h j i. rw (m .S-is h) (let e = m .points h in omega (arith, S-low (group .cosets) j (omega arith)));
+  }
+
+  pub room-is : (x y z : ℕ) → fewRoom count x y z ≡ commonRoom v t v' t' x y z
+  room-is x y z = elim (decLt 3066 count) [
+    | yes h ↦ sym (given-large count x y z h) ∙ given-large (length (commonCosets v t v' t')) x y z (m .large h)
+    | no h ↦ ap (λ (i : ℕ). fewRoom i x y z) (m .points (omega arith))
+  ]
+
+  -- a refusal leaves all as it was, whatever the table
+  left-as : (q : Filled) (x y z : ℕ) → q ≡ fewRoom count x y z → (l table out : List ℕ) → (count ≤ 3066 → l ≡ table) → columnLeft q l out ≡ columnLeft q table out
+  left-as q x y z e l table out is = elim (decLt 3066 count) [
+    | yes h ↦ let f = e ∙ sym (given-large count x y z h) in rw f
+    | no h ↦ ap (λ (o : List ℕ). columnLeft q o out) (is (omega arith))
+  ]
+
+  module _ (q : Filled) (x y z : ℕ) (e : q ≡ fewRoom count x y z) (out : List ℕ) where
+    pub left-S : columnLeft q (entries S-TABLE count w) out ≡ columnLeft q (commonS v t v' t') out
+    left-S = left-as q x y z e (entries S-TABLE count w) (commonS v t v' t') out (m .S-is)
+
+    pub left-R : columnLeft q (entries R-TABLE count w) out ≡ columnLeft q (commonR v t v' t') out
+    left-R = left-as q x y z e (entries R-TABLE count w) (commonR v t v' t') out (m .R-is)
+
+    pub left-T : columnLeft q (entries S-TABLE count w thenTable entries R-TABLE count w) out ≡ columnLeft q (commonT v t v' t') out
+    left-T =
+        left-as q x y z e (entries S-TABLE count w thenTable entries R-TABLE count w) (commonT v t v' t') out
+        (λ h. ap (λ (l : List ℕ). l thenTable entries R-TABLE count w) (m .S-is h) ∙ ap (λ (l : List ℕ). commonS v t v' t' thenTable l) (m .R-is h) ∙ sym (group .T-is))

@@ -1,0 +1,180 @@
+-- `intersections::intersect` meets its contract: the tables of both symbols are kept, their pairs are listed (`walks`, `listed-common`) and the tables given; clearing
+-- comes last, so zeros stay.
+-- Assumes nothing.
+use borrow.Author.Needs.{needs}
+use mathlib.Core.Path.{_≡_, _∙_, ap}
+use mathlib.Core.List.{List}
+use Prim.Native.Nat.{ℕ}
+use native.Mathlib.Omega.{arith}
+use lib.ListN.{length, getD, replicate, length-replicate}
+use Rattle.workspace.specs.Space.{zeros}
+use Rattle.workspace.proofs.Zeros.{length-zeros, getD-zeros}
+use Rattle.intersections.proofs.Symbols.{walks, listed-common, gives, room-is, left-S, left-R, left-T}
+use Rattle.intersections.proofs.intersect.Statement.{statement}
+use Rattle.intersections.proofs.intersect.Tie as tie
+
+abbrev fresh : List ℕ
+fresh = replicate 4096 0
+
+nothing : (j : ℕ) → getD fresh j 0 ≡ 0
+unfolding zeros
+nothing = getD-zeros 4096
+
+fresh-size : length fresh ≡ 4096
+fresh-size = length-replicate {A = ℕ} 4096 0
+
+arrange-requires : tie.Need-arrange-requires
+arrange-requires c κs = search needs
+
+slice-aggregate-keep : tie.Need-slice-aggregate-keep
+slice-aggregate-keep c = search needs
+
+keep-requires : tie.Need-keep-requires
+keep-requires c κs = search needs
+
+slice-aggregate-keep-2 : tie.Need-slice-aggregate-keep-2
+slice-aggregate-keep-2 c = search needs
+
+keep-requires-2 : tie.Need-keep-requires-2
+keep-requires-2 c κs = search needs
+
+arrange-requires-2 : tie.Need-arrange-requires-2
+arrange-requires-2 c κs = search needs
+
+slice-aggregate-keep-3 : tie.Need-slice-aggregate-keep-3
+slice-aggregate-keep-3 c = search needs
+
+keep-requires-3 : tie.Need-keep-requires-3
+keep-requires-3 c κs = search needs
+
+slice-aggregate-keep-4 : tie.Need-slice-aggregate-keep-4
+slice-aggregate-keep-4 c = search needs
+
+keep-requires-4 : tie.Need-keep-requires-4
+keep-requires-4 c κs = search needs
+
+slice-aggregate-list-pairs : tie.Need-slice-aggregate-list-pairs
+slice-aggregate-list-pairs c = search needs
+
+slice-aggregate-list-pairs-2 : tie.Need-slice-aggregate-list-pairs-2
+slice-aggregate-list-pairs-2 c = search needs
+
+slice-aggregate-list-pairs-3 : tie.Need-slice-aggregate-list-pairs-3
+slice-aggregate-list-pairs-3 c = search needs
+
+slice-aggregate-list-pairs-4 : tie.Need-slice-aggregate-list-pairs-4
+slice-aggregate-list-pairs-4 c = search needs
+
+list-pairs-requires : tie.Need-list-pairs-requires
+list-pairs-requires c κs =
+    let k4 = c .before .before .before .before .before .before in
+    let k3 = k4 .before .before .before .before in
+    let a2 = k3 .before .before .before .before .before in
+    let k2 = a2 .before .before .before in
+    let k1 = k2 .before .before .before .before in
+    let a1 = k1 .before .before .before .before .before in
+    let st = a1 .before .before .before .before .before .before in
+    walks (st .pre .0) (st .pre .1) (a1 .arrange .ensures .0) (a2 .arrange2 .ensures .0) fresh nothing (k1 .keep .ensures) (k2 .keep2 .ensures) (k3 .keep3 .ensures) (k4 .keep4 .ensures) fresh-size
+
+give-requires : tie.Need-give-requires
+give-requires c κs =
+    let lp = c .before .before .before .before .before .before in
+    let k4 = lp .before .before .before .before .before .before .before in
+    let k3 = k4 .before .before .before .before in
+    let a2 = k3 .before .before .before .before .before in
+    let k2 = a2 .before .before .before in
+    let k1 = k2 .before .before .before .before in
+    let a1 = k1 .before .before .before .before .before in
+    let st = a1 .before .before .before .before .before .before in
+    let held =
+    listed-common (st .pre .0) (st .pre .1) (a1 .arrange .ensures .0) (a2 .arrange2 .ensures .0) fresh nothing (k1 .keep .ensures) (k2 .keep2 .ensures) (k3 .keep3 .ensures) (k4 .keep4 .ensures) fresh-size
+    (lp .list-pairs .ensures) in
+    gives (st .pre .0) (st .pre .1) held (omega (arith, lp .list-pairs .ensures .same, a2 .arrange2 .ensures .0 .long))
+
+clear-requires : tie.Need-clear-requires
+clear-requires c κs = search needs
+
+same-length : tie.Need-same-length
+same-length c =
+    let cl = c .before .before in
+    let gv = cl .before .before .before .before .before .before .before .before .before .before in
+    let lp = gv .before .before .before .before .before .before .before in
+    let k4 = lp .before .before .before .before .before .before .before in
+    let k3 = k4 .before .before .before .before in
+    let a2 = k3 .before .before .before .before .before in
+    let k2 = a2 .before .before .before in
+    let k1 = k2 .before .before .before .before in
+    let a1 = k1 .before .before .before .before .before in
+    let st = a1 .before .before .before .before .before .before in
+    let same = gv .give .ensures .1 .0 ∙ lp .list-pairs .ensures .same ∙ a2 .arrange2 .ensures .1 ∙ a1 .arrange .ensures .1 in
+    ap length (cl .clear .ensures) ∙ length-zeros _ ∙ same
+
+same-length-2 : tie.Need-same-length-2
+same-length-2 c = search needs
+
+same-length-3 : tie.Need-same-length-3
+same-length-3 c = search needs
+
+same-length-4 : tie.Need-same-length-4
+same-length-4 c = search needs
+
+returns : tie.Need-returns
+returns c =
+    let cl = c .before .before in
+    let gv = cl .before .before .before .before .before .before .before .before .before .before in
+    let lp = gv .before .before .before .before .before .before .before in
+    let k4 = lp .before .before .before .before .before .before .before in
+    let k3 = k4 .before .before .before .before in
+    let a2 = k3 .before .before .before .before .before in
+    let k2 = a2 .before .before .before in
+    let k1 = k2 .before .before .before .before in
+    let a1 = k1 .before .before .before .before .before in
+    let st = a1 .before .before .before .before .before .before in
+    let held =
+    listed-common (st .pre .0) (st .pre .1) (a1 .arrange .ensures .0) (a2 .arrange2 .ensures .0) fresh nothing (k1 .keep .ensures) (k2 .keep2 .ensures) (k3 .keep3 .ensures) (k4 .keep4 .ensures) fresh-size
+    (lp .list-pairs .ensures) in
+    let same = gv .give .ensures .1 .0 ∙ lp .list-pairs .ensures .same ∙ a2 .arrange2 .ensures .1 ∙ a1 .arrange .ensures .1 in
+    let e = gv .give .ensures in
+    let q = gv .give .result in
+    let s = st .args .a .now in
+    let r = st .args .b .now in
+    let u = st .args .c .now in (
+      e .0 ∙ room-is (st .pre .0) (st .pre .1) held (length s) (length r) (length u),
+      (
+        cl .clear .ensures ∙ ap zeros same,
+        (
+          e .1 .1 .0 ∙ left-S (st .pre .0) (st .pre .1) held q (length s) (length r) (length u) (e .0) s,
+          (
+            e .1 .1 .1 .0 ∙ left-R (st .pre .0) (st .pre .1) held q (length s) (length r) (length u) (e .0) r,
+            e .1 .1 .1 .1 ∙ left-T (st .pre .0) (st .pre .1) held q (length s) (length r) (length u) (e .0) u,
+          ),
+        ),
+      ),
+    )
+
+pub intersect-spec : {M : Type 1} → statement M
+intersect-spec =
+    tie.close
+    (tie.spec
+    arrange-requires
+    slice-aggregate-keep
+    keep-requires
+    slice-aggregate-keep-2
+    keep-requires-2
+    arrange-requires-2
+    slice-aggregate-keep-3
+    keep-requires-3
+    slice-aggregate-keep-4
+    keep-requires-4
+    slice-aggregate-list-pairs
+    slice-aggregate-list-pairs-2
+    slice-aggregate-list-pairs-3
+    slice-aggregate-list-pairs-4
+    list-pairs-requires
+    give-requires
+    clear-requires
+    same-length
+    same-length-2
+    same-length-3
+    same-length-4
+    returns)

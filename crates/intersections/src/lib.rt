@@ -1,0 +1,220 @@
+// The tables of S, R and T of the intersection of two symbols' subgroups. Its points are the pairs of cosets that are reached from the pair of the two subgroups,
+// numbered as they are met; a pair is found again by the chain of its first coset. specs/Answer.antt says what the call answers and means.
+use coset::arrange::arrange;
+use coset::copy_tables;
+use numbering::R_TABLE;
+use numbering::S_TABLE;
+use numbering::T_TABLE;
+use numbering::compose;
+use pairing::admit::admit;
+use refusal::Checked;
+use refusal::Filled;
+use refusal::LARGE_INTERSECTION;
+use refusal::Refusal;
+use sameness::keep;
+use symbol::check;
+ghost use mathlib.Core.Path.{_≡_};
+ghost use Prim.Native.Nat.{_≤_};
+ghost use lib.ListN.{length};
+ghost use Rattle.workspace.specs.Space.{workLength, zeros, entries};
+ghost use Rattle.symbol.specs.Check.{symbolCheck};
+ghost use Rattle.symbol.specs.Symbol.{IsSymbol};
+ghost use Rattle.numbering.specs.Table.{_thenTable_};
+ghost use Rattle.numbering.specs.Inner.Space.{S-TABLE, R-TABLE};
+ghost use Rattle.coset.specs.Answer.{columnLeft};
+ghost use Rattle.sameness.specs.Same.{workAfterBoth};
+ghost use Rattle.subgroup_pairs.specs.Symbols.{commonS, commonR, commonT};
+ghost use Rattle.intersections.specs.Answer.{fewRoom, commonRoom, intersectionOf, IntersectionMeans};
+ghost use Rattle.intersections.specs.Inner.Pairs.{SeekPair, PairFound, PushPair, withPair, EnterPair, PairEntered};
+ghost use Rattle.intersections.specs.Inner.Pairs.{VisitPair, PairVisited, WalkPairs, PairsListed, GiveTables};
+
+// The most points that the tables of an intersection have.
+pub const MOST: usize = 3066;
+
+// The places of the tables in the work space.
+pub const FIRST_OF: usize = 8192;
+
+pub const SECOND_OF: usize = 12288;
+
+pub const LAST_WITH: usize = 16384;
+
+pub const PAIR_BEFORE: usize = 20480;
+
+// What `enter` answers: the number of the pair, and how many there are now.
+struct Entry {
+    place: usize,
+    count: usize,
+}
+
+// The number of the pair of x and y, or `count` if it has none.
+fn find(w: &[u16], x: usize, y: u16, count: usize) -> usize
+    requires { ⌜ SeekPair (now w) x y count ⌝ }
+    ensures { λ p. ⌜ PairFound (now (w .entry)) x y count p ⌝ }
+{
+    let mut p = workspace::index(w[LAST_WITH + x]);
+    while 0 < p {
+        let q = p - 1;
+        if w[SECOND_OF + q] == y {
+            return q;
+        }
+        p = workspace::index(w[PAIR_BEFORE + q]);
+    }
+    count
+}
+
+// The pair of x and y takes the number i, at the head of the chain of x.
+fn push(w: &mut [u16], x: usize, y: u16, i: usize)
+    requires { ⌜ PushPair (now w) x i ⌝ }
+    ensures { λ _. ⌜ now (w .exit) ≡ withPair (now (w .entry)) x y i ⌝ }
+{
+    w[FIRST_OF + i] = x as u16;
+    w[SECOND_OF + i] = y;
+    w[PAIR_BEFORE + i] = w[LAST_WITH + x];
+    w[LAST_WITH + x] = (i + 1) as u16;
+}
+
+// The pair of x and y takes the next number, if it is new.
+fn enter(w: &mut [u16], x: u16, y: u16, count: usize) -> Entry
+    requires { ⌜ EnterPair (now w) x y count ⌝ }
+    ensures { λ e. ⌜ PairEntered (now (w .entry)) x y count (now (w .exit)) (e .place) (e .count) ⌝ }
+{
+    let i = workspace::index(x);
+    let p = find(w, i, y, count);
+    if p < count {
+        return Entry {
+            place: p,
+            count: count,
+        };
+    }
+    push(w, i, y, count);
+    Entry {
+        place: count,
+        count: count + 1,
+    }
+}
+
+// The images of the pair i by S, and next by R, take the next numbers if they are new; these are its images in the tables. How many pairs there are now.
+fn visit(
+    w: &mut [u16],
+    s: &[u16],
+    r: &[u16],
+    s2: &[u16],
+    r2: &[u16],
+    i: usize,
+    count: usize,
+) -> usize
+    requires { ⌜ VisitPair (now w) (now s) (now r) (now s2) (now r2) i count ⌝ }
+    ensures { λ k. ⌜ PairVisited (now (w .entry)) (now (s .entry)) (now (r .entry)) (now (s2 .entry)) (now (r2 .entry)) i count (now (w .exit)) k ⌝ }
+{
+    let x = workspace::index(w[FIRST_OF + i]);
+    let y = workspace::index(w[SECOND_OF + i]);
+    let a = enter(w, s[x], s2[y], count);
+    let b = enter(w, r[x], r2[y], a.count);
+    w[S_TABLE + i] = a.place as u16;
+    w[R_TABLE + i] = b.place as u16;
+    b.count
+}
+
+// The pairs that are reached, by number, and their tables of S and R. How many there are, or how many there were when they became more than 3,066.
+fn list_pairs(w: &mut [u16], s: &[u16], r: &[u16], s2: &[u16], r2: &[u16]) -> usize
+    requires { ⌜ WalkPairs (now w) (now s) (now r) (now s2) (now r2) ⌝ }
+    ensures { λ n. ⌜ PairsListed (now (w .entry)) (now (s .entry)) (now (r .entry)) (now (s2 .entry)) (now (r2 .entry)) (now (w .exit)) n ⌝ }
+{
+    workspace::clear(w);
+    push(w, 0, 0, 0);
+    let mut count: usize = 1;
+    let mut i: usize = 0;
+    while i < count {
+        count = visit(w, s, r, s2, r2, i, count);
+        if MOST < count {
+            return count;
+        }
+        i += 1;
+    }
+    count
+}
+
+// The tables of n pairs in the result spaces, where there are at most 3,066 and there is room for all three.
+fn give(w: &mut [u16], n: usize, s: &mut [u32], r: &mut [u32], u: &mut [u32]) -> Filled
+    requires { ⌜ GiveTables (now w) n ⌝ }
+    ensures { λ q. ⌜ q ≡ fewRoom n (length (now (s .entry))) (length (now (r .entry))) (length (now (u .entry))) ⌝ }
+    ensures { λ q. ⌜ length (now (w .exit)) ≡ length (now (w .entry)) ⌝ }
+    ensures { λ q. ⌜ now (s .exit) ≡ columnLeft q (entries S-TABLE n (now (w .entry))) (now (s .entry)) ⌝ }
+    ensures { λ q. ⌜ now (r .exit) ≡ columnLeft q (entries R-TABLE n (now (w .entry))) (now (r .entry)) ⌝ }
+    ensures { λ q. ⌜ now (u .exit) ≡ columnLeft q (entries S-TABLE n (now (w .entry)) thenTable entries R-TABLE n (now (w .entry))) (now (u .entry)) ⌝ }
+{
+    if MOST < n {
+        return Filled::Refused(Refusal {
+            number: LARGE_INTERSECTION,
+            place: 0,
+        });
+    }
+    compose(w, S_TABLE, R_TABLE, T_TABLE, n, n);
+    copy_tables(w, n, s, r, u)
+}
+
+// The same from two accepted symbols; the work space is cleared after.
+fn intersect(
+    v: usize,
+    t: &[i64],
+    n: usize,
+    u: &[i64],
+    w: &mut [u16],
+    a: &mut [u32],
+    b: &mut [u32],
+    c: &mut [u32],
+) -> Filled
+    requires { ⌜ IsSymbol v (now t) × IsSymbol n (now u) × (workLength ≤ length (now w)) ⌝ }
+    ensures { λ q. ⌜ q ≡ commonRoom v (now (t .entry)) n (now (u .entry)) (length (now (a .entry))) (length (now (b .entry))) (length (now (c .entry))) ⌝ }
+    ensures { λ q. ⌜ now (w .exit) ≡ zeros (length (now (w .entry))) ⌝ }
+    ensures { λ q. ⌜ now (a .exit) ≡ columnLeft q (commonS v (now (t .entry)) n (now (u .entry))) (now (a .entry)) ⌝ }
+    ensures { λ q. ⌜ now (b .exit) ≡ columnLeft q (commonR v (now (t .entry)) n (now (u .entry))) (now (b .entry)) ⌝ }
+    ensures { λ q. ⌜ now (c .exit) ≡ columnLeft q (commonT v (now (t .entry)) n (now (u .entry))) (now (c .entry)) ⌝ }
+{
+    let mut s = [0u16; 4096];
+    let mut r = [0u16; 4096];
+    let mut s2 = [0u16; 4096];
+    let mut r2 = [0u16; 4096];
+    let k = arrange(v, t, w);
+    keep(w, S_TABLE, k, &mut s);
+    keep(w, R_TABLE, k, &mut r);
+    let m = arrange(n, u, w);
+    keep(w, S_TABLE, m, &mut s2);
+    keep(w, R_TABLE, m, &mut r2);
+    let count = list_pairs(w, &s, &r, &s2, &r2);
+    let made = give(w, count, a, b, c);
+    workspace::clear(w);
+    made
+}
+
+// The tables of S, R and T of the intersection of the subgroups of the symbols in t and u, each at the front of its space: the first one's refusals, then the
+// second one's, then the work space, then 24, then the result spaces for S, R and T.
+pub fn intersection(
+    v: usize,
+    t: &[i64],
+    n: usize,
+    u: &[i64],
+    w: &mut [u16],
+    a: &mut [u32],
+    b: &mut [u32],
+    c: &mut [u32],
+) -> Filled
+    ensures { λ q. ⌜ q ≡ intersectionOf v (now (t .entry)) n (now (u .entry)) (length (now (w .entry))) (length (now (a .entry))) (length (now (b .entry))) (length (now (c .entry))) ⌝ }
+    ensures { λ q. ⌜ now (w .exit) ≡ workAfterBoth (symbolCheck v (now (t .entry))) (symbolCheck n (now (u .entry))) (now (w .entry)) ⌝ }
+    ensures { λ q. ⌜ now (a .exit) ≡ columnLeft q (commonS v (now (t .entry)) n (now (u .entry))) (now (a .entry)) ⌝ }
+    ensures { λ q. ⌜ now (b .exit) ≡ columnLeft q (commonR v (now (t .entry)) n (now (u .entry))) (now (b .entry)) ⌝ }
+    ensures { λ q. ⌜ now (c .exit) ≡ columnLeft q (commonT v (now (t .entry)) n (now (u .entry))) (now (c .entry)) ⌝ }
+    ensures { λ q. ⌜ IntersectionMeans v (now (t .entry)) n (now (u .entry)) q ⌝ }
+{
+    let first = check(v, t);
+    match first {
+        Checked::Refused(refusal) => Filled::Refused(refusal),
+        Checked::Accepted => {
+            let second = admit(n, u, w.len());
+            match second {
+                Checked::Refused(refusal) => Filled::Refused(refusal),
+                Checked::Accepted => intersect(v, t, n, u, w, a, b, c),
+            }
+        }
+    }
+}

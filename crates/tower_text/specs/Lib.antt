@@ -1,0 +1,2 @@
+-- What a reader of the crate `tower_text` must believe.
+pub mod Answer

@@ -1,0 +1,127 @@
+// What the program `tower` writes for a text: all of it, byte for byte, as specs/Answer.antt says.
+use refusal::BAD_TEXT;
+use refusal::Checked;
+use refusal::Refusal;
+use text::Reading;
+use text::Step;
+use text::Survey;
+use text::TEXT_MOST;
+use text::fill;
+use text::next;
+use text::size;
+use text::survey_of;
+use text_line::put;
+use text_line::refusal_line;
+use towers::tower;
+ghost use mathlib.Core.Path.{_≡_};
+ghost use mathlib.Core.Option.{none};
+ghost use Prim.Native.Nat.{_≤_};
+ghost use lib.ListN.{length, take};
+ghost use Rattle.workspace.specs.Space.{workLength};
+ghost use Rattle.text.specs.Piece.{pieces, firstBad, numbers, placeAt};
+ghost use Rattle.text.specs.Reading.{leftBy};
+ghost use Rattle.text_line.specs.Line.{Puts};
+ghost use Rattle.towers.specs.Tower.{towerWork};
+ghost use Rattle.tower_text.specs.Answer.{towerLine, entriesFrom, towerReading, entriesIn, behindCount, towerAnswer, towerBytes, TowerLeaves, TowerPrintMeans};
+
+// The numbers of a text whose pieces are all numbers, `count` of them.
+fn read_entries(text: &[u8], count: usize, ns: &mut [i64]) -> Reading
+    requires { ⌜ (firstBad (pieces (now text)) ≡ none) × (length (pieces (now text)) ≡ count) × (count ≤ length (now ns)) ⌝ }
+    ensures { λ r. ⌜ (r ≡ entriesFrom (numbers (pieces (now (text .entry)))) (placeAt (pieces (now (text .entry))) 0) (length (now (text .entry)))) × (now (ns .exit) ≡ leftBy r (numbers (pieces (now (text .entry)))) (now (ns .entry))) ⌝ }
+{
+    match next(text, 0) {
+        Step::End => Reading::Refused(Refusal {
+            number: BAD_TEXT,
+            place: text.len(),
+        }),
+        Step::Bad(at) => Reading::Refused(Refusal {
+            number: BAD_TEXT,
+            place: at,
+        }),
+        Step::Number(entries, at, _) => {
+            if entries < 0 {
+                return Reading::Refused(Refusal {
+                    number: BAD_TEXT,
+                    place: at,
+                });
+            }
+            fill(text, count, ns);
+            Reading::Numbers(count)
+        }
+    }
+}
+
+// Reads the numbers of a text, where `longer` says that more was sent than the program's buffer holds. A text of 65,536 bytes has at most 32,768 pieces.
+fn read_tower(text: &[u8], longer: bool, ns: &mut [i64]) -> Reading
+    requires { ⌜ length (now ns) ≡ 32768 ⌝ }
+    ensures { λ r. ⌜ (r ≡ towerReading longer (now (text .entry))) × (now (ns .exit) ≡ leftBy r (numbers (pieces (now (text .entry)))) (now (ns .entry))) ⌝ }
+{
+    let refused = Reading::Refused(Refusal {
+        number: BAD_TEXT,
+        place: TEXT_MOST,
+    });
+    if longer {
+        return refused;
+    }
+    if TEXT_MOST < text.len() {
+        return refused;
+    }
+    match survey_of(text) {
+        Survey::Bad(at) => Reading::Refused(Refusal {
+            number: BAD_TEXT,
+            place: at,
+        }),
+        Survey::Count(count) => read_entries(text, count, ns),
+    }
+}
+
+// The line for an answer.
+fn tower_line(answer: Checked, out: &mut [u8]) -> usize
+    requires { ⌜ 50 ≤ length (now out) ⌝ }
+    ensures { λ e. ⌜ Puts (towerLine answer) 0 e (now (out .entry)) (now (out .exit)) ⌝ }
+{
+    match answer {
+        Checked::Accepted => put(b"passes\n", out, 0),
+        Checked::Refused(refusal) => refusal_line(refusal, out),
+    }
+}
+
+// The line for the numbers of a text.
+fn tower_numbers(ns: &[i64], w: &mut [u16], out: &mut [u8]) -> usize
+    requires { ⌜ (1 ≤ length (now ns)) × (length (now w) ≡ workLength) × (50 ≤ length (now out)) ⌝ }
+    ensures { λ e. ⌜ Puts (towerLine (towerAnswer (now (ns .entry)))) 0 e (now (out .entry)) (now (out .exit)) ⌝ }
+    ensures { λ _. ⌜ now (w .exit) ≡ towerWork (entriesIn (now (ns .entry))) (behindCount (now (ns .entry))) (now (w .entry)) ⌝ }
+{
+    let entries = size(ns[0]);
+    let answer = tower(entries as usize, &ns[1..], w);
+    tower_line(answer, out)
+}
+
+// What a text gets, where the slices are long enough.
+fn print_tower(text: &[u8], longer: bool, ns: &mut [i64], w: &mut [u16], out: &mut [u8]) -> usize
+    requires { ⌜ (length (now ns) ≡ 32768) × (length (now w) ≡ workLength) × (50 ≤ length (now out)) ⌝ }
+    ensures { λ e. ⌜ Puts (towerBytes longer (now (text .entry))) 0 e (now (out .entry)) (now (out .exit)) ⌝ }
+    ensures { λ _. ⌜ TowerLeaves longer (now (text .entry)) (now (ns .entry)) (now (w .entry)) (now (ns .exit)) (now (w .exit)) ⌝ }
+{
+    let read = read_tower(text, longer, ns);
+    match read {
+        Reading::Refused(refusal) => refusal_line(refusal, out),
+        Reading::Numbers(k) => tower_numbers(&ns[..k], w, out),
+    }
+}
+
+// What the program writes for the text, or for one that is longer than its buffer, from the front of `out`; where it ends. The arrays are the program's
+// own, and what stands in them at the start is free.
+pub fn print(
+    text: &[u8],
+    longer: bool,
+    numbers: &mut [i64; 32768],
+    w: &mut [u16; 32768],
+    out: &mut [u8; 64],
+) -> usize
+    ensures { λ e. ⌜ Puts (towerBytes longer (now (text .entry))) 0 e (now (out .entry)) (now (out .exit)) × (e ≤ length (now (out .exit))) ⌝ }
+    ensures { λ _. ⌜ TowerLeaves longer (now (text .entry)) (now (numbers .entry)) (now (w .entry)) (now (numbers .exit)) (now (w .exit)) ⌝ }
+    ensures { λ e. ⌜ TowerPrintMeans longer (now (text .entry)) (take e (now (out .exit))) ⌝ }
+{
+    print_tower(text, longer, numbers, w, out)
+}
