@@ -64,7 +64,10 @@
  *   24  an intersection with over 3,066 points                                              0
  *   25  a tower's entry names one that isn't listed before it                               the entry, from 0
  *   26  a tower's entry isn't contained in the one that it names                            the entry, from 0
- * 19 is for the programs, which read text.
+ *   27  a text that breaks the form of cycle notation, repeats a point in one              the offset where the first piece begins, a whole
+ *       permutation or names one outside 1 to the index                                     run of digits or one other byte, that no ending
+ *                                                                                           could make right; the length of a text that stops short
+ * 19 is for the programs, which read numbers as text.
  *
  * NAMED GROUPS are given by a family and an N from 1 to 1,000. A matrix (a b; c d) is in the group where it meets, modulo N, the condition
  * of its family:
@@ -83,9 +86,10 @@ extern "C" {
 #endif
 
 /* Stack that is enough for every call, in bytes, with what it calls in turn. This is measured and not proved, on x86-64: the symbols and
- * queries of named groups, which keep two tables and a symbol there, take under 65,536, farey_intersection, which keeps four tables, under 40,000,
- * farey_contains and farey_tower, which keep three, and farey_preview, which keeps a symbol, under 30,000, farey_same, which keeps two tables, under 20,000,
- * the other calls under 10,000, on the largest inputs, by a thread whose stack was filled beforehand (rust/differential/tests/stack.rs, which the gate runs). A call that the dynamic
+ * queries of named groups, which keep two tables and a symbol there, take under 65,536, farey_intersection, which keeps four tables, and
+ * farey_read_cycles, which keeps two with marks for their points, under 40,000, farey_contains and farey_tower, which keep three, and
+ * farey_preview, which keeps a symbol, under 30,000, farey_same, which keeps two tables, under 20,000, the other calls under 10,000, on the
+ * largest inputs, by a thread whose stack was filled beforehand (rust/differential/tests/stack.rs, which the gate runs). A call that the dynamic
  * linker has to look up at its first use (memset) may take some thousand more, once. */
 #define FAREY_STACK 98304
 /* The length of the work space. */
@@ -100,11 +104,14 @@ extern "C" {
 #define FAREY_SHEET 256
 #define FAREY_SHEET_ENTRIES 2048
 #define FAREY_SHEET_LINES 1024
-/* A length that is enough for the table of S, and of R, of every named group. */
+/* A length that is enough for the table of S, and of R, of every named group, and of every text in cycle notation. */
 #define FAREY_NAMED 3066
 /* A length that is enough for each table of every intersection, and the most entries of a tower. */
 #define FAREY_INTERSECTION 3066
 #define FAREY_TOWER 64
+/* A length that is enough for the text of every pair of permutations in cycle notation, in bytes: counted for 3,066 points in cycles of two and of three. What is
+ * proved is that 65,536 are enough. */
+#define FAREY_CYCLES 31007
 
 /* The families of named groups. */
 #define FAREY_GAMMA0 0
@@ -159,6 +166,21 @@ uint64_t farey_import_wide(const uint32_t *s, size_t s_len, const uint32_t *r, s
  * needed; 16 may still follow. Refused: 12 to 15. Count: the length. */
 uint64_t farey_import_length(const uint32_t *s, size_t s_len, const uint32_t *r, size_t r_len, size_t *place);
 
+/* The permutations S and R from a text in CYCLE NOTATION, of any length: the index, then S and R as disjoint cycles, POINTS COUNTED FROM 1, as
+ * `3 (1,2) (1,3,2)`. Numbers are digits alone, zeros in front allowed. A cycle is its points between parentheses with commas between them; cycles
+ * stand in any order, and those of one point may be written. `()` is the identity, and stands alone in its permutation. Blanks (byte 32) may stand
+ * before and behind the index, each cycle and the semicolon, and nowhere else; a line end is no blank. S ends and R begins at a semicolon, beside
+ * which no cycle at all means the identity. The semicolon may be left out where S and R are each one cycle or `()`. s and r: the images of the points,
+ * COUNTED FROM 0 as everywhere else here, each table from the front of its space; point 1 of the text is 0, the base. Refused: 12 for a written index
+ * that isn't from 1 to 3,066, however many digits it has, before anything behind it is read; 27; 14 and 15, whose places are points from 0 (13 can't
+ * come); then 11 for s, then for r. Count: the index, which is how many entries are written to each. */
+uint64_t farey_read_cycles(const uint8_t *text, size_t text_len, uint32_t *s, size_t s_len, uint32_t *r, size_t r_len, size_t *place);
+
+/* The text of S and R in cycle notation, to the front of out; no byte 0 ends it. It is the index, a blank, the cycles of S, a semicolon and those of R, as
+ * `3 (1,2);(1,3,2)`: each cycle begins at its smallest point, cycles stand in the order of these, fixed points are left out, and an identity is `()`.
+ * farey_read_cycles reads it as S and R. Refused: 12 to 15, then 11 for out. Count: the length. FAREY_CYCLES is enough for every pair. */
+uint64_t farey_write_cycles(const uint32_t *s, size_t s_len, const uint32_t *r, size_t r_len, uint8_t *out, size_t out_len, size_t *place);
+
 /* A word in the generators that takes A to B, UP TO SIGN: the product of its letters from left to right, times A, is B or -B, and the
  * answer doesn't tell which; farey_signed_query does. a and b point to four numbers each. Letter j is generator j, -j its inverse. The word
  * stands in out from the place `start` on. A word is found exactly when there is such a product, of whatever length; 10 says that there is
@@ -186,7 +208,7 @@ uint64_t farey_sheet(size_t v, const int64_t *t, size_t t_len, const int64_t *p,
                      int64_t *lines, size_t lines_len, int16_t *out, size_t out_len, size_t *place);
 
 /* WHETHER A AND B SHARE A RIGHT COSET of the symbol's group, yes or no, without a word: yes exactly where farey_query would find a word, given enough
- * space, and no where it gives 10. Long runs of T cost no more than short ones. a and b point to four numbers each. Refused: 1 to 7, then 8, then 9, A before B
+ * space, and no where it gives 10. A run of T costs at most one division more, however long it is. a and b point to four numbers each. Refused: 1 to 7, then 8, then 9, A before B
  * under each, then 11 for work. Count: 1 for yes, 0 for no. */
 uint64_t farey_same_coset(size_t v, const int64_t *t, size_t t_len, const int64_t *a, const int64_t *b, uint16_t *work, size_t work_len,
                           size_t *place);
@@ -211,7 +233,7 @@ uint64_t farey_contains(size_t v, const int64_t *t, size_t t_len, size_t m, cons
 
 /* The right cosets of the intersection of two symbols' subgroups, by the tables of S, R and T, each from the front of its space. The points are the pairs of
  * cosets, one of each subgroup, that are reached from the pair of both subgroups themselves, which is point 0; they are numbered as the cosets of farey_tables. A
- * matrix fixes point 0 precisely when it belongs to both subgroups, so that farey_import_wide makes a symbol of the intersection of s and r, unless it is refused
+ * matrix fixes point 0 precisely when it belongs to both subgroups, so that farey_import_wide makes of s and r a symbol of the intersection, unless it is refused
  * with 16. Refused: 1 to 7 for t, then for u, then 11 for work, then 24, then 11 for s, r, k. Count: the number of points, which is the index of the intersection and
  * how many entries are written to each space. */
 uint64_t farey_intersection(size_t v, const int64_t *t, size_t t_len, size_t m, const int64_t *u, size_t u_len, uint16_t *work, size_t work_len,

@@ -26,6 +26,7 @@ int main(void)
     static const int64_t t[7] = {0, 1, 1, 1, 1, -2, 1}, g[10] = {0, 1, 1, 1, 2, 1, 1, 2, 2, 1};
     static const uint32_t s[3] = {1, 0, 2}, r[3] = {2, 0, 1};
     static const int64_t tower[6] = {-1, 1, 0, 1, -2, -3};
+    static const uint8_t text[] = "3 (1,2) (1,3,2)";
     static const int64_t pair[8] = {1, 0, 0, 1, 1, 0, 2, 1};
     static const int64_t one[4] = {1, 0, 0, 1}, lower[4] = {1, 0, 2, 1}, minus[4] = {-1, 0, 0, -1};
     int64_t generators[10], table[7], line[4], sign = 77;
@@ -54,6 +55,10 @@ int main(void)
     say("wide import of nothing", number, place);
     number = farey_import_length(NULL, 0, NULL, 0, &place);
     say("length of an import of nothing", number, place);
+    number = farey_read_cycles(NULL, 0, NULL, 0, NULL, 0, &place);
+    say("cycles of an empty text", number, place);
+    number = farey_write_cycles(NULL, 0, NULL, 0, NULL, 0, &place);
+    say("cycles of nothing", number, place);
 
     /* No work space. */
     number = farey_generators(2, t, 7, NULL, 0, generators, 10, &place);
@@ -128,6 +133,12 @@ int main(void)
     say("import without room", number, place);
     number = farey_import_wide(s, 3, r, 3, work, FAREY_WORK, NULL, 0, &place);
     say("wide import without room", number, place);
+    number = farey_read_cycles(text, 15, NULL, 0, columns[1], 3, &place);
+    say("cycles without room for S", number, place);
+    number = farey_read_cycles(text, 15, columns[0], 3, NULL, 0, &place);
+    say("cycles without room for R", number, place);
+    number = farey_write_cycles(s, 3, r, 3, NULL, 0, &place);
+    say("cycles without room for the text", number, place);
     number = farey_query(2, t, 7, one, lower, work, FAREY_WORK, NULL, 0, 0, &place);
     say("query without room", number, place);
     number = farey_sheet(2, t, 7, pair, 8, work, FAREY_WORK, NULL, 0, NULL, 0, &place);

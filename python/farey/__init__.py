@@ -9,6 +9,7 @@ and gives the results names. The package itself is tested and not proved.
 | `named`        | `named_tables`: S and R of Γ0(N), Γ1(N) and Γ(N)                |
 | `subgroups`    | `tower`, and what `Symbol` asks of two subgroups: &, <=         |
 | `permutations` | `import_length`: how long a symbol's table will be              |
+| `cycle_notation` | `read_cycles`, `write_cycles`: S and R as one text in cycles  |
 | `refusal`      | `Refusal`: the exception, with number, place and sentence       |
 | `evidence`     | a check, without the engine, of the statement that no word is   |
 | `picture`      | the polygon in the upper half plane, as SVG                     |
@@ -31,6 +32,7 @@ without it.
 """
 
 from . import cycles, evidence
+from .cycle_notation import read_cycles, write_cycles
 from .named import named_tables
 from .permutations import import_length
 from .refusal import Refusal
@@ -38,4 +40,4 @@ from .subgroups import tower
 from .symbol import Box, Cusp, Evidence, Generator, Preview, Side, Symbol, Word
 from . import systems  # stands on Symbol
 
-__all__ = ["Box", "Cusp", "Evidence", "Generator", "Preview", "Refusal", "Side", "Symbol", "Word", "cycles", "evidence", "import_length", "named_tables", "systems", "tower"]
+__all__ = ["Box", "Cusp", "Evidence", "Generator", "Preview", "Refusal", "Side", "Symbol", "Word", "cycles", "evidence", "import_length", "named_tables", "read_cycles", "systems", "write_cycles", "tower"]

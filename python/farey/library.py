@@ -13,7 +13,7 @@ from __future__ import annotations
 import ctypes
 import os
 import threading
-from ctypes import POINTER, c_double, c_int16, c_int64, c_size_t, c_uint16, c_uint32, c_uint64
+from ctypes import POINTER, c_double, c_int16, c_int64, c_size_t, c_uint8, c_uint16, c_uint32, c_uint64
 from pathlib import Path
 from typing import Any, List, Optional, Tuple
 
@@ -32,11 +32,13 @@ COSETS = 4090
 DRAWING = 4096
 #: The pairs of a sheet, at most.
 SHEET = 256
-#: A length that is enough for the tables of S and R of every named group.
+#: A length that is enough for the tables of S and R of every named group, and of every text in cycle notation.
 NAMED = 3066
 #: The same for the tables of every intersection, and the entries of a tower, at most.
 INTERSECTION = 3066
 TOWER = 64
+#: A length that is enough for the text of every pair of permutations in cycle notation.
+CYCLES = 31007
 
 _SYMBOL = [c_size_t, POINTER(c_int64), c_size_t]
 _NAME = [c_uint64, c_uint64]
@@ -60,6 +62,8 @@ _PARAMETERS = {
     "farey_import": 2 * _space(c_uint32) + _WORK + _space(c_int64) + _PLACE,
     "farey_import_wide": 2 * _space(c_uint32) + _WORK + _space(c_int64) + _PLACE,
     "farey_import_length": 2 * _space(c_uint32) + _PLACE,
+    "farey_read_cycles": _space(c_uint8) + 2 * _space(c_uint32) + _PLACE,
+    "farey_write_cycles": 2 * _space(c_uint32) + _space(c_uint8) + _PLACE,
     "farey_query": _SYMBOL + 2 * [POINTER(c_int64)] + _WORK + _space(c_int16) + [c_size_t] + _PLACE,
     "farey_signed_query": _SYMBOL + 2 * [POINTER(c_int64)] + _WORK + _space(c_int16) + [c_size_t] + _SIGN + _PLACE,
     "farey_sheet": _SYMBOL + _space(c_int64) + _WORK + _space(c_int64) + _space(c_int16) + _PLACE,

@@ -33,6 +33,7 @@ SENTENCES: Dict[int, str] = {
     24: "the intersection has more than 3,066 points",
     25: "entry {place} of the tower names one that isn't listed before it",
     26: "entry {place} of the tower isn't contained in the one that it names",
+    27: "at byte {place} the text gets too long, breaks the form of cycle notation, repeats a point, names one outside 1 to the index or ends too early",
 }
 
 

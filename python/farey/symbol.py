@@ -8,6 +8,7 @@ from typing import Any, Dict, Iterable, List, NamedTuple, Optional, Sequence, Tu
 
 from . import arguments, library
 from .arguments import Matrix, Pair, Vertex, clamped, integers, matrix, shown
+from .cycle_notation import read_cycles, write_cycles
 from .library import Fixed
 from .named import FAMILIES, level
 from .permutations import points
@@ -218,6 +219,17 @@ class Symbol(Subgroup):
         return made
 
     @classmethod
+    def from_cycles(cls, text: Union[str, bytes], wide: bool = True) -> Symbol:
+        """The symbol of the matrices that fix point 1 of a text in cycle notation, the
+        index and then S and R: that of `from_permutations` for the tables of
+        `farey.read_cycles`. Refusals 27, 12, 14 to 16.
+
+        >>> Symbol.from_cycles("3 (1,2) (1,3,2)")
+        Symbol([(0, 1), (1, 1)], [1, -2, 1])
+        """
+        return cls.from_permutations(*read_cycles(text), wide)
+
+    @classmethod
     def gamma0(cls, N: int) -> Symbol:
         """A symbol of Γ0(N), the matrices (a b; c d) with c = 0 modulo N, for N from 1
         to 1,000. Refusals 20 (N out of range) and 21 (an index over 3,066).
@@ -372,6 +384,15 @@ class Symbol(Subgroup):
     def T(self) -> Tuple[int, ...]:
         """For each right coset of H, its image under T = (1 1; 0 1): S and then R."""
         return self._tables()[2]
+
+    def cycles(self) -> str:
+        """S and R in cycle notation, points from 1, as Sage and GAP read them; `from_cycles`
+        makes a symbol of H of it. Refusal 12 where the index is over 3,066.
+
+        >>> Symbol([0, 1], [1, -2, 1]).cycles()
+        '3 (1,2);(1,3,2)'
+        """
+        return write_cycles(self.S, self.R)
 
     @property
     def coset_cusps(self) -> Tuple[int, ...]:

@@ -114,6 +114,7 @@ class Header(unittest.TestCase):
             "size_t": library.c_size_t,
             "int16_t": library.c_int16,
             "int64_t": library.c_int64,
+            "uint8_t": library.c_uint8,
             "uint16_t": library.c_uint16,
             "uint32_t": library.c_uint32,
             "uint64_t": library.c_uint64,
@@ -139,7 +140,7 @@ class Header(unittest.TestCase):
     def test_lengths(self):
         header = (by_hand.REPOSITORY / "include/farey.h").read_text("utf-8")
         lengths = {name: int(number) for name, number in re.findall(r"^#define FAREY_(\w+) (\d+)$", header, re.M)}
-        for name in ("WORK", "TABLE", "GENERATORS", "COSETS", "DRAWING", "NAMED", "INTERSECTION", "TOWER"):
+        for name in ("WORK", "TABLE", "GENERATORS", "COSETS", "DRAWING", "NAMED", "INTERSECTION", "TOWER", "CYCLES"):
             self.assertEqual(getattr(library, name), lengths[name])
         self.assertEqual(named.FAMILIES, {name.lower(): lengths[name] for name in ("GAMMA0", "GAMMA1", "GAMMA")})
 

@@ -65,11 +65,11 @@ class Sessions(unittest.TestCase):
         result = doctest.testmod(farey, verbose=False)
         self.assertEqual(result.failed, 0)
         self.assertGreater(result.attempted, 0)
-        for name in ("symbol", "refusal", "evidence", "cycles", "named", "permutations", "subgroups", "systems"):
+        for name in ("symbol", "refusal", "evidence", "cycles", "cycle_notation", "named", "permutations", "subgroups", "systems"):
             self.assertGreater(attempted[name], 1, name)
 
     def test_public_names_have_examples(self):
-        for name in ("from_permutations", "gamma0", "gamma1", "gamma", "parse", "generators", "word", "words", "why_none", "__contains__", "__eq__", "contains_subgroup", "intersection_tables", "__and__", "__le__"):
+        for name in ("from_permutations", "from_cycles", "cycles", "gamma0", "gamma1", "gamma", "parse", "generators", "word", "words", "why_none", "__contains__", "__eq__", "contains_subgroup", "intersection_tables", "__and__", "__le__"):
             self.assertIn(">>>", getattr(Symbol, name).__doc__, name)
 
 

@@ -64,6 +64,8 @@ class Examples(unittest.TestCase):
                 return [H.genus, H.level]
             if file.suffix == ".drawing":
                 return Symbol.parse(text).svg()
+            if file.suffix == ".cycles":
+                return Symbol.from_cycles(text[:-1])
             given = by_hand.numbers(text)
             if file.suffix == ".group":
                 family, N = given
@@ -102,7 +104,7 @@ class Examples(unittest.TestCase):
                 # 17 is the level's own. 11 is the program's: a word over 16,384 letters, which Python gives
                 self.assertEqual(self.said(file), answer.replace("level ", ""))
                 met.append(number)
-        self.assertEqual(sorted(met), [*range(1, 18), *range(19, 27)])
+        self.assertEqual(sorted(met), [*range(1, 18), *range(19, 28)])
 
     def test_only_the_level_is_refused(self):
         H = Symbol.parse((by_hand.REPOSITORY / "examples/refusals/17.txt").read_text("utf-8"))

@@ -94,11 +94,12 @@ class FourRows:
 
 
 class Systems(unittest.TestCase):
-    def answers(self, name, command, text, **settings):
+    def answers(self, name, command, text, file=None, **settings):
         """What the system was seen to print to this text and, where it is here, what it prints now."""
-        stored, said = (DATA / f"{name}.said").read_text("utf-8").split("----\n")
+        file = f"{file or name}.said"
+        stored, said = (DATA / file).read_text("utf-8").split("----\n")
         asked = "".join(line for line in stored.splitlines(True) if not line.startswith("# "))
-        self.assertEqual(asked.strip(), text.strip(), f"{name}.said is of another program than the handbook's")
+        self.assertEqual(asked.strip(), text.strip(), f"{file} is of another program than the handbook's")
         found = [said]
         if is_here(name):
             given = dict(input=text) if text not in command else dict(stdin=subprocess.DEVNULL)

@@ -6,4 +6,5 @@ pub mod Named
 pub mod Drawn
 pub mod Exchanged
 pub mod Compared
+pub mod Written
 pub mod CycleCalls

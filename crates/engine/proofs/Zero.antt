@@ -1,5 +1,5 @@
 -- WHAT A NUMBER 0 TELLS: the call was not refused, so what its answer means holds. In order: no answer is refused with the number 0
--- (`generated-above`, `tabled-above`, `widthed-above`, `cusped-above`, `import-above`, `import-length-above`, `figured-above`); the number that stands for the genus is 0 (`genus-given`); what a call that made something means
+-- (`generated-above`, `tabled-above`, `widthed-above`, `cusped-above`, `import-above`, `import-length-above`, `export-above`, `figured-above`); the number that stands for the genus is 0 (`genus-given`); what a call that made something means
 -- (`zero-means`).
 -- Assumes nothing.
 use mathlib.Core.Path.{_≡_, refl, sym, ap, subst, _∙_}
@@ -38,6 +38,8 @@ use Rattle.import_rule.specs.Symbol as rule
 use Rattle.import_table.specs.Answer.{grownOf}
 use Rattle.permutations.specs.Check as passport
 use Rattle.permutations.specs.Import.{neededLength, grownWithin, importBy, importLengthOf}
+use Rattle.cycle_writing.specs.Bytes.{exportOf}
+use Rattle.cycle_writing.specs.Export.{exportWithin, writeCyclesOf}
 use Rattle.congruence.specs.Index.{familyIndex}
 use Rattle.congruence.specs.Cosets.{familyS, familyR}
 use Rattle.named_groups.specs.Group.{familyOf, groupCheck}
@@ -147,6 +149,12 @@ module _ (s r : List ℕ) where
   import-above order work room =
       let g = grownWithin order s r room in
       above-by 12 15 (passport.pairCheck s r) (byWork work g) (omega arith) pairs-among (above-work work g (within-above order s r room))
+
+  pub export-above : (room : ℕ) → AboveIn (writeCyclesOf s r room)
+  export-above room =
+      let n = length (exportOf s r) in
+      above-by 12 15 (passport.pairCheck s r) (exportWithin s r room) (omega arith) pairs-among
+      (above-pick (ltb room n) (filled.Refused (tooShort n)) (filled.Made n) (omega arith) tt)
 
   pub import-length-above : AboveIn (importLengthOf s r)
   import-length-above = above-by 12 15 (passport.pairCheck s r) (filled.Made (neededLength r)) (omega arith) pairs-among tt

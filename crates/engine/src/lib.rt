@@ -42,6 +42,7 @@ ghost use Rattle.engine.specs.Exported.{filledPlace, queryPlace, signWri
 mod answers;
 pub mod cosets;
 pub mod exchanging;
+pub mod notation;
 pub mod subgroups;
 
 // The checks of a symbol: refusals 1 to 7.

@@ -4,7 +4,7 @@
 --   Refusal            a number and a place
 --   noRefusal          none: the number 0, and the place 0
 --   refusal n p        the refusal with the number n at the place p
---   badVertexCount .. falseClaim  the refusals 1 to 26 by name, each at its place
+--   badVertexCount .. badCycles  the refusals 1 to 27 by name, each at its place
 --   Checked            the answer of checks: accepted, or refused
 --   c orElse d         the first refusal of the two
 --   checkedRefusal     the refusal that an answer of checks is
@@ -147,6 +147,12 @@ notListedBefore i = refusal 25 i
 -- a tower's claim that is false: the entry that makes it
 abbrev pub falseClaim : ℕ → Refusal
 falseClaim i = refusal 26 i
+
+-- ---- whoever writes cycles
+
+-- text that isn't of the form: the offset where the first piece begins that no ending could make right, or the text's length
+abbrev pub badCycles : ℕ → Refusal
+badCycles p = refusal 27 p
 
 -- ---- the answers of checks
 

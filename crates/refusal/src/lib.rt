@@ -75,6 +75,8 @@ pub const LARGE_INTERSECTION: u64 = 24;
 pub const NOT_LISTED_BEFORE: u64 = 25;
 
 pub const FALSE_CLAIM: u64 = 26;
+// Whoever writes cycles.
+pub const BAD_CYCLES: u64 = 27;
 
 // The refusal that an answer of checks is.
 pub fn checked_refusal(answer: Checked) -> Refusal

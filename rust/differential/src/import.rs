@@ -64,7 +64,7 @@ fn signed(table: &[u32]) -> Vec<i64> {
 }
 
 /// The tables of S and R, sound in three of four cases or so.
-fn tables(rng: &mut Rng) -> [Vec<u32>; 2] {
+pub fn tables(rng: &mut Rng) -> [Vec<u32>; 2] {
     let sound = match rng.below(100) {
         0..=1 => shallow_pair(rng, MAX_VERTICES),
         2..=4 => rows_pair(rng),

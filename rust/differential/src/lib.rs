@@ -21,6 +21,7 @@
 pub mod check;
 pub mod counts;
 pub mod cusps;
+pub mod cycles;
 pub mod drawing;
 pub mod exchange;
 pub mod figures;
@@ -49,7 +50,7 @@ use reference::random::Rng;
 pub type Call = (&'static str, fn(&mut Rng) -> Outcome);
 
 /// All calls.
-pub const CALLS: [Call; 28] = [
+pub const CALLS: [Call; 30] = [
     ("check", check::case),
     ("generators", generators::case),
     ("figures", figures::case),
@@ -78,6 +79,8 @@ pub const CALLS: [Call; 28] = [
     ("contains", subgroups::contains_case),
     ("intersection", subgroups::intersection_case),
     ("tower", subgroups::tower_case),
+    ("read_cycles", cycles::read_case),
+    ("write_cycles", cycles::write_case),
 ];
 
 /// Makes every call once for each case: the counts of each, in the order of

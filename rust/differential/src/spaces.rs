@@ -28,7 +28,7 @@ macro_rules! numbers {
     };
 }
 
-numbers!(i16 u16 u32 i64 u64);
+numbers!(u8 i16 u16 u32 i64 u64);
 
 /// A float that is compared by its bits, so that no two that differ pass for
 /// equal, and none that isn't a number differs from itself.

@@ -84,6 +84,12 @@ fn reachable(call: &str) -> BTreeSet<Reason> {
             [vec![(0, "")], symbol, spaces].concat()
         }
         "drawing" => [vec![(0, ""), (11, "")], symbol, plain(22..=22)].concat(),
+        "read_cycles" => {
+            let texts = vec![(27, "inside"), (27, "at the end"), (12, "")];
+            let spaces = vec![(11, "s"), (11, "r")];
+            [vec![(0, "")], texts, plain(14..=15), spaces].concat()
+        }
+        "write_cycles" => [vec![(0, ""), (11, "")], plain(12..=15)].concat(),
         "named_tables" => {
             let spaces = vec![(11, "work"), (11, "s"), (11, "r")];
             [vec![(0, "")], plain(20..=21), spaces].concat()
@@ -135,6 +141,8 @@ fn every_call_is_as_the_reference_has_it() {
     assert!(calls["exchange"].largest >= 1_000);
     assert!(calls["same_cosets"].largest > 256);
     assert_eq!(calls["intersection"].largest, 3_066);
+    assert_eq!(calls["read_cycles"].largest, 3_066);
+    assert!(calls["write_cycles"].largest > 20_000);
     assert!(calls["widths"].largest >= 500);
     // More letters than the program lends.
     assert!(calls["query"].largest > 16_384);
@@ -144,7 +152,7 @@ fn every_call_is_as_the_reference_has_it() {
     assert!(calls["named_query_wide"].largest >= 300);
     // Over all calls each number but 19; 17 is met by a figure alone, and 18
     // by nothing.
-    for number in (1..=16).chain(20..=26) {
+    for number in (1..=16).chain(20..=26).chain([27]) {
         let count: usize = tallies.iter().map(|tally| tally.number(number)).sum();
         assert!(count >= LEAST, "refusal {number} only {count} times");
     }

@@ -256,6 +256,18 @@ fn calls_stay_within_the_stack_that_the_header_names() {
         measure("farey_import_length", &mut || {
             let _ = black_box(calls::import_length(&s, &r));
         });
+        let mut written = vec![0; 40_000];
+        let mut length = 0;
+        measure("farey_write_cycles", &mut || {
+            length = black_box(farey::cycles::write(&s, &r, &mut written)).unwrap_or(0);
+        });
+        // The whole text, and one that stops short.
+        for text in [&written[..length], &written[..length.saturating_sub(1)]] {
+            let [s, r, _] = &mut columns;
+            measure("farey_read_cycles", &mut || {
+                let _ = black_box(farey::cycles::read(text, s, r));
+            });
+        }
         // The largest indices of each family, entries over 10^9, small groups, an
         // index over the limit and an N out of range.
         let [s, r, _] = &mut columns;
@@ -295,7 +307,7 @@ fn calls_stay_within_the_stack_that_the_header_names() {
             }
         }
     }
-    assert_eq!(most.0.len(), 28);
+    assert_eq!(most.0.len(), 30);
     let promised = promised();
     println!("a thread by itself: {nothing}; FAREY_STACK: {promised}");
     for (call, bytes) in most.0 {

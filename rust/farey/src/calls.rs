@@ -1,4 +1,5 @@
-//! One safe function for each exported one, on lent slices.
+//! One safe function for each exported one, on lent slices. (Those of cycle notation
+//! are in `cycles`.)
 //!
 //! The types keep the rules of `include/farey.h` that C can't check, which is
 //! what makes each unsafe block below sound: a slice's pointer is aligned, isn't
@@ -30,7 +31,7 @@ pub const NAMED: usize = 3_066;
 
 /// What stands at `place` before a call. No count and no place is as large, so
 /// it would show if the engine didn't write there.
-const UNWRITTEN: usize = usize::MAX;
+pub(crate) const UNWRITTEN: usize = usize::MAX;
 
 // The engine's functions, as include/farey.h declares them.
 mod engine {
@@ -309,7 +310,7 @@ mod engine {
 }
 
 /// A returned number with what stands at `place`.
-fn answer(number: u64, place: usize) -> Result<usize, Refusal> {
+pub(crate) fn answer(number: u64, place: usize) -> Result<usize, Refusal> {
     match number {
         0 => Ok(place),
         _ => Err(Refusal { number, place }),

@@ -8,6 +8,7 @@
 //! | module    | what it holds                                             |
 //! |-----------|-----------------------------------------------------------|
 //! | `calls`   | one safe function for each exported one, on lent slices   |
+//! | `cycles`  | cycle notation, read and written                          |
 //! | `family`  | the families Γ0, Γ1 and Γ, and their tables by name       |
 //! | `refusal` | the error: number, place and a sentence                   |
 //! | `sheet`   | the words of many pairs                                   |
@@ -26,6 +27,7 @@
 //! ```
 
 pub mod calls;
+pub mod cycles;
 pub mod family;
 pub mod refusal;
 pub mod same_coset;
@@ -33,6 +35,7 @@ pub mod sheet;
 pub mod subgroups;
 pub mod symbol;
 
+pub use cycles::{read_cycles, write_cycles};
 pub use family::Family;
 pub use refusal::Refusal;
 pub use sheet::Answer;

@@ -23,14 +23,16 @@
 //! | `word`         | pair queries: membership, the walk, a word's product and sign   |
 //! | `sheet`        | a sheet of pairs: single queries in one word space              |
 //! | `permutations` | checks 12 to 16, from two permutations to a symbol, two rules   |
+//! | `cycles`       | cycle notation, read and written; 27                            |
 //! | `congruence`   | Γ0(N), Γ1(N), Γ(N): condition, index, permutations; 20 and 21   |
-//! | `report`       | the whole output of the ten programs                            |
+//! | `report`       | the whole output of the programs                                |
 //! | `random`       | test symbols, pairs, matrices and texts, sound and damaged      |
 
 #![forbid(unsafe_code)]
 
 pub mod congruence;
 pub mod coset;
+pub mod cycles;
 pub mod drawing;
 pub mod exchange;
 pub mod matrix;
@@ -47,6 +49,7 @@ pub mod text;
 pub mod word;
 
 pub use refusal::Refusal;
+pub use report::{cycles, to_cycles};
 pub use report::{
     exchange, import, import_wide, intersection, listing, named, query, same, sheet, tower,
 };

@@ -5,7 +5,7 @@ use std::fmt;
 /// What a call answers when it gives no result.
 #[derive(Clone, Copy, Debug, PartialEq, Eq)]
 pub struct Refusal {
-    /// Which rule, 1 to 26.
+    /// Which rule, 1 to 27.
     pub number: u32,
     /// Where the first fault lies; what a place counts depends on the rule.
     pub place: u64,

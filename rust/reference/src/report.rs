@@ -1,9 +1,10 @@
-//! The whole output of the ten programs, from the bytes of standard input.
+//! The whole output of the programs, from the bytes of standard input.
 
 use std::fmt::{Display, Write};
 
 use crate::congruence::named_symbol;
 use crate::coset::Cosets;
+use crate::cycles::{read, write};
 use crate::exchange::exchange as exchanged;
 use crate::permutations::{import_pair, Imported, Rule};
 use crate::refusal::Refusal;
@@ -11,7 +12,9 @@ use crate::sameness::same_group;
 use crate::sheet::{answers, check_entries};
 use crate::subgroups;
 use crate::symbol::{Symbol, MAX_VERTICES};
-use crate::text::{count_and_more, numbers, symbol_and_more, two_symbols, Format, MAX_POINTS};
+use crate::text::{
+    count_and_more, numbers, symbol_and_more, two_symbols, Format, MAX_POINTS, MAX_TEXT,
+};
 use crate::word::{pair_query, Found};
 
 /// The letters that the programs `query` and `sheet` lend.
@@ -170,14 +173,57 @@ fn symbol_text(answer: Result<Imported, Refusal>) -> String {
 }
 
 fn try_import(rule: Rule, text: &[u8]) -> Result<Imported, Refusal> {
+    let (s, r) = pair(text)?;
+    // The program lends space for the largest symbol.
+    import_pair(rule, &s, &r, 3 * MAX_VERTICES + 1)
+}
+
+/// The two tables of a text for `import`, or refusal 19 or 12.
+fn pair(text: &[u8]) -> Result<(Vec<i64>, Vec<i64>), Refusal> {
     let numbers = numbers(text, Format::Import)?;
     let n = numbers[0];
     if !(1..=MAX_POINTS).contains(&n) {
         return Err(Refusal::new(12, 0));
     }
     let (s, r) = numbers[1..].split_at(n as usize);
-    // The program lends space for the largest symbol.
-    import_pair(rule, s, r, 3 * MAX_VERTICES + 1)
+    Ok((s.to_vec(), r.to_vec()))
+}
+
+/// What the program `cycles` prints: the tables of a text in cycle notation as
+/// `import` reads them.
+pub fn cycles(text: &[u8]) -> String {
+    match try_cycles(text) {
+        Ok((s, r)) => {
+            let mut out = format!("{}\n", s.len());
+            for table in [s, r] {
+                let pieces: Vec<String> = table.iter().map(i64::to_string).collect();
+                out += &(pieces.join(" ") + "\n");
+            }
+            out
+        }
+        Err(refusal) => format!("{refusal}\n"),
+    }
+}
+
+/// Of a longer text the first 65,536 bytes are read; where these have no fault of
+/// their own, the text is refused where it gets too long.
+fn try_cycles(text: &[u8]) -> Result<(Vec<i64>, Vec<i64>), Refusal> {
+    if text.len() <= MAX_TEXT {
+        return read(text);
+    }
+    match read(&text[..MAX_TEXT]) {
+        Err(refusal) if matches!(refusal.number, 12 | 27) => Err(refusal),
+        _ => Err(Refusal::new(27, MAX_TEXT)),
+    }
+}
+
+/// What the program `to_cycles` prints: the tables of a text for `import` in cycle
+/// notation, on a line.
+pub fn to_cycles(text: &[u8]) -> String {
+    match pair(text).and_then(|(s, r)| write(&s, &r)) {
+        Ok(written) => format!("{written}\n"),
+        Err(refusal) => format!("{refusal}\n"),
+    }
 }
 
 /// What the program `named` prints: the symbol by the rule, or where that is

@@ -411,6 +411,7 @@ fn refusals_are_explained() {
             Some("exchange") => vec![run_on(&farey, "exchange", &held)],
             Some("intersection") => vec![halves(&farey, &text(&held))],
             Some("tower") => vec![run_on(&farey, "tower", &held)],
+            Some("cycles") => vec![run_on(&farey, "cycles", &held)],
             _ => panic!("{}: no program reads this", path.display()),
         };
         for came in came {
@@ -566,9 +567,15 @@ fn a_refusal_is_passed_on() {
         "import-wide",
         "exchange",
         "tower",
+        "to-cycles",
         "draw",
     ] {
-        for line in ["refused 15 2\n", "refused 19 65536\n", "refused 26 0\n"] {
+        for line in [
+            "refused 15 2\n",
+            "refused 19 65536\n",
+            "refused 26 0\n",
+            "refused 27 0\n",
+        ] {
             let came = run_on(&farey, name, line.as_bytes());
             assert_eq!(text(&came.stdout), line);
             assert_eq!(text(&came.stderr), "");

@@ -17,6 +17,7 @@ use std::fs;
 use std::process::Command;
 
 use child::{farey, repository, Program};
+use reference::{cycles, to_cycles};
 use reference::{
     exchange, import, import_wide, intersection, listing, named, query, same, sheet, tower,
 };
@@ -104,7 +105,14 @@ fn answers(program: &str, text: &[u8]) -> [String; 2] {
         "exchange" => ("EXCHANGE_PROGRAM", exchange),
         "intersection" => ("INTERSECTION_PROGRAM", intersection),
         "tower" => ("TOWER_PROGRAM", tower),
+        "cycles" => ("CYCLES_PROGRAM", cycles),
+        "to-cycles" => ("TO_CYCLES_PROGRAM", to_cycles),
         _ => panic!("there is no program {program}"),
+    };
+    // `./farey cycles` takes one line end away before the program reads the text.
+    let text = match program {
+        "cycles" => text.strip_suffix(b"\n").unwrap_or(text),
+        _ => text,
     };
     let expected = reference(text);
     match Program::named_by(variable) {
@@ -211,6 +219,8 @@ fn commands_print_what_is_shown() {
         "exchange",
         "intersection",
         "tower",
+        "cycles",
+        "to-cycles",
     ] {
         assert!(
             programs.iter().any(|name| name == program),
@@ -282,6 +292,7 @@ fn refusals_are_met() {
             "exchange" => "exchange",
             "intersection" => "intersection",
             "tower" => "tower",
+            "cycles" => "cycles",
             _ => panic!("{}: no program reads this", row.example),
         };
         assert!(

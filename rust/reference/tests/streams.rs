@@ -9,10 +9,10 @@
 //! | a reader that is gone  | the system's signal ends it, unless it is ignored: then as a write    |
 //! | nothing, but a pause   | the answer to the whole text                                          |
 //!
-//! Each test is made of each of the ten programs (`LISTING_PROGRAM`,
+//! Each test is made of each of the programs (`LISTING_PROGRAM`,
 //! `QUERY_PROGRAM`, `SHEET_PROGRAM`, `IMPORT_PROGRAM`, `IMPORT_WIDE_PROGRAM`,
 //! `NAMED_PROGRAM`, `SAME_PROGRAM`, `EXCHANGE_PROGRAM`, `INTERSECTION_PROGRAM`,
-//! `TOWER_PROGRAM`) and of `./farey` with each of their names (`FAREY_PROGRAM`), whose exit
+//! `TOWER_PROGRAM`, `CYCLES_PROGRAM`, `TO_CYCLES_PROGRAM`) and of `./farey` with each of their names (`FAREY_PROGRAM`), whose exit
 //! status isn't 0 then. A program of the engine has no exit status of its own to give. Of
 //! `./farey` with the programs `named`, `same` and `intersection`, for which it doesn't read
 //! standard input, it is the tests of writing. No answer of `same` or `tower` is long
@@ -34,6 +34,7 @@ use child::{farey, repository, shown, Program};
 use reference::random::pairs::shallow_pair;
 use reference::random::Rng;
 use reference::text::MAX_TEXT;
+use reference::{cycles, to_cycles};
 use reference::{
     exchange, import, import_wide, intersection, listing, named, query, same, sheet, tower,
 };
@@ -98,7 +99,7 @@ impl Subject {
             fn(&[u8]) -> String,
             &'static str,
         );
-        let rows: [Row; 10] = [
+        let rows: [Row; 12] = [
             (
                 "LISTING_PROGRAM",
                 "listing",
@@ -148,6 +149,13 @@ impl Subject {
                 "tower",
                 tower,
                 "2\n-1\n2\n0 1 1 1\n1 -2 1\n0\n2\n-1 1 0 1\n1 -2 1\n",
+            ),
+            ("CYCLES_PROGRAM", "cycles", cycles, "3 (1,2) (1,3,2)"),
+            (
+                "TO_CYCLES_PROGRAM",
+                "to-cycles",
+                to_cycles,
+                "3\n1 0 2\n2 0 1\n",
             ),
         ];
         let mut all = Vec::new();
@@ -214,7 +222,8 @@ impl Subject {
                 let pieces: Vec<String> = pair.iter().map(i64::to_string).collect();
                 let pair = pieces.join(" ");
                 match self.name {
-                    "import" | "import-wide" => pair,
+                    "import" | "import-wide" | "to-cycles" => pair,
+                    "cycles" => to_cycles(pair.as_bytes()).trim_end().to_string(),
                     // An import numbers its free labels from 1 on.
                     "exchange" => import(pair.as_bytes()) + "1 2\n",
                     _ => import(pair.as_bytes()),

@@ -8,11 +8,13 @@
 //! | `faults`   | symbols with faults 1 and 3 to 7, texts with fault 19      |
 //! | `matrices` | matrices of determinant 1, pairs with and without a word   |
 //! | `pairs`    | permutation pairs, with faults 12 to 15                    |
+//! | `cycles`   | texts in cycle notation, right and damaged                 |
 //! | `twins`    | a second symbol, of the same group or of another           |
 //! | `towers`   | two symbols, subgroups and towers of them                  |
 //! | `cases`    | whole texts for the programs                               |
 
 pub mod cases;
+pub mod cycles;
 pub mod drafts;
 pub mod faults;
 pub mod matrices;

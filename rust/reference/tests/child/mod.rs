@@ -49,6 +49,8 @@ pub fn farey() -> Option<Program> {
             &["sheet"],
             &["import"],
             &["import-wide"],
+            &["cycles"],
+            &["to-cycles"],
             &["gamma0", "1"],
             &["same", "/dev/null", "/dev/null"],
             &["exchange"],

@@ -1,0 +1,2 @@
+-- What the program `cycles` writes, what it leaves in the tables that it lends, and what the bytes mean.
+pub mod Answer

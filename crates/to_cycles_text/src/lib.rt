@@ -1,0 +1,64 @@
+// What the program `to_cycles` writes for a text: all of it, byte for byte, as specs/Answer.antt says.
+use cycle_writing::write_cycles;
+use import_text::read_tables;
+use refusal::Filled;
+use text_line::put;
+use text_line::refusal_line;
+ghost use mathlib.Core.Path.{_≡_};
+ghost use Prim.Native.Nat.{_≤_};
+ghost use lib.ListN.{length, take};
+ghost use Rattle.text_line.specs.Line.{Puts};
+ghost use Rattle.import_text.specs.Answer.{requestOf};
+ghost use Rattle.import_text.specs.Spaces.{numbersLeft, leftOfS, leftOfR};
+ghost use Rattle.to_cycles_text.specs.Answer.{exportLine, toCyclesText, ExportPrintMeans};
+
+// The line for two tables: their export, or the refusal.
+fn export_line(s: &[u32], r: &[u32], out: &mut [u8]) -> usize
+    requires { ⌜ 65537 ≤ length (now out) ⌝ }
+    ensures { λ e. ⌜ Puts (exportLine (now (s .entry)) (now (r .entry))) 0 e (now (out .entry)) (now (out .exit)) ⌝ }
+{
+    let made = write_cycles(s, r, out);
+    match made {
+        Filled::Made(n) => put(b"\n", out, n),
+        Filled::Refused(refusal) => refusal_line(refusal, out),
+    }
+}
+
+// The same for a text, where the slices are long enough.
+fn to_cycles_text(
+    text: &[u8],
+    longer: bool,
+    numbers: &mut [i64],
+    s: &mut [u32],
+    r: &mut [u32],
+    out: &mut [u8],
+) -> usize
+    requires { ⌜ (length (now numbers) ≡ 6133) × (3066 ≤ length (now s)) × (3066 ≤ length (now r)) × (65537 ≤ length (now out)) ⌝ }
+    ensures { λ e. ⌜ Puts (toCyclesText longer (now (text .entry))) 0 e (now (out .entry)) (now (out .exit)) ⌝ }
+    ensures { λ _. ⌜ now (numbers .exit) ≡ numbersLeft longer (now (text .entry)) (now (numbers .entry)) ⌝ }
+    ensures { λ _. ⌜ (now (s .exit) ≡ leftOfS (requestOf longer (now (text .entry))) (now (s .entry))) × (now (r .exit) ≡ leftOfR (requestOf longer (now (text .entry))) (now (r .entry))) ⌝ }
+{
+    let read = read_tables(text, longer, numbers, s, r);
+    match read {
+        Filled::Refused(refusal) => refusal_line(refusal, out),
+        Filled::Made(n) => export_line(&s[..n], &r[..n], out),
+    }
+}
+
+// What the program writes for the text, or for one that is longer than its buffer, from the front of `out`; where it ends. The arrays are
+// the program's own, and what stands in them at the start is free.
+pub fn answer(
+    text: &[u8],
+    longer: bool,
+    numbers: &mut [i64; 6133],
+    s: &mut [u32; 3066],
+    r: &mut [u32; 3066],
+    out: &mut [u8; 65537],
+) -> usize
+    ensures { λ e. ⌜ Puts (toCyclesText longer (now (text .entry))) 0 e (now (out .entry)) (now (out .exit)) × (e ≤ length (now (out .exit))) ⌝ }
+    ensures { λ _. ⌜ now (numbers .exit) ≡ numbersLeft longer (now (text .entry)) (now (numbers .entry)) ⌝ }
+    ensures { λ _. ⌜ (now (s .exit) ≡ leftOfS (requestOf longer (now (text .entry))) (now (s .entry))) × (now (r .exit) ≡ leftOfR (requestOf longer (now (text .entry))) (now (r .entry))) ⌝ }
+    ensures { λ e. ⌜ ExportPrintMeans (requestOf longer (now (text .entry))) (take e (now (out .exit))) ⌝ }
+{
+    to_cycles_text(text, longer, numbers, s, r, out)
+}
