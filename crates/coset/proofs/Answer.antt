@@ -1,13 +1,14 @@
 -- Laws for the public calls: the result spaces in their order (`room-…`, `one-…`), the tables that were arranged (`Made`, `made`),
--- what an answer means (`meaning`, `means-refused`), the figures (`surveyed`), and the order of their refusals (`figured-by`).
+-- what an answer means (`meaning`, `means-refused`), that 4,090 entries are enough (`few-cosets`, `ample`, `ample-for-widths`), the
+-- figures (`surveyed`), and the order of their refusals (`figured-by`).
 -- Assumes nothing.
 use mathlib.Core.Path.{_≡_, refl, sym, _∙_, ap}
 use mathlib.Core.Bool.{Bool, true, false}
 use mathlib.Core.List.{List}
-use Prim.Native.Nat.{ℕ, _≤_, _<_}
+use Prim.Native.Nat.{ℕ, _+_, _≤_, _<_}
 use native.Mathlib.Omega.{arith}
 use lib.Dec.{ltb}
-use lib.ListN.{length}
+use lib.ListN.{length, length-map}
 use lib.IntN.{ℤ}
 use borrow.Author.Tests.{lt-ltb, le-ltb}
 use Rattle.basics.specs.Choice.{pick}
@@ -15,21 +16,29 @@ use Rattle.workspace.specs.Space.{workLength, entries}
 use Rattle.symbol.specs.Check.{symbolCheck}
 use Rattle.symbol.specs.Symbol.{IsSymbol}
 use Rattle.pairing.specs.Inner.Admitted.{workCheck, admittedOf}
-use Rattle.refusal.specs.Refusal.{tooShort, _orElse_}
+use Rattle.symbol.proofs.Accepted.{accepted}
+use Rattle.pairing.specs.Generator.{byWork}
+use Rattle.basics.specs.Count.{count}
+use Rattle.basics.proofs.Count.{length-those}
+use Rattle.refusal.specs.Refusal.{tooShort, filledBy, _orElse_}
 use Rattle.refusal.specs.declared.Refusal.{Refusal}
 use Rattle.refusal.specs.declared.Checked.{Checked}
 use Rattle.refusal.specs.declared.Checked.the-variants.{Accepted, Refused}
+use Rattle.polygon.specs.Step.{oddAt}
+use Rattle.polygon.proofs.SymbolFacts.{count-most}
 use Rattle.polygon.proofs.Polygon.{polygon}
 use Rattle.numbering.specs.Inner.Space.{S-TABLE, R-TABLE, T-TABLE}
-use Rattle.figures.specs.Cusps.{widths}
+use Rattle.figures.specs.Cusps.{smallest, width, cusps, widths}
 use Rattle.figures.specs.declared.FigureRecord.{FigureRecord}
 use Rattle.figures.specs.Inner.Scan.{Permuted, FiguresOf}
 use Rattle.figures.proofs.Filled.{filled-permuted, S-stays, R-stays, T-stays}
 use Rattle.figures.proofs.Cusps.{cusps-are}
-use Rattle.coset.specs.Tables.{cosets, tableS, tableR, tableT, indexOf}
+use Rattle.coset.specs.Tables.{cosets, tableS, tableR, tableT, indexOf, mostCosets}
 use Rattle.coset.specs.Inner.Work.{Arranged}
-use Rattle.coset.specs.Answer.{roomFor, roomOne, figuresOf, figuredBy, figuredOf, Meaning, TablesMean, FiguresMean}
+use Rattle.coset.specs.Answer.{roomFor, tabledOf, roomOne, widthsOf, widthedOf, figuresOf, figuredBy, figuredOf, Meaning, TablesMean, FiguresMean}
+use Rattle.coset.specs.Answer.{Ample, AmpleForWidths}
 use Rattle.coset.specs.Inner.Survey.{Surveyed}
+use Rattle.refusal.specs.declared.Filled.{Filled}
 use Rattle.refusal.specs.declared.Filled.the-variants as filled
 use Rattle.coset.specs.declared.Figured.{Figured}
 use Rattle.coset.specs.declared.Figured.the-variants as figured
@@ -37,6 +46,7 @@ use Rattle.coset.proofs.TableFigures.{table-figures}
 use Rattle.coset.proofs.OddSides.{odd-sides}
 use Rattle.coset.proofs.EvenSides.{even-sides}
 use Rattle.coset.proofs.Genus.{symbol-genus}
+use Rattle.coset.proofs.Positions.{positions}
 use Rattle.coset.proofs.Theorem.{size-is, cosets-are, maps, injective-S, injective-R}
 
 module _ (n a b c : ℕ) where
@@ -83,6 +93,9 @@ made {t} {v} ok a =
 
 -- ---- what it means
 
+pub few-cosets : {v : ℕ} {t : List ℤ} → IsSymbol v t → indexOf v t ≤ mostCosets
+few-cosets {v} {t} ok = omega (arith, count-most (oddAt v t) (v + 1), ok .most)
+
 pub meaning : {v : ℕ} {t : List ℤ} → IsSymbol v t → Meaning v t
 meaning {v} {t} ok =
     let g = polygon v t ok in
@@ -90,8 +103,9 @@ meaning {v} {t} ok =
     let k = cusps-are (c .permutations .T) in
     record {
       symbol = ok;
-      polygon = g;
+      positions = positions ok;
       cosets = c;
+      few = few-cosets ok;
       cusps = k;
       figures =
           table-figures (indexOf v t) (tableS v t) (tableR v t) (tableT v t) (sym (c .size-S)) (c .permutations .T) k;
@@ -105,6 +119,29 @@ means-refused f n e = let z : _≡_ {A = ℕ} 0 1 = cc in absurd (omega arith)
 
 pub figures-mean-refused : {v : ℕ} {t : List ℤ} (f : Refusal) → FiguresMean v t (figured.Refused f)
 figures-mean-refused f r e = let z : _≡_ {A = ℕ} 0 1 = cc in absurd (omega arith)
+
+-- ---- 4,090 entries are enough
+
+-- an accepted symbol and a work space of its length
+by-room : (v : ℕ) (t : List ℤ) (work : ℕ) (a : Filled) → IsSymbol v t → workLength ≤ work → filledBy (symbolCheck v t) (byWork work a) ≡ a
+by-room v t work a ok h = rw (accepted v t .1 ok, le-ltb work workLength h)
+
+pub ample : (v : ℕ) (t : List ℤ) (w s r u : List ℕ) (a : Filled) → a ≡ tabledOf v t (length w) (length s) (length r) (length u)
+    → Ample v t w s r u a
+ample v t w s r u a e ok h i j k =
+    let n = few-cosets ok in
+    e ∙ by-room v t (length w) (roomFor (indexOf v t) (length s) (length r) (length u)) ok h
+    ∙ sym (room-all (indexOf v t) (length s) (length r) (length u) (omega (arith, n, i)) (omega (arith, n, j)) (omega (arith, n, k)))
+
+-- there are no more cusps than cosets
+few-widths : (u : List ℕ) → length (widths u) ≤ length u
+few-widths u = omega (arith, length-map (cusps u) (width u), length-those (smallest u) (length u), count-most (smallest u) (length u))
+
+pub ample-for-widths : (v : ℕ) (t : List ℤ) (w out : List ℕ) (a : Filled) → a ≡ widthedOf v t (length w) (length out)
+    → AmpleForWidths v t w out a
+ample-for-widths v t w out a e ok h i =
+    e ∙ by-room v t (length w) (roomOne (length (widthsOf v t)) (length out)) ok h
+    ∙ sym (one-room (length (widthsOf v t)) (length out) (omega (arith, few-widths (tableT v t), meaning ok .cosets .size-T, few-cosets ok, i)))
 
 -- ---- figures
 

@@ -2,3 +2,4 @@
 -- caller. A reader who trusts the checker need not read it.
 pub mod Work
 pub mod Survey
+pub mod Steps

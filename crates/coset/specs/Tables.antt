@@ -7,6 +7,7 @@
 --   tableR v t          by R
 --   tableT v t          by T, which is S first and then R
 --   indexOf v t         3 (v - 1) and the number of odd sides
+--   mostCosets          4,090: no accepted symbol has more (`Meaning`, in Answer.antt)
 use mathlib.Core.List.{List}
 use Prim.Native.Nat.{ℕ, _+_}
 use lib.IntN.{ℤ}
@@ -33,3 +34,6 @@ tableT v t = renamed (cosets v t) (stepS v t then stepR v t)
 
 abbrev pub indexOf : ℕ → List ℤ → ℕ
 indexOf v t = corners v + count (oddAt v t) (v + 1)
+
+abbrev pub mostCosets : ℕ
+mostCosets = 4090

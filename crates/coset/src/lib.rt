@@ -1,5 +1,6 @@
 // The cosets of the subgroup that a symbol's side pairings generate: specs/Tables.antt has their numbering and the tables of S, R and T,
 // specs/Theorem.antt says what the tables are tables of, and specs/Answer.antt what the calls answer and leave.
+// specs/Positions.antt has what a walk over the positions needs, and steps.rt builds it.
 use arrange::arrange;
 use figures::FigureRecord;
 use figures::cusp_widths;
@@ -24,10 +25,12 @@ ghost use Rattle.pairing.specs.Generator.{workAfter};
 ghost use Rattle.numbering.specs.Inner.Space.{S-TABLE, R-TABLE, T-TABLE, WIDTHS};
 ghost use Rattle.coset.specs.Tables.{indexOf, tableS, tableR, tableT};
 ghost use Rattle.coset.specs.Answer.{roomFor, tabledOf, columnLeft, roomOne, widthsOf, widthedOf, figuresOf, figuredOf, TablesMean, FiguresMean};
+ghost use Rattle.coset.specs.Answer.{Ample, AmpleForWidths};
 ghost use Rattle.coset.specs.Inner.Survey.{Surveyed};
 ghost use Rattle.coset.specs.declared.Figured.the-variants as figured;
 
 pub mod arrange;
+pub mod steps;
 
 // Copies the tables of n cosets, where there is room for all three.
 pub fn copy_tables(w: &[u16], n: usize, s: &mut [u32], r: &mut [u32], u: &mut [u32]) -> Filled
@@ -99,6 +102,7 @@ pub fn tables(
     ensures { λ a. ⌜ now (r .exit) ≡ columnLeft a (tableR v (now (t .entry))) (now (r .entry)) ⌝ }
     ensures { λ a. ⌜ now (u .exit) ≡ columnLeft a (tableT v (now (t .entry))) (now (u .entry)) ⌝ }
     ensures { λ a. ⌜ TablesMean v (now (t .entry)) a ⌝ }
+    ensures { λ a. ⌜ Ample v (now (t .entry)) (now (w .entry)) (now (s .entry)) (now (r .entry)) (now (u .entry)) a ⌝ }
 {
     let admitted = admit(v, t, w.len());
     match admitted {
@@ -143,6 +147,7 @@ pub fn widths(v: usize, t: &[i64], w: &mut [u16], out: &mut [u32]) -> Filled
     ensures { λ a. ⌜ now (w .exit) ≡ workAfter (symbolCheck v (now (t .entry))) (now (w .entry)) ⌝ }
     ensures { λ a. ⌜ now (out .exit) ≡ columnLeft a (widthsOf v (now (t .entry))) (now (out .entry)) ⌝ }
     ensures { λ a. ⌜ TablesMean v (now (t .entry)) a ⌝ }
+    ensures { λ a. ⌜ AmpleForWidths v (now (t .entry)) (now (w .entry)) (now (out .entry)) a ⌝ }
 {
     let admitted = admit(v, t, w.len());
     match admitted {

@@ -12,8 +12,12 @@ use Rattle.symbol.specs.Symbol.{IsSymbol}
 use Rattle.symbol.proofs.Accepted as symbols
 use Rattle.numbering.specs.Table.{Permutes}
 use Rattle.coset.specs.Tables.{tableS, tableR}
+use Rattle.partner_exchange.proofs.Theorem.{trades}
+use Rattle.partner_exchange.proofs.Answered.{exchangeable}
 use Rattle.congruence.specs.Cosets.{CosetsOf}
 use Rattle.congruence.proofs.Theorem.{tables}
+use Rattle.subgroup_pairs.specs.Symbols.{CommonSubgroup}
+use Rattle.subgroup_pairs.proofs.Symbols.{symbol-pairs}
 use Rattle.import_rule.specs.Order.{Order, leftmost, longestOpen}
 use Rattle.import_rule.specs.Symbol.{ruledBy}
 use Rattle.import_table.specs.Answer.{ruledTable}
@@ -22,9 +26,10 @@ use Rattle.permutations.specs.Import.{importBy, Symbolised}
 use Rattle.permutations.proofs.Accepted as pairs
 use Rattle.permutations.proofs.Pair.{passport-S, passport-R}
 use Rattle.permutations.proofs.Means.{made-means}
+use Rattle.cycle_reading.specs.Reading.{tableOfS, tableOfR}
 use Rattle.cusp_record.proofs.Record.{then-permutes, coset-record}
 use Rattle.cusp_record.proofs.Answer.{cusp-meaning}
-use Rattle.coset_builders.specs.Builders.{Recorded, SymbolRecorded, Imported, Builders}
+use Rattle.coset_builders.specs.Builders.{Recorded, SymbolRecorded, Imported, CommonRecorded, Builders}
 
 recorded : {s r : List ℕ} → Permutes s → Permutes r → length r ≡ length s → Recorded s r
 recorded p q e = coset-record (record { S = p; R = q; T = then-permutes p q e }) refl
@@ -55,11 +60,19 @@ by-order order s r work room v e = imported (made-means order s r work room v e)
 cosets-recorded : {C : Mat → Type 0} {n : ℕ} {s r : List ℕ} → CosetsOf C n s r → Recorded s r
 cosets-recorded g = recorded (g .permutes-S) (g .permutes-R) (g .size-R ∙ sym (g .size-S))
 
+-- the table of T is the product of those of S and R
+common-recorded : {v : ℕ} {t : List ℤ} {v' : ℕ} {t' : List ℤ} → CommonSubgroup v t v' t' → CommonRecorded v t v' t'
+common-recorded g = record { cosets = g; rule = rw (g .T-is) (cosets-recorded (g .cosets)) }
+
 pub builders : Builders
 builders = record {
   symbols = λ v t e. symbol-recorded (symbols.accepted v t .0 e);
+  exchanges = λ v t x y e. symbol-recorded (trades (exchangeable v t x y e) .accepted);
   pairs = λ s r e. passport-recorded s r (pairs.accepted s r .0 e);
+  cycles = λ t q g. passport-recorded (tableOfS q) (tableOfR q) (g .passport);
   imports = by-order leftmost;
   wide = by-order longestOpen;
   families = λ f n h. record { cosets = tables f n h; rule = cosets-recorded (tables f n h) };
+  intersections = λ v t v' t' e e'.
+      common-recorded (symbol-pairs v t v' t' (symbols.accepted v t .0 e) (symbols.accepted v' t' .0 e') .0);
 }

@@ -1,6 +1,7 @@
 -- The genus of every accepted symbol, and of every builder's tables, is a number: `genera`.
--- Why: what an import gives is an accepted symbol; and the tables of a passport (`passport-pair`), and those of a family, are a transitive pair on
--- which S twice and R three times move nothing.
+-- Why: what an import or an exchange gives is an accepted symbol; and the tables of a passport (`passport-pair`), and
+-- those of the right cosets of a condition (`cosets-pair`), are a transitive pair on which S twice and R three times
+-- move nothing.
 -- Assumes nothing.
 use mathlib.Core.Path.{_≡_}
 use mathlib.Core.List.{List}
@@ -16,8 +17,11 @@ use Rattle.genus.specs.Genus.{CosetPair}
 use Rattle.genus.proofs.Transitive.{numbered-transitive}
 use Rattle.genus.proofs.Genus.{tables-genus}
 use Rattle.coset.proofs.Answer.{meaning}
+use Rattle.partner_exchange.proofs.Theorem.{trades}
+use Rattle.partner_exchange.proofs.Answered.{exchangeable}
 use Rattle.congruence.specs.Cosets.{CosetsOf}
 use Rattle.congruence.proofs.Theorem.{tables}
+use Rattle.subgroup_pairs.proofs.Symbols.{symbol-pairs}
 use Rattle.import_rule.specs.Order.{Order, leftmost, longestOpen}
 use Rattle.import_rule.specs.Symbol.{ruledBy}
 use Rattle.import_table.specs.Answer.{ruledTable}
@@ -33,7 +37,7 @@ symbol-genus ok = meaning ok .genus
 by-order : (order : Order) (s r : List ℕ) (work room v : ℕ) → importBy order s r work room ≡ Made v → SymbolGenus v (ruledTable (ruledBy order s r))
 by-order order s r work room v e = symbol-genus (made-means order s r work room v e .precisely .symbol)
 
--- ---- a family
+-- ---- the right cosets of a condition
 
 cosets-pair : {C : Mat → Type 0} {n : ℕ} {s r : List ℕ} → CosetsOf C n s r → CosetPair s r
 cosets-pair {C} {n} {s} {r} g = record {
@@ -45,8 +49,14 @@ cosets-pair {C} {n} {s} {r} g = record {
 pub genera : Genera
 genera = record {
   symbols = λ v t e. symbol-genus (symbols.accepted v t .0 e);
+  exchanges = λ v t x y e. symbol-genus (trades (exchangeable v t x y e) .accepted);
   pairs = λ s r e. tables-genus (passport-pair (pairs.accepted s r .0 e));
+  cycles = λ t q g. tables-genus (passport-pair (g .passport));
   imports = by-order leftmost;
   wide = by-order longestOpen;
   families = λ f n h. tables-genus (cosets-pair (tables f n h));
+  intersections = λ v t v' t' e e'.
+      let ok = symbols.accepted v t .0 e in
+      let ok' = symbols.accepted v' t' .0 e' in
+      tables-genus (cosets-pair (symbol-pairs v t v' t' ok ok' .0 .cosets));
 }

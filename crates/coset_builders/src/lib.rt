@@ -1,2 +1,3 @@
-// Every builder of coset tables keeps the standing rule of the coset record, and the genus of its tables is a number: specs/Builders.antt and
-// specs/Genus.antt say it for symbols, for imports by both rules and for the named families, and proofs/ has the proofs. There is no code here.
+// Every builder of coset tables keeps the standing rule of the coset record, and the genus of its tables is a number:
+// specs/Builders.antt and specs/Genus.antt say it, with a part for each builder, and proofs/ has the proofs. There is
+// no code here.

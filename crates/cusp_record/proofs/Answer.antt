@@ -22,21 +22,22 @@ use Rattle.figures.specs.Inner.Scan.{heldT, CuspWidths}
 use Rattle.figures.proofs.Filled.{S-stays, R-stays, T-stays}
 use Rattle.coset.specs.Tables.{tableS, tableR, tableT}
 use Rattle.coset.specs.Theorem.{leads, Cosets}
+use Rattle.coset.specs.Answer.{roomTwo}
 use Rattle.coset.proofs.Answer.{Made, meaning}
 use Rattle.cusp_record.specs.Record.{cuspWidth, cuspOf, cuspSteps, cuspTable, stepTable}
-use Rattle.cusp_record.specs.Answer.{roomForBoth, cuspReached, timesT, OneCusp, CuspMeaning, CuspsMean}
+use Rattle.cusp_record.specs.Answer.{cuspReached, timesT, OneCusp, CuspMeaning, CuspsMean}
 use Rattle.cusp_record.specs.Inner.Fill.{ByCusps, RecordFilled, SymbolRecord}
 use Rattle.cusp_record.proofs.Record.{ahead, cusp-at, in-order, coset-record}
 use Rattle.cusp_record.proofs.Fill.{scanned}
 
 module _ (n a b : ℕ) where
-  pub both-first : a < n → filled.Refused (tooShort n) ≡ roomForBoth n a b
+  pub both-first : a < n → filled.Refused (tooShort n) ≡ roomTwo n a b
   both-first h = rw (lt-ltb a n h)
 
-  pub both-second : n ≤ a → b < n → filled.Refused (tooShort n) ≡ roomForBoth n a b
+  pub both-second : n ≤ a → b < n → filled.Refused (tooShort n) ≡ roomTwo n a b
   both-second h k = rw (le-ltb a n h, lt-ltb b n k)
 
-  pub both-room : n ≤ a → n ≤ b → filled.Made n ≡ roomForBoth n a b
+  pub both-room : n ≤ a → n ≤ b → filled.Made n ≡ roomTwo n a b
   both-room h k = rw (le-ltb a n h, le-ltb b n k)
 
 -- ---- what it means

@@ -1,6 +1,5 @@
 -- The answer of `cusps`, and what the call leaves.
 --
---   roomForBoth n a b         n cosets, or 11 with that length: spaces of length a and b are tested in this order
 --   cuspedOf v t work a b     the refusals 1 to 7, then the work space, then the result spaces for cusps and for steps, or the number of cosets
 --   cuspColumn, stepColumn v t     the cusps and the steps of the symbol's cosets
 --   cuspReached v t m         the cusp of the coset H m, by the column: where m sends infinity
@@ -13,29 +12,21 @@ use mathlib.Core.Path.{_≡_}
 use mathlib.Core.Logic.{_↔_}
 use mathlib.Core.List.{List}
 use Prim.Native.Nat.{ℕ, zero, suc}
-use lib.Dec.{ltb}
 use lib.IntN.{ℤ, pos}
-use Rattle.basics.specs.Choice.{pick}
-use Rattle.refusal.specs.Refusal.{tooShort}
 use Rattle.refusal.specs.declared.Filled.{Filled}
 use Rattle.refusal.specs.declared.Filled.the-variants as filled
 use Rattle.symbol.specs.Check.{symbolCheck}
 use Rattle.matrix.specs.Matrix.{Mat, _⊗_, det, matT}
 use Rattle.pairing.specs.Generator.{generators}
-use Rattle.polygon.specs.Theorem.{SameCoset}
+use Rattle.coset.specs.Positions.{SameCoset}
 use Rattle.numbering.specs.Table.{imageAt}
 use Rattle.coset.specs.Theorem.{leads}
 use Rattle.coset.specs.Tables.{indexOf, tableS, tableR, tableT}
-use Rattle.coset.specs.Answer.{tabledBy, Meaning}
+use Rattle.coset.specs.Answer.{roomTwo, tabledBy, Meaning}
 use Rattle.cusp_record.specs.Record.{cuspTable, stepTable, CosetRecord}
 
-abbrev pub roomForBoth : (n a b : ℕ) → Filled
-roomForBoth n a b =
-    let short = filled.Refused (tooShort n) in
-    pick (ltb a n) short (pick (ltb b n) short (filled.Made n))
-
 abbrev pub cuspedOf : (v : ℕ) → List ℤ → (work a b : ℕ) → Filled
-cuspedOf v t work a b = tabledBy (symbolCheck v t) work (roomForBoth (indexOf v t) a b)
+cuspedOf v t work a b = tabledBy (symbolCheck v t) work (roomTwo (indexOf v t) a b)
 
 abbrev pub cuspColumn : ℕ → List ℤ → List ℕ
 cuspColumn v t = cuspTable (tableT v t)

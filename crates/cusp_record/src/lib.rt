@@ -19,8 +19,8 @@ ghost use Rattle.symbol.specs.Symbol.{IsSymbol};
 ghost use Rattle.pairing.specs.Generator.{workAfter};
 ghost use Rattle.figures.specs.Inner.Scan.{heldT};
 ghost use Rattle.coset.specs.Tables.{indexOf};
-ghost use Rattle.coset.specs.Answer.{columnLeft};
-ghost use Rattle.cusp_record.specs.Answer.{roomForBoth, cuspedOf, cuspColumn, stepColumn, CuspsMean};
+ghost use Rattle.coset.specs.Answer.{roomTwo, columnLeft};
+ghost use Rattle.cusp_record.specs.Answer.{cuspedOf, cuspColumn, stepColumn, CuspsMean};
 ghost use Rattle.cusp_record.specs.Inner.Fill.{CUSPS, STEPS, ByCusps, AtCusp, OnCusp, RecordFilled, SymbolRecord};
 
 // Where the work space holds the cusps and the steps: the steps below all other tables, so that those of S, R and T stay.
@@ -88,7 +88,7 @@ pub fn arrange_record(v: usize, t: &[i64], w: &mut [u16]) -> usize
 // Copies the cusps and the steps of n cosets, where there is room for both.
 fn copy_columns(w: &[u16], n: usize, cusps: &mut [u32], steps: &mut [u32]) -> Filled
     requires { ⌜ (n ≤ 4096) × (workLength ≤ length (now w)) ⌝ }
-    ensures { λ a. ⌜ a ≡ roomForBoth n (length (now (cusps .entry))) (length (now (steps .entry))) ⌝ }
+    ensures { λ a. ⌜ a ≡ roomTwo n (length (now (cusps .entry))) (length (now (steps .entry))) ⌝ }
     ensures { λ a. ⌜ now (cusps .exit) ≡ columnLeft a (entries CUSPS n (now (w .entry))) (now (cusps .entry)) ⌝ }
     ensures { λ a. ⌜ now (steps .exit) ≡ columnLeft a (entries STEPS n (now (w .entry))) (now (steps .entry)) ⌝ }
 {
@@ -112,7 +112,7 @@ fn copy_columns(w: &[u16], n: usize, cusps: &mut [u32], steps: &mut [u32]) -> Fi
 // The same from an accepted symbol; the work space is cleared after.
 fn make_cusps(v: usize, t: &[i64], w: &mut [u16], cusps: &mut [u32], steps: &mut [u32]) -> Filled
     requires { ⌜ IsSymbol v (now t) × (workLength ≤ length (now w)) ⌝ }
-    ensures { λ a. ⌜ a ≡ roomForBoth (indexOf v (now (t .entry))) (length (now (cusps .entry))) (length (now (steps .entry))) ⌝ }
+    ensures { λ a. ⌜ a ≡ roomTwo (indexOf v (now (t .entry))) (length (now (cusps .entry))) (length (now (steps .entry))) ⌝ }
     ensures { λ a. ⌜ now (w .exit) ≡ zeros (length (now (w .entry))) ⌝ }
     ensures { λ a. ⌜ now (cusps .exit) ≡ columnLeft a (cuspColumn v (now (t .entry))) (now (cusps .entry)) ⌝ }
     ensures { λ a. ⌜ now (steps .exit) ≡ columnLeft a (stepColumn v (now (t .entry))) (now (steps .entry)) ⌝ }

@@ -73,7 +73,7 @@ right-only ps r q g h = same (sym (read-by g) ∙ read-by h)
 
 -- ---- one place
 
-shorter : (ps qs : List CyclePiece) → Completes (ps ++ qs) → Completes ps
+pub shorter : (ps qs : List CyclePiece) → Completes (ps ++ qs) → Completes ps
 shorter ps qs c = record {
   ending = qs ++ c .ending;
   n = c .n;

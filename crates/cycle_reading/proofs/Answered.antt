@@ -21,7 +21,7 @@ use Rattle.refusal.specs.declared.Checked.{Checked}
 use Rattle.refusal.specs.declared.Checked.the-variants as checked
 use Rattle.refusal.specs.declared.Filled.{Filled}
 use Rattle.refusal.specs.declared.Filled.the-variants as filled
-use Rattle.coset.specs.Answer.{columnLeft}
+use Rattle.coset.specs.Answer.{roomTwo, columnLeft}
 use Rattle.permutations.specs.Check.{pairCheck, Passport}
 use Rattle.permutations.proofs.Accepted.{accepted}
 use Rattle.cycle_notation.specs.Form.{Disjoint, pointsOf}
@@ -33,7 +33,7 @@ use Rattle.cycle_notation.proofs.Stores.{stored-table, length-tabled}
 use Rattle.cycle_reading.specs.declared.Judged.{Judged}
 use Rattle.cycle_reading.specs.declared.Judged.the-variants as judged
 use Rattle.cycle_reading.specs.Reading as reading
-use Rattle.cycle_reading.specs.Reading.{tableOfS, tableOfR, roomForPair, answerBy, readCyclesOf, readTable, readS, readR, RightAs, GoodPair, PairFault, ReadCyclesMean}
+use Rattle.cycle_reading.specs.Reading.{tableOfS, tableOfR, answerBy, readCyclesOf, readTable, readS, readR, RightAs, GoodPair, PairFault, ReadCyclesMean}
 use Rattle.cycle_reading.specs.Inner.PartRun.{made}
 use Rattle.cycle_reading.specs.Inner.Front.{VerdictRead, tablesAnswer}
 use Rattle.cycle_reading.proofs.Filling.{ReadAs, read-as, in-range, pair-fault, FaultNumber, Given, Answers}
@@ -45,7 +45,7 @@ clash e = absurd (omega arith)
 
 module _ (t : List ℕ) (q : Read) (h : RightAs t q) (a b : ℕ) (s r s' r' : List ℕ) (f : Filled) (S-left : s' ≡ columnLeft f (tableOfS q) s) (R-left : r' ≡ columnLeft f (tableOfR q) r) where
   abbrev room : Filled
-  room = roomForPair (q .index) a b
+  room = roomTwo (q .index) a b
 
   long-S : length (tableOfS q) ≡ q .index
   long-S = length-tabled (λ (i : ℕ). imageBy (q .ofS) (suc i) - 1) (q .index)
@@ -130,7 +130,7 @@ module _ (t : List ℕ) (A B : List ℕ) (o : Judged) (read : VerdictRead (verdi
           g .returned
           ∙ ap (λ (l : List ℕ). tablesAnswer l (take n B) (length s) (length r)) S-is
           ∙ ap (λ (l : List ℕ). tablesAnswer (tableOfS (x .q)) l (length s) (length r)) R-is
-          ∙ ap (λ (k : ℕ). filledBy (pairCheck (tableOfS (x .q)) (tableOfR (x .q))) (roomForPair k (length s) (length r)))
+          ∙ ap (λ (k : ℕ). filledBy (pairCheck (tableOfS (x .q)) (tableOfR (x .q))) (roomTwo k (length s) (length r)))
           (length-tabled (λ (i : ℕ). imageBy (x .q .ofS) (suc i) - 1) (x .q .index))
 
       left-S : s' ≡ columnLeft f (tableOfS (x .q)) s
@@ -151,10 +151,10 @@ pub record Returned (t : List ℕ) (q : Read) (a b : ℕ) : Type 0 where
   pub S-is : readS t ≡ tableOfS q
   pub R-is : readR t ≡ tableOfR q
 
-room-enough : (n a b : ℕ) → n ≤ a → n ≤ b → roomForPair n a b ≡ filled.Made n
+room-enough : (n a b : ℕ) → n ≤ a → n ≤ b → roomTwo n a b ≡ filled.Made n
 room-enough n a b l m = pick-false (ltb a n) _ _ (le-ltb a n l) ∙ pick-false (ltb b n) _ _ (le-ltb b n m)
 
-room-short : (n a b : ℕ) → (a < n) ⊎ (b < n) → roomForPair n a b ≡ filled.Refused (tooShort n)
+room-short : (n a b : ℕ) → (a < n) ⊎ (b < n) → roomTwo n a b ≡ filled.Refused (tooShort n)
 room-short n a b (inl l) = pick-true (ltb a n) _ _ (lt-ltb a n l)
 room-short n a b (inr m) = elim (decLt a n) [
   | yes l ↦ pick-true (ltb a n) _ _ (lt-ltb a n l)
@@ -162,11 +162,11 @@ room-short n a b (inr m) = elim (decLt a n) [
 ]
 
 module _ (t : List ℕ) (q : Read) (h : RightAs t q) (a b : ℕ) where
-  right-answer : readCyclesOf t a b ≡ filledBy (pairCheck (tableOfS q) (tableOfR q)) (roomForPair (q .index) a b)
+  right-answer : readCyclesOf t a b ≡ filledBy (pairCheck (tableOfS q) (tableOfR q)) (roomTwo (q .index) a b)
   right-answer = ap (λ (v : Verdict). answerBy v a b) (right-read t q h)
 
-  checked-answer : (c : Checked) → pairCheck (tableOfS q) (tableOfR q) ≡ c → readCyclesOf t a b ≡ filledBy c (roomForPair (q .index) a b)
-  checked-answer c e = right-answer ∙ ap (λ (c : Checked). filledBy c (roomForPair (q .index) a b)) e
+  checked-answer : (c : Checked) → pairCheck (tableOfS q) (tableOfR q) ≡ c → readCyclesOf t a b ≡ filledBy c (roomTwo (q .index) a b)
+  checked-answer c e = right-answer ∙ ap (λ (c : Checked). filledBy c (roomTwo (q .index) a b)) e
 
 pub read-returns : (t : List ℕ) (q : Read) → GoodPair t q → (a b : ℕ) → q .index ≤ a → q .index ≤ b → Returned t q a b
 read-returns t q g a b l m = record {

@@ -26,7 +26,7 @@ use Rattle.refusal.specs.declared.Checked.the-variants as checked
 use Rattle.refusal.specs.declared.Filled.{Filled}
 use Rattle.refusal.specs.declared.Filled.the-variants as filled
 use Rattle.symbol.specs.Check.{refuse, refuseAt}
-use Rattle.coset.specs.Answer.{columnLeft}
+use Rattle.coset.specs.Answer.{roomTwo, columnLeft}
 use Rattle.permutations.specs.Check.{badEntry, check13, check14, check15, twiceMoved, thriceMoved, notReached, pairCheck, Passport}
 use Rattle.permutations.proofs.Accepted.{accepted}
 use Rattle.permutations.proofs.Answering.{count-passed}
@@ -41,7 +41,7 @@ use Rattle.cycle_notation.proofs.Stores.{stored-table, length-stored, length-ta
 use Rattle.cycle_reading.specs.declared.Judged.{Judged}
 use Rattle.cycle_reading.specs.declared.Judged.the-variants as judged
 use Rattle.cycle_reading.specs.Reading as reading
-use Rattle.cycle_reading.specs.Reading.{tableOfS, tableOfR, roomForPair, answerBy, readCyclesOf, readTable, readS, readR, PairFault, RightAs, GoodPair, ReadCyclesMean}
+use Rattle.cycle_reading.specs.Reading.{tableOfS, tableOfR, answerBy, readCyclesOf, readTable, readS, readR, PairFault, RightAs, GoodPair, ReadCyclesMean}
 use Rattle.cycle_reading.specs.Inner.PartRun.{made}
 use Rattle.cycle_reading.specs.Inner.Front.{judgedBy, VerdictRead, tablesAnswer}
 
@@ -68,8 +68,8 @@ module _ (a b s r : List ℕ) where
     pub S-left : s' ≡ columnLeft f a s
     pub R-left : r' ≡ columnLeft f b r
 
-  checked-as : (c : Checked) → pairCheck a b ≡ c → tablesAnswer a b (length s) (length r) ≡ filledBy c (roomForPair (length a) (length s) (length r))
-  checked-as c e = ap (λ (c : Checked). filledBy c (roomForPair (length a) (length s) (length r))) e
+  checked-as : (c : Checked) → pairCheck a b ≡ c → tablesAnswer a b (length s) (length r) ≡ filledBy c (roomTwo (length a) (length s) (length r))
+  checked-as c e = ap (λ (c : Checked). filledBy c (roomTwo (length a) (length s) (length r))) e
 
   pub given-refused : (f : Refusal) → pairCheck a b ≡ checked.Refused f → Given (filled.Refused f) s r
   given-refused f e = record { returned = sym (checked-as (checked.Refused f) e); S-left = refl; R-left = refl }

@@ -1,6 +1,8 @@
 -- Runs of digits, and the pieces of a text from an offset on.
 --     digit-range                       the digits are the bytes from 48 to 57
+--     value-yes, value-no               what a run of digits says, by its first byte: a digit, or not
 --     digits-more, digits-stop          one byte more: a digit, or not
+--     begins-number, goes-on, is-mark   the pieces by the first byte: a digit that begins a number or goes on with one, or a mark
 --     number-left, mark-left            the first piece from an offset on: a number, or a mark
 -- Assumes nothing.
 use mathlib.Core.Path.{_≡_, refl, sym, ap, _∙_}
@@ -33,11 +35,11 @@ module _ (b : ℕ) (l : List ℕ) where
   unfolding digitRun
   run-no e = rw (digitRun, e)
 
-  value-yes : (m : ℕ) → digitByte b ≡ true → runValue m (b ∷ l) ≡ runValue (m * 10 + (b - 48)) l
+  pub value-yes : (m : ℕ) → digitByte b ≡ true → runValue m (b ∷ l) ≡ runValue (m * 10 + (b - 48)) l
   unfolding runValue
   value-yes m e = rw (runValue, e)
 
-  value-no : (m : ℕ) → digitByte b ≡ false → runValue m (b ∷ l) ≡ m
+  pub value-no : (m : ℕ) → digitByte b ≡ false → runValue m (b ∷ l) ≡ m
   unfolding runValue
   value-no m e = rw (runValue, e)
 
@@ -93,15 +95,15 @@ value-end t v = rw (drop-length t)
 -- ---- the first piece
 
 module _ (b : ℕ) (l : List ℕ) (at : ℕ) where
-  begins-number : digitByte b ≡ true → cyclePiecesFrom at false (b ∷ l) ≡ record { at = at; piece = number (runValue 0 (b ∷ l)) } ∷ cyclePiecesFrom (suc at) true l
+  pub begins-number : digitByte b ≡ true → cyclePiecesFrom at false (b ∷ l) ≡ record { at = at; piece = number (runValue 0 (b ∷ l)) } ∷ cyclePiecesFrom (suc at) true l
   unfolding cyclePiecesFrom
   begins-number e = rw (cyclePiecesFrom, e)
 
-  goes-on : digitByte b ≡ true → cyclePiecesFrom at true (b ∷ l) ≡ cyclePiecesFrom (suc at) true l
+  pub goes-on : digitByte b ≡ true → cyclePiecesFrom at true (b ∷ l) ≡ cyclePiecesFrom (suc at) true l
   unfolding cyclePiecesFrom
   goes-on e = rw (cyclePiecesFrom, e)
 
-  is-mark : (inside : Bool) → digitByte b ≡ false → cyclePiecesFrom at inside (b ∷ l) ≡ record { at = at; piece = mark b } ∷ cyclePiecesFrom (suc at) false l
+  pub is-mark : (inside : Bool) → digitByte b ≡ false → cyclePiecesFrom at inside (b ∷ l) ≡ record { at = at; piece = mark b } ∷ cyclePiecesFrom (suc at) false l
   unfolding cyclePiecesFrom
   is-mark inside e = rw (cyclePiecesFrom, e)
 

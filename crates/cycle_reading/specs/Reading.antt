@@ -1,7 +1,6 @@
 -- Cycle notation read: the answer of `read_cycles`, what it leaves in the result spaces, and what it means.
 --
 --     tableOfS q, tableOfR q    the tables of S and R that the reading q has cycles for
---     roomForPair n a b         n points, or 11 with that length: spaces of length a and b are tested in this order
 --     answerBy v a b            the answer by the verdict v on a text: 27 with its place, or 12; or else the permutation checks on the tables, whose
 --                               places count from 0, and then the room for them in spaces of length a and b
 --     readCyclesOf t a b        the answer for the text t
@@ -17,14 +16,13 @@ use mathlib.Core.Path.{_≡_}
 use mathlib.Core.Logic.{_⊎_}
 use mathlib.Core.List.{List, []}
 use Prim.Native.Nat.{ℕ, _≤_, _<_}
-use lib.Dec.{ltb}
 use lib.ListN.{take}
-use Rattle.basics.specs.Choice.{pick}
 use Rattle.refusal.specs.Refusal.{tooShort, pointCount, badCycles, filledBy}
 use Rattle.refusal.specs.declared.Refusal.{Refusal}
 use Rattle.refusal.specs.declared.Checked.the-variants as checked
 use Rattle.refusal.specs.declared.Filled.{Filled}
 use Rattle.refusal.specs.declared.Filled.the-variants as filled
+use Rattle.coset.specs.Answer.{roomTwo}
 use Rattle.permutations.specs.Check.{pairCheck, Passport}
 use Rattle.cycle_notation.specs.Piece.{cyclePieces, withoutOffsets}
 use Rattle.cycle_notation.specs.Form.{Right}
@@ -39,15 +37,10 @@ tableOfS q = cycleTable (q .index) (q .ofS)
 abbrev pub tableOfR : Read → List ℕ
 tableOfR q = cycleTable (q .index) (q .ofR)
 
-abbrev pub roomForPair : (n a b : ℕ) → Filled
-roomForPair n a b =
-    let short = filled.Refused (tooShort n) in
-    pick (ltb a n) short (pick (ltb b n) short (filled.Made n))
-
 abbrev pub answerBy : Verdict → (a b : ℕ) → Filled
 answerBy (leaves place) a b = filled.Refused (badCycles place)
 answerBy index-out a b = filled.Refused pointCount
-answerBy (reads q) a b = filledBy (pairCheck (tableOfS q) (tableOfR q)) (roomForPair (q .index) a b)
+answerBy (reads q) a b = filledBy (pairCheck (tableOfS q) (tableOfR q)) (roomTwo (q .index) a b)
 
 abbrev pub readCyclesOf : (t : List ℕ) (a b : ℕ) → Filled
 readCyclesOf t a b = answerBy (verdictOf t) a b

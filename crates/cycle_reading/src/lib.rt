@@ -29,7 +29,7 @@ ghost use Rattle.cycle_reading.specs.Inner.Alone.{fails, aloneOf, AloneR
 ghost use Rattle.cycle_reading.specs.Inner.Front.{BlanksTo, eitherAlone, VerdictRead, tablesAnswer};
 
 mod phases;
-mod pieces;
+pub mod pieces;
 mod points;
 
 // The phases of a permutation: at its beginning; behind its first `(`; behind `()`; behind a point; where a point must come; behind a cycle. It was

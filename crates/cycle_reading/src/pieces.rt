@@ -12,7 +12,7 @@ ghost use Rattle.cycle_reading.specs.Inner.Hand.{pieceOf, DigitsRead, Fo
 const PAST: u64 = 3067;
 
 // Whether a byte is a digit.
-pub(crate) fn digit(b: u8) -> bool
+pub fn digit(b: u8) -> bool
     ensures { λ r. ⌜ r ≡ digitByte b ⌝ }
 {
     if b < b'0' {
@@ -41,7 +41,7 @@ pub(crate) fn pushed(m: u64, b: u8) -> u64
 }
 
 // The run of digits from `from` on.
-pub(crate) fn digits_at(text: &[u8], from: usize) -> Digits
+pub fn digits_at(text: &[u8], from: usize) -> Digits
     requires { ⌜ from ≤ length (now text) ⌝ }
     ensures { λ r. ⌜ DigitsRead (now (text .entry)) from r ⌝ }
 {

@@ -1,43 +1,51 @@
 -- The lines for a text in cycle notation.
 --     room-enough       the program's tables have room for every index
 --     Made, made-pair   where tables come out: they are a pair of permutations of as many points as the answer says
---     front-of          and stand at the front of the lent tables
+--     answer-cut        the answer to an input that goes on, as the code makes it
+--     front-of          the tables stand at the front of the lent ones
 --     pair-as, fits-as  the text of a pair, and that it fits, for equal tables
 --     lines-by          the lines for an answer
 --     printed           what the bytes mean
 -- Assumes nothing.
 use mathlib.Core.Path.{_≡_, refl, sym, ap, subst, _∙_}
 use mathlib.Core.Bool.{Bool, true, false}
-use mathlib.Core.List.{List}
-use Prim.Native.Nat.{ℕ, suc, _-_}
+use mathlib.Core.List.{List, [], _++_, append-nil}
+use Prim.Native.Nat.{ℕ, suc, _-_, _<_}
 use lib.Dec.{ltb}
 use lib.ListN.{length, take, drop}
 use lib.Seq.{take-at}
-use borrow.Author.Tests.{le-ltb}
+use borrow.Author.Tests.{lt-ltb, le-ltb, ltb-true}
 use Rattle.basics.specs.Choice.{pick}
-use Rattle.basics.proofs.Choice.{pick-false}
-use Rattle.refusal.specs.Refusal.{filledBy}
+use Rattle.basics.proofs.Choice.{pick-true, pick-false}
+use Rattle.refusal.specs.Refusal.{filledBy, pointCount, badCycles}
+use Rattle.refusal.specs.declared.Refusal.{Refusal}
 use Rattle.refusal.specs.declared.Checked.{Checked}
 use Rattle.refusal.specs.declared.Checked.the-variants as checked
 use Rattle.refusal.specs.declared.Filled.{Filled}
 use Rattle.refusal.specs.declared.Filled.the-variants as filled
 use Rattle.refusal.proofs.Apart.{refused-accepted, refused-made}
-use Rattle.coset.specs.Answer.{columnLeft}
+use Rattle.coset.specs.Answer.{roomTwo, columnLeft}
+use Rattle.text.specs.Reading.{textMost}
 use Rattle.text_line.specs.Line.{refusalLine}
 use Rattle.permutations.specs.Check.{pairCheck, Passport}
 use Rattle.permutations.proofs.Accepted.{accepted}
+use Rattle.cycle_notation.specs.Piece.{runValue}
 use Rattle.cycle_notation.specs.Verdict.{Read, Verdict, reads, index-out, leaves, VerdictMeans, right, no-index, wrong}
 use Rattle.cycle_notation.specs.Table.{imageBy}
 use Rattle.cycle_notation.specs.Inner.Reader.{verdictOf}
 use Rattle.cycle_notation.proofs.Stores.{length-tabled}
 use Rattle.cycle_notation.proofs.Wrong.{verdict-means}
-use Rattle.cycle_reading.specs.Reading.{tableOfS, tableOfR, roomForPair, answerBy, readTable, readS, readR, RightAs}
+use Rattle.cycle_reading.specs.Reading.{tableOfS, tableOfR, answerBy, readTable, readS, readR, RightAs}
 use Rattle.cycle_reading.proofs.Filling.{FaultNumber, pair-fault, in-range}
 use Rattle.pair_text.specs.Pair.{PairFits, pairText, pairLinesBy}
 use Rattle.pair_text.proofs.PairLines.{pair-fits}
 use Rattle.pair_text.proofs.ReadBack.{pair-read-back}
+use Rattle.cycles_text.specs.Cut.{withoutRun, lastRun, overMost, judgedText}
 use Rattle.cycles_text.specs.Answer as answer
-use Rattle.cycles_text.specs.Answer.{cyclesRead, cutAnswer, cyclesAnswer, cyclesText, CyclesPrinted}
+use Rattle.cycles_text.specs.Answer.{cyclesRead, cutBy, cyclesAnswer, cyclesText, CyclesPrinted}
+use Rattle.cycles_text.specs.Inner.Ends.{cutAnswer}
+use Rattle.cycles_text.proofs.Runs.{pieces-split}
+use Rattle.cycles_text.proofs.Onward.{Fate, out-already, lost-already, open-short, open-right, fate, Sealed, sealed-out, sealed-at, sealed-by-run}
 use Rattle.cycles_text.proofs.Cutting.{pair-cut}
 
 -- ---- a text that is right
@@ -49,7 +57,7 @@ module _ (text : List ℕ) (q : Read) (h : RightAs text q) where
   long-R : length (tableOfR q) ≡ q .index
   long-R = length-tabled (λ (i : ℕ). imageBy (q .ofR) (suc i) - 1) (q .index)
 
-  room-enough : roomForPair (q .index) 3066 3066 ≡ filled.Made (q .index)
+  room-enough : roomTwo (q .index) 3066 3066 ≡ filled.Made (q .index)
   room-enough =
       let most = in-range (q .index) (h .index) .1 in
       pick-false (ltb 3066 (q .index)) _ _ (le-ltb 3066 (q .index) most) ∙ pick-false (ltb 3066 (q .index)) _ _ (le-ltb 3066 (q .index) most)
@@ -73,10 +81,10 @@ made-read text n e = go (verdictOf text) refl (verdict-means text)
   where
     by-check : (q : Read) → verdictOf text ≡ reads q → RightAs text q → (c : Checked) → pairCheck (tableOfS q) (tableOfR q) ≡ c → Made text n
     by-check q w h (checked.Refused f) k =
-        refused-made (sym (ap (λ (c : Checked). filledBy c (roomForPair (q .index) 3066 3066)) k) ∙ sym (ap (λ (v : Verdict). answerBy v 3066 3066) w) ∙ e)
+        refused-made (sym (ap (λ (c : Checked). filledBy c (roomTwo (q .index) 3066 3066)) k) ∙ sym (ap (λ (v : Verdict). answerBy v 3066 3066) w) ∙ e)
     by-check q w h checked.Accepted k =
         let m : q .index ≡ n =
-        made-index (sym (ap (λ (c : Checked). filledBy c (roomForPair (q .index) 3066 3066)) k ∙ room-enough text q h) ∙ sym (ap (λ (v : Verdict). answerBy v 3066 3066) w) ∙ e) in
+        made-index (sym (ap (λ (c : Checked). filledBy c (roomTwo (q .index) 3066 3066)) k ∙ room-enough text q h) ∙ sym (ap (λ (v : Verdict). answerBy v 3066 3066) w) ∙ e) in
         let S-is = ap (readTable tableOfS) w in
         let R-is = ap (readTable tableOfR) w in
         record {
@@ -91,13 +99,39 @@ made-read text n e = go (verdictOf text) refl (verdict-means text)
     go index-out w m = refused-made (sym (ap (λ (v : Verdict). answerBy v 3066 3066) w) ∙ e)
     go (reads q) w (right _ h) = by-check q w h (pairCheck (tableOfS q) (tableOfR q)) refl
 
-cut-never : {X : Type 0} (a : Filled) (n : ℕ) → cutAnswer a ≡ filled.Made n → X
-cut-never (filled.Made m) n e = refused-made e
-cut-never (filled.Refused f) n e = refused-made e
+cut-never : {X : Type 0} (end : ℕ) (v : Verdict) (n : ℕ) → cutBy end v ≡ filled.Made n → X
+cut-never end (leaves place) n e = refused-made e
+cut-never end index-out n e = refused-made e
+cut-never end (reads q) n e = refused-made e
 
-pub made-pair : (longer : Bool) (text : List ℕ) (n : ℕ) → cyclesAnswer longer text ≡ filled.Made n → Made text n
-made-pair true text n e = cut-never (cyclesRead text) n e
-made-pair false text n e = made-read text n e
+pub made-pair : (longer : Bool) (text : List ℕ) (n : ℕ) → cyclesAnswer longer text ≡ filled.Made n → Made (judgedText longer text) n
+made-pair true text n e = cut-never (length (judgedText true text)) (verdictOf (judgedText true text)) n e
+made-pair false text n e = made-read (judgedText false text) n e
+
+-- what the code makes of the answer to the part that is judged
+cut-verdict : (end : ℕ) (t : List ℕ) (v : Verdict) → VerdictMeans t v → cutAnswer end (answerBy v 3066 3066) ≡ cutBy end v
+cut-verdict end t (leaves place) m = by-place (ltb place end)
+  where
+    by-place : (b : Bool) → filled.Refused (pick b (badCycles place) (badCycles textMost)) ≡ filled.Refused (badCycles (pick b place textMost))
+    by-place true = refl
+    by-place false = refl
+cut-verdict end t index-out m = refl
+cut-verdict end t (reads q) (right _ h) = go (pairCheck (tableOfS q) (tableOfR q)) refl
+  where
+    go : (c : Checked) → pairCheck (tableOfS q) (tableOfR q) ≡ c
+        → cutAnswer end (filledBy c (roomTwo (q .index) 3066 3066)) ≡ filled.Refused (badCycles textMost)
+    go (checked.Refused f) e =
+        let k : FaultNumber (checked.Refused f) = subst FaultNumber e (fault t q h) in
+        ap filled.Refused (pair-cut end f (k .0) (k .1))
+    go checked.Accepted e = ap (cutAnswer end) (room-enough t q h)
+
+pub answer-cut : (longer : Bool) (text : List ℕ) (end : ℕ) (a : Filled) → end ≡ length (judgedText longer text) → a ≡ cyclesRead (judgedText longer text) → longer ≡ true
+    → cutAnswer end a ≡ cyclesAnswer longer text
+answer-cut longer text end a n e h =
+    ap (cutAnswer end) e
+    ∙ cut-verdict end (judgedText longer text) (verdictOf (judgedText longer text)) (verdict-means (judgedText longer text))
+    ∙ ap (λ (k : ℕ). cutBy k (verdictOf (judgedText longer text))) n
+    ∙ sym (pick-true longer _ _ h)
 
 -- the table at the front of what is left
 pub front-of : (a : Filled) (n : ℕ) (t out out' : List ℕ) → a ≡ filled.Made n → length t ≡ n → out' ≡ columnLeft a t out → take n out' ≡ t
@@ -110,29 +144,24 @@ pair-as e f = cc
 pub fits-as : {s s' r r' : List ℕ} → s ≡ s' → r ≡ r' → PairFits s' r' → PairFits s r
 fits-as {s} {s'} {r} {r'} e f p = rw (e, f) p
 
-pub lines-by : (longer : Bool) (text : List ℕ) (a : Filled) → a ≡ cyclesAnswer longer text → pairLinesBy a (readS text) (readR text) ≡ cyclesText longer text
+pub lines-by : (longer : Bool) (text : List ℕ) (a : Filled) → a ≡ cyclesAnswer longer text
+    → pairLinesBy a (readS (judgedText longer text)) (readR (judgedText longer text)) ≡ cyclesText longer text
 unfolding cyclesText
-lines-by longer text a e = ap (λ (x : Filled). pairLinesBy x (readS text) (readR text)) e
+lines-by longer text a e = ap (λ (x : Filled). pairLinesBy x (readS (judgedText longer text)) (readR (judgedText longer text))) e
 
 -- ---- what the bytes mean
 
 module _ (text : List ℕ) where
-  abbrev linesOf : Bool → Verdict → List ℕ
-  linesOf longer v = pairLinesBy (pick longer (cutAnswer (answerBy v 3066 3066)) (answerBy v 3066 3066)) (readTable tableOfS v) (readTable tableOfR v)
-
-  abbrev checkedLines : Bool → Read → Checked → List ℕ
-  checkedLines longer q c =
-      let a = filledBy c (roomForPair (q .index) 3066 3066) in
-      pairLinesBy (pick longer (cutAnswer a) a) (tableOfS q) (tableOfR q)
-
   as-printed : {longer : Bool} {bytes bytes' : List ℕ} → bytes ≡ bytes' → CyclesPrinted text longer bytes' → CyclesPrinted text longer bytes
   as-printed {longer} {bytes} {bytes'} e p = rw e p
 
-  by-check : (longer : Bool) (q : Read) → RightAs text q → (c : Checked) → pairCheck (tableOfS q) (tableOfR q) ≡ c → CyclesPrinted text longer (checkedLines longer q c)
-  by-check true q h (checked.Refused f) e =
-      let k : FaultNumber (checked.Refused f) = subst FaultNumber e (fault text q h) in
-      as-printed (ap refusalLine (pair-cut f (k .0) (k .1))) (answer.goes-on q h)
-  by-check false q h (checked.Refused f) e =
+  -- of a text
+
+  abbrev checkedLines : Read → Checked → List ℕ
+  checkedLines q c = pairLinesBy (filledBy c (roomTwo (q .index) 3066 3066)) (tableOfS q) (tableOfR q)
+
+  by-check : (q : Read) → RightAs text q → (c : Checked) → pairCheck (tableOfS q) (tableOfR q) ≡ c → CyclesPrinted text false (checkedLines q c)
+  by-check q h (checked.Refused f) e =
       let k : FaultNumber (checked.Refused f) = subst FaultNumber e (fault text q h) in
       answer.no-pair q h f (record {
         first = e;
@@ -140,20 +169,56 @@ module _ (text : List ℕ) where
         high = k .1;
         none = λ p. refused-accepted (sym e ∙ accepted (tableOfS q) (tableOfR q) .1 p);
       })
-  by-check true q h checked.Accepted e =
-      as-printed (ap (λ (a : Filled). pairLinesBy (cutAnswer a) (tableOfS q) (tableOfR q)) (room-enough text q h)) (answer.goes-on q h)
-  by-check false q h checked.Accepted e =
+  by-check q h checked.Accepted e =
       let p = accepted (tableOfS q) (tableOfR q) .0 e in
       as-printed (ap (λ (a : Filled). pairLinesBy a (tableOfS q) (tableOfR q)) (room-enough text q h))
       (answer.pair-printed q (record { right = h; passport = p }) (pair-read-back (tableOfS q) (tableOfR q) (pair-fits (tableOfS q) (tableOfR q) p)))
 
-  by-verdict : (longer : Bool) (v : Verdict) → VerdictMeans text v → CyclesPrinted text longer (linesOf longer v)
-  by-verdict true (leaves place) (wrong _ n w) = answer.leaves-form true place n w
-  by-verdict false (leaves place) (wrong _ n w) = answer.leaves-form false place n w
-  by-verdict true index-out (no-index o) = answer.no-index true o
-  by-verdict false index-out (no-index o) = answer.no-index false o
-  by-verdict longer (reads q) (right _ h) = by-check longer q h (pairCheck (tableOfS q) (tableOfR q)) refl
+  by-verdict : (v : Verdict) → VerdictMeans text v
+      → CyclesPrinted text false (pairLinesBy (answerBy v 3066 3066) (readTable tableOfS v) (readTable tableOfR v))
+  by-verdict (leaves place) (wrong _ n w) = answer.leaves-form place n w
+  by-verdict index-out (no-index o) = answer.no-index o
+  by-verdict (reads q) (right _ h) = by-check q h (pairCheck (tableOfS q) (tableOfR q)) refl
+
+  -- of an input that goes on behind it
+
+  abbrev cutLines : List ℕ → Verdict → List ℕ
+  cutLines t v = pairLinesBy (cutBy (length t) v) (readS t) (readR t)
+
+  follows : {v : Verdict} (f : Refusal) → ((a b : ℕ) → answerBy v a b ≡ filled.Refused f) → ((rest : List ℕ) → verdictOf (text ++ rest) ≡ v)
+      → CyclesPrinted text true (refusalLine f)
+  follows {v} f said all = answer.whatever-follows f (λ rest a b. ap (λ (x : Verdict). answerBy x a b) (all rest) ∙ said a b)
+
+  by-place : (t : List ℕ) (place : ℕ) → place < length t → ((rest : List ℕ) → verdictOf (text ++ rest) ≡ leaves place)
+      → CyclesPrinted text true (cutLines t (leaves place))
+  by-place t place l all =
+      as-printed (ap (λ (k : ℕ). refusalLine (badCycles k)) (pick-true (ltb place (length t)) place textMost (lt-ltb place (length t) l)))
+      (follows (badCycles place) (λ a b. refl) all)
+
+  by-fate : (v : Verdict) → Fate (withoutRun text) v → CyclesPrinted text true (cutLines (withoutRun text) v)
+  by-fate v (out-already all) = follows pointCount (λ a b. refl) (λ rest. all (text ++ rest) _ (pieces-split text rest))
+  by-fate v (lost-already place l all) = by-place (withoutRun text) place l (λ rest. all (text ++ rest) _ (pieces-split text rest))
+  by-fate v (open-short place l c) =
+      as-printed (ap (λ (k : ℕ). refusalLine (badCycles k)) (pick-false (ltb place (length (withoutRun text))) place textMost (le-ltb place (length (withoutRun text)) l)))
+      (answer.goes-on c)
+  by-fate v (open-right q c) = answer.goes-on c
+
+  by-seal : (v : Verdict) → Sealed text v → CyclesPrinted text true (cutLines text v)
+  by-seal v (sealed-out all) = follows pointCount (λ a b. refl) all
+  by-seal v (sealed-at place l all) = by-place text place l all
+
+  seal-said : (v : Verdict) → Sealed text v → v ≡ verdictOf text
+  seal-said v (sealed-out all) = sym (all []) ∙ ap verdictOf (append-nil text)
+  seal-said v (sealed-at place l all) = sym (all []) ∙ ap verdictOf (append-nil text)
+
+  cut-printed : (o : Bool) → overMost text ≡ o
+      → CyclesPrinted text true (cutLines (pick o text (withoutRun text)) (verdictOf (pick o text (withoutRun text))))
+  cut-printed true e =
+      let s = sealed-by-run text (ltb-true 3066 (runValue 0 (lastRun text)) e) (verdictOf (withoutRun text)) (fate (withoutRun text) _ (verdict-means (withoutRun text))) in
+      subst (λ (v : Verdict). CyclesPrinted text true (cutLines text v)) (seal-said (s .verdict) (s .is)) (by-seal (s .verdict) (s .is))
+  cut-printed false e = by-fate (verdictOf (withoutRun text)) (fate (withoutRun text) _ (verdict-means (withoutRun text)))
 
   pub printed : (longer : Bool) (bytes : List ℕ) → bytes ≡ cyclesText longer text → CyclesPrinted text longer bytes
-  unfolding cyclesText
-  printed longer bytes e = as-printed e (by-verdict longer (verdictOf text) (verdict-means text))
+  unfolding cyclesText judgedText
+  printed true bytes e = as-printed e (cut-printed (overMost text) refl)
+  printed false bytes e = as-printed e (by-verdict (verdictOf text) (verdict-means text))

@@ -1,5 +1,9 @@
 // What the program `cycles` writes for a text: all of it, byte for byte, as specs/Answer.antt says.
+use cycle_reading::pieces::digit;
+use cycle_reading::pieces::digits_at;
 use cycle_reading::read_cycles;
+use input::Input;
+use input::text_end;
 use pair_text::pair_lines;
 use refusal::BAD_CYCLES;
 use refusal::Filled;
@@ -10,18 +14,54 @@ use text_line::refusal_line;
 ghost use mathlib.Core.Path.{_≡_};
 ghost use Prim.Native.Nat.{_≤_};
 ghost use lib.ListN.{length, take};
+ghost use Rattle.input.specs.Input.{ForInput};
 ghost use Rattle.text_line.specs.Line.{Puts};
-ghost use Rattle.cycles_text.specs.Answer.{cutRefusal, cutAnswer, cyclesAnswer, cyclesText, CyclesLeave, CyclesPrinted};
+ghost use Rattle.cycles_text.specs.Answer.{cyclesAnswer, cyclesText, CyclesLeave, CyclesPrinted};
+ghost use Rattle.cycles_text.specs.Inner.Ends.{RunBegins, JudgedTo, cutRefusal, cutAnswer};
 
-// The refusal of an input that goes on behind a text with this refusal. A permutation check says nothing of such an input, which is too long.
-fn cut_refusal(refused: Refusal) -> Refusal
-    ensures { λ r. ⌜ r ≡ cutRefusal refused ⌝ }
+// Where the run of digits at the end of a text begins; at the end where it has none.
+fn last_run(text: &[u8]) -> usize
+    ensures { λ e. ⌜ RunBegins (now (text .entry)) e ⌝ }
+{
+    let mut at = text.len();
+    while 0 < at {
+        let last = at - 1;
+        if digit(text[last]) {
+            at = last;
+        } else {
+            return at;
+        }
+    }
+    at
+}
+
+// How much of a text is judged. Where the input goes on behind it, a run of digits at its end may go on as well, and
+// is judged only where it says more than 3,066: then it is no index and no point, whatever digits follow.
+fn judged_end(text: &[u8], longer: bool) -> usize
+    ensures { λ e. ⌜ JudgedTo longer (now (text .entry)) e ⌝ }
+{
+    if longer {
+        let at = last_run(text);
+        let run = digits_at(text, at);
+        if run.value <= 3066 {
+            return at;
+        }
+    }
+    text.len()
+}
+
+// The refusal of an input that goes on, by that of the part that is judged, which ends before `end`. A permutation
+// check says nothing of such an input, which is too long.
+fn cut_refusal(refused: Refusal, end: usize) -> Refusal
+    ensures { λ r. ⌜ r ≡ cutRefusal end refused ⌝ }
 {
     if refused.number == POINT_COUNT {
         return refused;
     }
     if refused.number == BAD_CYCLES {
-        return refused;
+        if refused.place < end {
+            return refused;
+        }
     }
     Refusal {
         number: BAD_CYCLES,
@@ -29,16 +69,16 @@ fn cut_refusal(refused: Refusal) -> Refusal
     }
 }
 
-// The answer to an input that goes on behind a text with this answer.
-fn cut_answer(read: Filled) -> Filled
-    ensures { λ r. ⌜ r ≡ cutAnswer read ⌝ }
+// The answer to an input that goes on, by that of the part that is judged.
+fn cut_answer(read: Filled, end: usize) -> Filled
+    ensures { λ r. ⌜ r ≡ cutAnswer end read ⌝ }
 {
     match read {
         Filled::Made(_) => Filled::Refused(Refusal {
             number: BAD_CYCLES,
             place: TEXT_MOST,
         }),
-        Filled::Refused(refusal) => Filled::Refused(cut_refusal(refusal)),
+        Filled::Refused(refusal) => Filled::Refused(cut_refusal(refusal, end)),
     }
 }
 
@@ -46,11 +86,13 @@ fn cut_answer(read: Filled) -> Filled
 fn read_tables(text: &[u8], longer: bool, s: &mut [u32], r: &mut [u32]) -> Filled
     requires { ⌜ (length (now s) ≡ 3066) × (length (now r) ≡ 3066) ⌝ }
     ensures { λ f. ⌜ f ≡ cyclesAnswer longer (now (text .entry)) ⌝ }
-    ensures { λ _. ⌜ CyclesLeave (now (text .entry)) (now (s .entry)) (now (r .entry)) (now (s .exit)) (now (r .exit)) ⌝ }
+    ensures { λ _. ⌜ CyclesLeave longer (now (text .entry)) (now (s .entry)) (now (r .entry))
+        (now (s .exit)) (now (r .exit)) ⌝ }
 {
-    let read = read_cycles(text, s, r);
+    let end = judged_end(text, longer);
+    let read = read_cycles(&text[..end], s, r);
     if longer {
-        return cut_answer(read);
+        return cut_answer(read, end);
     }
     read
 }
@@ -59,7 +101,8 @@ fn read_tables(text: &[u8], longer: bool, s: &mut [u32], r: &mut [u32]) -> Fille
 fn cycles_text(text: &[u8], longer: bool, s: &mut [u32], r: &mut [u32], out: &mut [u8]) -> usize
     requires { ⌜ (length (now s) ≡ 3066) × (length (now r) ≡ 3066) × (65536 ≤ length (now out)) ⌝ }
     ensures { λ e. ⌜ Puts (cyclesText longer (now (text .entry))) 0 e (now (out .entry)) (now (out .exit)) ⌝ }
-    ensures { λ _. ⌜ CyclesLeave (now (text .entry)) (now (s .entry)) (now (r .entry)) (now (s .exit)) (now (r .exit)) ⌝ }
+    ensures { λ _. ⌜ CyclesLeave longer (now (text .entry)) (now (s .entry)) (now (r .entry))
+        (now (s .exit)) (now (r .exit)) ⌝ }
 {
     let read = read_tables(text, longer, s, r);
     match read {
@@ -68,18 +111,28 @@ fn cycles_text(text: &[u8], longer: bool, s: &mut [u32], r: &mut [u32], out: &mu
     }
 }
 
-// What the program writes for the text, or for an input that goes on behind it, from the front of `out`; where it ends. The arrays are the
-// program's own, and what stands in them at the start is free.
+// What the program writes for an input, whose bytes stand at the front of the buffer, from the front of `out`; where
+// it ends: at 0, with nothing changed, where the input could not be read. The arrays are the program's own, and what
+// stands in them at the start is free.
 pub fn answer(
-    text: &[u8],
-    longer: bool,
+    buffer: &[u8],
+    input: Input,
     s: &mut [u32; 3066],
     r: &mut [u32; 3066],
     out: &mut [u8; 65536],
 ) -> usize
-    ensures { λ e. ⌜ Puts (cyclesText longer (now (text .entry))) 0 e (now (out .entry)) (now (out .exit)) × (e ≤ length (now (out .exit))) ⌝ }
-    ensures { λ _. ⌜ CyclesLeave (now (text .entry)) (now (s .entry)) (now (r .entry)) (now (s .exit)) (now (r .exit)) ⌝ }
-    ensures { λ e. ⌜ CyclesPrinted (now (text .entry)) longer (take e (now (out .exit))) ⌝ }
+    ensures { λ e. ⌜ e ≤ length (now (out .exit)) ⌝ }
+    ensures { λ e. ⌜ ForInput (now (buffer .entry))
+        (λ longer text. Puts (cyclesText longer text) 0 e (now (out .entry)) (now (out .exit))
+        × CyclesLeave longer text (now (s .entry)) (now (r .entry)) (now (s .exit)) (now (r .exit))
+        × CyclesPrinted text longer (take e (now (out .exit))))
+        ((e ≡ 0) × (now (s .exit) ≡ now (s .entry)) × (now (r .exit) ≡ now (r .entry))
+        × (now (out .exit) ≡ now (out .entry)))
+        input ⌝ }
 {
-    cycles_text(text, longer, s, r, out)
+    let Input::Read(n, longer) = input else {
+        return 0;
+    };
+    let end = text_end(buffer, n);
+    cycles_text(&buffer[..end], longer, s, r, out)
 }

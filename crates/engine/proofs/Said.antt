@@ -10,7 +10,7 @@ use native.Mathlib.Omega.{arith}
 use lib.ListN.{length}
 use lib.IntN.{ℤ}
 use Rattle.matrix.specs.Matrix.{Mat, ofList, _⊗_, _≈_}
-use Rattle.signs.specs.Sign.{withSign}
+use Rattle.coset.specs.Positions.{withSign}
 use Rattle.pairing.specs.Generator.{generators}
 use Rattle.pairing.specs.Subgroup.{IsWord, valueOf}
 use Rattle.refusal.specs.Refusal.{tooShort}

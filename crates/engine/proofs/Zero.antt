@@ -31,8 +31,8 @@ use Rattle.coset.specs.Tables.{indexOf}
 use Rattle.figures.specs.declared.FigureRecord.{FigureRecord}
 use Rattle.coset.specs.declared.Figured.{Figured}
 use Rattle.coset.specs.declared.Figured.the-variants as figured
-use Rattle.coset.specs.Answer.{roomFor, tabledOf, roomOne, widthsOf, widthedOf, figuresOf, figuredBy, figuredOf, Meaning}
-use Rattle.cusp_record.specs.Answer.{roomForBoth, cuspedOf}
+use Rattle.coset.specs.Answer.{roomFor, roomTwo, tabledOf, roomOne, widthsOf, widthedOf, figuresOf, figuredBy, figuredOf, Meaning}
+use Rattle.cusp_record.specs.Answer.{cuspedOf}
 use Rattle.import_rule.specs.Order.{Order}
 use Rattle.import_rule.specs.Symbol as rule
 use Rattle.import_table.specs.Answer.{grownOf}
@@ -43,7 +43,7 @@ use Rattle.cycle_writing.specs.Export.{exportWithin, writeCyclesOf}
 use Rattle.congruence.specs.Index.{familyIndex}
 use Rattle.congruence.specs.Cosets.{familyS, familyR}
 use Rattle.named_groups.specs.Group.{familyOf, groupCheck}
-use Rattle.named_groups.specs.Answer.{roomTwo, namedTablesOf, namedSymbolBy}
+use Rattle.named_groups.specs.Answer.{namedTablesOf, namedSymbolBy}
 use Rattle.named_groups.proofs.Checked.{group-numbers}
 use Rattle.engine.specs.Exported.{filledPlace, samenessPlace, figureNumber}
 
@@ -89,7 +89,7 @@ module _ (v : ℕ) (t : List ℤ) (work : ℕ) where
       let n = indexOf v t in
       let short = filled.Refused (tooShort n) in
       let second = pick (ltb b n) short (filled.Made n) in
-      above-asked (roomForBoth n a b) (above-pick (ltb a n) short second (omega arith) (above-pick (ltb b n) short (filled.Made n) (omega arith) tt))
+      above-asked (roomTwo n a b) (above-pick (ltb a n) short second (omega arith) (above-pick (ltb b n) short (filled.Made n) (omega arith) tt))
 
   pub figured-above : AboveFigured (figuredOf v t work)
   figured-above = go (symbolCheck v t) (check-among v t)

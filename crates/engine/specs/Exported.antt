@@ -4,6 +4,8 @@
 -- `samenessRefusal`, `inclusionRefusal`, `drawingRefusal`). Through `place` it writes the refusal's place or, where it returns 0, a count.
 --
 --   filledPlace                     place, or how many things were made: generators, cosets, cusps, vertices, numbers of a table
+--   Served, ServedWidths            4,090 entries in each result space are enough for every accepted symbol: with a
+--                                   work space of its length the call returns 0, never 11 (`Ample`, in the crate coset)
 --   queryPlace                      place, or how many letters the word has
 --   signWritten                     the sign of a word, 1 or -1, or what stood there where the call refuses
 --   samenessPlace, inclusionPlace   place, or 1 for yes and 0 for no
@@ -17,10 +19,10 @@
 --   boxLeft                         the four floats of the box: left, right, bottom, top; or all as it was
 use mathlib.Core.Path.{_≡_}
 use mathlib.Core.List.{List, [], _∷_}
-use Prim.Native.Nat.{ℕ, _+_}
+use Prim.Native.Nat.{ℕ, _+_, _≤_}
 use lib.Ieee.{Float}
 use lib.IntN.{ℤ}
-use lib.ListN.{getD}
+use lib.ListN.{length, getD}
 use Rattle.refusal.specs.declared.Filled.{Filled}
 use Rattle.refusal.specs.declared.Filled.the-variants as filled
 use Rattle.sameness.specs.declared.Sameness.{Sameness}
@@ -30,6 +32,9 @@ use Rattle.inclusion.specs.declared.Inclusion.the-variants as inclusion
 use Rattle.figures.specs.declared.Figure.{Figure}
 use Rattle.figures.specs.declared.Figure.the-variants as figure
 use Rattle.figures.specs.declared.FigureRecord.{FigureRecord}
+use Rattle.workspace.specs.Space.{workLength}
+use Rattle.symbol.specs.Symbol.{IsSymbol}
+use Rattle.coset.specs.Tables.{mostCosets}
 use Rattle.coset.specs.declared.Figured.{Figured}
 use Rattle.coset.specs.declared.Figured.the-variants as figured
 use Rattle.word.specs.Answer.{signNumber}
@@ -41,6 +46,13 @@ use Rattle.word.specs.declared.Queried.the-variants as queried
 abbrev pub filledPlace : Filled → ℕ
 filledPlace (filled.Made n) = n
 filledPlace (filled.Refused f) = f .place
+
+abbrev pub Served : (v : ℕ) → List ℤ → (w s r u : List ℕ) → ℕ → Type 0
+Served v t w s r u n =
+    IsSymbol v t → workLength ≤ length w → mostCosets ≤ length s → mostCosets ≤ length r → mostCosets ≤ length u → n ≡ 0
+
+abbrev pub ServedWidths : (v : ℕ) → List ℤ → (w out : List ℕ) → ℕ → Type 0
+ServedWidths v t w out n = IsSymbol v t → workLength ≤ length w → mostCosets ≤ length out → n ≡ 0
 
 abbrev pub queryPlace : Queried → ℕ
 queryPlace (queried.Word start n sign) = n

@@ -37,6 +37,7 @@ ghost use Rattle.import_table.specs.Answer.{ruledLeft};
 ghost use Rattle.named_groups.specs.Group.{familyOf, groupCheck};
 ghost use Rattle.named_groups.specs.Answer.{namedTablesOf, NamedTables, namedRule, namedSymbolBy, NamedSymbol, ruledWord, namedQueryBy, namedQueryWork};
 ghost use Rattle.named_groups.specs.Claim.{NamedClaim, NamedQuerySays, NamedSignSays};
+ghost use Rattle.engine.specs.Exported.{Served, ServedWidths};
 ghost use Rattle.engine.specs.Exported.{filledPlace, queryPlace, signWritten, samenessPlace, figuresLeft, GenusGiven, drawingPlace, boxLeft};
 
 mod answers;
@@ -95,6 +96,7 @@ pub extern "C" fn farey_tables(
     ensures { λ n. ⌜ now (r .exit) ≡ columnLeft (tabledOf v (now (t .entry)) (length (now (w .entry))) (length (now (s .entry))) (length (now (r .entry))) (length (now (u .entry)))) (tableR v (now (t .entry))) (now (r .entry)) ⌝ }
     ensures { λ n. ⌜ now (u .exit) ≡ columnLeft (tabledOf v (now (t .entry)) (length (now (w .entry))) (length (now (s .entry))) (length (now (r .entry))) (length (now (u .entry)))) (tableT v (now (t .entry))) (now (u .entry)) ⌝ }
     ensures { λ n. ⌜ (n ≡ 0 → Meaning v (now (t .entry))) ⌝ }
+    ensures { λ n. ⌜ Served v (now (t .entry)) (now (w .entry)) (now (s .entry)) (now (r .entry)) (now (u .entry)) n ⌝ }
 {
     let said = of_filled(coset::tables(v, t, w, s, r, u));
     *place = said.place;
@@ -115,6 +117,7 @@ pub extern "C" fn farey_widths(
     ensures { λ n. ⌜ now (w .exit) ≡ workAfter (symbolCheck v (now (t .entry))) (now (w .entry)) ⌝ }
     ensures { λ n. ⌜ now (out .exit) ≡ columnLeft (widthedOf v (now (t .entry)) (length (now (w .entry))) (length (now (out .entry)))) (widthsOf v (now (t .entry))) (now (out .entry)) ⌝ }
     ensures { λ n. ⌜ (n ≡ 0 → Meaning v (now (t .entry))) ⌝ }
+    ensures { λ n. ⌜ ServedWidths v (now (t .entry)) (now (w .entry)) (now (out .entry)) n ⌝ }
 {
     let said = of_filled(coset::widths(v, t, w, out));
     *place = said.place;

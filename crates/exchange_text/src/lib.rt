@@ -1,5 +1,7 @@
 // What the program `exchange` writes for a text: all of it, byte for byte, as specs/Answer.antt says.
 use import_text::symbol_lines;
+use input::Input;
+use input::text_end;
 use partner_exchange::exchange;
 use refusal::BAD_VERTEX_COUNT;
 use refusal::Filled;
@@ -12,6 +14,7 @@ use text_line::refusal_line;
 ghost use mathlib.Core.Path.{_≡_};
 ghost use Prim.Native.Nat.{_≤_};
 ghost use lib.ListN.{length, take};
+ghost use Rattle.input.specs.Input.{ForInput};
 ghost use Rattle.text_line.specs.Line.{Puts};
 ghost use Rattle.exchange_text.specs.Answer.{exchangeLines, exchangeTable, exchangeLinesOf, tableTo, exchangedText, ExchangeLeaves, ExchangePrintMeans};
 
@@ -81,18 +84,29 @@ fn exchange_text(
     }
 }
 
-// What the program writes for the text, or for one that is longer than its buffer, from the front of `out`; where it ends. The arrays are
-// the program's own, and what stands in them at the start is free.
+// What the program writes for an input, whose bytes stand at the front of the buffer, from the front of `out`; where
+// it ends: at 0, with nothing changed, where the input could not be read. The arrays are the program's own, and what
+// stands in them at the start is free.
 pub fn answer(
-    text: &[u8],
-    longer: bool,
+    buffer: &[u8],
+    input: Input,
     numbers: &mut [i64; 3073],
     table: &mut [i64; 3070],
     out: &mut [u8; 65536],
 ) -> usize
-    ensures { λ e. ⌜ Puts (exchangedText longer (now (text .entry))) 0 e (now (out .entry)) (now (out .exit)) × (e ≤ length (now (out .exit))) ⌝ }
-    ensures { λ e. ⌜ ExchangeLeaves longer (now (text .entry)) (now (numbers .entry)) (now (table .entry)) (now (numbers .exit)) (now (table .exit)) ⌝ }
-    ensures { λ e. ⌜ ExchangePrintMeans longer (now (text .entry)) (take e (now (out .exit))) ⌝ }
+    ensures { λ e. ⌜ e ≤ length (now (out .exit)) ⌝ }
+    ensures { λ e. ⌜ ForInput (now (buffer .entry))
+        (λ longer text. Puts (exchangedText longer text) 0 e (now (out .entry)) (now (out .exit))
+        × ExchangeLeaves longer text (now (numbers .entry)) (now (table .entry)) (now (numbers .exit))
+        (now (table .exit))
+        × ExchangePrintMeans longer text (take e (now (out .exit))))
+        ((e ≡ 0) × (now (numbers .exit) ≡ now (numbers .entry)) × (now (table .exit) ≡ now (table .entry))
+        × (now (out .exit) ≡ now (out .entry)))
+        input ⌝ }
 {
-    exchange_text(text, longer, numbers, table, out)
+    let Input::Read(n, longer) = input else {
+        return 0;
+    };
+    let end = text_end(buffer, n);
+    exchange_text(&buffer[..end], longer, numbers, table, out)
 }

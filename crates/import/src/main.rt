@@ -3,14 +3,9 @@
 //
 // The crate `import_text` makes all that is written; here it is read and written (`stdio`).
 // Where standard input can't be read to its end, nothing is written to standard output.
-use stdio::Input;
-
 fn main() {
     let mut text = [0u8; 65536];
     let input = stdio::read_whole(&mut text);
-    let Input::Read(n, longer) = input else {
-        return;
-    };
     let mut numbers = [0i64; 6133];
     let mut s = [0u32; 3066];
     let mut r = [0u32; 3066];
@@ -18,8 +13,8 @@ fn main() {
     let mut table = [0i64; 3070];
     let mut out = [0u8; 65536];
     let end = import_text::answer(
-        &text[..n],
-        longer,
+        &text,
+        input,
         &mut numbers,
         &mut s,
         &mut r,

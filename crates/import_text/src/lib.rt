@@ -1,5 +1,7 @@
 // What the programs `import` and `import_wide` write for a text: all of it, byte for byte, as specs/Answer.antt says. The one follows the rule, the
 // other the wide rule (`wide`).
+use input::Input;
+use input::text_end;
 use permutations::import_by;
 use refusal::Filled;
 use refusal::POINT_COUNT;
@@ -15,6 +17,7 @@ ghost use mathlib.Core.Path.{_≡_};
 ghost use mathlib.Core.List.{[], _∷_, map};
 ghost use Prim.Native.Nat.{_+_, _*_, _≤_};
 ghost use lib.ListN.{length, take};
+ghost use Rattle.input.specs.Input.{ForInput};
 ghost use Rattle.text_line.specs.Line.{natural, Puts};
 ghost use Rattle.permutations.specs.Check.{pairCheck};
 ghost use Rattle.import_rule.specs.Order.{leftmost, longestOpen};
@@ -181,11 +184,12 @@ fn import_text(
     }
 }
 
-// What a program writes for the text, or for one that is longer than its buffer, from the front of `out`; where it ends. A symbol that was
-// made is read back from these bytes.
+// What the program writes for an input, whose bytes stand at the front of the buffer, from the front of `out`; where
+// it ends: at 0, with nothing changed, where the input could not be read. A symbol that was made is read back from
+// these bytes.
 fn answer_by(
-    text: &[u8],
-    longer: bool,
+    buffer: &[u8],
+    input: Input,
     wide: bool,
     numbers: &mut [i64; 6133],
     s: &mut [u32; 3066],
@@ -194,18 +198,29 @@ fn answer_by(
     table: &mut [i64; 3070],
     out: &mut [u8; 65536],
 ) -> usize
-    ensures { λ e. ⌜ Puts (importedBy (orderBy wide) longer (now (text .entry))) 0 e (now (out .entry)) (now (out .exit)) × (e ≤ length (now (out .exit))) ⌝ }
-    ensures { λ _. ⌜ now (numbers .exit) ≡ numbersLeft longer (now (text .entry)) (now (numbers .entry)) ⌝ }
-    ensures { λ _. ⌜ ImportLeaves (orderBy wide) (requestOf longer (now (text .entry))) (now (s .entry)) (now (r .entry)) (now (w .entry)) (now (table .entry)) (now (s .exit)) (now (r .exit)) (now (w .exit)) (now (table .exit)) ⌝ }
-    ensures { λ e. ⌜ PrintMeans (orderBy wide) (requestOf longer (now (text .entry))) (take e (now (out .exit))) ⌝ }
+    ensures { λ e. ⌜ e ≤ length (now (out .exit)) ⌝ }
+    ensures { λ e. ⌜ ForInput (now (buffer .entry))
+        (λ longer text. Puts (importedBy (orderBy wide) longer text) 0 e (now (out .entry)) (now (out .exit))
+        × (now (numbers .exit) ≡ numbersLeft longer text (now (numbers .entry)))
+        × ImportLeaves (orderBy wide) (requestOf longer text) (now (s .entry)) (now (r .entry)) (now (w .entry))
+        (now (table .entry)) (now (s .exit)) (now (r .exit)) (now (w .exit)) (now (table .exit))
+        × PrintMeans (orderBy wide) (requestOf longer text) (take e (now (out .exit))))
+        ((e ≡ 0) × (now (numbers .exit) ≡ now (numbers .entry)) × (now (s .exit) ≡ now (s .entry))
+        × (now (r .exit) ≡ now (r .entry)) × (now (w .exit) ≡ now (w .entry))
+        × (now (table .exit) ≡ now (table .entry)) × (now (out .exit) ≡ now (out .entry)))
+        input ⌝ }
 {
-    import_text(text, longer, wide, numbers, s, r, w, table, out)
+    let Input::Read(n, longer) = input else {
+        return 0;
+    };
+    let end = text_end(buffer, n);
+    import_text(&buffer[..end], longer, wide, numbers, s, r, w, table, out)
 }
 
 // What the program `import` writes.
 pub fn answer(
-    text: &[u8],
-    longer: bool,
+    buffer: &[u8],
+    input: Input,
     numbers: &mut [i64; 6133],
     s: &mut [u32; 3066],
     r: &mut [u32; 3066],
@@ -213,18 +228,25 @@ pub fn answer(
     table: &mut [i64; 3070],
     out: &mut [u8; 65536],
 ) -> usize
-    ensures { λ e. ⌜ Puts (importedBy leftmost longer (now (text .entry))) 0 e (now (out .entry)) (now (out .exit)) × (e ≤ length (now (out .exit))) ⌝ }
-    ensures { λ _. ⌜ now (numbers .exit) ≡ numbersLeft longer (now (text .entry)) (now (numbers .entry)) ⌝ }
-    ensures { λ _. ⌜ ImportLeaves leftmost (requestOf longer (now (text .entry))) (now (s .entry)) (now (r .entry)) (now (w .entry)) (now (table .entry)) (now (s .exit)) (now (r .exit)) (now (w .exit)) (now (table .exit)) ⌝ }
-    ensures { λ e. ⌜ PrintMeans leftmost (requestOf longer (now (text .entry))) (take e (now (out .exit))) ⌝ }
+    ensures { λ e. ⌜ e ≤ length (now (out .exit)) ⌝ }
+    ensures { λ e. ⌜ ForInput (now (buffer .entry))
+        (λ longer text. Puts (importedBy leftmost longer text) 0 e (now (out .entry)) (now (out .exit))
+        × (now (numbers .exit) ≡ numbersLeft longer text (now (numbers .entry)))
+        × ImportLeaves leftmost (requestOf longer text) (now (s .entry)) (now (r .entry)) (now (w .entry))
+        (now (table .entry)) (now (s .exit)) (now (r .exit)) (now (w .exit)) (now (table .exit))
+        × PrintMeans leftmost (requestOf longer text) (take e (now (out .exit))))
+        ((e ≡ 0) × (now (numbers .exit) ≡ now (numbers .entry)) × (now (s .exit) ≡ now (s .entry))
+        × (now (r .exit) ≡ now (r .entry)) × (now (w .exit) ≡ now (w .entry))
+        × (now (table .exit) ≡ now (table .entry)) × (now (out .exit) ≡ now (out .entry)))
+        input ⌝ }
 {
-    answer_by(text, longer, false, numbers, s, r, w, table, out)
+    answer_by(buffer, input, false, numbers, s, r, w, table, out)
 }
 
 // What the program `import_wide` writes.
 pub fn answer_wide(
-    text: &[u8],
-    longer: bool,
+    buffer: &[u8],
+    input: Input,
     numbers: &mut [i64; 6133],
     s: &mut [u32; 3066],
     r: &mut [u32; 3066],
@@ -232,10 +254,17 @@ pub fn answer_wide(
     table: &mut [i64; 3070],
     out: &mut [u8; 65536],
 ) -> usize
-    ensures { λ e. ⌜ Puts (importedBy longestOpen longer (now (text .entry))) 0 e (now (out .entry)) (now (out .exit)) × (e ≤ length (now (out .exit))) ⌝ }
-    ensures { λ _. ⌜ now (numbers .exit) ≡ numbersLeft longer (now (text .entry)) (now (numbers .entry)) ⌝ }
-    ensures { λ _. ⌜ ImportLeaves longestOpen (requestOf longer (now (text .entry))) (now (s .entry)) (now (r .entry)) (now (w .entry)) (now (table .entry)) (now (s .exit)) (now (r .exit)) (now (w .exit)) (now (table .exit)) ⌝ }
-    ensures { λ e. ⌜ PrintMeans longestOpen (requestOf longer (now (text .entry))) (take e (now (out .exit))) ⌝ }
+    ensures { λ e. ⌜ e ≤ length (now (out .exit)) ⌝ }
+    ensures { λ e. ⌜ ForInput (now (buffer .entry))
+        (λ longer text. Puts (importedBy longestOpen longer text) 0 e (now (out .entry)) (now (out .exit))
+        × (now (numbers .exit) ≡ numbersLeft longer text (now (numbers .entry)))
+        × ImportLeaves longestOpen (requestOf longer text) (now (s .entry)) (now (r .entry)) (now (w .entry))
+        (now (table .entry)) (now (s .exit)) (now (r .exit)) (now (w .exit)) (now (table .exit))
+        × PrintMeans longestOpen (requestOf longer text) (take e (now (out .exit))))
+        ((e ≡ 0) × (now (numbers .exit) ≡ now (numbers .entry)) × (now (s .exit) ≡ now (s .entry))
+        × (now (r .exit) ≡ now (r .entry)) × (now (w .exit) ≡ now (w .entry))
+        × (now (table .exit) ≡ now (table .entry)) × (now (out .exit) ≡ now (out .entry)))
+        input ⌝ }
 {
-    answer_by(text, longer, true, numbers, s, r, w, table, out)
+    answer_by(buffer, input, true, numbers, s, r, w, table, out)
 }

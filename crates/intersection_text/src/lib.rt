@@ -1,4 +1,6 @@
 // What the program `intersection` writes for a text: all of it, byte for byte, as specs/Answer.antt says.
+use input::Input;
+use input::text_end;
 use intersections::intersection;
 use pair_text::pair_lines;
 use refusal::Filled;
@@ -9,6 +11,7 @@ use text_line::refusal_line;
 ghost use mathlib.Core.Path.{_≡_};
 ghost use Prim.Native.Nat.{_≤_};
 ghost use lib.ListN.{length, take};
+ghost use Rattle.input.specs.Input.{ForInput};
 ghost use Rattle.text_line.specs.Line.{Puts};
 ghost use Rattle.same_text.specs.Answer.{countedIn, tableIn};
 ghost use Rattle.intersection_text.specs.Answer.{intersectionBytes, IntersectionLeaves, IntersectionPrintMeans};
@@ -77,11 +80,12 @@ fn intersection_input(
     }
 }
 
-// What the program writes for the text, or for one that is longer than its buffer, from the front of `out`; where it ends. The arrays are the program's
-// own, and what stands in them at the start is free.
+// What the program writes for an input, whose bytes stand at the front of the buffer, from the front of `out`; where
+// it ends: at 0, with nothing changed, where the input could not be read. The arrays are the program's own, and what
+// stands in them at the start is free.
 pub fn answer(
-    text: &[u8],
-    longer: bool,
+    buffer: &[u8],
+    input: Input,
     one: &mut [i64; 3071],
     other: &mut [i64; 3071],
     w: &mut [u16; 32768],
@@ -90,9 +94,21 @@ pub fn answer(
     c: &mut [u32; 3066],
     out: &mut [u8; 65536],
 ) -> usize
-    ensures { λ e. ⌜ Puts (intersectionBytes longer (now (text .entry))) 0 e (now (out .entry)) (now (out .exit)) × (e ≤ length (now (out .exit))) ⌝ }
-    ensures { λ _. ⌜ IntersectionLeaves longer (now (text .entry)) (now (one .entry)) (now (other .entry)) (now (w .entry)) (now (a .entry)) (now (b .entry)) (now (c .entry)) (now (one .exit)) (now (other .exit)) (now (w .exit)) (now (a .exit)) (now (b .exit)) (now (c .exit)) ⌝ }
-    ensures { λ e. ⌜ IntersectionPrintMeans longer (now (text .entry)) (take e (now (out .exit))) ⌝ }
+    ensures { λ e. ⌜ e ≤ length (now (out .exit)) ⌝ }
+    ensures { λ e. ⌜ ForInput (now (buffer .entry))
+        (λ longer text. Puts (intersectionBytes longer text) 0 e (now (out .entry)) (now (out .exit))
+        × IntersectionLeaves longer text (now (one .entry)) (now (other .entry)) (now (w .entry)) (now (a .entry))
+        (now (b .entry)) (now (c .entry)) (now (one .exit)) (now (other .exit)) (now (w .exit))
+        (now (a .exit)) (now (b .exit)) (now (c .exit))
+        × IntersectionPrintMeans longer text (take e (now (out .exit))))
+        ((e ≡ 0) × (now (one .exit) ≡ now (one .entry)) × (now (other .exit) ≡ now (other .entry))
+        × (now (w .exit) ≡ now (w .entry)) × (now (a .exit) ≡ now (a .entry)) × (now (b .exit) ≡ now (b .entry))
+        × (now (c .exit) ≡ now (c .entry)) × (now (out .exit) ≡ now (out .entry)))
+        input ⌝ }
 {
-    intersection_input(text, longer, one, other, w, a, b, c, out)
+    let Input::Read(n, longer) = input else {
+        return 0;
+    };
+    let end = text_end(buffer, n);
+    intersection_input(&buffer[..end], longer, one, other, w, a, b, c, out)
 }

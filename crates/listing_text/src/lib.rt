@@ -1,6 +1,8 @@
 // What the program `listing` writes for a text: all of it, byte for byte, as specs/Listing.antt says (docs/CONVENTIONS.md, 10.5).
 use coset::survey;
 use figures::FigureRecord;
+use input::Input;
+use input::text_end;
 use lines::figure_lines;
 use lines::generator_part;
 use lines::table_lines;
@@ -14,6 +16,7 @@ use text_line::refusal_line;
 ghost use mathlib.Core.Path.{_≡_};
 ghost use Prim.Native.Nat.{_*_, _≤_};
 ghost use lib.ListN.{length, take};
+ghost use Rattle.input.specs.Input.{ForInput};
 ghost use Rattle.workspace.specs.Space.{workLength, zeros};
 ghost use Rattle.text_line.specs.Line.{Puts};
 ghost use Rattle.symbol.specs.Check.{symbolCheck};
@@ -105,19 +108,30 @@ fn list_text(
     }
 }
 
-// What the program writes for the text, or for one that is longer than its buffer, from the front of `out`; where it ends. The arrays are
-// the program's own, and what stands in them at the start is free.
+// What the program writes for an input, whose bytes stand at the front of the buffer, from the front of `out`; where
+// it ends: at 0, with nothing changed, where the input could not be read. The arrays are the program's own, and what
+// stands in them at the start is free.
 pub fn list(
-    text: &[u8],
-    longer: bool,
+    buffer: &[u8],
+    input: Input,
     numbers: &mut [i64; 3071],
     w: &mut [u16; 32768],
     table: &mut [i64; 5120],
     out: &mut [u8; 212992],
 ) -> usize
-    ensures { λ e. ⌜ Puts (listingOf longer (now (text .entry))) 0 e (now (out .entry)) (now (out .exit)) × (e ≤ length (now (out .exit))) ⌝ }
-    ensures { λ e. ⌜ ListingLeaves longer (now (text .entry)) (now (numbers .entry)) (now (table .entry)) (now (w .entry)) (now (numbers .exit)) (now (table .exit)) (now (w .exit)) ⌝ }
-    ensures { λ e. ⌜ ListingMeans longer (now (text .entry)) (take e (now (out .exit))) ⌝ }
+    ensures { λ e. ⌜ e ≤ length (now (out .exit)) ⌝ }
+    ensures { λ e. ⌜ ForInput (now (buffer .entry))
+        (λ longer text. Puts (listingOf longer text) 0 e (now (out .entry)) (now (out .exit))
+        × ListingLeaves longer text (now (numbers .entry)) (now (table .entry)) (now (w .entry))
+        (now (numbers .exit)) (now (table .exit)) (now (w .exit))
+        × ListingMeans longer text (take e (now (out .exit))))
+        ((e ≡ 0) × (now (numbers .exit) ≡ now (numbers .entry)) × (now (w .exit) ≡ now (w .entry))
+        × (now (table .exit) ≡ now (table .entry)) × (now (out .exit) ≡ now (out .entry)))
+        input ⌝ }
 {
-    list_text(text, longer, numbers, w, table, out)
+    let Input::Read(n, longer) = input else {
+        return 0;
+    };
+    let end = text_end(buffer, n);
+    list_text(&buffer[..end], longer, numbers, w, table, out)
 }

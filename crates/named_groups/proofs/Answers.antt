@@ -21,7 +21,7 @@ use Rattle.refusal.specs.declared.Filled.the-variants as filled
 use Rattle.refusal.proofs.Apart.{refused-made}
 use Rattle.workspace.specs.Space.{workLength, zeros}
 use Rattle.pairing.specs.Generator.{byWork, workAfter}
-use Rattle.coset.specs.Answer.{columnLeft}
+use Rattle.coset.specs.Answer.{roomTwo, columnLeft}
 use Rattle.congruence.specs.Index.{familyIndex}
 use Rattle.congruence.specs.Cosets.{familyS, familyR}
 use Rattle.congruence.specs.declared.Family.{Family}
@@ -34,7 +34,7 @@ use Rattle.permutations.specs.Check.{pairCheck}
 use Rattle.permutations.specs.Import.{grownWithin, importBy, importWork, importTable}
 use Rattle.permutations.proofs.Accepted.{accepted}
 use Rattle.permutations.proofs.Means.{import-means}
-use Rattle.named_groups.specs.Answer.{roomTwo, namedTablesOf, NamedTables, NamedTablesMean, namedRule, namedSymbolBy, NamedSymbol, NamedSymbolMeans}
+use Rattle.named_groups.specs.Answer.{namedTablesOf, NamedTables, NamedTablesMean, namedRule, namedSymbolBy, NamedSymbol, NamedSymbolMeans}
 use Rattle.named_groups.proofs.Checked.{check-named, group-of}
 use Rattle.named_groups.proofs.Tables.{family-cosets, passport}
 use Rattle.named_groups.proofs.Symbols.{symbol-named}

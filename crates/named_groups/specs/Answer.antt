@@ -1,6 +1,5 @@
 -- The answers of the calls on groups with names, and what they leave. k is the family's number.
 --
---   roomTwo n a b            n points, or 11 with that length: spaces of length a and b are tested in this order
 --   namedTablesOf            20, 21, then the work space, then the spaces for S and R, or the number of points
 --   namedRule order k n      what the rule gives for the group's tables, under an order
 --   namedSymbolBy            20, 21, then the work space, then the result space, then 16, or the number of vertices; by the rule `leftmost`, by
@@ -16,12 +15,11 @@ use mathlib.Core.Path.{_≡_}
 use mathlib.Core.Logic.{_↔_}
 use mathlib.Core.List.{List, []}
 use Prim.Native.Nat.{ℕ, _+_, _-_, _*_}
-use lib.Dec.{ltb}
 use lib.ListN.{take}
 use lib.IntN.{ℤ}
 use Rattle.basics.specs.Choice.{pick}
 use Rattle.matrix.specs.Matrix.{Mat, ofList}
-use Rattle.refusal.specs.Refusal.{tooShort, entryTooLarge, filledBy}
+use Rattle.refusal.specs.Refusal.{entryTooLarge, filledBy}
 use Rattle.refusal.specs.declared.Filled.{Filled}
 use Rattle.refusal.specs.declared.Filled.the-variants as filled
 use Rattle.symbol.specs.Symbol.{IsSymbol}
@@ -29,6 +27,7 @@ use Rattle.pairing.specs.Generator.{generators, byWork, workAfter}
 use Rattle.pairing.specs.Subgroup.{InH}
 use Rattle.figures.specs.Cusps.{fixedPoints}
 use Rattle.coset.specs.Tables.{indexOf, tableS, tableR}
+use Rattle.coset.specs.Answer.{roomTwo}
 use Rattle.congruence.specs.Condition.{Unit}
 use Rattle.congruence.specs.Congruence.{Meets}
 use Rattle.congruence.specs.Index.{familyIndex}
@@ -44,11 +43,6 @@ use Rattle.word.specs.declared.Queried.the-variants as queried
 use Rattle.named_groups.specs.Group.{familyOf, groupCheck}
 
 -- ---- the tables
-
-abbrev pub roomTwo : (n a b : ℕ) → Filled
-roomTwo n a b =
-    let short = filled.Refused (tooShort n) in
-    pick (ltb a n) short (pick (ltb b n) short (filled.Made n))
 
 abbrev pub namedTablesOf : (k n work a b : ℕ) → Filled
 namedTablesOf k n work a b = filledBy (groupCheck k n) (byWork work (roomTwo (familyIndex (familyOf k) n) a b))

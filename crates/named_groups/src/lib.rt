@@ -17,7 +17,7 @@ ghost use Prim.Native.Nat.{_≤_};
 ghost use lib.ListN.{length};
 ghost use Rattle.workspace.specs.Space.{workLength, zeros};
 ghost use Rattle.pairing.specs.Generator.{workAfter};
-ghost use Rattle.coset.specs.Answer.{columnLeft};
+ghost use Rattle.coset.specs.Answer.{roomTwo, columnLeft};
 ghost use Rattle.congruence.specs.Index.{familyIndex};
 ghost use Rattle.congruence.specs.Cosets.{familyS, familyR};
 ghost use Rattle.congruence_tables.specs.Inner.Held.{Group};
@@ -27,7 +27,7 @@ ghost use Rattle.import_table.specs.Answer.{orderBy, ruledLeft};
 ghost use Rattle.permutations.specs.Import.{grownWithin};
 ghost use Rattle.word.specs.Answer.{wordLeft};
 ghost use Rattle.named_groups.specs.Group.{familyOf, groupCheck, GroupVerdict};
-ghost use Rattle.named_groups.specs.Answer.{roomTwo, namedTablesOf, NamedTablesMean, namedRule, namedSymbolBy, NamedSymbolMeans, ruledQuery, ruledWord, namedQueryBy, namedQueryWork};
+ghost use Rattle.named_groups.specs.Answer.{namedTablesOf, NamedTablesMean, namedRule, namedSymbolBy, NamedSymbolMeans, ruledQuery, ruledWord, namedQueryBy, namedQueryWork};
 ghost use Rattle.named_groups.specs.Claim.{NamedClaim};
 ghost use Rattle.named_groups.specs.Inner.Ready.{QueryReady};
 

@@ -1,5 +1,7 @@
 // What the program `named` writes for a text: all of it, byte for byte, as specs/Answer.antt says.
 use import_text::symbol_lines;
+use input::Input;
+use input::text_end;
 use named_groups::named_symbol_by;
 use refusal::BAD_LEVEL;
 use refusal::ENTRY_TOO_LARGE;
@@ -13,6 +15,7 @@ use text_line::refusal_line;
 ghost use mathlib.Core.Path.{_≡_};
 ghost use Prim.Native.Nat.{_≤_};
 ghost use lib.ListN.{length, take};
+ghost use Rattle.input.specs.Input.{ForInput};
 ghost use Rattle.text_line.specs.Line.{Puts};
 ghost use Rattle.pairing.specs.Generator.{workAfter};
 ghost use Rattle.import_table.specs.Answer.{ruledLeft};
@@ -114,20 +117,31 @@ fn group_text(
     }
 }
 
-// What the program writes for the text, or for one that is longer than its buffer, from the front of `out`; where it ends. A symbol that was
-// made is read back from these bytes.
+// What the program writes for an input, whose bytes stand at the front of the buffer, from the front of `out`; where
+// it ends: at 0, with nothing changed, where the input could not be read. A symbol that was made is read back from
+// these bytes.
 pub fn answer(
-    text: &[u8],
-    longer: bool,
+    buffer: &[u8],
+    input: Input,
     numbers: &mut [i64; 2],
     w: &mut [u16; 32768],
     table: &mut [i64; 3070],
     out: &mut [u8; 65536],
 ) -> usize
-    ensures { λ e. ⌜ Puts (namedBytes longer (now (text .entry))) 0 e (now (out .entry)) (now (out .exit)) × (e ≤ length (now (out .exit))) ⌝ }
-    ensures { λ _. ⌜ now (numbers .exit) ≡ groupNumbers longer (now (text .entry)) (now (numbers .entry)) ⌝ }
-    ensures { λ _. ⌜ GroupLeaves (groupRequest longer (now (text .entry))) (now (w .entry)) (now (table .entry)) (now (w .exit)) (now (table .exit)) ⌝ }
-    ensures { λ e. ⌜ NamedPrintMeans (groupRequest longer (now (text .entry))) (take e (now (out .exit))) ⌝ }
+    ensures { λ e. ⌜ e ≤ length (now (out .exit)) ⌝ }
+    ensures { λ e. ⌜ ForInput (now (buffer .entry))
+        (λ longer text. Puts (namedBytes longer text) 0 e (now (out .entry)) (now (out .exit))
+        × (now (numbers .exit) ≡ groupNumbers longer text (now (numbers .entry)))
+        × GroupLeaves (groupRequest longer text) (now (w .entry)) (now (table .entry)) (now (w .exit))
+        (now (table .exit))
+        × NamedPrintMeans (groupRequest longer text) (take e (now (out .exit))))
+        ((e ≡ 0) × (now (numbers .exit) ≡ now (numbers .entry)) × (now (w .exit) ≡ now (w .entry))
+        × (now (table .exit) ≡ now (table .entry)) × (now (out .exit) ≡ now (out .entry)))
+        input ⌝ }
 {
-    group_text(text, longer, numbers, w, table, out)
+    let Input::Read(n, longer) = input else {
+        return 0;
+    };
+    let end = text_end(buffer, n);
+    group_text(&buffer[..end], longer, numbers, w, table, out)
 }

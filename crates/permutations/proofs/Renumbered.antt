@@ -20,7 +20,7 @@ use Rattle.matrix.proofs.Matrix.{⊗-assoc, ⊗-idr, ⊗-adj, adj-⊗, det-one,
 use Rattle.matrix.proofs.Action.{acts}
 use Rattle.pairing.specs.Subgroup.{InH}
 use Rattle.pairing.specs.Generator.{generators}
-use Rattle.polygon.specs.Theorem.{SameCoset}
+use Rattle.coset.specs.Positions.{SameCoset}
 use Rattle.numbering.specs.Order.{orderOf, Maps, Reached, here, by-σ, by-ρ}
 use Rattle.numbering.specs.Table.{renamed}
 use Rattle.coset.specs.Tables.{indexOf}

@@ -1,14 +1,19 @@
 -- The definitions compute, on symbols of docs/CONVENTIONS.md.
 --
 -- In order: Γ0(2), with the vertices 0/1 and 1/1 and the pairings 1 -2 1: one triangle, whose corners are 0, 1 and 2, and the outer faces 3, 4 and 5;
--- the symbols with the vertex 0/1 alone; Γ(2), with two triangles.
+-- the symbols with the vertex 0/1 alone, and of an odd side that it turns about the point outside the polygon; Γ(2), with two triangles.
 -- Assumes nothing.
-use mathlib.Core.Path.{_≡_, refl}
+use mathlib.Core.Path.{_≡_, refl, ap}
+use mathlib.Core.Logic.{inl, inr}
 use mathlib.Core.List.{List, [], _∷_}
-use lib.IntN.{ℤ, pos, negsuc}
-use Rattle.matrix.specs.Matrix.{mat, _⊗_, 𝟙, neg, adj, matS, matT}
+use Prim.Native.Nat.{ℕ}
+use native.Mathlib.Omega.{arith}
+use lib.IntN.{ℤ, pos, negsuc, natAbs, _+ℤ_}
+use Rattle.matrix.specs.Matrix.{Mat, mat, _⊗_, 𝟙, neg, adj, matS, matT, matR, matQ, _≈_}
 use Rattle.matrix.specs.Action.{at}
 use Rattle.basics.specs.Count.{count}
+use Rattle.symbol.specs.Table.{carried}
+use Rattle.pairing.specs.Generator.{frameAt, generator}
 use Rattle.polygon.specs.Cut.{places, flipOf, underZero}
 use Rattle.polygon.specs.Step.{real, stepS, turnQ, written, startOf, originOf}
 use Rattle.polygon.specs.Walk.{followed, walkEnds, walkWrites}
@@ -67,6 +72,17 @@ odds = pos 0 ∷ pos 1 ∷ negsuc 2 ∷ negsuc 2 ∷ []
 index-odds : (count (real 1 odds) (places 1) ≡ 2) × (stepS 1 odds 0 ≡ 1) × (stepS 1 odds 1 ≡ 0) × (turnQ 1 0 ≡ 0)
 unfolding flipOf real stepS turnQ
 index-odds = (refl, refl, refl, refl)
+
+-- Q at the outer face of its first side, with frame M, is that side's generator: the promise of a step, as M Q M⁻¹ keeps it
+turned-outside : frameAt 1 odds 0 ⊗ matQ ≡ generator 1 odds 0 ⊗ frameAt 1 odds 0
+unfolding _⊗_ adj matQ
+turned-outside = refl
+
+-- M R M⁻¹, which turns about the point inside the polygon, doesn't keep it
+turned-inside : frameAt 1 odds 0 ⊗ matQ ≈ carried (frameAt 1 odds 0) matR (frameAt 1 odds 0) ⊗ frameAt 1 odds 0 → ⊥
+unfolding _⊗_ adj neg matS matT matR matQ
+turned-inside (inl e) = let z : _≡_ {A = ℕ} 2 0 = ap (λ (m : Mat). natAbs (m .b +ℤ pos 1)) e in absurd (omega arith)
+turned-inside (inr e) = let z : _≡_ {A = ℕ} 0 2 = ap (λ (m : Mat). natAbs (m .a +ℤ pos 1)) e in absurd (omega arith)
 
 -- Γ(2): the vertices 0/1, 1/1, 2/1 with 1 2 2 1
 abbrev gamma2 : List ℤ

@@ -1,4 +1,6 @@
 // What the program `query` writes for a text: all of it, byte for byte, as specs/Reply.antt says (docs/CONVENTIONS.md, 10.6).
+use input::Input;
+use input::text_end;
 use refusal::BAD_VERTEX_COUNT;
 use refusal::Refusal;
 use text::Format;
@@ -15,6 +17,7 @@ use word::word_part;
 ghost use mathlib.Core.Path.{_≡_};
 ghost use Prim.Native.Nat.{_+_, _*_, _≤_};
 ghost use lib.ListN.{length, take};
+ghost use Rattle.input.specs.Input.{ForInput};
 ghost use Rattle.text_line.specs.Line.{line, Puts};
 ghost use Rattle.word.specs.Answer.{queryWork};
 ghost use Rattle.query_text.specs.Reply.{wordHead, lettersLent, replied, lettersLeft, repliedTo, workTo, lettersTo, replyOf, ReplyLeaves, ReplyMeans};
@@ -109,19 +112,31 @@ fn reply_text(
     }
 }
 
-// What the program writes for the text, or for one that is longer than its buffer, from the front of `out`; where it ends. The arrays are
-// the program's own, and what stands in them at the start is free.
+// What the program writes for an input, whose bytes stand at the front of the buffer, from the front of `out`; where
+// it ends: at 0, with nothing changed, where the input could not be read. The arrays are the program's own, and what
+// stands in them at the start is free.
 pub fn reply(
-    text: &[u8],
-    longer: bool,
+    buffer: &[u8],
+    input: Input,
     numbers: &mut [i64; 3079],
     w: &mut [u16; 32768],
     letters: &mut [i16; 16384],
     out: &mut [u8; 131072],
 ) -> usize
-    ensures { λ e. ⌜ Puts (replyOf longer (now (text .entry))) 0 e (now (out .entry)) (now (out .exit)) × (e ≤ length (now (out .exit))) ⌝ }
-    ensures { λ e. ⌜ ReplyLeaves longer (now (text .entry)) (now (numbers .entry)) (now (letters .entry)) (now (w .entry)) (now (numbers .exit)) (now (letters .exit)) (now (w .exit)) ⌝ }
-    ensures { λ e. ⌜ ReplyMeans longer (now (text .entry)) (take e (now (out .exit))) (now (letters .entry)) (now (w .entry)) (now (letters .exit)) ⌝ }
+    ensures { λ e. ⌜ e ≤ length (now (out .exit)) ⌝ }
+    ensures { λ e. ⌜ ForInput (now (buffer .entry))
+        (λ longer text. Puts (replyOf longer text) 0 e (now (out .entry)) (now (out .exit))
+        × ReplyLeaves longer text (now (numbers .entry)) (now (letters .entry)) (now (w .entry))
+        (now (numbers .exit)) (now (letters .exit)) (now (w .exit))
+        × ReplyMeans longer text (take e (now (out .exit))) (now (letters .entry)) (now (w .entry))
+        (now (letters .exit)))
+        ((e ≡ 0) × (now (numbers .exit) ≡ now (numbers .entry)) × (now (w .exit) ≡ now (w .entry))
+        × (now (letters .exit) ≡ now (letters .entry)) × (now (out .exit) ≡ now (out .entry)))
+        input ⌝ }
 {
-    reply_text(text, longer, numbers, w, letters, out)
+    let Input::Read(n, longer) = input else {
+        return 0;
+    };
+    let end = text_end(buffer, n);
+    reply_text(&buffer[..end], longer, numbers, w, letters, out)
 }

@@ -1,4 +1,6 @@
 // What the program `same` writes for a text: all of it, byte for byte, as specs/Answer.antt says.
+use input::Input;
+use input::text_end;
 use refusal::BAD_TEXT;
 use refusal::BAD_VERTEX_COUNT;
 use refusal::Refusal;
@@ -16,6 +18,7 @@ ghost use mathlib.Core.Path.{_≡_};
 ghost use mathlib.Core.Bool.{false};
 ghost use Prim.Native.Nat.{_+_, _≤_};
 ghost use lib.ListN.{length, take};
+ghost use Rattle.input.specs.Input.{ForInput};
 ghost use Rattle.workspace.specs.Space.{workLength};
 ghost use Rattle.text_line.specs.Line.{Puts};
 ghost use Rattle.same_text.specs.Answer.{samenessLine, inWhole, TwoSymbols, two, none, twoSymbols, twoLines, sameBytes, workBy, SameLeaves, SamePrintMeans};
@@ -132,19 +135,30 @@ fn same_input(
     }
 }
 
-// What the program writes for the text, or for one that is longer than its buffer, from the front of `out`; where it ends. The arrays are the program's
-// own, and what stands in them at the start is free.
+// What the program writes for an input, whose bytes stand at the front of the buffer, from the front of `out`; where
+// it ends: at 0, with nothing changed, where the input could not be read. The arrays are the program's own, and what
+// stands in them at the start is free.
 pub fn answer(
-    text: &[u8],
-    longer: bool,
+    buffer: &[u8],
+    input: Input,
     one: &mut [i64; 3071],
     other: &mut [i64; 3071],
     w: &mut [u16; 32768],
     out: &mut [u8; 64],
 ) -> usize
-    ensures { λ e. ⌜ Puts (sameBytes longer (now (text .entry))) 0 e (now (out .entry)) (now (out .exit)) × (e ≤ length (now (out .exit))) ⌝ }
-    ensures { λ _. ⌜ SameLeaves longer (now (text .entry)) (now (one .entry)) (now (other .entry)) (now (w .entry)) (now (one .exit)) (now (other .exit)) (now (w .exit)) ⌝ }
-    ensures { λ e. ⌜ SamePrintMeans longer (now (text .entry)) (take e (now (out .exit))) ⌝ }
+    ensures { λ e. ⌜ e ≤ length (now (out .exit)) ⌝ }
+    ensures { λ e. ⌜ ForInput (now (buffer .entry))
+        (λ longer text. Puts (sameBytes longer text) 0 e (now (out .entry)) (now (out .exit))
+        × SameLeaves longer text (now (one .entry)) (now (other .entry)) (now (w .entry)) (now (one .exit))
+        (now (other .exit)) (now (w .exit))
+        × SamePrintMeans longer text (take e (now (out .exit))))
+        ((e ≡ 0) × (now (one .exit) ≡ now (one .entry)) × (now (other .exit) ≡ now (other .entry))
+        × (now (w .exit) ≡ now (w .entry)) × (now (out .exit) ≡ now (out .entry)))
+        input ⌝ }
 {
-    same_input(text, longer, one, other, w, out)
+    let Input::Read(n, longer) = input else {
+        return 0;
+    };
+    let end = text_end(buffer, n);
+    same_input(&buffer[..end], longer, one, other, w, out)
 }

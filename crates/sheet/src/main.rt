@@ -3,22 +3,17 @@
 //
 // The crate `sheet_text` makes all that is written; here it is read and written (`stdio`).
 // Where standard input can't be read to its end, nothing is written to standard output.
-use stdio::Input;
-
 fn main() {
     let mut text = [0u8; 65536];
     let input = stdio::read_whole(&mut text);
-    let Input::Read(n, longer) = input else {
-        return;
-    };
     let mut numbers = [0i64; 5119];
     let mut w = [0u16; 32768];
     let mut lines = [0i64; 1024];
     let mut letters = [0i16; 16384];
     let mut out = [0u8; 131072];
     let end = sheet_text::print(
-        &text[..n],
-        longer,
+        &text,
+        input,
         &mut numbers,
         &mut w,
         &mut lines,

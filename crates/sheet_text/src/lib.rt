@@ -1,4 +1,6 @@
 // What the program `sheet` writes for a text: all of it, byte for byte, as specs/Printed.antt says (docs/CONVENTIONS.md, 10.9).
+use input::Input;
+use input::text_end;
 use query_text::word_line;
 use refusal::BAD_TEXT;
 use refusal::BAD_VERTEX_COUNT;
@@ -27,6 +29,7 @@ ghost use mathlib.Core.Path.{_≡_};
 ghost use mathlib.Core.Option.{none, some};
 ghost use Prim.Native.Nat.{_+_, _*_, _≤_};
 ghost use lib.ListN.{length, take};
+ghost use Rattle.input.specs.Input.{ForInput};
 ghost use Rattle.text.specs.Piece.{pieces, firstBad, numbers};
 ghost use Rattle.text.specs.Reading.{leftBy};
 ghost use Rattle.text_line.specs.Line.{Puts};
@@ -187,20 +190,33 @@ fn print_text(
     }
 }
 
-// What the program writes for the text, or for one that is longer than its buffer, from the front of `out`; where it ends. The arrays are the program's
-// own, and what stands in them at the start is free.
+// What the program writes for an input, whose bytes stand at the front of the buffer, from the front of `out`; where
+// it ends: at 0, with nothing changed, where the input could not be read. The arrays are the program's own, and what
+// stands in them at the start is free.
 pub fn print(
-    text: &[u8],
-    longer: bool,
+    buffer: &[u8],
+    input: Input,
     numbers: &mut [i64; 5119],
     w: &mut [u16; 32768],
     lines: &mut [i64; 1024],
     letters: &mut [i16; 16384],
     out: &mut [u8; 131072],
 ) -> usize
-    ensures { λ e. ⌜ Puts (sheetBytes longer (now (text .entry))) 0 e (now (out .entry)) (now (out .exit)) × (e ≤ length (now (out .exit))) ⌝ }
-    ensures { λ e. ⌜ SheetLeaves longer (now (text .entry)) (now (numbers .entry)) (now (w .entry)) (now (lines .entry)) (now (letters .entry)) (now (numbers .exit)) (now (w .exit)) (now (lines .exit)) (now (letters .exit)) ⌝ }
-    ensures { λ e. ⌜ SheetPrintMeans longer (now (text .entry)) (take e (now (out .exit))) (now (w .entry)) (now (letters .entry)) (now (letters .exit)) ⌝ }
+    ensures { λ e. ⌜ e ≤ length (now (out .exit)) ⌝ }
+    ensures { λ e. ⌜ ForInput (now (buffer .entry))
+        (λ longer text. Puts (sheetBytes longer text) 0 e (now (out .entry)) (now (out .exit))
+        × SheetLeaves longer text (now (numbers .entry)) (now (w .entry)) (now (lines .entry))
+        (now (letters .entry)) (now (numbers .exit)) (now (w .exit)) (now (lines .exit)) (now (letters .exit))
+        × SheetPrintMeans longer text (take e (now (out .exit))) (now (w .entry)) (now (letters .entry))
+        (now (letters .exit)))
+        ((e ≡ 0) × (now (numbers .exit) ≡ now (numbers .entry)) × (now (w .exit) ≡ now (w .entry))
+        × (now (lines .exit) ≡ now (lines .entry)) × (now (letters .exit) ≡ now (letters .entry))
+        × (now (out .exit) ≡ now (out .entry)))
+        input ⌝ }
 {
-    print_text(text, longer, numbers, w, lines, letters, out)
+    let Input::Read(n, longer) = input else {
+        return 0;
+    };
+    let end = text_end(buffer, n);
+    print_text(&buffer[..end], longer, numbers, w, lines, letters, out)
 }

@@ -13,7 +13,7 @@ use lib.IntN.{ℤ, pos, negsuc, negℤ, _*ℤ_}
 use Rattle.matrix.specs.Matrix.{Mat, mat, neg}
 use Rattle.matrix.proofs.Integer.{one-*}
 use Rattle.matrix.proofs.Ring.{con, var, _⊙_, ⊖_, ring}
-use Rattle.signs.specs.Sign.{withSign}
+use Rattle.coset.specs.Positions.{withSign}
 use Rattle.coset.specs.Tables.{tableS, tableR}
 use Rattle.coset.specs.Theorem.{leads}
 use Rattle.refusal.specs.Refusal.{noRefusal, noWord, tooShort}

@@ -12,7 +12,7 @@ use lib.IntN.{ℤ, pos}
 use borrow.Author.Tests.{ne-eqb}
 use Rattle.basics.proofs.Choice.{pick-false}
 use Rattle.matrix.specs.Matrix.{ofList, _⊗_, _≈_}
-use Rattle.signs.specs.Sign.{withSign}
+use Rattle.coset.specs.Positions.{withSign}
 use Rattle.pairing.specs.Generator.{generators}
 use Rattle.pairing.specs.Subgroup.{IsWord, valueOf}
 use Rattle.refusal.specs.Refusal.{noRefusal, noWord, tooShort}

@@ -8,7 +8,6 @@ use refusal::MATRIX_ENTRY;
 use refusal::Refusal;
 use refusal::TOO_SHORT;
 use symbol::check;
-use walk_steps::prepare;
 use word::Queried;
 use word::answer_ready;
 use word::four_at;
@@ -26,7 +25,8 @@ ghost use Rattle.pairing.specs.Generator.{workAfter};
 ghost use Rattle.word.specs.Answer.{four, foundWord, wordLeft};
 ghost use Rattle.sheets.specs.Sheet.{pairsIn, badCount, sheetCheck, wordEnd, spaceAt, lineOf, linesTo, sheetOf, linesLeft, lettersAfter};
 ghost use Rattle.sheets.specs.Meaning.{SheetMeans};
-ghost use Rattle.sheets.specs.Inner.Pairs.{TablesReady, pairOf, SheetReady, lineAt, Fitting};
+ghost use Rattle.coset.specs.Inner.Steps.{BuiltSteps};
+ghost use Rattle.sheets.specs.Inner.Pairs.{pairOf, SheetReady, lineAt, Fitting};
 
 // The entries of a sheet, at most.
 pub const ENTRIES: usize = 2048;
@@ -110,7 +110,7 @@ fn answer_pair(
     out: &mut [i16],
     start: usize,
 ) -> Queried
-    requires { ⌜ TablesReady (now t) v (now w) home × (length (now pair) ≡ 8) ⌝ }
+    requires { ⌜ BuiltSteps (now t) v (now w) home × (length (now pair) ≡ 8) ⌝ }
     ensures { λ r. ⌜ r ≡ pairOf v (now (t .entry)) (four (now (pair .entry)) 0) (four (now (pair .entry)) 4) (length (now (out .entry))) start ⌝ }
     ensures { λ r. ⌜ now (out .exit) ≡ wordLeft r (foundWord v (now (t .entry)) (ofList (four (now (pair .entry)) 0)) (ofList (four (now (pair .entry)) 4))) (now (out .entry)) ⌝ }
 {
@@ -142,7 +142,7 @@ fn answer_pairs(
     lines: &mut [i64],
     out: &mut [i16],
 )
-    requires { ⌜ TablesReady (now t) v (now w) home × SheetReady v (now t) (now p) (now w) × (4 * pairsIn (now p) ≤ length (now lines)) ⌝ }
+    requires { ⌜ BuiltSteps (now t) v (now w) home × SheetReady v (now t) (now p) (now w) × (4 * pairsIn (now p) ≤ length (now lines)) ⌝ }
     ensures { λ _. ⌜ now (lines .exit) ≡ linesTo v (now (t .entry)) (now (p .entry)) (length (now (w .entry))) (now (out .entry)) (pairsIn (now (p .entry))) ++ drop (4 * pairsIn (now (p .entry))) (now (lines .entry)) ⌝ }
     ensures { λ _. ⌜ now (out .exit) ≡ spaceAt v (now (t .entry)) (now (p .entry)) (length (now (w .entry))) (now (out .entry)) (pairsIn (now (p .entry))) .letters ⌝ }
 {
@@ -173,8 +173,7 @@ fn fill(v: usize, t: &[i64], p: &[i64], w: &mut [u16], lines: &mut [i64], out: &
             place: n,
         });
     }
-    let home = polygon::build(t, v, w);
-    prepare(t, v, w);
+    let home = coset::steps::build(t, v, w);
     answer_pairs(t, v, w, home, p, lines, out);
     workspace::clear(w);
     Filled::Made(n)

@@ -7,17 +7,10 @@ ghost use Prim.Native.Nat.{_≤_};
 ghost use mathlib.Core.Path.{_≡_};
 ghost use lib.ListN.{length};
 ghost use Rattle.stdio.specs.Input.{Within, Held, Further};
+use input::Input;
 use libc::STDERR_FILENO;
 use libc::STDIN_FILENO;
 use libc::STDOUT_FILENO;
-
-// What reading all of standard input came to.
-pub enum Input {
-    // So many bytes, at the start of the buffer, and whether the input goes on behind them. Only a full buffer leaves some behind.
-    Read(usize, bool),
-    // A read failed, which standard error says: what came isn't the input.
-    Failed,
-}
 
 // What one read came to.
 enum Piece {

@@ -1,12 +1,15 @@
 // What the program `to_cycles` writes for a text: all of it, byte for byte, as specs/Answer.antt says.
 use cycle_writing::write_cycles;
 use import_text::read_tables;
+use input::Input;
+use input::text_end;
 use refusal::Filled;
 use text_line::put;
 use text_line::refusal_line;
 ghost use mathlib.Core.Path.{_≡_};
 ghost use Prim.Native.Nat.{_≤_};
 ghost use lib.ListN.{length, take};
+ghost use Rattle.input.specs.Input.{ForInput};
 ghost use Rattle.text_line.specs.Line.{Puts};
 ghost use Rattle.import_text.specs.Answer.{requestOf};
 ghost use Rattle.import_text.specs.Spaces.{numbersLeft, leftOfS, leftOfR};
@@ -45,20 +48,31 @@ fn to_cycles_text(
     }
 }
 
-// What the program writes for the text, or for one that is longer than its buffer, from the front of `out`; where it ends. The arrays are
-// the program's own, and what stands in them at the start is free.
+// What the program writes for an input, whose bytes stand at the front of the buffer, from the front of `out`; where
+// it ends: at 0, with nothing changed, where the input could not be read. The arrays are the program's own, and what
+// stands in them at the start is free.
 pub fn answer(
-    text: &[u8],
-    longer: bool,
+    buffer: &[u8],
+    input: Input,
     numbers: &mut [i64; 6133],
     s: &mut [u32; 3066],
     r: &mut [u32; 3066],
     out: &mut [u8; 65537],
 ) -> usize
-    ensures { λ e. ⌜ Puts (toCyclesText longer (now (text .entry))) 0 e (now (out .entry)) (now (out .exit)) × (e ≤ length (now (out .exit))) ⌝ }
-    ensures { λ _. ⌜ now (numbers .exit) ≡ numbersLeft longer (now (text .entry)) (now (numbers .entry)) ⌝ }
-    ensures { λ _. ⌜ (now (s .exit) ≡ leftOfS (requestOf longer (now (text .entry))) (now (s .entry))) × (now (r .exit) ≡ leftOfR (requestOf longer (now (text .entry))) (now (r .entry))) ⌝ }
-    ensures { λ e. ⌜ ExportPrintMeans (requestOf longer (now (text .entry))) (take e (now (out .exit))) ⌝ }
+    ensures { λ e. ⌜ e ≤ length (now (out .exit)) ⌝ }
+    ensures { λ e. ⌜ ForInput (now (buffer .entry))
+        (λ longer text. Puts (toCyclesText longer text) 0 e (now (out .entry)) (now (out .exit))
+        × (now (numbers .exit) ≡ numbersLeft longer text (now (numbers .entry)))
+        × (now (s .exit) ≡ leftOfS (requestOf longer text) (now (s .entry)))
+        × (now (r .exit) ≡ leftOfR (requestOf longer text) (now (r .entry)))
+        × ExportPrintMeans (requestOf longer text) (take e (now (out .exit))))
+        ((e ≡ 0) × (now (numbers .exit) ≡ now (numbers .entry)) × (now (s .exit) ≡ now (s .entry))
+        × (now (r .exit) ≡ now (r .entry)) × (now (out .exit) ≡ now (out .entry)))
+        input ⌝ }
 {
-    to_cycles_text(text, longer, numbers, s, r, out)
+    let Input::Read(n, longer) = input else {
+        return 0;
+    };
+    let end = text_end(buffer, n);
+    to_cycles_text(&buffer[..end], longer, numbers, s, r, out)
 }

@@ -1,4 +1,6 @@
 // What the program `tower` writes for a text: all of it, byte for byte, as specs/Answer.antt says.
+use input::Input;
+use input::text_end;
 use refusal::BAD_TEXT;
 use refusal::Checked;
 use refusal::Refusal;
@@ -17,6 +19,7 @@ ghost use mathlib.Core.Path.{_≡_};
 ghost use mathlib.Core.Option.{none};
 ghost use Prim.Native.Nat.{_≤_};
 ghost use lib.ListN.{length, take};
+ghost use Rattle.input.specs.Input.{ForInput};
 ghost use Rattle.workspace.specs.Space.{workLength};
 ghost use Rattle.text.specs.Piece.{pieces, firstBad, numbers, placeAt};
 ghost use Rattle.text.specs.Reading.{leftBy};
@@ -110,18 +113,28 @@ fn print_tower(text: &[u8], longer: bool, ns: &mut [i64], w: &mut [u16], out: &m
     }
 }
 
-// What the program writes for the text, or for one that is longer than its buffer, from the front of `out`; where it ends. The arrays are the program's
-// own, and what stands in them at the start is free.
+// What the program writes for an input, whose bytes stand at the front of the buffer, from the front of `out`; where
+// it ends: at 0, with nothing changed, where the input could not be read. The arrays are the program's own, and what
+// stands in them at the start is free.
 pub fn print(
-    text: &[u8],
-    longer: bool,
+    buffer: &[u8],
+    input: Input,
     numbers: &mut [i64; 32768],
     w: &mut [u16; 32768],
     out: &mut [u8; 64],
 ) -> usize
-    ensures { λ e. ⌜ Puts (towerBytes longer (now (text .entry))) 0 e (now (out .entry)) (now (out .exit)) × (e ≤ length (now (out .exit))) ⌝ }
-    ensures { λ _. ⌜ TowerLeaves longer (now (text .entry)) (now (numbers .entry)) (now (w .entry)) (now (numbers .exit)) (now (w .exit)) ⌝ }
-    ensures { λ e. ⌜ TowerPrintMeans longer (now (text .entry)) (take e (now (out .exit))) ⌝ }
+    ensures { λ e. ⌜ e ≤ length (now (out .exit)) ⌝ }
+    ensures { λ e. ⌜ ForInput (now (buffer .entry))
+        (λ longer text. Puts (towerBytes longer text) 0 e (now (out .entry)) (now (out .exit))
+        × TowerLeaves longer text (now (numbers .entry)) (now (w .entry)) (now (numbers .exit)) (now (w .exit))
+        × TowerPrintMeans longer text (take e (now (out .exit))))
+        ((e ≡ 0) × (now (numbers .exit) ≡ now (numbers .entry)) × (now (w .exit) ≡ now (w .entry))
+        × (now (out .exit) ≡ now (out .entry)))
+        input ⌝ }
 {
-    print_tower(text, longer, numbers, w, out)
+    let Input::Read(n, longer) = input else {
+        return 0;
+    };
+    let end = text_end(buffer, n);
+    print_tower(&buffer[..end], longer, numbers, w, out)
 }

@@ -3,7 +3,7 @@
 -- In order: a letter that is 0 and one that isn't (`letter-zero`, `letter-some`); what `put` leaves (`put-none`, `put-in`, `put-out`); a step
 -- from its letter (`stepped`); sizes (`size-below`, `size-above`); the sign of a product (`sign-above`, `sign-below`, `sign-zero`).
 -- Assumes nothing.
-use mathlib.Core.Path.{_≡_, refl, sym, _∙_, ap}
+use mathlib.Core.Path.{_≡_, refl, sym, _∙_, ap, subst}
 use mathlib.Core.Bool.{Bool, true, false, _||_}
 use mathlib.Core.List.{List, [], _∷_}
 use Prim.Native.Nat.{ℕ, zero, suc, _+_, _*_, _-_, _^_, _≤_, _<_}
@@ -17,15 +17,12 @@ use mir.Syntax.{w16, w64}
 use mir.Val.{SFits, toZ, ofZ}
 use mir.Facts.{toZ-ofZ, toZ-pos}
 use borrow.Author.Tests.{lt-ltb, le-ltb}
-use Rattle.matrix.specs.Words.{Letter}
+use Rattle.matrix.specs.Words.{Letter, letter}
 use Rattle.matrix.specs.Matrix.{Mat}
 use Rattle.matrix.specs.Euclid.{positive, agree}
 use Rattle.matrix.proofs.Bounds.{minus, fits}
 use Rattle.basics.proofs.Choice.{clash}
-use Rattle.polygon.specs.Step.{written}
-use Rattle.polygon.specs.Walk.{goes}
-use Rattle.polygon.specs.Inner.Tables.{lettersOf}
-use Rattle.signs.specs.Sign.{_·_}
+use Rattle.coset.specs.Positions.{written, goes, lettersOf, _·_, stepSign, FrameEquation}
 use Rattle.walk.specs.Inner.Way.{stored, signAdded, WayStepped}
 use Rattle.walk.specs.declared.Way.{Way}
 use Rattle.walk.proofs.Stored.{stored-in, stored-out}
@@ -62,12 +59,14 @@ module _ (start limit n : ℕ) (z : ℤ) (out : List ℤ) where
 pub stepped : {v : ℕ} {t : List ℤ} {start limit : ℕ} {x : Letter} {a b : Way} {out out' : List ℤ} (z : ℤ) → lettersOf z ≡ written v t x (a .at)
     → b .at ≡ goes v t x (a .at)
     → (b .count ≡ a .count + length (lettersOf z)) × (out' ≡ stored start limit (a .count) (lettersOf z) out) → b .sign ≡ a .sign · signAdded v t x (a .at)
+    → FrameEquation v t (a .at) (letter x) (stepSign v t x (a .at)) (written v t x (a .at)) (goes v t x (a .at))
     → WayStepped v t start limit x a out b out'
-stepped {v} {t} {start} {limit} {x} {a} {b} {out} {out'} z e f k g = record {
+stepped {v} {t} {start} {limit} {x} {a} {b} {out} {out'} z e f k g i = record {
   at = f;
   count = k .0 ∙ ap (λ (l : List ℤ). a .count + length l) e;
   left = k .1 ∙ ap (λ (l : List ℤ). stored start limit (a .count) l out) e;
   sign = g;
+  is = subst (FrameEquation v t (a .at) (letter x) (stepSign v t x (a .at)) (written v t x (a .at))) (sym f) i;
 }
 
 -- ---- sizes

@@ -18,14 +18,11 @@ use Rattle.matrix.specs.Euclid.{Form, form, total, swap, tailOf, agree, sizes, 
 use Rattle.matrix.specs.Bounds.{Small}
 use Rattle.matrix.proofs.Form.{Proper, unimodular-swap}
 use Rattle.basics.proofs.Choice.{pick-true, pick-false}
-use Rattle.polygon.specs.Step.{Real, written}
-use Rattle.polygon.specs.Walk.{goes, ends, writes}
-use Rattle.polygon.specs.Theorem.{Polygon}
+use Rattle.coset.specs.Positions.{Real, written, goes, ends, writes, Polygon, columnSign, FrameEquation, Positions}
+use Rattle.coset.proofs.Positions.{·-plus}
 use Rattle.walk.specs.Inner.Way.{formOf, restOf, properOf, beginsWithQ, turnLetter, turnForm, stored, signLeft, WayStepped, Onward, OneApart, Sound}
 use Rattle.walk.specs.Inner.Way.{Begun, Going, Ended, Walked}
 use Rattle.walk.specs.declared.Way.{Way}
-use Rattle.signs.specs.Sign.{columnSign}
-use Rattle.signs.proofs.Sign.{·-plus}
 use Rattle.walk.proofs.Told.{sign-step, sign-merged}
 use Rattle.walk.proofs.Stored.{stored-++, length-stored}
 use Rattle.walk.proofs.Forms.{properly, proper-yes, turn-apart, turn-less, tail-two, tail-one, tail-none, apart-of, proper-of, word-head, word-tail}
@@ -237,9 +234,17 @@ module _ {v : ℕ} {t : List ℤ} {start limit : ℕ} where
       → Going v t start limit a out c out2
   going-more g h = record { sound = h .sound; onward = onward-trans (g .onward) (h .onward); sign = h .sign ∙ g .sign }
 
-  pub walked : {m : Mat} {x : ℕ} {a b c : Way} {out out1 out2 out3 : List ℤ} → Begun v t start limit m x out a out1 → Going v t start limit a out1 b out2
+  pub walked : {m : Mat} {x : ℕ} {a b c : Way} {out out1 out2 out3 : List ℤ} → Positions v t → det m ≡ pos 1 → Real v t x → Begun v t start limit m x out a out1 → Going v t start limit a out1 b out2
       → Ended v t start limit b out2 c out3
       → Walked v t start limit m x out c out3
-  walked {m} {x} b g e =
+  walked {m} {x} {c} k d r b g e =
       let o = onward-trans (b .onward) (onward-trans (g .onward) (e .onward)) in
-      record { at = o .ends-at; count = omega (arith, o .count); left = o .left; sign = e .sign ∙ g .sign ∙ b .sign ∙ sign-merged v t m x }
+      let s = e .sign ∙ g .sign ∙ b .sign ∙ sign-merged v t m x in
+      let l = writes v t x (wordOf m) in
+      record {
+        at = o .ends-at;
+        count = omega (arith, o .count);
+        left = o .left;
+        sign = s;
+        is = subst (λ (n : Bool). FrameEquation v t x m n l (c .at)) (sym s) (subst (FrameEquation v t x m _ l) (sym (o .ends-at)) (k .walks m x d r));
+      }

@@ -1,57 +1,21 @@
 -- S and a power of Q in one stride.
 --
--- In order: a turn changes nothing of what turns write (`turn-writes`, `back-writes`); where a stride leads (`landed-Q`, `landed-P`); the stride as two
--- steps, with the way between them, which the code doesn't make (`strode-Q`, `strode-P`).
--- Why: turns write at outer faces only, and there they stay.
+-- In order: where a stride leads (`landed-Q`, `landed-P`); the stride as two steps, with the way between them, which the code doesn't make (`strode-Q`,
+-- `strode-P`).
 -- Assumes nothing.
-use mathlib.Core.Path.{_≡_, refl, sym, _∙_, ap}
+use mathlib.Core.Path.{_≡_, refl, _∙_}
 use mathlib.Core.Bool.{true}
-use mathlib.Core.List.{List, []}
+use mathlib.Core.List.{List}
 use Prim.Native.Nat.{ℕ, zero, suc, _+_, _-_, _^_, _≤_, _<_}
 use native.Mathlib.Omega.{arith}
-use native.Mathlib.Decide.{decLt}
 use lib.ListN.{length}
 use lib.IntN.{ℤ, pos, negsuc}
-use borrow.Author.Tests.{lt-ltb}
 use Rattle.matrix.specs.Words.{S, Q, P}
 use Rattle.matrix.specs.Euclid.{form, total}
-use Rattle.symbol.specs.Symbol.{IsSymbol}
-use Rattle.polygon.specs.Cut.{corners}
-use Rattle.polygon.specs.Step.{Real, stepS, turnQ, written}
-use Rattle.polygon.specs.Theorem.{Polygon}
-use Rattle.polygon.specs.Inner.Tables.{lettersOf}
-use Rattle.polygon.proofs.Flip.{Cutting, cutting, turn-face}
-use Rattle.polygon.proofs.Steps.{turn-in}
-use Rattle.signs.specs.Sign.{_·_}
+use Rattle.coset.specs.Positions.{Real, stepS, turnQ, Polygon, lettersOf, _·_}
 use Rattle.walk.specs.Inner.Way.{signAdded, formOf, properOf, turnLetter, turnForm, WayStepped, Sound, Going}
 use Rattle.walk.specs.declared.Way.{Way}
 use Rattle.walk.proofs.Onward.{block-going, block-less, stepped-long, powered-Q, powered-P}
-
--- ---- what is written at corners
-
-module _ (v : ℕ) (t : List ℤ) (ok : IsSymbol v t) where
-  abbrev C : Cutting v t
-  C = cutting v t ok
-
-  silent-Q : (q : ℕ) → q < corners v → written v t Q q ≡ []
-  unfolding written
-  silent-Q q h = rw (lt-ltb q (corners v) h)
-
-  silent-P : (q : ℕ) → q < corners v → written v t P q ≡ []
-  unfolding written
-  silent-P q h = rw (lt-ltb q (corners v) h)
-
-  pub turn-writes : (q : ℕ) → written v t Q (turnQ v q) ≡ written v t Q q
-  turn-writes q = elim (decLt q (corners v)) [
-    | yes h ↦ silent-Q (turnQ v q) (turn-in v t ok C q h) ∙ sym (silent-Q q h)
-    | no h ↦ ap (written v t Q) (turn-face v q (omega arith))
-  ]
-
-  pub back-writes : (q : ℕ) → written v t P (turnQ v (turnQ v q)) ≡ written v t P q
-  back-writes q = elim (decLt q (corners v)) [
-    | yes h ↦ silent-P (turnQ v (turnQ v q)) (turn-in v t ok C (turnQ v q) (turn-in v t ok C q h)) ∙ sym (silent-P q h)
-    | no h ↦ (let e = turn-face v q (omega arith) in ap (λ (x : ℕ). written v t P (turnQ v x)) e ∙ ap (written v t P) e)
-  ]
 
 -- ---- where a stride leads is a position
 

@@ -16,11 +16,8 @@ use Rattle.matrix.specs.Matrix.{Mat}
 use Rattle.matrix.specs.Words.{Letter, S, Q, P}
 use Rattle.matrix.specs.Euclid.{positive, agree, wordOf}
 use Rattle.basics.proofs.Choice.{clash}
-use Rattle.polygon.specs.Step.{stepS, turnQ}
-use Rattle.polygon.specs.Walk.{goes}
-use Rattle.signs.specs.Sign.{_·_, letterSign, wordSign, entrySign, columnSign, matrixSign}
-use Rattle.signs.specs.Step.{stepSign, walkSign}
-use Rattle.signs.proofs.Sign.{·-plus}
+use Rattle.coset.specs.Positions.{goes, _·_, letterSign, wordSign, entrySign, columnSign, matrixSign, stepSign, walkSign}
+use Rattle.coset.proofs.Positions.{·-plus}
 use Rattle.walk.specs.Inner.Way.{signAdded, signLeft, WayStepped}
 use Rattle.walk.specs.declared.Way.{Way}
 

@@ -2,15 +2,15 @@
 //
 // It is made twice: the first time no letter has room, so that the letters are counted and nothing is stored; the second time the word
 // is known to fit. specs/Inner/Way.antt has the state and what each part leaves.
-use polygon::walking::letter_q;
-use polygon::walking::turn_q;
-use walk_steps::back;
-use walk_steps::forth;
-use walk_steps::letter;
-use walk_steps::next;
-use walk_steps::sign_of_s;
-use walk_steps::times;
-use walk_steps::turn_back;
+use coset::steps::back;
+use coset::steps::forth;
+use coset::steps::letter;
+use coset::steps::letter_q;
+use coset::steps::next;
+use coset::steps::sign_of_s;
+use coset::steps::times;
+use coset::steps::turn_back;
+use coset::steps::turn_q;
 ghost use mathlib.Core.Path.{_≡_};
 ghost use mathlib.Core.Bool.{true, false};
 ghost use Prim.Native.Nat.{_+_, _-_, _*_, _^_, _≤_, _<_};
@@ -20,9 +20,7 @@ ghost use Rattle.matrix.specs.Matrix.{ofList, det};
 ghost use Rattle.matrix.specs.Words.{S};
 ghost use Rattle.matrix.specs.Euclid.{total, swap, positive, agree, sizes};
 ghost use Rattle.matrix.specs.Bounds.{Small};
-ghost use Rattle.polygon.specs.Step.{Real};
-ghost use Rattle.polygon.specs.Inner.Tables.{lettersOf};
-ghost use Rattle.signs.specs.Sign.{entrySign, columnSign};
+ghost use Rattle.coset.specs.Positions.{Real, lettersOf, entrySign, columnSign};
 ghost use Rattle.walk.specs.Inner.Way.{formOf, properOf, turnLetter, turnForm, stored, Setting, WayStepped, Sound, Begun, Going, Ended, Walked};
 
 // What is left of the matrix, (p q; r s) in size, the position, how many letters are written so far, and the sign so far, plus for true.

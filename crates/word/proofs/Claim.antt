@@ -1,7 +1,7 @@
--- THE CLAIM (specs/Claim.antt), from what the crates `polygon`, `signs` and `normal_forms` promise of an accepted symbol: its steps, frames
--- and start, the signs, and the only reduced word.
+-- THE CLAIM (specs/Claim.antt), from what the crate `coset` promises of an accepted symbol: its positions with their steps, frames and signs, the
+-- start and the only reduced word (`Positions`), and its tables (`Cosets`).
 --
--- In order: the walk comes home exactly where a word exists (`joined-home`, `home-product`, the normal form `home-normal`, with its sign `home-exact`),
+-- In order: the walk comes home exactly where a word exists (`joined-home`, `home-product`, the normal form `home-normal`, with its sign `home-exact`; the walk's equation `walk-is`),
 -- and where A and B lead to the same point (`joined-same`, `same-joined`); the word's letters, its length (`letters-of`, `bound-of`, `sixteen-of`); the word in its place (`part-placed`);
 -- the three answers (`absent`, `fitting`, `too-short`); the claim (`answered`).
 --
@@ -21,19 +21,13 @@ use lib.IntN.{ℤ, pos, natAbs}
 use borrow.Author.Tests.{le-leb, leb-true, eqb-true, eq-eqb}
 use Rattle.matrix.specs.Matrix.{Mat, _⊗_, adj, det, _≈_, ofList}
 use Rattle.matrix.specs.Euclid as euclid
+use Rattle.matrix.specs.Action as action
 use Rattle.matrix.proofs.Matrix.{⊗-assoc, ⊗-idr, ⊗-adj, adj-⊗, det-adj, det-one, ≈-sym, _∙≈_, ≈-right}
 use Rattle.symbol.specs.Symbol.{IsSymbol}
-use Rattle.pairing.specs.Generator as generator
 use Rattle.pairing.specs.Generator.{generators}
 use Rattle.pairing.specs.Subgroup.{IsWord, valueOf}
 use Rattle.basics.proofs.Choice.{either, clash, pick-true, pick-false, and-left, and-right}
-use Rattle.polygon.specs.Step.{startOf}
-use Rattle.polygon.specs.Walk.{followed, walkEnds}
-use Rattle.polygon.specs.Theorem.{Polygon}
-use Rattle.polygon.proofs.SymbolFacts.{length-generators, count-most}
-use Rattle.signs.specs.Sign.{withSign}
-use Rattle.signs.proofs.Query.{signs}
-use Rattle.normal_forms.proofs.Forms.{normal-forms}
+use Rattle.coset.specs.Positions.{startOf, followed, walkEnds, Polygon, withSign, querySign, Signs, FrameEquation, Positions}
 use Rattle.coset.specs.Tables.{tableS, tableR}
 use Rattle.coset.specs.Theorem.{leads}
 use Rattle.coset.proofs.Answer.{meaning}
@@ -79,8 +73,11 @@ module _ {v : ℕ} {t : List ℤ} (ok : IsSymbol v t) (A B : Mat) (d : det A ≡
   abbrev sign : Bool
   sign = foundSign v t A B
 
+  all : Positions v t
+  all = meaning ok .positions
+
   g : Polygon v t
-  g = meaning ok .polygon
+  g = all .polygon
 
   X-unit : det X ≡ pos 1
   X-unit = det-one B (adj A) e (det-adj A ∙ d)
@@ -108,7 +105,7 @@ module _ {v : ℕ} {t : List ℤ} (ok : IsSymbol v t) (A B : Mat) (d : det A ≡
   home-normal : closes v t A B ≡ true → NormalWord v t A B word
   unfolding closes foundWord
   home-normal h =
-      let f = normal-forms v t ok .walk X X-unit (eqb-true (walkEnds v t X) (startOf v t) h) in
+      let f = all .normal-forms .walk X X-unit (eqb-true (walkEnds v t X) (startOf v t) h) in
       record {
         letters = f .letters;
         takes = home-product h;
@@ -120,7 +117,12 @@ module _ {v : ℕ} {t : List ℤ} (ok : IsSymbol v t) (A B : Mat) (d : det A ≡
   -- with its sign
   home-exact : closes v t A B ≡ true → valueOf (generators v t) word ⊗ A ≡ withSign sign B
   unfolding closes foundWord foundSign
-  home-exact h = signs v t ok .pair A B d e (eqb-true (walkEnds v t X) (startOf v t) h)
+  home-exact h = all .signs .pair A B d e (eqb-true (walkEnds v t X) (startOf v t) h)
+
+  -- the walk's equation
+  walk-is : FrameEquation v t (startOf v t) (followed v t X) sign word (walkEnds v t X)
+  unfolding foundWord foundSign querySign action.at
+  walk-is = all .walks (followed v t X) (startOf v t) (all .followed-unit X X-unit) (g .start)
 
   letters-of : IsWord (length (generators v t)) word
   unfolding foundWord
@@ -128,17 +130,10 @@ module _ {v : ℕ} {t : List ℤ} (ok : IsSymbol v t) (A B : Mat) (d : det A ≡
 
   bound-of : length word ≤ length (euclid.wordOf X) + 2
   unfolding foundWord
-  bound-of = omega (arith, g .walks .walk-short (euclid.wordOf (followed v t X)) (startOf v t), followed-length X X-unit v t)
+  bound-of = omega (arith, g .walks .walk-short (euclid.wordOf (followed v t X)) (startOf v t), followed-length X X-unit all)
 
   sixteen-of : (i : ℕ) → i < length word → natAbs (getD word i (pos 0)) ≤ 1024
-  sixteen-of i h = omega (
-    arith,
-    letter-most (length (generators v t)) word letters-of i h,
-    length-generators v t,
-    count-most (generator.isLeader v t)
-        (v + 1),
-    ok .most,
-  )
+  sixteen-of i h = omega (arith, letter-most (length (generators v t)) word letters-of i h, all .few-generators)
 
   home-joined : closes v t A B ≡ true → Joined v t A B
   home-joined h = record { word = word; letters = letters-of; is = home-product h }
@@ -177,6 +172,8 @@ module _ {v : ℕ} {t : List ℤ} (ok : IsSymbol v t) (A B : Mat) (d : det A ≡
           product = λ f. elim f [ inl z ↦ absurd (omega (arith, same-number z)) | inr z ↦ absurd (omega (arith, same-number z)) ];
           normal = λ f. elim f [ inl z ↦ absurd (omega (arith, same-number z)) | inr z ↦ absurd (omega (arith, same-number z)) ];
           exact = λ f. elim f [ inl z ↦ absurd (omega (arith, same-number z)) | inr z ↦ absurd (omega (arith, same-number z)) ];
+          walked = walk-is;
+          signs = all .signs;
           none = ((λ z. no), (λ z. refl));
           returned = ((λ z. absurd (omega (arith, same-number z))), (λ z. absurd (no (z .0))));
           short = ((λ z. absurd (omega (arith, same-number z))), (λ z. absurd (no (z .0))));
@@ -198,6 +195,8 @@ module _ {v : ℕ} {t : List ℤ} (ok : IsSymbol v t) (A B : Mat) (d : det A ≡
           product = λ z. home-product h;
           normal = λ z. home-normal h;
           exact = λ z. home-exact h;
+          walked = walk-is;
+          signs = all .signs;
           none = ((λ z. absurd (omega (arith, same-number z))), (λ n. absurd (n j)));
           returned = ((λ z. (j, f)), (λ z. refl));
           short = ((λ z. absurd (omega (arith, same-number z))), (λ z. absurd (z .1 f)));
@@ -218,6 +217,8 @@ module _ {v : ℕ} {t : List ℤ} (ok : IsSymbol v t) (A B : Mat) (d : det A ≡
           product = λ z. home-product h;
           normal = λ z. home-normal h;
           exact = λ z. home-exact h;
+          walked = walk-is;
+          signs = all .signs;
           none = ((λ z. absurd (omega (arith, same-number z))), (λ n. absurd (n j)));
           returned = ((λ z. absurd (omega (arith, same-number z))), (λ z. clash (yes-fits (z .1)) k));
           short = ((λ z. (j, λ f. clash (yes-fits f) k)), (λ z. refl));

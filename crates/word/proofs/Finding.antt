@@ -18,12 +18,9 @@ use Rattle.matrix.specs.Action as action
 use Rattle.matrix.proofs.Matrix.{det-adj, det-one}
 use Rattle.matrix.proofs.Bounds.{small-adj, small-⊗, room}
 use Rattle.basics.proofs.Choice.{pick-true, pick-false}
-use Rattle.polygon.specs.Cut.{places}
-use Rattle.polygon.specs.Step.{Real, startOf}
-use Rattle.polygon.specs.Walk.{followed, ends}
-use Rattle.polygon.proofs.Polygon.{polygon}
-use Rattle.signs.specs.Step.{querySign}
-use Rattle.walk_steps.specs.Inner.Steps.{StepsReady}
+use Rattle.coset.specs.Positions.{Real, startOf, followed, ends, querySign}
+use Rattle.coset.specs.Inner.Steps.{BuiltSteps}
+use Rattle.coset.proofs.Positions.{positions}
 use Rattle.walk.specs.Inner.Way.{stored, Setting, Walked}
 use Rattle.walk.specs.declared.Way.{Way}
 use Rattle.walk.proofs.Stored.{stored-none, stored-all}
@@ -32,7 +29,6 @@ use Rattle.word.specs.Answer.{placed, closes, foundWord, foundSign, word
 use Rattle.word.specs.Claim.{Asked}
 use Rattle.word.specs.Inner.Ready.{lettersAlong, signAlongWalk, endOf, WalkReady, PairReady}
 use Rattle.word.specs.declared.Queried.the-variants as queried
-use Rattle.polygon.proofs.Followed.{followed-unit}
 use Rattle.word.proofs.Turned.{followed-small}
 
 -- ---- the matrix that is followed
@@ -50,17 +46,18 @@ module _ {v : ℕ} {t a b m : List ℤ} {w : List ℕ} {x : ℕ} (q : PairReady 
   ready =
       let A = ofList a in
       let B = ofList b in
+      let g = positions (q .prepared .tables .symbol) in
       record {
         prepared = q .prepared;
         start = q .start;
-        unit = subst (λ (l : List ℤ). det (ofList l) ≡ pos 1) (sym m-is) (followed-unit v t (B ⊗ adj A) (det-one B (adj A) (q .unit-B) (det-adj A ∙ q .unit-A)));
-        small = subst (λ (l : List ℤ). Small (2 ^ 50) (ofList l)) (sym m-is) (followed-small v t (B ⊗ adj A) (between-small A B (q .entries-A) (q .entries-B)));
+        unit = subst (λ (l : List ℤ). det (ofList l) ≡ pos 1) (sym m-is) (g .followed-unit (B ⊗ adj A) (det-one B (adj A) (q .unit-B) (det-adj A ∙ q .unit-A)));
+        small = subst (λ (l : List ℤ). Small (2 ^ 50) (ofList l)) (sym m-is) (followed-small g (B ⊗ adj A) (between-small A B (q .entries-A) (q .entries-B)));
       }
 
 -- a pair that is asked for, once the tables are there
-pub pair-ready : {v : ℕ} {t a b : List ℤ} {w₀ w : List ℕ} {x : ℕ} → Asked v t a b w₀ → StepsReady t v w (places v) → x ≡ startOf v t → PairReady t v w a b x
-pair-ready q prepared e =
-    record { prepared = prepared; start = e; entries-A = q .entries-A; entries-B = q .entries-B; unit-A = q .unit-A; unit-B = q .unit-B }
+pub pair-ready : {v : ℕ} {t a b : List ℤ} {w₀ w : List ℕ} {x : ℕ} → Asked v t a b w₀ → BuiltSteps t v w x → PairReady t v w a b x
+pair-ready q e =
+    record { prepared = e .prepared; start = e .start; entries-A = q .entries-A; entries-B = q .entries-B; unit-A = q .unit-A; unit-B = q .unit-B }
 
 module _ (v : ℕ) (t a b : List ℤ) {m : List ℤ} (m-is : m ≡ toList (followed v t (ofList b ⊗ adj (ofList a)))) where
   pub along-found : lettersAlong v t (ofList m) ≡ foundWord v t (ofList a) (ofList b)
@@ -83,7 +80,7 @@ module _ {v : ℕ} {t m : List ℤ} {w : List ℕ} {x : ℕ} (q : WalkReady t v 
   pub setting : (start limit : ℕ) (out : List ℤ) → limit ≤ length out - start → Setting t v w out start limit × Real v t x × (det (ofList m) ≡ pos 1)
       × Small (2 ^ 50) (ofList m)
   setting start limit out h =
-      (record { prepared = q .prepared; room = h }, subst (Real v t) (sym (q .start)) (polygon v t (q .prepared .tables .symbol) .start), q .unit, q .small)
+      (record { prepared = q .prepared; room = h }, subst (Real v t) (sym (q .start)) (positions (q .prepared .tables .symbol) .polygon .start), q .unit, q .small)
 
   pub result : {start limit : ℕ} {out out' : List ℤ} {end : Way} → Walked v t start limit (ofList m) x out end out' → Result v t (ofList m) start limit out end out'
   unfolding lettersAlong signAlongWalk

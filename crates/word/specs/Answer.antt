@@ -34,9 +34,7 @@ use Rattle.symbol.specs.Check.{eqZ, symbolCheck}
 use Rattle.pairing.specs.Generator.{workAfter}
 use Rattle.refusal.specs.declared.Checked.{Checked}
 use Rattle.refusal.specs.declared.Checked.the-variants.{Accepted, Refused}
-use Rattle.polygon.specs.Step.{startOf}
-use Rattle.polygon.specs.Walk.{walkEnds, walkWrites}
-use Rattle.signs.specs.Step.{querySign}
+use Rattle.coset.specs.Positions.{startOf, walkEnds, walkWrites, querySign}
 use Rattle.word.specs.declared.Queried.{Queried}
 use Rattle.word.specs.declared.Queried.the-variants as queried
 

@@ -16,6 +16,11 @@
 --     letters, product      the word found is such a product, with the letter j for generator j and -j for its inverse
 --     normal                IT IS THE ONLY REDUCED WORD for B A⁻¹ up to sign, and no word for it is shorter; so the length told with 11 is the shortest
 --     exact                 WITH ITS SIGN: the word times A is the sign times B, where plus stands for 1 and minus for -1; an equation of matrices
+--     walked                WHERE THE SIGN COMES FROM: the equation of the walk that the query makes. The frame of the
+--                           start times the matrix that is followed is the sign times the word times the frame of where
+--                           the walk ends, whether it comes home or not
+--     signs                 and the equation of each of its steps: the frame times the letter is the step's sign times
+--                           what is written times the frame of where the step leads (`Signs`, in the crate signs)
 --     none                  otherwise the answer is 10, place 0, and only then: 'none' means that there is no such product
 --     returned, short       the word found is returned exactly when it fits, and otherwise refused with 11 and its true length
 --     names, stands         a word that is returned stands where the answer says, from the start place on, and all else is as before; the answer
@@ -45,9 +50,7 @@ use Rattle.workspace.specs.Space.{workLength}
 use Rattle.symbol.specs.Symbol.{IsSymbol}
 use Rattle.pairing.specs.Generator.{generators}
 use Rattle.pairing.specs.Subgroup.{IsWord, valueOf}
-use Rattle.polygon.specs.Theorem.{SameCoset}
-use Rattle.signs.specs.Sign.{withSign}
-use Rattle.normal_forms.specs.Reduced.{Reduced}
+use Rattle.coset.specs.Positions.{SameCoset, startOf, followed, walkEnds, withSign, Signs, FrameEquation, Reduced}
 use Rattle.coset.specs.Tables.{tableS, tableR}
 use Rattle.coset.specs.Theorem.{leads}
 use Rattle.word.specs.Answer.{placed, queryRefusal, foundWord, foundSign, partOf}
@@ -86,6 +89,8 @@ pub record Answered (v : ℕ) (t : List ℤ) (A B : Mat) (word : List ℤ) (sign
   pub product : Found word r → valueOf (generators v t) word ⊗ A ≈ B
   pub normal : Found word r → NormalWord v t A B word
   pub exact : Found word r → valueOf (generators v t) word ⊗ A ≡ withSign sign B
+  pub walked : FrameEquation v t (startOf v t) (followed v t (B ⊗ adj A)) sign word (walkEnds v t (B ⊗ adj A))
+  pub signs : Signs v t
   pub none : (queryRefusal r ≡ noWord) ↔ (Joined v t A B → ⊥)
   pub returned : (queryRefusal r ≡ noRefusal) ↔ (Joined v t A B × Fits start (length word) (length out))
   pub short : (queryRefusal r ≡ tooShort (length word)) ↔ (Joined v t A B × (Fits start (length word) (length out) → ⊥))

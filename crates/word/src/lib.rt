@@ -1,11 +1,12 @@
 // Pair queries: whether some product of a symbol's generators and their inverses takes one matrix to another, up to sign, which, and with which sign.
 //
 // specs/Answer.antt says what a query answers and leaves, specs/Claim.antt what that means.
+use coset::steps::build;
+use coset::steps::is_turned;
 use matrix::determinant;
 use matrix::inverse;
 use matrix::matrix_s;
 use matrix::product;
-use polygon::walking::is_turned;
 use refusal::BAD_DETERMINANT;
 use refusal::Checked;
 use refusal::MATRIX_ENTRY;
@@ -14,7 +15,6 @@ use refusal::Refusal;
 use refusal::TOO_SHORT;
 use symbol::check;
 use walk::walk;
-use walk_steps::prepare;
 ghost use mathlib.Core.Path.{_≡_};
 ghost use Prim.Native.Nat.{_+_, _-_, _≤_, _<_};
 ghost use lib.Dec.{leb};
@@ -25,7 +25,7 @@ ghost use Rattle.matrix.specs.Bounds.{Small};
 ghost use Rattle.workspace.specs.Space.{zeros};
 ghost use Rattle.basics.specs.Count.{first};
 ghost use Rattle.symbol.specs.Symbol.{IsSymbol};
-ghost use Rattle.polygon.specs.Walk.{followed};
+ghost use Rattle.coset.specs.Positions.{followed};
 ghost use Rattle.word.specs.Answer.{queryRefusal, signNumber, four, entryAt, large, unit, foundWord, foundOf, queryOf, queryWork, wordLeft, partOf};
 ghost use Rattle.word.specs.Claim.{Asked, Claim};
 ghost use Rattle.word.specs.Inner.Ready.{judgedOf, lettersAlong, endOf, WalkReady, PairReady};
@@ -193,8 +193,7 @@ fn answer(
     ensures { λ r. ⌜ now (out .exit) ≡ wordLeft r (foundWord v (now (t .entry)) (ofList a) (ofList b)) (now (out .entry)) ⌝ }
     ensures { λ r. ⌜ now (w .exit) ≡ zeros (length (now (w .entry))) ⌝ }
 {
-    let home = polygon::build(t, v, w);
-    prepare(t, v, w);
+    let home = build(t, v, w);
     let found = answer_ready(t, v, w, home, a, b, out, start);
     workspace::clear(w);
     found

@@ -180,6 +180,22 @@ pub fn verdict(text: &[u8]) -> Result<Written, Refusal> {
     Err(Refusal::new(27, place))
 }
 
+/// The refusal of every text that goes on behind these bytes, if their whole pieces have
+/// one. A run of digits at their end may go on, and counts where it is larger than any
+/// index already.
+pub fn beginning(seen: &[u8]) -> Option<Refusal> {
+    let begun = seen.iter().rev().take_while(|byte| byte.is_ascii_digit());
+    let (before, run) = seen.split_at(seen.len() - begun.count());
+    let fault = |pieces: &[u8]| match verdict(pieces) {
+        Err(refusal) if refusal.number == 12 || refusal.place < pieces.len() as u64 => {
+            Some(refusal)
+        }
+        _ => None,
+    };
+    let too_large = !run.is_empty() && number(run).is_none();
+    fault(before).or_else(|| fault(seen).filter(|_| too_large))
+}
+
 /// The images of the points 0, 1, 2, .. under a permutation in cycles.
 fn images(cycles: &[Vec<usize>], n: usize) -> Vec<i64> {
     let mut table: Vec<i64> = (0..n as i64).collect();

@@ -4,7 +4,7 @@ use std::fmt::{Display, Write};
 
 use crate::congruence::named_symbol;
 use crate::coset::Cosets;
-use crate::cycles::{read, write};
+use crate::cycles::{beginning, read, write};
 use crate::exchange::exchange as exchanged;
 use crate::permutations::{import_pair, Imported, Rule};
 use crate::refusal::Refusal;
@@ -205,15 +205,14 @@ pub fn cycles(text: &[u8]) -> String {
     }
 }
 
-/// Of a longer text the first 65,536 bytes are read; where these have no fault of
-/// their own, the text is refused where it gets too long.
+/// Of a longer text the first 65,536 bytes are read; where no ending of these helps, that
+/// is told, and else the text is refused where it gets too long.
 fn try_cycles(text: &[u8]) -> Result<(Vec<i64>, Vec<i64>), Refusal> {
-    if text.len() <= MAX_TEXT {
-        return read(text);
-    }
-    match read(&text[..MAX_TEXT]) {
-        Err(refusal) if matches!(refusal.number, 12 | 27) => Err(refusal),
-        _ => Err(Refusal::new(27, MAX_TEXT)),
+    match text.get(..MAX_TEXT) {
+        Some(seen) if text.len() > MAX_TEXT => {
+            Err(beginning(seen).unwrap_or(Refusal::new(27, MAX_TEXT)))
+        }
+        _ => read(text),
     }
 }
 

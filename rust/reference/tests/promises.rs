@@ -1,6 +1,6 @@
-//! docs/PROMISES.md names files of definitions, files of proofs and wrong
-//! programs: each of them is there, and each wrong program is named. The names
-//! of definitions mean one thing in all crates.
+//! docs/PROMISES.md names files of definitions and files of proofs, and
+//! docs/WRONG-PROGRAMS.md wrong programs: each of them is there, and each wrong
+//! program is named. The names of definitions mean one thing in all crates.
 
 mod child;
 
@@ -60,34 +60,65 @@ fn named_files_are_there() {
     }
 }
 
-/// The table has a row for each crate: the edits that the gate tries, and
-/// those of `mutants/`, each with its label in brackets behind what it does.
+/// A row of docs/WRONG-PROGRAMS.md: an edit, whether the gate tries it, and
+/// what is wrong.
+struct Row<'a> {
+    name: &'a str,
+    label: &'a str,
+    gate: bool,
+    title: &'a str,
+}
+
+fn row(line: &str) -> Option<Row<'_>> {
+    let cells: Vec<&str> = line
+        .trim_matches('|')
+        .splitn(5, '|')
+        .map(str::trim)
+        .collect();
+    let [name, label, gate, _, title] = cells[..] else {
+        return None;
+    };
+    let name = name.strip_prefix('`')?.strip_suffix('`')?;
+    let label = label.strip_prefix('`')?.strip_suffix('`')?;
+    let gate = gate == "gate";
+    Some(Row {
+        name,
+        label,
+        gate,
+        title,
+    })
+}
+
+/// docs/WRONG-PROGRAMS.md has a row for each edit, with whether the gate tries
+/// it and its first line; and each row has an edit.
 #[test]
 fn wrong_programs_are_there_and_named() {
-    let page = promises();
-    let (_, table) = page
-        .split_once("\n## Wrong programs")
-        .expect("the page has that part");
-    let named = |column: usize| -> BTreeSet<String> {
-        let rows = table.lines().filter(|line| line.starts_with("| `"));
-        rows.flat_map(|line| {
-            let cells: Vec<&str> = line.trim_matches('|').split(" | ").collect();
-            let name = quoted(cells[0]).next().expect("the name of a crate");
-            let labels = cells[column].split('(').skip(1);
-            labels
-                .filter_map(|part| part.split_once(')'))
-                .flat_map(|(inside, _)| quoted(inside))
-                .map(|label| format!("{name}/{label}"))
-                .collect::<Vec<_>>()
-        })
-        .collect()
+    let path = repository().join("docs/WRONG-PROGRAMS.md");
+    let page = fs::read_to_string(&path).unwrap_or_else(|e| panic!("{}: {e}", path.display()));
+    let rows: Vec<Row> = page.lines().filter_map(row).collect();
+    let named = |gate: bool| -> BTreeSet<String> {
+        let those = rows.iter().filter(|row| row.gate == gate);
+        those
+            .map(|row| format!("{}/{}", row.name, row.label))
+            .collect()
     };
     let tried = edits(|path| path.join("must-fail"), "crates");
     let further = edits(Path::to_path_buf, "mutants");
     assert!(tried.len() > 40, "only {} edits", tried.len());
     assert!(further.len() > 40, "only {} further edits", further.len());
-    assert_eq!(named(1), tried);
-    assert_eq!(named(2), further);
+    assert_eq!(named(true), tried);
+    assert_eq!(named(false), further);
+    assert_eq!(rows.len(), tried.len() + further.len());
+    for row in rows {
+        let folder = match row.gate {
+            true => repository().join("crates").join(row.name).join("must-fail"),
+            false => repository().join("mutants").join(row.name),
+        };
+        let path = folder.join(format!("{}.edit", row.label));
+        let edit = fs::read_to_string(&path).unwrap_or_else(|e| panic!("{}: {e}", path.display()));
+        let title = edit.lines().next().and_then(|line| line.strip_prefix("# "));
+        assert_eq!(title, Some(row.title), "{}", path.display());
+    }
 }
 
 /// The files of definitions, of all crates.

@@ -1,5 +1,5 @@
 -- `tables` meets its contract: a call that is not admitted leaves everything as it was; for one that is, the table is a symbol (`admitted`), the
--- answer is that of `make_tables`, and the tables are those of cosets (`meaning`). Assumes nothing.
+-- answer is that of `make_tables`, and the tables are those of cosets (`meaning`). 4,090 entries are enough (`ample`). Assumes nothing.
 use mathlib.Core.Path.{_≡_, refl, sym, _∙_}
 use lib.ListN.{length}
 use Rattle.refusal.specs.declared.Checked.the-variants.{Accepted, Refused}
@@ -7,7 +7,7 @@ use Rattle.pairing.specs.Inner.Admitted.{admittedOf}
 use Rattle.pairing.proofs.Admitted.{admitted, filled-by, work-by}
 use Rattle.coset.specs.Tables.{indexOf}
 use Rattle.coset.specs.Answer.{roomFor}
-use Rattle.coset.proofs.Answer.{meaning, means-refused}
+use Rattle.coset.proofs.Answer.{meaning, means-refused, ample}
 use borrow.Author.Needs.{needs}
 use Rattle.coset.proofs.tables.Statement.{statement}
 use Rattle.coset.proofs.tables.Tie as tie
@@ -45,8 +45,11 @@ returns c =
     let w = s .args .w .now in
     let r = Refused (k .0 .0) in
     let no = sym (k .1) ∙ a .admit .ensures in
-    let room = roomFor (indexOf v t) (length (s .args .s .now)) (length (s .args .r .now)) (length (s .args .u .now)) in
-    (filled-by v t w r no room, (work-by v t w r no, (refl, (refl, (refl, means-refused (k .0 .0))))))
+    let x = length (s .args .s .now) in
+    let y = length (s .args .r .now) in
+    let z = length (s .args .u .now) in
+    let answer = filled-by v t w r no (roomFor (indexOf v t) x y z) in
+    (answer, (work-by v t w r no, (refl, (refl, (refl, (means-refused (k .0 .0), ample v t w (s .args .s .now) (s .args .r .now) (s .args .u .now) _ answer))))))
 
 same-length : tie.Need-same-length
 same-length c = search needs
@@ -69,10 +72,17 @@ returns-2 c =
     let t = s .args .t .now in
     let w = s .args .w .now in
     let made = m .make-tables .ensures in
-    let room = roomFor (indexOf v t) (length (s .args .s .now)) (length (s .args .r .now)) (length (s .args .u .now)) in
+    let x = length (s .args .s .now) in
+    let y = length (s .args .r .now) in
+    let z = length (s .args .u .now) in
     let mean = meaning (admitted v t (length w) (ok e) .0) in
-    let answer = made .0 ∙ filled-by v t w Accepted (ok e) room in
-    (answer, (made .1 .0 ∙ work-by v t w Accepted (ok e), (made .1 .1 .0, (made .1 .1 .1 .0, (made .1 .1 .1 .1, λ n z. mean)))))
+    let answer = made .0 ∙ filled-by v t w Accepted (ok e) (roomFor (indexOf v t) x y z) in (
+      answer,
+      (
+        made .1 .0 ∙ work-by v t w Accepted (ok e),
+        (made .1 .1 .0, (made .1 .1 .1 .0, (made .1 .1 .1 .1, (λ n h. mean, ample v t w (s .args .s .now) (s .args .r .now) (s .args .u .now) _ answer)))),
+      ),
+    )
 
 pub tables-spec : {M : Type 1} → statement M
 tables-spec =

@@ -1,12 +1,12 @@
 -- `widths` meets its contract: a call that is not admitted leaves everything as it was; for one that is, the table is a symbol (`admitted`), the
--- answer is that of `make_widths`, and the widths are those of the cusps (`meaning`). Assumes nothing.
+-- answer is that of `make_widths`, and the widths are those of the cusps (`meaning`). 4,090 entries are enough (`ample-for-widths`). Assumes nothing.
 use mathlib.Core.Path.{_≡_, refl, sym, _∙_}
 use lib.ListN.{length}
 use Rattle.refusal.specs.declared.Checked.the-variants.{Accepted, Refused}
 use Rattle.pairing.specs.Inner.Admitted.{admittedOf}
 use Rattle.pairing.proofs.Admitted.{admitted, filled-by, work-by}
 use Rattle.coset.specs.Answer.{roomOne, widthsOf}
-use Rattle.coset.proofs.Answer.{meaning, means-refused}
+use Rattle.coset.proofs.Answer.{meaning, means-refused, ample-for-widths}
 use borrow.Author.Needs.{needs}
 use Rattle.coset.proofs.widths.Statement.{statement}
 use Rattle.coset.proofs.widths.Tie as tie
@@ -44,7 +44,8 @@ returns c =
     let w = s .args .w .now in
     let r = Refused (k .0 .0) in
     let no = sym (k .1) ∙ a .admit .ensures in
-    (filled-by v t w r no (roomOne (length (widthsOf v t)) (length (s .args .out .now))), (work-by v t w r no, (refl, means-refused (k .0 .0))))
+    let answer = filled-by v t w r no (roomOne (length (widthsOf v t)) (length (s .args .out .now))) in
+    (answer, (work-by v t w r no, (refl, (means-refused (k .0 .0), ample-for-widths v t w (s .args .out .now) _ answer))))
 
 same-length : tie.Need-same-length
 same-length c = search needs
@@ -62,7 +63,8 @@ returns-2 c =
     let w = s .args .w .now in
     let made = m .make-widths .ensures in
     let answer = made .0 ∙ filled-by v t w Accepted (ok e) (roomOne (length (widthsOf v t)) (length (s .args .out .now))) in
-    (answer, (made .1 .0 ∙ work-by v t w Accepted (ok e), (made .1 .1, λ n z. meaning (admitted v t (length w) (ok e) .0))))
+    let mean = meaning (admitted v t (length w) (ok e) .0) in
+    (answer, (made .1 .0 ∙ work-by v t w Accepted (ok e), (made .1 .1, (λ n z. mean, ample-for-widths v t w (s .args .out .now) _ answer))))
 
 pub widths-spec : {M : Type 1} → statement M
 widths-spec =

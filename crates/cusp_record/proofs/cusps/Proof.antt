@@ -6,7 +6,7 @@ use Rattle.refusal.specs.declared.Checked.the-variants.{Accepted, Refused}
 use Rattle.pairing.specs.Inner.Admitted.{admittedOf}
 use Rattle.pairing.proofs.Admitted.{admitted, filled-by, work-by}
 use Rattle.coset.specs.Tables.{indexOf}
-use Rattle.cusp_record.specs.Answer.{roomForBoth}
+use Rattle.coset.specs.Answer.{roomTwo}
 use Rattle.cusp_record.proofs.Answer.{cusp-meaning, cusps-mean-refused}
 use borrow.Author.Needs.{needs}
 use Rattle.cusp_record.proofs.cusps.Statement.{statement}
@@ -45,7 +45,7 @@ returns c =
     let w = s .args .w .now in
     let r = Refused (k .0 .0) in
     let no = sym (k .1) ∙ a .admit .ensures in (
-      filled-by v t w r no (roomForBoth (indexOf v t) (length (s .args .cusps .now)) (length (s .args .steps .now))),
+      filled-by v t w r no (roomTwo (indexOf v t) (length (s .args .cusps .now)) (length (s .args .steps .now))),
       (work-by v t w r no, (refl, (refl, cusps-mean-refused (k .0 .0)))),
     )
 
@@ -67,7 +67,7 @@ returns-2 c =
     let t = s .args .t .now in
     let w = s .args .w .now in
     let made = m .make-cusps .ensures in
-    let answer = made .0 ∙ filled-by v t w Accepted (ok e) (roomForBoth (indexOf v t) (length (s .args .cusps .now)) (length (s .args .steps .now))) in (
+    let answer = made .0 ∙ filled-by v t w Accepted (ok e) (roomTwo (indexOf v t) (length (s .args .cusps .now)) (length (s .args .steps .now))) in (
       answer,
       (made .1 .0 ∙ work-by v t w Accepted (ok e), (made .1 .1 .0, (made .1 .1 .1, λ n z. cusp-meaning (admitted v t (length w) (ok e) .0)))),
     )

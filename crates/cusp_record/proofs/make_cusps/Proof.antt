@@ -4,8 +4,7 @@ use mathlib.Core.List.{List}
 use Prim.Native.Nat.{ℕ}
 use lib.ListN.{length}
 use Rattle.workspace.specs.Space.{zeros}
-use Rattle.coset.specs.Answer.{columnLeft}
-use Rattle.cusp_record.specs.Answer.{roomForBoth}
+use Rattle.coset.specs.Answer.{roomTwo, columnLeft}
 use borrow.Author.Needs.{needs}
 use Rattle.cusp_record.proofs.make_cusps.Statement.{statement}
 use Rattle.cusp_record.proofs.make_cusps.Tie as tie
@@ -37,7 +36,7 @@ returns c =
     let f = a .arrange-record .ensures in
     let e = m .copy-columns .ensures in
     let r = m .copy-columns .result in (
-      e .0 ∙ ap (λ (n : ℕ). roomForBoth n (length (st .args .cusps .now)) (length (st .args .steps .now))) (f .index),
+      e .0 ∙ ap (λ (n : ℕ). roomTwo n (length (st .args .cusps .now)) (length (st .args .steps .now))) (f .index),
       (
         k .clear .ensures ∙ ap zeros (f .same),
         (

@@ -22,7 +22,7 @@ use Rattle.cycle_notation.specs.Inner.Reader.{front, readAll, badIndex}
 use Rattle.cycle_reading.specs.Inner.Hand.{piecesLeft}
 use Rattle.cycle_reading.specs.declared.Judged.{Judged}
 use Rattle.cycle_reading.specs.declared.Judged.the-variants as judged
-use Rattle.cycle_reading.specs.Reading.{roomForPair}
+use Rattle.coset.specs.Answer.{roomTwo}
 use Rattle.cycle_reading.specs.Inner.PartRun.{made}
 use Rattle.cycle_reading.specs.Inner.Alone.{Alone, fails, through, died}
 
@@ -56,4 +56,4 @@ pub record VerdictRead (v : Verdict) (o : Judged) (s r : List ℕ) : Type 0 wher
   pub kept : KeptRead v s r
 
 abbrev pub tablesAnswer : (s r : List ℕ) (a b : ℕ) → Filled
-tablesAnswer s r a b = filledBy (pairCheck s r) (roomForPair (length s) a b)
+tablesAnswer s r a b = filledBy (pairCheck s r) (roomTwo (length s) a b)

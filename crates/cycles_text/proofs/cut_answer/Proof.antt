@@ -1,7 +1,7 @@
 -- `cut_answer` meets its contract, by the answer to the text. Assumes nothing.
 use mathlib.Core.Path.{sym, ap, _∙_}
 use Rattle.refusal.specs.declared.Filled.the-variants as filled
-use Rattle.cycles_text.specs.Answer.{cutAnswer}
+use Rattle.cycles_text.specs.Inner.Ends.{cutAnswer}
 use borrow.Author.Needs.{needs}
 use Rattle.cycles_text.proofs.cut_answer.Statement.{statement}
 use Rattle.cycles_text.proofs.cut_answer.Tie as tie
@@ -16,10 +16,12 @@ cut-refusal-requires : tie.Need-cut-refusal-requires
 cut-refusal-requires c κs = search needs
 
 returns : tie.Need-returns
-returns c = sym (ap cutAnswer (c .enum-told .given .1))
+returns c = sym (ap (cutAnswer (c .before .before .args .end)) (c .enum-told .given .1))
 
 returns-2 : tie.Need-returns-2
-returns-2 c = ap filled.Refused (c .cut-refusal .ensures) ∙ sym (ap cutAnswer (c .before .before .read .given .1))
+returns-2 c =
+    let s = c .before .before .before .before in
+    ap filled.Refused (c .cut-refusal .ensures) ∙ sym (ap (cutAnswer (s .args .end)) (c .before .before .read .given .1))
 
 pub cut-answer-spec : {M : Type 1} → statement M
 cut-answer-spec =

@@ -7,6 +7,7 @@ use lib.ListN.{length, take}
 use Rattle.text_line.proofs.Placing.{puts-as}
 use Rattle.pair_text.proofs.PairLines.{pair-fits}
 use Rattle.cycle_reading.specs.Reading.{readS, readR}
+use Rattle.cycles_text.specs.Cut.{judgedText}
 use Rattle.cycles_text.proofs.Printing.{Made, made-pair, front-of, pair-as, fits-as, lines-by}
 use borrow.Author.Needs.{needs}
 use Rattle.cycles_text.proofs.cycles_text.Statement.{statement}
@@ -21,13 +22,13 @@ module _ (k : tie.After-read) where
   start = called .before .before .before .before .before .before .before
 
   abbrev text : List ℕ
-  text = start .args .text .now
+  text = judgedText (start .args .longer) (start .args .text .now)
 
   abbrev n : ℕ
   n = k .read .given .0 .0
 
   made : Made text n
-  made = made-pair (start .args .longer) text n (sym (called .read-tables .ensures .0) ∙ k .read .given .1)
+  made = made-pair (start .args .longer) (start .args .text .now) n (sym (called .read-tables .ensures .0) ∙ k .read .given .1)
 
   abbrev stood-S : List ℕ
   stood-S = called .read-tables .last .1 .1 .0
@@ -87,7 +88,7 @@ returns : tie.Need-returns
 returns c =
     let k = c .before .before .before .before .before .before .before in
     let m = called k in (
-      puts-as (pair-as (front-S k) (front-R k) ∙ lines-by (start k .args .longer) (text k) _ (sym (k .read .given .1) ∙ m .read-tables .ensures .0))
+      puts-as (pair-as (front-S k) (front-R k) ∙ lines-by (start k .args .longer) (start k .args .text .now) _ (sym (k .read .given .1) ∙ m .read-tables .ensures .0))
           (c .before .before .pair-lines .ensures),
       m .read-tables .ensures .1,
     )

@@ -50,9 +50,12 @@ returns c =
               l .1 .0 ∙ ap (λ (r : Filled). columnLeft r (tableR v t) (s .args .r .now)) e,
               (
                 l .1 .1 .0 ∙ ap (λ (r : Filled). columnLeft r (tableT v t) (s .args .u .now)) e,
-                λ z. zero-means (λ (n : ℕ). Meaning v t) (q .result)
-                    (subst AboveIn (sym e) (tabled-above v t (length (s .args .w .now)) (length (s .args .s .now)) (length (s .args .r .now))
-                    (length (s .args .u .now)))) (l .1 .1 .1) (sym (c .of-filled .ensures .0) ∙ z),
+                (
+                  λ z. zero-means (λ (n : ℕ). Meaning v t) (q .result)
+                      (subst AboveIn (sym e) (tabled-above v t (length (s .args .w .now)) (length (s .args .s .now)) (length (s .args .r .now))
+                      (length (s .args .u .now)))) (l .1 .1 .1 .0) (sym (c .of-filled .ensures .0) ∙ z),
+                  λ ok h i j k. c .of-filled .ensures .0 ∙ ap (λ (x : Filled). filledRefusal x .number) (l .1 .1 .1 .1 ok h i j k),
+                ),
               ),
             ),
           ),

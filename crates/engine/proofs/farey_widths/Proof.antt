@@ -39,8 +39,12 @@ returns c =
           q .ensures .1 .0,
           (
             l .0 ∙ ap (λ (r : Filled). columnLeft r (widthsOf v t) (s .args .out .now)) e,
-            λ z. zero-means (λ (n : ℕ). Meaning v t) (q .result)
-                (subst AboveIn (sym e) (widthed-above v t (length (s .args .w .now)) (length (s .args .out .now)))) (l .1) (sym (c .of-filled .ensures .0) ∙ z),
+            (
+              λ z. zero-means (λ (n : ℕ). Meaning v t) (q .result)
+                  (subst AboveIn (sym e) (widthed-above v t (length (s .args .w .now)) (length (s .args .out .now)))) (l .1 .0)
+                  (sym (c .of-filled .ensures .0) ∙ z),
+              λ ok h i. c .of-filled .ensures .0 ∙ ap (λ (x : Filled). filledRefusal x .number) (l .1 .1 ok h i),
+            ),
           ),
         ),
       ),

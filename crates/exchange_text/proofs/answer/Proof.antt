@@ -1,18 +1,49 @@
--- `answer`: the arrays are long enough, and the bytes mean what they should (`print-means`). Assumes nothing.
+-- `answer` meets its contract. An input that was read: the arrays are long enough, and the bytes mean what they
+-- should (`print-means`). One that could not be read: nothing is done. Assumes nothing.
+use mathlib.Core.Path.{refl}
 use native.Mathlib.Omega.{arith}
+use Rattle.input.proofs.Text.{when-read, when-failed}
 use Rattle.text_line.proofs.Placing.{puts-within, puts-front}
 use Rattle.exchange_text.proofs.Printing.{print-means}
+use borrow.Author.Needs.{needs}
 use Rattle.exchange_text.proofs.answer.Statement.{statement}
 use Rattle.exchange_text.proofs.answer.Tie as tie
+
+enum-known-input : tie.Need-enum-known-input
+enum-known-input c = search needs
+
+enum-told : tie.Need-enum-told
+enum-told c = search needs
+
+returns : tie.Need-returns
+returns c = (omega arith, when-failed (c .enum-told .given .1) (refl, refl, refl, refl))
+
+text-end-requires : tie.Need-text-end-requires
+text-end-requires c κs = search needs
+
+slice-aggregate-exchange-text : tie.Need-slice-aggregate-exchange-text
+slice-aggregate-exchange-text c = c .before .text-end .ensures .long
 
 exchange-text-requires : tie.Need-exchange-text-requires
 exchange-text-requires c κs = (omega arith, omega arith, omega arith)
 
-returns : tie.Need-returns
-returns c =
-    let p = c .exchange-text .ensures in
-    let s = c .before .before .before .before .before in
-    ((p .0, omega (arith, puts-within (p .0) (omega arith) (omega arith))), (p .1, print-means (s .args .longer) (s .args .text .now) _ (puts-front (p .0))))
+returns-2 : tie.Need-returns-2
+returns-2 c =
+    let ended = c .before .before .before .before .before in
+    let p = c .exchange-text .ensures in (
+      omega (arith, puts-within (p .0) (omega arith) (omega arith)),
+      when-read (ended .before .before .input .given .1) (ended .text-end .ensures)
+          (p .0, p .1, print-means _ _ _ (puts-front (p .0))),
+    )
 
 pub answer-spec : {M : Type 1} → statement M
-answer-spec = tie.close (tie.spec exchange-text-requires returns)
+answer-spec =
+    tie.close
+    (tie.spec
+    enum-known-input
+    enum-told
+    returns
+    text-end-requires
+    slice-aggregate-exchange-text
+    exchange-text-requires
+    returns-2)

@@ -1,13 +1,29 @@
--- `answer_by` meets its contract: the arrays are long enough, and the bytes that it writes are the lines of what is asked (`print-means`).
--- Assumes nothing.
-use mathlib.Core.Path.{_≡_, _∙_}
+-- `answer_by` meets its contract. An input that was read: the arrays are long enough, and the bytes are the lines of
+-- what is asked (`print-means`). One that could not be read: nothing is done. Assumes nothing.
+use mathlib.Core.Path.{refl}
 use native.Mathlib.Omega.{arith}
+use Rattle.input.proofs.Text.{when-read, when-failed}
 use Rattle.text_line.proofs.Placing.{puts-within, puts-front}
 use Rattle.import_text.specs.Answer.{requestOf, importedBy}
 use Rattle.import_text.proofs.ReadBack.{print-means}
 use borrow.Author.Needs.{needs}
 use Rattle.import_text.proofs.answer_by.Statement.{statement}
 use Rattle.import_text.proofs.answer_by.Tie as tie
+
+enum-known-input : tie.Need-enum-known-input
+enum-known-input c = search needs
+
+enum-told : tie.Need-enum-told
+enum-told c = search needs
+
+returns : tie.Need-returns
+returns c = (omega arith, when-failed (c .enum-told .given .1) (refl, refl, refl, refl, refl, refl, refl))
+
+text-end-requires : tie.Need-text-end-requires
+text-end-requires c κs = search needs
+
+slice-aggregate-import-text : tie.Need-slice-aggregate-import-text
+slice-aggregate-import-text c = c .before .text-end .ensures .long
 
 import-text-requires : tie.Need-import-text-requires
 import-text-requires c κs = (
@@ -21,12 +37,24 @@ import-text-requires c κs = (
   },
 )
 
-returns : tie.Need-returns
+returns-2 : tie.Need-returns-2
 unfolding importedBy
-returns c =
-    let l = c .import-text in
-    let p = l .ensures .0 in
-    ((p, omega (arith, puts-within p (omega arith) (omega arith))), (l .ensures .1 .0, (l .ensures .1 .1, print-means _ (requestOf _ _) _ (puts-front p))))
+returns-2 c =
+    let ended = c .before .before .before .before .before .before .before .before in
+    let p = c .import-text .ensures in (
+      omega (arith, puts-within (p .0) (omega arith) (omega arith)),
+      when-read (ended .before .before .input .given .1) (ended .text-end .ensures)
+          (p .0, p .1 .0, p .1 .1, print-means _ (requestOf _ _) _ (puts-front (p .0))),
+    )
 
 pub answer-by-spec : {M : Type 1} → statement M
-answer-by-spec = tie.close (tie.spec import-text-requires returns)
+answer-by-spec =
+    tie.close
+    (tie.spec
+    enum-known-input
+    enum-told
+    returns
+    text-end-requires
+    slice-aggregate-import-text
+    import-text-requires
+    returns-2)

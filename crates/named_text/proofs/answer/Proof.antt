@@ -1,6 +1,8 @@
--- `answer` meets its contract: the arrays are long enough, and the bytes that it writes are the lines of what is asked (`print-means`).
--- Assumes nothing.
+-- `answer` meets its contract. An input that was read: the arrays are long enough, and the bytes are the lines of
+-- what is asked (`print-means`). One that could not be read: nothing is done. Assumes nothing.
+use mathlib.Core.Path.{refl}
 use native.Mathlib.Omega.{arith}
+use Rattle.input.proofs.Text.{when-read, when-failed}
 use Rattle.text_line.proofs.Placing.{puts-within, puts-front}
 use Rattle.named_text.specs.Answer.{groupRequest, namedBytes}
 use Rattle.named_text.proofs.Asked.{print-means}
@@ -8,15 +10,42 @@ use borrow.Author.Needs.{needs}
 use Rattle.named_text.proofs.answer.Statement.{statement}
 use Rattle.named_text.proofs.answer.Tie as tie
 
+enum-known-input : tie.Need-enum-known-input
+enum-known-input c = search needs
+
+enum-told : tie.Need-enum-told
+enum-told c = search needs
+
+returns : tie.Need-returns
+returns c = (omega arith, when-failed (c .enum-told .given .1) (refl, refl, refl, refl, refl))
+
+text-end-requires : tie.Need-text-end-requires
+text-end-requires c κs = search needs
+
+slice-aggregate-group-text : tie.Need-slice-aggregate-group-text
+slice-aggregate-group-text c = c .before .text-end .ensures .long
+
 group-text-requires : tie.Need-group-text-requires
 group-text-requires c κs = search needs
 
-returns : tie.Need-returns
+returns-2 : tie.Need-returns-2
 unfolding namedBytes
-returns c =
-    let l = c .group-text in
-    let p = l .ensures .0 in
-    ((p, omega (arith, puts-within p (omega arith) (omega arith))), (l .ensures .1 .0, (l .ensures .1 .1, print-means (groupRequest _ _) _ (puts-front p))))
+returns-2 c =
+    let ended = c .before .before .before .before .before .before in
+    let p = c .group-text .ensures in (
+      omega (arith, puts-within (p .0) (omega arith) (omega arith)),
+      when-read (ended .before .before .input .given .1) (ended .text-end .ensures)
+          (p .0, p .1 .0, p .1 .1, print-means (groupRequest _ _) _ (puts-front (p .0))),
+    )
 
 pub answer-spec : {M : Type 1} → statement M
-answer-spec = tie.close (tie.spec group-text-requires returns)
+answer-spec =
+    tie.close
+    (tie.spec
+    enum-known-input
+    enum-told
+    returns
+    text-end-requires
+    slice-aggregate-group-text
+    group-text-requires
+    returns-2)

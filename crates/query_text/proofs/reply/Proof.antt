@@ -1,16 +1,49 @@
--- `reply` meets its contract: the arrays are long enough, and the bytes mean what the claim says (`reply-means`). Assumes nothing.
+-- `reply` meets its contract. An input that was read: the arrays are long enough, and the bytes mean what the claim
+-- says (`reply-means`). One that could not be read: nothing is done. Assumes nothing.
+use mathlib.Core.Path.{refl}
 use native.Mathlib.Omega.{arith}
+use Rattle.input.proofs.Text.{when-read, when-failed}
 use Rattle.text_line.proofs.Placing.{puts-within, puts-front}
 use Rattle.query_text.proofs.Replied.{reply-means}
+use borrow.Author.Needs.{needs}
 use Rattle.query_text.proofs.reply.Statement.{statement}
 use Rattle.query_text.proofs.reply.Tie as tie
+
+enum-known-input : tie.Need-enum-known-input
+enum-known-input c = search needs
+
+enum-told : tie.Need-enum-told
+enum-told c = search needs
+
+returns : tie.Need-returns
+returns c = (omega arith, when-failed (c .enum-told .given .1) (refl, refl, refl, refl, refl))
+
+text-end-requires : tie.Need-text-end-requires
+text-end-requires c κs = search needs
+
+slice-aggregate-reply-text : tie.Need-slice-aggregate-reply-text
+slice-aggregate-reply-text c = c .before .text-end .ensures .long
 
 reply-text-requires : tie.Need-reply-text-requires
 reply-text-requires c κs = (omega arith, record { work = omega arith; lent = omega arith; out-long = omega arith })
 
-returns : tie.Need-returns
-returns c = let p = c .reply-text .ensures in
-    ((p .0, omega (arith, puts-within (p .0) (omega arith) (omega arith))), (p .1, reply-means (omega arith) (omega arith) (puts-front (p .0)) (p .1)))
+returns-2 : tie.Need-returns-2
+returns-2 c =
+    let ended = c .before .before .before .before .before .before in
+    let p = c .reply-text .ensures in (
+      omega (arith, puts-within (p .0) (omega arith) (omega arith)),
+      when-read (ended .before .before .input .given .1) (ended .text-end .ensures)
+          (p .0, p .1, reply-means (omega arith) (omega arith) (puts-front (p .0)) (p .1)),
+    )
 
 pub reply-spec : {M : Type 1} → statement M
-reply-spec = tie.close (tie.spec reply-text-requires returns)
+reply-spec =
+    tie.close
+    (tie.spec
+    enum-known-input
+    enum-told
+    returns
+    text-end-requires
+    slice-aggregate-reply-text
+    reply-text-requires
+    returns-2)

@@ -25,16 +25,12 @@ returns c =
 build-requires : tie.Need-build-requires
 build-requires c κs = search needs
 
-prepare-requires : tie.Need-prepare-requires
-prepare-requires c κs = search needs
-
 answer-pairs-requires : tie.Need-answer-pairs-requires
 answer-pairs-requires c κs =
-    let q = c .before .before .before .before .before in
-    let b = q .before .before .before .before in
+    let b = c .before .before .before .before .before in
     let s = b .before .before .before .before in (
-      record { prepared = q .prepare .ensures .0; start = b .build .ensures .0 .start },
-      record { symbol = s .pre .symbol; count = s .pre .count; work = q .prepare .ensures .0 .tables .long },
+      b .build .ensures .0,
+      record { symbol = s .pre .symbol; count = s .pre .count; work = b .build .ensures .0 .prepared .tables .long },
       omega (arith, b .before .before .if1 .left),
     )
 
@@ -53,12 +49,11 @@ same-length-4 c = search needs
 returns-2 : tie.Need-returns-2
 returns-2 c =
     let a = c .before .before .before .before .before .before in
-    let q = a .before .before .before .before .before .before in
-    let b = q .before .before .before .before in
+    let b = a .before .before .before .before .before .before in
     let s = b .before .before .before .before in
     let g = s .args in
     let n = pairsIn (g .p .now) in
-    let kept = q .prepare .ensures .1 ∙ b .build .ensures .1 in (
+    let kept = b .build .ensures .1 in (
       one-room n (length (g .lines .now) / 4) (b .before .before .if1 .left),
       (
         c .before .before .clear2 .ensures ∙ ap zeros kept,
@@ -77,7 +72,6 @@ fill-spec =
     same-length
     returns
     build-requires
-    prepare-requires
     answer-pairs-requires
     clear-requires-2
     same-length-2

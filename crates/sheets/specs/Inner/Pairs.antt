@@ -1,6 +1,5 @@
 -- What the inner functions of a sheet ask for, and give.
 --
---   TablesReady t v w x    the tables of steps are in the work space, and x is the start of the symbol
 --   pairOf v t a b room start   the answer for a pair where the symbol is accepted and the work space is long enough: 8, 9, 10, 11 or the word
 --   SheetReady v t p w     the sheet passes its checks, and the work space is long enough
 --   lineAt i line lines    the line in place of the four numbers that stood at the place i of the table
@@ -14,17 +13,10 @@ use lib.IntN.{ℤ}
 use Rattle.refusal.specs.declared.Refusal.{Refusal}
 use Rattle.workspace.specs.Space.{workLength}
 use Rattle.symbol.specs.Symbol.{IsSymbol}
-use Rattle.polygon.specs.Cut.{places}
-use Rattle.polygon.specs.Step.{startOf}
-use Rattle.walk_steps.specs.Inner.Steps.{StepsReady}
 use Rattle.word.specs.Answer.{foundOf, byDeterminants, byEntries}
 use Rattle.word.specs.declared.Queried.{Queried}
 use Rattle.word.specs.declared.Queried.the-variants as queried
 use Rattle.sheets.specs.Sheet.{badCount}
-
-pub record TablesReady (t : List ℤ) (v : ℕ) (w : List ℕ) (x : ℕ) : Type 0 where
-  pub prepared : StepsReady t v w (places v)
-  pub start : x ≡ startOf v t
 
 abbrev pub pairOf : (v : ℕ) (t a b : List ℤ) (room start : ℕ) → Queried
 pairOf v t a b room start = byEntries a b (byDeterminants a b (foundOf v t a b start room))

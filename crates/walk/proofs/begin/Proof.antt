@@ -4,7 +4,7 @@ use native.Mathlib.Omega.{arith}
 use mathlib.Core.Path.{refl, sym, _∙_}
 use Prim.Native.Nat.{_^_}
 use Rattle.matrix.specs.Matrix.{ofList}
-use Rattle.polygon.proofs.Polygon.{polygon}
+use Rattle.coset.proofs.Positions.{positions}
 use Rattle.walk.proofs.Onward.{whole-sound, whole-proper, sound-more, begun-tail, begun-head, stepped-long}
 use borrow.Author.Needs.{needs}
 use Rattle.walk.proofs.begin.Statement.{statement}
@@ -33,7 +33,7 @@ same-length c = search needs
 returns : tie.Need-returns
 returns c =
     let s = c .before .before .before .before .before .before .before in
-    let g = polygon (s .args .v) (s .args .t .now) (s .pre .0 .prepared .tables .symbol) in
+    let g = positions (s .pre .0 .prepared .tables .symbol) .polygon in
     let e = c .before .before .before .before .before .whole .ensures in
     let f = c .before .power .ensures in
     let m = ofList (s .args .m) in (
@@ -45,7 +45,7 @@ returns c =
 returns-2 : tie.Need-returns-2
 returns-2 c =
     let s = c .before .before .before .before in
-    let g = polygon (s .args .v) (s .args .t .now) (s .pre .0 .prepared .tables .symbol) in
+    let g = positions (s .pre .0 .prepared .tables .symbol) .polygon in
     let e = c .before .before .whole .ensures in
     let m = ofList (s .args .m) in
     (begun-tail g m (s .pre .2) (s .pre .3) (s .pre .1) (e .0) (e .1) (e .2) (e .3) (sym (c .before .rows-agree .ensures) ∙ c .if1 .left), refl)

@@ -1,9 +1,11 @@
 -- `cross` is one S: the rows change places, and the letter, the position and the sign are what the tables of steps say (`stepped`, `sign-S`). Assumes nothing.
-use mathlib.Core.Path.{refl, _∙_, ap}
+use mathlib.Core.Path.{refl, _∙_, ap, subst}
+use mathlib.Core.Bool.{Bool}
 use mir.Facts.{toZ-ofZ}
 use mir.Syntax.{w16}
 use mir.Val.{toZ, ofZ}
-use Rattle.polygon.specs.Inner.Tables.{lettersOf}
+use Rattle.matrix.specs.Words.{S, letter}
+use Rattle.coset.specs.Positions.{stepS, written, lettersOf, FrameEquation}
 use Rattle.walk.proofs.Told.{sign-S}
 use Rattle.walk.proofs.Letters.{stepped}
 use borrow.Author.Needs.{needs}
@@ -32,11 +34,15 @@ returns : tie.Need-returns
 returns c =
     let s = c .before .before .before .before .before .before .before .before in
     let l = c .before .before .before .before .before .before in
-    let k = toZ-ofZ {w = w16} {z = l .letter .result} (record { sfits = l .letter .ok }) in (
+    let k = toZ-ofZ {w = w16} {z = l .letter .result} (record { sfits = l .letter .ok }) in
+    let v = s .args .v in
+    let t = s .args .t .now in
+    let p = s .args .way .at in
+    let x = c .before .sign-of-s in (
       stepped (toZ w16 (ofZ w16 (l .letter .result))) (ap lettersOf k ∙ l .letter .ensures) (c .before .before .next .ensures)
           (c .before .before .before .before .put .ensures)
-          (sign-S (s .args .v) (s .args .t .now) (s .args .way .sign) (s .args .way .at) (c .times .result) (c .before .sign-of-s .result)
-          (c .before .sign-of-s .ensures) (c .times .ensures)),
+          (sign-S v t (s .args .way .sign) p (c .times .result) (x .result) (x .ensures .0) (c .times .ensures))
+          (subst (λ (b : Bool). FrameEquation v t p (letter S) b (written v t S p) (stepS v t p)) (x .ensures .0) (x .ensures .1)),
       refl,
     )
 

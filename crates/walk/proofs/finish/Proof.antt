@@ -2,7 +2,7 @@
 -- its last letter (`ended-S`). Assumes nothing.
 use Rattle.walk.specs.Inner.Way.{formOf}
 use native.Mathlib.Omega.{arith}
-use Rattle.polygon.proofs.Polygon.{polygon}
+use Rattle.coset.proofs.Positions.{positions}
 use Rattle.walk.proofs.Forms.{improper}
 use Rattle.walk.proofs.Onward.{ended-none, ended-S}
 use borrow.Author.Needs.{needs}
@@ -15,7 +15,7 @@ add-if1 c = search needs
 returns : tie.Need-returns
 returns c =
     let s = c .before .before .before in
-    ended-none (polygon (s .args .v) (s .args .t .now) (s .pre .0 .prepared .tables .symbol)) (s .pre .1) (c .if1 .taken)
+    ended-none (positions (s .pre .0 .prepared .tables .symbol) .polygon) (s .pre .1) (c .if1 .taken)
 
 cross-requires : tie.Need-cross-requires
 cross-requires c κs = search needs
@@ -26,7 +26,7 @@ same-length c = search needs
 returns-2 : tie.Need-returns-2
 returns-2 c =
     let s = c .before .before .before .before .before .before in
-    ended-S (polygon (s .args .v) (s .args .t .now) (s .pre .0 .prepared .tables .symbol)) (s .pre .1) (omega (arith, c .before .before .before .if1 .left))
+    ended-S (positions (s .pre .0 .prepared .tables .symbol) .polygon) (s .pre .1) (omega (arith, c .before .before .before .if1 .left))
     (improper (formOf (s .args .way)) (s .pre .2) (omega (arith, c .before .before .before .if1 .left))) (c .before .cross .ensures .0)
 
 pub finish-spec : {M : Type 1} → statement M

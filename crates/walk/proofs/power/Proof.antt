@@ -4,7 +4,9 @@ use mathlib.Core.Path.{refl, _∙_, ap}
 use mir.Facts.{toZ-ofZ}
 use mir.Syntax.{w16}
 use mir.Val.{toZ, ofZ}
-use Rattle.polygon.specs.Inner.Tables.{lettersOf}
+use Rattle.matrix.specs.Words.{Q, P}
+use Rattle.coset.specs.Positions.{lettersOf}
+use Rattle.coset.proofs.Positions.{positions}
 use Rattle.walk.specs.Inner.Way.{formOf}
 use Rattle.walk.proofs.Told.{sign-Q, sign-P}
 use Rattle.walk.proofs.Letters.{stepped}
@@ -50,8 +52,9 @@ returns c =
     let l = c .before .before .before .before .before .before in
     let k = toZ-ofZ {w = w16} {z = l .letter-q .result} (record { sfits = l .letter-q .ok }) in
     powered-Q (c .before .before .before .before .before .before .before .if1 .taken)
-    (stepped (toZ w16 (ofZ w16 (l .letter-q .result))) (ap lettersOf k ∙ l .letter-q .ensures) (c .before .before .turn-q .ensures)
-    (c .before .before .before .before .put .ensures) (sign-Q (s .args .v) (s .args .t .now) (s .args .way .sign) (s .args .way .at))) refl
+    (stepped (toZ w16 (ofZ w16 (l .letter-q .result))) (ap lettersOf k ∙ l .letter-q .ensures .0) (c .before .before .turn-q .ensures)
+    (c .before .before .before .before .put .ensures) (sign-Q (s .args .v) (s .args .t .now) (s .args .way .sign) (s .args .way .at))
+    (positions (s .pre .0 .prepared .tables .symbol) .steps Q (s .args .way .at) (s .pre .1 .real))) refl
 
 letter-q-requires-2 : tie.Need-letter-q-requires-2
 letter-q-requires-2 c κs = search needs
@@ -83,8 +86,9 @@ returns-2 c =
     let l = c .before .before .before .before .before .before .before in
     let k = toZ-ofZ {w = w16} {z = l .letter-q2 .result} (record { sfits = l .letter-q2 .ok }) in
     powered-P (c .before .before .before .before .before .before .before .before .if1 .left)
-    (stepped (toZ w16 (ofZ w16 (l .letter-q2 .result))) (ap lettersOf k ∙ l .letter-q2 .ensures) (c .before .before .before .turn-back .ensures)
-    (c .before .before .before .before .before .put2 .ensures) (sign-P (s .args .v) (s .args .t .now) (s .args .way .sign) (s .args .way .at))) refl
+    (stepped (toZ w16 (ofZ w16 (l .letter-q2 .result))) (ap lettersOf k ∙ l .letter-q2 .ensures .0) (c .before .before .before .turn-back .ensures)
+    (c .before .before .before .before .before .put2 .ensures) (sign-P (s .args .v) (s .args .t .now) (s .args .way .sign) (s .args .way .at))
+    (positions (s .pre .0 .prepared .tables .symbol) .steps P (s .args .way .at) (s .pre .1 .real))) refl
 
 pub power-spec : {M : Type 1} → statement M
 power-spec =

@@ -4,6 +4,7 @@ use native.Mathlib.Omega.{arith}
 use mathlib.Core.Path.{_≡_, refl, sym, _∙_}
 use lib.ListN.{length}
 use Rattle.matrix.specs.Euclid.{total}
+use Rattle.coset.proofs.Positions.{positions}
 use Rattle.walk.specs.Inner.Way.{formOf, Going}
 use Rattle.walk.proofs.Onward.{going-none, going-more, walked}
 use borrow.Author.Needs.{needs}
@@ -71,7 +72,8 @@ same-length c = search needs
 
 returns : tie.Need-returns Inv-loop μ-loop
 returns c =
-    walked (c .before .before .before .before .before .before .before .begin .ensures .0) (c .before .before .before .before .before .loop .inv .0)
+    let s = c .before .before .before .before .before .before .before .before .before .before in
+    walked (positions (s .pre .0 .prepared .tables .symbol)) (s .pre .2) (s .pre .1) (c .before .before .before .before .before .before .before .begin .ensures .0) (c .before .before .before .before .before .loop .inv .0)
     (c .before .finish .ensures)
 
 pub walk-spec : {M : Type 1} → statement M

@@ -11,12 +11,15 @@
 --   signAdded v t x p       what the letter x at p adds to the sign: its own in an alternating word, times that of the step
 --   signLeft v t s p l      the sign s times what the letters of l add to it from p on
 --   Setting                 the tables of steps are there, and `limit` letters fit from the start place on
---   WayStepped x a out b out'  the letter x leads from the state a to b, what it writes is counted, and stored, and what it adds to the sign is told
+--   WayStepped x a out b out'  the letter x leads from the state a to b, what it writes is counted, and stored, and
+--                           what it adds to the sign is told; the step keeps its equation, sign included
 --   Onward                  from l at x with n letters it is the same way as from m at y with k letters
 --   OneApart f              p s and q r are one apart
 --   Sound v t most a        the position is real, the form is one apart, and what is written and left has at most so many letters
 --   Begun, Going, Ended     what the parts of the walk leave: its beginning, a turn, the end
---   Walked                  the walk of the whole word of m: where it ends, how many letters it writes, these stored, and the sign of m against them
+--   Walked                  the walk of the whole word of m: where it ends, how many letters it writes, these stored,
+--                           and the sign of m against them. THE EQUATION OF THE WALK: the frame of the position x where
+--                           it starts times m is the sign times what it writes times the frame of where it ends
 use mathlib.Core.Path.{_≡_}
 use mathlib.Core.Logic.{_⊎_}
 use mathlib.Core.Bool.{Bool, not, _&&_}
@@ -26,15 +29,12 @@ use lib.Dec.{leb, ltb, eqb}
 use lib.ListN.{length, set, take, drop}
 use lib.IntN.{ℤ}
 use Rattle.matrix.specs.Matrix.{Mat}
-use Rattle.matrix.specs.Words.{Letter, Q, P}
+use Rattle.matrix.specs.Words.{Letter, Q, P, letter}
 use Rattle.matrix.specs.Euclid.{Form, form, total, tailOf, wordOf}
 use Rattle.basics.specs.Choice.{pick}
-use Rattle.polygon.specs.Cut.{places}
-use Rattle.polygon.specs.Step.{Real, stepS, turnQ, written}
-use Rattle.polygon.specs.Walk.{goes, ends, writes}
-use Rattle.signs.specs.Sign.{_·_, letterSign, columnSign, matrixSign}
-use Rattle.signs.specs.Step.{stepSign, signAlong, walkSign}
-use Rattle.walk_steps.specs.Inner.Steps.{StepsReady}
+use Rattle.coset.specs.Positions.{Real, stepS, turnQ, written, goes, ends, writes, FrameEquation}
+use Rattle.coset.specs.Positions.{_·_, letterSign, columnSign, matrixSign, stepSign, signAlong, walkSign}
+use Rattle.coset.specs.Inner.Steps.{StepTables}
 use Rattle.walk.specs.declared.Way.{Way}
 
 abbrev pub formOf : Way → Form
@@ -69,7 +69,7 @@ abbrev pub signLeft : ℕ → List ℤ → Bool → ℕ → List Letter → Bool
 signLeft v t s p l = s · signAlong (stepS v t) (turnQ v) (signAdded v t) p l
 
 pub record Setting (t : List ℤ) (v : ℕ) (w : List ℕ) (out : List ℤ) (start limit : ℕ) : Type 0 where
-  pub prepared : StepsReady t v w (places v)
+  pub prepared : StepTables t v w
   pub room : limit ≤ length out - start
 
 pub record WayStepped (v : ℕ) (t : List ℤ) (start limit : ℕ) (x : Letter) (a : Way) (out : List ℤ) (b : Way) (out' : List ℤ) : Type 0 where
@@ -77,6 +77,7 @@ pub record WayStepped (v : ℕ) (t : List ℤ) (start limit : ℕ) (x : Letter) 
   pub count : b .count ≡ a .count + length (written v t x (a .at))
   pub left : out' ≡ stored start limit (a .count) (written v t x (a .at)) out
   pub sign : b .sign ≡ a .sign · signAdded v t x (a .at)
+  pub is : FrameEquation v t (a .at) (letter x) (stepSign v t x (a .at)) (written v t x (a .at)) (b .at)
 
 pub record Onward (v : ℕ) (t : List ℤ) (start limit : ℕ) (l : List Letter) (x n : ℕ) (out : List ℤ) (m : List Letter) (y k : ℕ) (out' : List ℤ) : Type 0 where
   pub ends-at : ends v t y m ≡ ends v t x l
@@ -110,3 +111,4 @@ pub record Walked (v : ℕ) (t : List ℤ) (start limit : ℕ) (m : Mat) (x : �
   pub count : b .count ≡ length (writes v t x (wordOf m))
   pub left : out' ≡ stored start limit 0 (writes v t x (wordOf m)) out
   pub sign : b .sign ≡ matrixSign m · walkSign v t x (wordOf m)
+  pub is : FrameEquation v t x m (b .sign) (writes v t x (wordOf m)) (b .at)

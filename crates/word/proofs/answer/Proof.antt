@@ -1,4 +1,4 @@
--- `answer` makes the tables of steps, answers by them (`pair-ready`) and clears the work space. Assumes nothing.
+-- `answer` builds the tables of steps, answers by them (`pair-ready`) and clears the work space. Assumes nothing.
 use mathlib.Core.Path.{_∙_, ap}
 use Rattle.workspace.specs.Space.{zeros}
 use Rattle.word.proofs.Finding.{pair-ready}
@@ -9,12 +9,9 @@ use Rattle.word.proofs.answer.Tie as tie
 build-requires : tie.Need-build-requires
 build-requires c κs = search needs
 
-prepare-requires : tie.Need-prepare-requires
-prepare-requires c κs = search needs
-
 answer-ready-requires : tie.Need-answer-ready-requires
 answer-ready-requires c κs =
-    pair-ready (c .before .before .before .before .before .before .before .before .before .before .before .pre) (c .before .before .before .before .prepare .ensures .0) (c .before .before .before .before .before .before .before .before .build .ensures .0 .start)
+    pair-ready (c .before .before .before .before .before .before .before .pre) (c .before .before .before .before .build .ensures .0)
 
 clear-requires : tie.Need-clear-requires
 clear-requires c κs = search needs
@@ -31,7 +28,7 @@ returns c =
       f .0,
       (
         f .1,
-        c .before .before .clear .ensures ∙ ap zeros (c .before .before .before .before .before .before .before .before .before .before .prepare .ensures .1 ∙ c .before .before .before .before .before .before .before .before .before .before .before .before .before .before .build .ensures .1),
+        c .before .before .clear .ensures ∙ ap zeros (c .before .before .before .before .before .before .before .before .before .before .build .ensures .1),
       ),
     )
 
@@ -40,7 +37,6 @@ answer-spec =
     tie.close
     (tie.spec
     build-requires
-    prepare-requires
     answer-ready-requires
     clear-requires
     same-length

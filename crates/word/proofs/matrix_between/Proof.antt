@@ -8,7 +8,7 @@ use lib.IntN.{ℤ}
 use Rattle.matrix.specs.Matrix.{Mat, _⊗_, adj, matS, ofList, toList}
 use Rattle.matrix.specs.Bounds.{Small, ProductFits}
 use Rattle.matrix.proofs.Bounds.{small-more, small-adj, small-⊗, room}
-use Rattle.polygon.proofs.Followed.{followed-turned, followed-upright}
+use Rattle.coset.proofs.Positions.{positions}
 use Rattle.word.proofs.Turned.{S-small}
 use Rattle.word.proofs.Finding.{between-room, between-small}
 use borrow.Author.Needs.{needs}
@@ -76,7 +76,7 @@ returns c =
     c .product3 .ensures
     ∙ ap (λ (m : Mat). toList (m ⊗ ofList (c .before .product2 .result))) (turned-is (c .before .before))
     ∙ ap (λ (m : Mat). toList (adj matS ⊗ m)) (right-is (c .before))
-    ∙ ap toList (followed-turned (s .args .v) (s .args .t .now) (ofList (s .args .b) ⊗ adj (ofList (s .args .a)))
+    ∙ ap toList (positions (s .pre .0) .followed-round (ofList (s .args .b) ⊗ adj (ofList (s .args .a)))
     (sym (c .before .before .before .before .before .is-turned .ensures) ∙ c .before .before .before .before .if1 .taken))
 
 returns-2 : tie.Need-returns-2
@@ -84,7 +84,7 @@ returns-2 c =
     let s = c .before .before .before .before in
     let p = c .before .before in
     p .product .ensures ∙ ap (λ (l : List ℤ). toList (ofList (s .args .b) ⊗ ofList l)) (c .before .before .before .inverse .ensures)
-    ∙ ap toList (followed-upright (s .args .v) (s .args .t .now) (ofList (s .args .b) ⊗ adj (ofList (s .args .a))) (sym (c .before .is-turned .ensures) ∙ c .if1 .left))
+    ∙ ap toList (positions (s .pre .0) .followed-upright (ofList (s .args .b) ⊗ adj (ofList (s .args .a))) (sym (c .before .is-turned .ensures) ∙ c .if1 .left))
 
 pub matrix-between-spec : {M : Type 1} → statement M
 matrix-between-spec =

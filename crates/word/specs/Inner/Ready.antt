@@ -19,12 +19,8 @@ use Rattle.matrix.specs.Bounds.{Small}
 use Rattle.matrix.specs.Euclid.{wordOf}
 use Rattle.basics.specs.Choice.{pick}
 use Rattle.basics.specs.Count.{first}
-use Rattle.polygon.specs.Cut.{places}
-use Rattle.polygon.specs.Step.{startOf}
-use Rattle.polygon.specs.Walk.{ends, writes}
-use Rattle.signs.specs.Sign.{_·_, matrixSign}
-use Rattle.signs.specs.Step.{walkSign}
-use Rattle.walk_steps.specs.Inner.Steps.{StepsReady}
+use Rattle.coset.specs.Positions.{startOf, ends, writes, _·_, matrixSign, walkSign}
+use Rattle.coset.specs.Inner.Steps.{StepTables}
 use Rattle.refusal.specs.Refusal.{noWord}
 use Rattle.word.specs.Answer.{large, unit, wordOrShort}
 use Rattle.word.specs.declared.Queried.{Queried}
@@ -45,13 +41,13 @@ endOf v t m start room =
     (queried.Refused noWord)
 
 pub record WalkReady (t : List ℤ) (v : ℕ) (w : List ℕ) (m : List ℤ) (x : ℕ) : Type 0 where
-  pub prepared : StepsReady t v w (places v)
+  pub prepared : StepTables t v w
   pub start : x ≡ startOf v t
   pub unit : det (ofList m) ≡ pos 1
   pub small : Small (2 ^ 50) (ofList m)
 
 pub record PairReady (t : List ℤ) (v : ℕ) (w : List ℕ) (a b : List ℤ) (x : ℕ) : Type 0 where
-  pub prepared : StepsReady t v w (places v)
+  pub prepared : StepTables t v w
   pub start : x ≡ startOf v t
   pub entries-A : Small 1000000 (ofList a)
   pub entries-B : Small 1000000 (ofList b)

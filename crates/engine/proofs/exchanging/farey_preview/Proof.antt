@@ -2,7 +2,7 @@
 -- among them, and the widths. Assumes nothing.
 use mathlib.Core.Path.{_≡_, sym, ap, subst, _∙_}
 use mathlib.Core.List.{List}
-use Prim.Native.Nat.{ℕ}
+use Prim.Native.Nat.{ℕ, _<_}
 use native.Mathlib.Omega.{arith}
 use lib.ListN.{length, getD}
 use mir.Facts.{toZ-ofZ}
@@ -16,6 +16,10 @@ use Rattle.engine.proofs.Exchanged.{preview-above}
 use borrow.Author.Needs.{needs}
 use Rattle.engine.proofs.exchanging.farey_preview.Statement.{statement}
 use Rattle.engine.proofs.exchanging.farey_preview.Tie as tie
+
+-- a number that is above 0 is not 0: apart, so that `omega` sees no more than this
+above-zero : {n : ℕ} → 0 < n → n ≡ 0 → ⊥
+above-zero h z = omega arith
 
 preview-requires : tie.Need-preview-requires
 preview-requires c κs = search needs
@@ -51,7 +55,7 @@ returns c =
       ap (λ (r : Figured). figuredRefusal r .number) k,
       (
         ap previewPlace k,
-        (p .1 .0, (p .1 .1 .0, (ap (λ (r : Figured). figuresLeft r (s .args .out .now)) k, (λ z. absurd (omega (arith, above, z)), λ z. absurd (omega (arith, above, z)))))),
+        (p .1 .0, (p .1 .1 .0, (ap (λ (r : Figured). figuresLeft r (s .args .out .now)) k, (λ z. absurd (above-zero above z), λ z. absurd (above-zero above z))))),
       ),
     )
 

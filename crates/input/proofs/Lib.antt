@@ -1,0 +1,2 @@
+-- The laws of an input's text.
+pub mod Text

@@ -1,0 +1,2 @@
+-- What a reader of the crate `input` must believe: the text of an input.
+pub mod Input
