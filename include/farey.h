@@ -5,7 +5,7 @@
  * with the sign that tells which of the two it gives.
  *
  * Link with libengine.a, or with libfarey.so (./farey library), on x86-64 Linux. The code of every function below is proved to answer and
- * to leave what its comment says, though not how often it does something on the way, and is then compiled (docs/HANDBOOK.md says what is
+ * to leave what its comment says, though not how often it does something on the way, and is then compiled (docs/ASSUMPTIONS.md says what is
  * assumed there), for every input that keeps these rules of C's side, which nothing can check:
  *   - a pointer with a length points to that many numbers of its type, aligned; where the length is 0 it may be anything, NULL too;
  *     the other pointers point to what their comment says, and none of them is NULL;
@@ -23,8 +23,8 @@
  * left to right, then the v + 1 pairings, 3v + 1 numbers in all. A pairing is -2 (even), -3 (odd) or a free label from 1 to v + 1 that
  * stands on exactly two sides.
  *
- * THE ANSWER of each function is 0, or the number of a refusal. Through `place` it writes the place of the refusal, or where it returns
- * 0 a count, as said at each. Where it refuses, the result spaces are as they were. Where it returns 0, it has written the part that
+ * THE ANSWER of each function but farey_version is 0, or the number of a refusal. Through `place` it writes the place of
+ * the refusal, or where it returns 0 a count, as said at each. Where it refuses, the result spaces are as they were. Where it returns 0, it has written the part that
  * its comment names, and all else there is as it was.
  *
  * THE WORK SPACE has at least FAREY_WORK numbers; what stands in it at the call is free. It is all zero after a call that got past its
@@ -85,6 +85,9 @@
 extern "C" {
 #endif
 
+/* The version: 10,000 times the major number, 100 times the minor one and the patch. */
+#define FAREY_VERSION 200
+#define FAREY_VERSION_TEXT "0.2.0"
 /* Stack that is enough for every call, in bytes, with what it calls in turn. This is measured and not proved, on x86-64: the symbols and
  * queries of named groups, which keep two tables and a symbol there, take under 65,536, farey_intersection, which keeps four tables, and
  * farey_read_cycles, which keeps two with marks for their points, under 40,000, farey_contains and farey_tower, which keep three, and
@@ -117,6 +120,9 @@ extern "C" {
 #define FAREY_GAMMA0 0
 #define FAREY_GAMMA1 1
 #define FAREY_GAMMA 2
+
+/* The version of the library that is linked or loaded; FAREY_VERSION is that of this header. It refuses nothing. */
+uint64_t farey_version(void);
 
 /* Whether t is a symbol: refusals 1 to 7 in this order. Count: 0. */
 uint64_t farey_check(size_t v, const int64_t *t, size_t t_len, size_t *place);

@@ -1,4 +1,4 @@
-/* From two permutations to a symbol, its figures, generators and coset tables, and words: every call of the library, from C.
+/* From two permutations to a symbol, its figures, generators and coset tables, words, and the sides of its polygon.
  *
  *     rt staticlib engine
  *     cc -I include examples/library/subgroup.c target/staticlib/libengine.a -o subgroup && ./subgroup
@@ -76,6 +76,10 @@ int main(void)
     size_t v, length, count, place;
     uint64_t figures[8];
 
+    if (farey_version() != FAREY_VERSION) {
+        printf("the library and the header are of two versions\n");
+        return 1;
+    }
     /* Each rule of import makes a symbol with a table of this length. */
     expect(farey_import_length(given_s, 7, given_r, 7, &length), &length);
     printf("length %zu\n", length);

@@ -32,9 +32,10 @@ fn name(kind: Kind) -> &'static str {
 }
 
 fn main() -> Result<(), Refusal> {
+    assert_eq!(calls::version(), 200);
     let (s, r) = ([1, 0, 4, 6, 2, 5, 3], [2, 3, 5, 6, 4, 0, 1]);
     println!("length {}", calls::import_length(&s, &r)?);
-    let symbol = Symbol::from_permutations_wide(&s, &r)?;
+    let symbol = Symbol::from_permutations(&s, &r)?;
     println!("symbol{}", spaced(symbol.table()));
     println!("index {}", symbol.figures().index);
     println!("widths{}", spaced(&symbol.widths()));
@@ -85,7 +86,7 @@ fn main() -> Result<(), Refusal> {
     println!("same {}", yes_or_no(symbol.is_same(&relabelled)));
     // The rule that splits the leftmost open side: whichever symbol it finds, it
     // is one of the same subgroup.
-    let leftmost = Symbol::from_permutations(&s, &r)?;
+    let leftmost = Symbol::from_permutations_leftmost(&s, &r)?;
     println!(
         "same from the left {}",
         yes_or_no(symbol.is_same(&leftmost))

@@ -75,12 +75,12 @@ def whole(name: str, row: Sequence[int]) -> List[int]:
 
 def image(S: List[int], R: List[int], x: int, M: List[int]) -> int:
     """The point x·M. By Euclid's algorithm (a b; c d) = T^q S (c d; qc-a qd-b)
-    with q = a // c, until c is 0, and then it is T^(ab) up to sign. The left
-    factor acts first.
+    with the integer q nearest to a/c, until c is 0, and then it is T^(ab) up to
+    sign. The left factor acts first.
     """
     a, b, c, d = M
     while c != 0:
-        q = a // c
+        q = (2 * a + c) // (2 * c)
         x = S[power(S, R, x, q)]
         a, b, c, d = c, d, q * c - a, q * d - b
     return power(S, R, x, a * b)

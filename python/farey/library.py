@@ -1,5 +1,9 @@
 """The shared library: where it is, its functions, and a work space a thread.
 
+`path` is the rule by which it is found: what `FAREY_LIBRARY` names; else the
+`libfarey.so` in the package itself, which a wheel has; else `target/libfarey.so`
+of the repository that the package lies in. Its version must be the package's.
+
 What the header asks of C's side (`include/farey.h`) is kept here and in
 `symbol`: every space is a ctypes array of the right type that lives during the
 call, its length is passed from the array itself, and no two of them overlap.
@@ -17,12 +21,15 @@ from ctypes import POINTER, c_double, c_int16, c_int64, c_size_t, c_uint8, c_uin
 from pathlib import Path
 from typing import Any, List, Optional, Tuple
 
+from . import version
 from .refusal import Refusal
 
 #: The environment variable that names another file.
 VARIABLE = "FAREY_LIBRARY"
 #: The repository that this package lies in, where it isn't a copy.
 REPOSITORY = Path(__file__).resolve().parent.parent.parent
+#: The library of an installed package.
+BUNDLED = Path(__file__).resolve().parent / "libfarey.so"
 
 #: Lengths that are enough for every symbol, as the header has them.
 WORK = 32768
@@ -53,6 +60,7 @@ def _space(kind: Any) -> List[Any]:
 
 #: The parameters of each function, as the header declares them.
 _PARAMETERS = {
+    "farey_version": [],
     "farey_check": _SYMBOL + _PLACE,
     "farey_generators": _SYMBOL + _WORK + _space(c_int64) + _PLACE,
     "farey_figures": _SYMBOL + _WORK + [POINTER(c_uint64)] + _PLACE,
@@ -90,9 +98,11 @@ _threads = threading.local()
 
 
 def path() -> Path:
-    """The file of the library: what `FAREY_LIBRARY` names, or the repository's own."""
+    """The file of the library: what `FAREY_LIBRARY` names, or the package's own, or the repository's."""
     named = os.environ.get(VARIABLE)
-    return Path(named) if named else REPOSITORY / "target" / "libfarey.so"
+    if named:
+        return Path(named)
+    return BUNDLED if BUNDLED.is_file() else REPOSITORY / "target" / "libfarey.so"
 
 
 def load() -> ctypes.CDLL:
@@ -121,6 +131,11 @@ def _open(file: Path) -> ctypes.CDLL:
             raise OSError(f"{file} has no function {name}: run ./farey library once more") from None
         function.argtypes = parameters
         function.restype = c_uint64
+    number = opened.farey_version()
+    if number != version.NUMBER:
+        raise OSError(
+            f"{file} has version number {number}, and this package {version.NUMBER}: run ./farey library once more"
+        )
     return opened
 
 

@@ -16,9 +16,13 @@ from typing import Dict, Tuple
 
 from . import library
 from .arguments import clamped, integer, shown
+from .refusal import because
 
 #: The number of each family in the calls of the library.
 FAMILIES: Dict[str, int] = {"gamma0": 0, "gamma1": 1, "gamma": 2}
+
+#: The group of each family.
+GROUPS: Dict[str, str] = {"gamma0": "Γ0", "gamma1": "Γ1", "gamma": "Γ"}
 
 
 def named_tables(family: str, N: int) -> Tuple[Tuple[int, ...], Tuple[int, ...]]:
@@ -32,14 +36,15 @@ def named_tables(family: str, N: int) -> Tuple[Tuple[int, ...], Tuple[int, ...]]
     ((1, 0, 2), (2, 0, 1))
     >>> named_tables("gamma", 19)
     Traceback (most recent call last):
-    farey.refusal.Refusal: refused 21 0: the index of this group is over 3,066
+    farey.refusal.Refusal: refused 21 0: Γ(19) has index 3420, over 3,066
     """
     if not isinstance(family, str):
         raise TypeError(f"family is {shown(family)}, and 'gamma0', 'gamma1' or 'gamma' is wanted")
     if family not in FAMILIES:
         raise ValueError(f"family is {shown(family)}, and 'gamma0', 'gamma1' or 'gamma' is wanted")
     spaces = [(c_uint32 * library.NAMED)() for _ in range(2)]
-    index = library.call("farey_named_tables", FAMILIES[family], level(N), library.work(), *spaces)
+    with because(family=GROUPS[family], N=integer(N, "N")):
+        index = library.call("farey_named_tables", FAMILIES[family], level(N), library.work(), *spaces)
     return tuple(spaces[0][:index]), tuple(spaces[1][:index])
 
 

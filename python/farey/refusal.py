@@ -2,7 +2,10 @@
 
 from __future__ import annotations
 
-from typing import Dict, Optional
+from contextlib import contextmanager
+from typing import Any, Dict, Iterator, Optional
+
+from .causes import cause
 
 #: The sentence of each refusal, with `{place}` for its place. The table is that
 #: of `rust/farey/refusals.txt`, and a test compares the two.
@@ -37,9 +40,10 @@ SENTENCES: Dict[int, str] = {
 }
 
 
-class Refusal(Exception):
+class Refusal(ValueError):
     """A refusal: its number, its place, and what is wrong in words. A call whose
     arguments have other names than the table's sentence gives a sentence of its own.
+    It is a ValueError too, as Python's own functions raise for a value that isn't taken.
 
     >>> refusal = Refusal(15, 2)
     >>> refusal.number, refusal.place, refusal.sentence
@@ -61,8 +65,31 @@ class Refusal(Exception):
     def sentence(self) -> str:
         """What is wrong, with the place put in."""
         if self._sentence is None:
-            return f"refusal {self.number}, place {self.place}"
-        return self._sentence.replace("{place}", str(self.place))
+            return f"refusal {self.number}, place {_told(self.place)}"
+        return self._sentence.replace("{place}", _told(self.place))
 
     def __str__(self) -> str:
-        return f"refused {self.number} {self.place}: {self.sentence}"
+        return f"refused {self.number} {_told(self.place)}: {self.sentence}"
+
+
+@contextmanager
+def because(**given: Any) -> Iterator[None]:
+    """Within it a refusal says its cause from what was given (`farey.causes`), where that shows
+    it, in place of the sentence of its number.
+
+    >>> with because(family="Γ0", N=1001):
+    ...     raise Refusal(20, 0)
+    Traceback (most recent call last):
+    farey.refusal.Refusal: refused 20 0: N is 1001, not from 1 to 1,000
+    """
+    try:
+        yield
+    except Refusal as refusal:
+        if refusal._sentence == SENTENCES.get(refusal.number):
+            refusal._sentence = cause(refusal.number, refusal.place, given) or refusal._sentence
+        raise
+
+
+def _told(place: int) -> str:
+    """The place. The length of a word may have more digits than Python writes."""
+    return str(place) if place.bit_length() <= 10_000 else f"(about 2^{place.bit_length()})"

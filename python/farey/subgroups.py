@@ -7,23 +7,21 @@ from typing import Any, Iterable, List, Optional, Tuple, TypeVar
 
 from . import library
 from .arguments import integer, items, shown
+from .held import HIGH, Held
 
-_HIGH = 2**63 - 1
 #: What is lent for an entry that is none: no table lists it, and it isn't -1, which is for no claim.
 _NOT_LISTED = -2
 
 _Own = TypeVar("_Own", bound="Subgroup")
 
 
-class Subgroup:
+class Subgroup(Held):
     """What `Symbol` asks of two subgroups. H <= K is that K contains H, by the groups
     themselves and not by their index, and H & K is their intersection."""
 
     __slots__ = ()
 
-    # What `Symbol` has: v and its table as they are lent, and the import of two permutations.
-    _v: int
-    _space: Any
+    # What `Symbol` has: the import of two permutations.
     from_permutations: Any
 
     def contains_subgroup(self, other: Subgroup) -> bool:
@@ -143,4 +141,4 @@ def _named(thing: Any, what: str) -> int:
     if thing is None:
         return -1
     number = integer(thing, what)
-    return number if 0 <= number <= _HIGH else _NOT_LISTED
+    return number if 0 <= number <= HIGH else _NOT_LISTED

@@ -5,7 +5,7 @@ import unittest
 from decimal import Decimal
 from fractions import Fraction
 
-from farey import Refusal, Symbol, cycles
+from farey import Refusal, Symbol, cycles, evidence
 
 from . import reckoning as by_hand
 
@@ -162,39 +162,46 @@ class Matrices(Wrong):
             self.told(TypeError, "B is", self.H.word, by_hand.I, wrong)
             self.told(TypeError, "M is", self.H.__contains__, wrong)
         with self.assertRaises(TypeError):
-            self.H.word(by_hand.I)
+            self.H.word()
         with self.assertRaises(TypeError):
             "abc" in self.H
 
     def test_huge_numbers(self):
         for huge in HUGE:
             for number in (huge, -huge):
-                self.refused(8, 1, self.H.word, (1, number, 0, 1), by_hand.I)
-                self.refused(8, 6, self.H.word, by_hand.I, (1, 0, number, 1))
-                self.refused(8, 6, self.H.why_none, by_hand.I, (1, 0, number, 1))
-                self.refused(8, 1, self.H.__contains__, (1, number, 0, 1))
+                self.assertTrue((1, number, 0, 1) in self.H)
+                self.assertIs((1, 0, number, 1) in self.H, number % 2 == 0)
+                # T^number has as many letters
+                if huge > 10**7:
+                    self.refused(11, huge, self.H.word, (1, number, 0, 1), by_hand.I)
+                if number % 2:
+                    self.assertIsNone(self.H.word(by_hand.I, (1, 0, number, 1)))
+                    why = self.H.why_none(by_hand.I, (1, 0, number, 1))
+                    self.assertTrue(evidence.check(*why))
+                else:
+                    self.told(ValueError, "there is a word", self.H.why_none, by_hand.I, (1, 0, number, 1))
         # 2^64 + 1 isn't taken for 1
-        self.refused(8, 0, self.H.word, (2**64 + 1, 0, 0, 1), by_hand.I)
+        self.refused(9, 0, self.H.word, (2**64 + 1, 0, 0, 1), by_hand.I)
 
     def test_determinants(self):
         self.refused(9, 0, self.H.word, (2, 0, 0, 1), (2, 0, 0, 1))
         self.refused(9, 1, self.H.word, by_hand.I, (0, 1, 1, 0))
         self.refused(9, 1, self.H.why_none, by_hand.I, (0, 0, 0, 0))
         self.refused(9, 0, self.H.__contains__, (1, 0, 0, -1))
-        self.refused(8, 4, self.H.word, (2, 0, 0, 1), (10**6 + 1, 0, 0, 1))
+        self.refused(9, 0, self.H.word, (2, 0, 0, 1), (10**6 + 1, 0, 0, 1))
+        self.refused(9, 1, self.H.word, by_hand.I, (10**6 + 1, 0, 0, 1))
+        self.refused(9, 0, self.H.same_coset, (10**6 + 1, 0, 0, 1), by_hand.I)
+        self.refused(9, 1, self.H.same_coset, by_hand.I, (10**6 + 1, 0, 0, 1))
 
     def test_one_matrix_is_told_by_its_name(self):
-        """`M in H` has no A and no B, and says nothing of them."""
-        for place in range(4):
-            M = [1, 0, 0, 1]
-            M[place] = 10**6 + 1
-            self.told(Refusal, f"refused 8 {place}: entry {place} of M is over 1,000,000 in size", self.H.__contains__, M)
+        """`M in H`, `word(M)` and `permutation(M)` have no A and no B, and say nothing of them."""
         self.told(Refusal, "refused 9 0: the determinant of M isn't 1", self.H.__contains__, ((2, 0), (0, 1)))
         for wrong in ((10**6 + 1, 0, 0, 1), (2, 0, 0, 1), (1, 0, 0, 0.5), (1, 0, 0), None):
-            with self.assertRaises((Refusal, TypeError, ValueError)) as caught:
-                wrong in self.H
-            self.assertNotRegex(str(caught.exception), r"\b[AB]\b")
-            self.assertRegex(str(caught.exception), r"\bM\b")
+            for ask in (self.H.__contains__, self.H.word, self.H.normal_form, self.H.permutation):
+                with self.assertRaises((TypeError, ValueError)) as caught:
+                    ask(wrong)
+                self.assertNotRegex(str(caught.exception), r"\b[AB]\b")
+                self.assertRegex(str(caught.exception), r"\bM\b")
 
 
 class Tables(Wrong):
@@ -209,8 +216,13 @@ class Tables(Wrong):
             self.told(TypeError, "R is", Symbol.from_permutations, [1, 0, 2], wrong)
 
     def test_wide(self):
-        for wrong in (None, 0, 1, "yes", [], 1.0):
+        for wrong in (0, 1, "yes", [], 1.0):
             self.told(TypeError, "wide is", Symbol.from_permutations, [0], [0], wrong)
+            if not isinstance(wrong, str):
+                self.told(TypeError, "rule is", Symbol.from_permutations, [0], [0], rule=wrong)
+                self.told(TypeError, "rule is", Symbol.gamma0, 2, rule=wrong)
+        self.told(ValueError, "rule is 'yes'", Symbol.from_permutations, [0], [0], rule="yes")
+        self.told(ValueError, "rule is 'yes'", Symbol.gamma, 2, rule="yes")
 
     def test_refusals(self):
         make = Symbol.from_permutations

@@ -101,7 +101,7 @@ class Fractions(unittest.TestCase):
 
     def test_refused(self):
         H = Symbol.gamma0(11)
-        for A, number, place in [((1, 0, 0, 2), 9, 0), ((1, 1000001, 0, 1), 8, 1), ((2, 0, 0, -1000001), 8, 3)]:
+        for A, number, place in [((1, 0, 0, 2), 9, 0), ((2, 0, 0, -1000001), 9, 0)]:
             with self.assertRaises(Refusal) as caught:
                 H.cusp_of(A)
             self.assertEqual((caught.exception.number, caught.exception.place), (number, place))

@@ -181,6 +181,10 @@ class Reading(unittest.TestCase):
                 Symbol.from_cycles(wrong)
         with self.assertRaisesRegex(TypeError, "wide is"):
             Symbol.from_cycles("1;", wide=1)
+        with self.assertRaisesRegex(ValueError, "rule is 'left'"):
+            Symbol.from_cycles("1;", rule="left")
+        with self.assertRaises(TypeError):
+            Symbol.from_cycles("1;", True)
 
 
 class Writing(unittest.TestCase):
@@ -200,9 +204,12 @@ class Writing(unittest.TestCase):
             text = H.cycles()
             self.assertEqual(text, f"{H.index} {cycles.text(H.S)};{cycles.text(H.R)}")
             for wide in (True, False):
-                K = Symbol.from_cycles(text, wide)
+                K = Symbol.from_cycles(text, wide=wide)
                 self.assertEqual((K.S, K.R), (H.S, H.R))
-                self.assertEqual(by_hand.symbol_itself(K), by_hand.symbol_itself(Symbol.from_permutations(H.S, H.R, wide)))
+                other = Symbol.from_permutations(H.S, H.R, wide)
+                self.assertEqual(by_hand.symbol_itself(K), by_hand.symbol_itself(other))
+                named = Symbol.from_cycles(text, rule="wide" if wide else "leftmost")
+                self.assertEqual((named.vertices, named.pairings), (other.vertices, other.pairings))
         large = Symbol([(x, 1) for x in range(1023)], [-3] * 1024)
         with self.assertRaises(Refusal) as caught:
             large.cycles()

@@ -122,7 +122,7 @@ class Header(unittest.TestCase):
         declared = {}
         for name, parameters in re.findall(r"^uint64_t (farey_\w+)\(([^)]*)\);", header, re.M):
             kinds = []
-            for parameter in parameters.split(","):
+            for parameter in parameters.split(",") if parameters != "void" else ():
                 kind = names[re.match(r"\s*(?:const )?(\w+)", parameter)[1]]
                 kinds.append(library.POINTER(kind) if "*" in parameter else kind)
             declared[name] = kinds
@@ -163,7 +163,9 @@ class Form(unittest.TestCase):
                     self.assertTrue(hinted, f"{file.name}: {function.name} has no type hints")
 
     def test_standard_library_only(self):
-        standard = {"__future__", "ctypes", "itertools", "numbers", "operator", "os", "pathlib", "re", "sys", "threading", "typing"}
+        standard = {"__future__", "base64", "collections", "colorsys", "ctypes", "functools", "html", "itertools", "math", "numbers", "operator", "os"}
+        standard |= {"contextlib", "pathlib", "random", "re", "sys", "threading", "typing"}
+        self.assertLessEqual(standard, getattr(sys, "stdlib_module_names", standard))
         for file in self.files():
             for node in ast.walk(ast.parse(file.read_text("utf-8"))):
                 if isinstance(node, ast.Import):

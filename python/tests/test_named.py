@@ -5,6 +5,7 @@ import unittest
 from decimal import Decimal
 from fractions import Fraction
 
+import farey
 from farey import Refusal, Symbol, named_tables
 
 from . import reckoning as by_hand
@@ -17,6 +18,10 @@ LEVELS = {
     "Gamma1": [*range(1, 20), 24, 67, 84, 90],
     "Gamma": [*range(1, 8), 12, 16, 18, 20],
 }
+
+
+def itself(H):
+    return H.vertices, H.pairings
 
 
 def groups():
@@ -75,19 +80,42 @@ class Named(unittest.TestCase):
             self.assertEqual(make(N).index, expected, name)
 
     def test_by_which_rule(self):
-        """The rule's symbol, and where that is refused with 16 the wide rule's."""
+        """The wide rule's symbol, or by name the leftmost rule's; what that refuses with 16 is refused by name too."""
         met = {True: 0, False: 0}
         for name, N, make, word in groups():
             S, R = named_tables(word, N)
-            try:
-                expected = Symbol.from_permutations(S, R, wide=False)
-                met[True] += 1
-            except Refusal as refusal:
-                self.assertEqual(refusal.number, 16)
-                expected = Symbol.from_permutations(S, R)
-                met[False] += 1
-            self.assertEqual(repr(make(N)), repr(expected), name)
+            for H in (make(N), make(N, rule="wide")):
+                self.assertEqual(itself(H), itself(Symbol.from_permutations(S, R)), name)
+            answers = []
+            for ask in (lambda: make(N, rule="leftmost"), lambda: Symbol.from_permutations(S, R, rule="leftmost")):
+                try:
+                    answers.append(itself(ask()))
+                except Refusal as refusal:
+                    answers.append((refusal.number, refusal.place))
+            self.assertEqual(answers[0], answers[1], name)
+            met[answers[0][0] != 16] += 1
         self.assertGreater(min(met.values()), 10)
+
+    def test_generators_are_taken_back(self):
+        """A generator is in its group, and its word is one letter, by either rule; by the wide rule the engine
+        itself takes it: no entry is over 1,000,000 in size."""
+        large = 0
+        for name, N, make, _ in groups():
+            for rule in ("wide", "leftmost"):
+                try:
+                    H = make(N, rule=rule)
+                except Refusal as refusal:
+                    self.assertEqual((refusal.number, rule), (16, "leftmost"))
+                    continue
+                sizes = [max(map(abs, generator.matrix)) for generator in H.generators]
+                large += max(sizes) > 1_000_000
+                if rule == "wide":
+                    self.assertLessEqual(max(sizes), 1_000_000, name)
+                for j in {1, 1 + sizes.index(max(sizes)), len(sizes)}:
+                    matrix = H.generators[j - 1].matrix
+                    self.assertTrue(matrix in H, name)
+                    self.assertEqual(H.word(matrix), [j], name)
+        self.assertGreater(large, 3)
 
     def test_words_and_members_by_congruence(self):
         rng = by_hand.seeded("named")
@@ -121,7 +149,14 @@ class Named(unittest.TestCase):
             pass
 
         self.assertIs(type(Other.gamma0(11)), Other)
-        self.assertEqual(repr(Symbol.parse(str(Symbol.gamma0(11)))), repr(Symbol.gamma0(11)))
+        self.assertEqual(itself(Symbol.parse(Symbol.gamma0(11).text())), itself(Symbol.gamma0(11)))
+
+    def test_by_the_module(self):
+        """`farey.gamma0` and its like are those of Symbol."""
+        for name in ("gamma0", "gamma1", "gamma"):
+            for rule in ("wide", "leftmost"):
+                H = getattr(farey, name)(6, rule=rule)
+                self.assertEqual((type(H), itself(H)), (Symbol, itself(getattr(Symbol, name)(6, rule=rule))))
 
 
 class Wrong(unittest.TestCase):

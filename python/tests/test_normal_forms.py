@@ -101,9 +101,7 @@ class Refused(unittest.TestCase):
     def test_what_is_no_element(self):
         H = Symbol(*SMALL[0])
         self.assertIsNone(H.normal_form(by_hand.S))
-        with self.assertRaises(Refusal) as caught:
-            H.normal_form((1, 0, 1000001, 1))
-        self.assertEqual((caught.exception.number, caught.exception.place), (8, 2))
+        self.assertIsNone(H.normal_form((1, 0, 1000001, 1)))
         with self.assertRaises(Refusal) as caught:
             H.normal_form((2, 0, 0, 1))
         self.assertEqual((caught.exception.number, caught.exception.place), (9, 0))

@@ -1,5 +1,5 @@
-"""The pages: Python and Sage blocks of docs/HANDBOOK.md, the lines of README.md, the
-docstrings of the module.
+"""The handbook: Python and Sage blocks of docs/HANDBOOK.md; and the docstrings of the
+module. README.md and docs/TUTORIAL.md: `test_first_pages`.
 
 | block of the handbook | what is done                                                   |
 |-----------------------|----------------------------------------------------------------|
@@ -13,15 +13,12 @@ import contextlib
 import doctest
 import importlib
 import io
-import os
 import pkgutil
 import re
-import subprocess
-import sys
 import unittest
 
 import farey
-from farey import Symbol, cycles, library, systems
+from farey import Symbol, cycles, systems
 
 from . import reckoning as by_hand
 
@@ -30,12 +27,12 @@ def page(name):
     return (by_hand.REPOSITORY / name).read_text("utf-8")
 
 
-def blocks(info):
-    """The texts of the handbook's blocks with that behind the fence."""
-    return re.findall(rf"^```{info}\n(.*?)^```$", page("docs/HANDBOOK.md"), re.M | re.S)
+def blocks(info, name="docs/HANDBOOK.md"):
+    """The texts of a page's blocks with that behind the fence."""
+    return re.findall(rf"^```{info}\n(.*?)^```$", page(name), re.M | re.S)
 
 
-class Sessions(unittest.TestCase):
+class Session(unittest.TestCase):
     """Failures of a session are told by what doctest writes."""
 
     def run_session(self, text, name, names):
@@ -46,14 +43,20 @@ class Sessions(unittest.TestCase):
         names.update(test.globs)
         return result.attempted
 
-    def test_handbook(self):
+    def run_page(self, name):
+        """All sessions of a page, one after the other: what they leave, and how many lines were run."""
         names = {}
         count = 0
-        for number, block in enumerate(blocks("python"), 1):
-            attempted = self.run_session(block, f"python block {number} of docs/HANDBOOK.md", names)
+        for number, block in enumerate(blocks("python", name), 1):
+            attempted = self.run_session(block, f"python block {number} of {name}", names)
             self.assertGreater(attempted, 0)
             count += attempted
-        self.assertGreater(count, 20)
+        return names, count
+
+
+class Sessions(Session):
+    def test_handbook(self):
+        self.assertGreater(self.run_page("docs/HANDBOOK.md")[1], 20)
 
     def test_docstrings(self):
         attempted = {}
@@ -65,40 +68,17 @@ class Sessions(unittest.TestCase):
         result = doctest.testmod(farey, verbose=False)
         self.assertEqual(result.failed, 0)
         self.assertGreater(result.attempted, 0)
-        for name in ("symbol", "refusal", "evidence", "cycles", "cycle_notation", "named", "permutations", "subgroups", "systems"):
+        names = "symbol making figures cosets words records random_groups refusal evidence cycles cycle_notation named"
+        for name in names.split() + ["permutations", "subgroups", "systems"]:
             self.assertGreater(attempted[name], 1, name)
 
     def test_public_names_have_examples(self):
-        for name in ("from_permutations", "from_cycles", "cycles", "gamma0", "gamma1", "gamma", "parse", "generators", "word", "words", "why_none", "__contains__", "__eq__", "contains_subgroup", "intersection_tables", "__and__", "__le__"):
+        named = "from_permutations from_cycles from_membership gamma0 gamma1 gamma parse text cycles generators word words"
+        named += " normal_form reduce random_element why_none coset_of cusp_of permutation same_coset same_cosets"
+        named += " contains_subgroup intersection_tables __contains__ __eq__ __and__ __le__ __str__ __repr__"
+        for name in named.split():
             self.assertIn(">>>", getattr(Symbol, name).__doc__, name)
-
-
-class First_page(unittest.TestCase):
-    def test_three_lines(self):
-        """The lines of README.md from `./farey library` on print the word that it says,
-        and that is a word for the pair. The library is made already: the first line
-        is the gate's."""
-        text = page("README.md")
-        found = re.search(r"^    \./farey library\n((?:    .+\n)+)", text, re.M)
-        lines = [line[4:] for line in found[1].splitlines()]
-        self.assertEqual(len(lines), 2)
-        settings = dict(os.environ, FAREY_LIBRARY=str(library.path().resolve()), PYTHONDONTWRITEBYTECODE="1")
-        # python3 is the Python that runs this
-        folder = os.path.dirname(sys.executable)
-        settings["PATH"] = folder + os.pathsep + settings.get("PATH", "")
-        came = subprocess.run(["sh", "-c", "\n".join(lines)], cwd=by_hand.REPOSITORY, env=settings, capture_output=True, text=True, timeout=60)
-        self.assertEqual((came.returncode, came.stderr), (0, ""))
-        word = [int(letter) for letter in came.stdout.strip("[]\n").split(",")]
-        self.assertIn(f"`{came.stdout.strip()}`", text)
-        (stored,) = (each for each in by_hand.stored_symbols() if each[0] == "Gamma0(11)")
-        matrices = [matrix for _, matrix in by_hand.generators_of(stored[1], stored[2])]
-        self.assertTrue(by_hand.alike(by_hand.value(word, matrices), (1, 0, 11, 1)))
-
-
-    def test_how_the_tests_are_run(self):
-        """The line for the Python tests is the gate's, but for what it says of each test and for compiled files."""
-        (line,) = re.findall(r"`cd python && (python3 .*?)`", page("README.md"))
-        self.assertIn(f"(cd python && {line.replace('python3', 'python3 -B').replace('discover', 'discover -v')})", page("test"))
+        self.assertIn(">>>", farey.random_subgroup.__doc__)
 
 
 class Prose(unittest.TestCase):
@@ -163,6 +143,32 @@ class Prose(unittest.TestCase):
         self.assertEqual((t[one], t[two]), (two, one))
         last = self.found(r"would be B A⁻¹ = S up to sign, which takes 0 to (\d)\. Hence there is none\.")
         self.assertEqual(int(last), s[0])
+
+    def test_two_rules(self):
+        """How many groups by name the leftmost rule refuses, and the largest entries by the wide rule."""
+        refused, all_groups, of_gamma0, first = self.found(
+            r"so for (\d+) of the ([\d,]+) groups by name, (\d+) of them Γ0\(N\), the first Γ0\((\d+)\)\."
+        )
+        largest, largest0 = self.found(r"no vertex of one has an entry over ([\d,]+), no Γ0\(N\) one over (\d+)\.")
+        left, entries = {}, {}
+        for family in (farey.gamma0, farey.gamma1, farey.gamma):
+            for N in range(1, 1001):
+                try:
+                    H = family(N)
+                except farey.Refusal as refusal:
+                    self.assertEqual(refusal.number, 21)
+                    continue
+                entries[family, N] = max(abs(entry) for vertex in H.vertices for entry in vertex)
+                try:
+                    family(N, rule="leftmost")
+                except farey.Refusal as refusal:
+                    left[family, N] = refusal.number
+        self.assertEqual(set(left.values()), {16})
+        self.assertEqual((len(left), len(entries)), (int(refused), int(all_groups.replace(",", ""))))
+        gamma0 = [N for family, N in left if family == farey.gamma0]
+        self.assertEqual((len(gamma0), min(gamma0)), (int(of_gamma0), int(first)))
+        self.assertEqual(max(entries.values()), int(largest.replace(",", "")))
+        self.assertEqual(max(entry for (family, _), entry in entries.items() if family == farey.gamma0), int(largest0))
 
     def test_which_matrices(self):
         """The recipes' S, T and R, and Sage's names."""

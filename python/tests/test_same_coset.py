@@ -24,8 +24,8 @@ class SameCoset(unittest.TestCase):
         """One by one and all at once, as single queries: pairs of each kind, more than a sheet has."""
         rng = by_hand.seeded("same cosets")
         matrices = by_hand.small_matrices(4)
-        wrong = [(2, 0, 0, 1), (1, 0, 0, 10**6 + 1), (-(10**30), 1, 0, 1)]
-        met = {True: 0, False: 0, (8, 3): 0, (9, 1): 0}
+        wrong = [(2, 0, 0, 1), (1, 0, 0, 10**6 + 1), (-(10**30), 1, 0, 1), (1, 0, 10**6 + 1, 1), (1, 0, 66 * 10**5, 1)]
+        met = {True: 0, False: 0, (9, 0): 0, (9, 1): 0}
         for H, count in zip([Symbol([0], [-2, -3]), Symbol.gamma0(2), Symbol.gamma0(11), Symbol.gamma(3)], [0, 40, 300, 600]):
             pairs = [[rng.choice(matrices), rng.choice(matrices)] for _ in range(count)]
             for pair in pairs:

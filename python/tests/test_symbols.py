@@ -364,7 +364,7 @@ class Sameness(unittest.TestCase):
         for again in (copy.copy(H), copy.deepcopy(H), pickle.loads(pickle.dumps(H))):
             self.assertIs(type(again), Other)
             self.assertEqual((again.vertices, again.pairings, again.name), (H.vertices, H.pairings, "Γ0(2)"))
-        self.assertIs(type(Other.parse(str(H))), Other)
+        self.assertIs(type(Other.parse(H.text())), Other)
         self.assertIs(type(Other.from_permutations(H.S, H.R)), Other)
 
     def test_never_made(self):
@@ -431,12 +431,12 @@ class Vertices(unittest.TestCase):
 
 
 class Texts(unittest.TestCase):
-    """`parse` and `str`."""
+    """`parse` and `text`."""
 
     def test_there_and_back(self):
         for name, vertices, pairings, *_ in by_hand.stored_symbols():
             H = Symbol(vertices, pairings)
-            again = Symbol.parse(str(H))
+            again = Symbol.parse(H.text())
             self.assertEqual((again.vertices, again.pairings), (tuple(vertices), tuple(pairings)), name)
 
     def test_examples(self):
@@ -525,7 +525,7 @@ class Texts(unittest.TestCase):
         met = {}
         for _ in range(300):
             _, vertices, pairings, *_ = rng.choice(stored)
-            text = str(Symbol(vertices, pairings)).replace("\n", " ")
+            text = Symbol(vertices, pairings).text().replace("\n", " ")
             if rng.random() < 0.4:
                 given = text.split(" ")
                 given[rng.choice([0, rng.randrange(len(given))])] = str(rng.choice([-1, 0, 1, 3, 5, -2, -3, 1023, 1024, 10**9, 10**9 + 1]))

@@ -82,7 +82,7 @@ class Spaces(unittest.TestCase):
 
     def jobs(self):
         """Pairs of a job and its answer, in twos: the same call with results of two sizes. None keeps what it was asked."""
-        two = Symbol([0, 1], [1, -2, 1])
+        two, made = Symbol([0, 1], [1, -2, 1]), [(1, 1, 0, 1), (1, -1, 2, -1)]
         pairs = [a_pair(12), a_pair(600)]
         small, large = [Symbol.from_permutations(s, r) for s, r in pairs]
 
@@ -97,6 +97,10 @@ class Spaces(unittest.TestCase):
             "word": [(lambda n=n: two.word(by_hand.I, (1, n, 0, 1)), [n // abs(n)] * abs(n)) for n in (5, -900)],
             "long word": [(lambda n=n: two.word(by_hand.I, (1, n, 0, 1)), [n // abs(n)] * abs(n)) for n in (1200, -3000)],
             "member": [(lambda M=M: M in two, M[2] % 2 == 0) for M in ((1, 0, 2, 1), (1, 0, 3, 1))],
+            "large word": [
+                (lambda X=X: Symbol([0, 1], [1, -2, 1]).word(X), word)
+                for X, word in ((by_hand.value(word, made), word) for word in ([1, 1, 1, 2] * 30, [1, 1, 2] * 30))
+            ],
             "same": [(lambda H=H: H == small, H is small) for H in (small, large)],
             "import": [
                 (lambda s=s, r=r: Symbol.from_permutations(s, r).vertices, H.vertices) for (s, r), H in zip(pairs, (small, large))

@@ -13,7 +13,8 @@
 --   Builders           the theorem, in parts. Every crate that makes a symbol or coset tables has its part here:
 --     symbols          `coset`: the tables of a symbol that the checks 1 to 7 accept, whoever made it. `cusp_record`,
 --                      `sameness`, `inclusion`, `intersections`, `partner_exchange` and `listing_text` have a symbol's
---                      tables from `coset`, `same_coset` has them from `cusp_record`, `towers` from `inclusion`
+--                      tables from `coset`, `t_runs` has them from `cusp_record`, `same_coset` from `t_runs`, `towers`
+--                      from `inclusion`
 --     exchanges        `partner_exchange`: each symbol that an exchange gives
 --     pairs            `permutations`: each pair of tables that the checks 12 to 15 accept, as given
 --     cycles           `cycle_reading`: the tables of each text in cycle notation that is read

@@ -1,5 +1,5 @@
 -- Laws for the public call: the two result spaces in their order (`both-…`), the record of a symbol (`symbol-record`), what an answer means (`cusp-meaning`,
--- `cusps-mean-refused`).
+-- `cusps-mean-refused`), that 4,090 entries are enough (`ample-for-cusps`).
 -- Assumes nothing.
 use mathlib.Core.Path.{_≡_, refl, sym, _∙_, ap}
 use mathlib.Core.List.{List}
@@ -8,9 +8,12 @@ use native.Mathlib.Omega.{arith}
 use lib.ListN.{length}
 use lib.IntN.{ℤ, pos}
 use borrow.Author.Tests.{lt-ltb, le-ltb}
+use Rattle.workspace.specs.Space.{workLength}
 use Rattle.symbol.specs.Symbol.{IsSymbol}
+use Rattle.symbol.proofs.Accepted.{accepted}
 use Rattle.refusal.specs.Refusal.{tooShort}
 use Rattle.refusal.specs.declared.Refusal.{Refusal}
+use Rattle.refusal.specs.declared.Filled.{Filled}
 use Rattle.refusal.specs.declared.Filled.the-variants as filled
 use Rattle.matrix.specs.Matrix.{Mat, _⊗_, 𝟙, det, matT}
 use Rattle.matrix.proofs.Matrix.{det-𝟙, det-one}
@@ -20,12 +23,12 @@ use Rattle.numbering.specs.Inner.Space.{S-TABLE, R-TABLE, T-TABLE}
 use Rattle.figures.specs.Cusps.{times, cusps}
 use Rattle.figures.specs.Inner.Scan.{heldT, CuspWidths}
 use Rattle.figures.proofs.Filled.{S-stays, R-stays, T-stays}
-use Rattle.coset.specs.Tables.{tableS, tableR, tableT}
+use Rattle.coset.specs.Tables.{indexOf, tableS, tableR, tableT}
 use Rattle.coset.specs.Theorem.{leads, Cosets}
 use Rattle.coset.specs.Answer.{roomTwo}
 use Rattle.coset.proofs.Answer.{Made, meaning}
 use Rattle.cusp_record.specs.Record.{cuspWidth, cuspOf, cuspSteps, cuspTable, stepTable}
-use Rattle.cusp_record.specs.Answer.{cuspReached, timesT, OneCusp, CuspMeaning, CuspsMean}
+use Rattle.cusp_record.specs.Answer.{cuspedOf, cuspReached, timesT, OneCusp, CuspMeaning, CuspsMean, AmpleForCusps}
 use Rattle.cusp_record.specs.Inner.Fill.{ByCusps, RecordFilled, SymbolRecord}
 use Rattle.cusp_record.proofs.Record.{ahead, cusp-at, in-order, coset-record}
 use Rattle.cusp_record.proofs.Fill.{scanned}
@@ -99,6 +102,16 @@ module _ {v : ℕ} {t : List ℤ} (ok : IsSymbol v t) where
 
 pub cusps-mean-refused : {v : ℕ} {t : List ℤ} (f : Refusal) → CuspsMean v t (filled.Refused f)
 cusps-mean-refused f n e = let z : _≡_ {A = ℕ} 0 1 = cc in absurd (omega arith)
+
+-- ---- 4,090 entries are enough
+
+pub ample-for-cusps : (v : ℕ) (t : List ℤ) (w x y : List ℕ) (a : Filled) → a ≡ cuspedOf v t (length w) (length x) (length y)
+    → AmpleForCusps v t w x y a
+ample-for-cusps v t w x y a e ok h i j =
+    let n = indexOf v t in
+    let few = meaning ok .few in
+    let room : roomTwo n (length x) (length y) ≡ filled.Made n = sym (both-room n (length x) (length y) (omega (arith, few, i)) (omega (arith, few, j))) in
+    e ∙ rw (accepted v t .1 ok, le-ltb (length w) workLength h) room
 
 -- ---- the record of a symbol: from the tables that were arranged, through the scan of the cusps
 module _ {t : List ℤ} {v n k : ℕ} {w w1 : List ℕ} (ok : IsSymbol v t) (m : Made t v w n) (c : CuspWidths n w w1 k) where

@@ -8,20 +8,25 @@
 --   CuspMeaning v t           the symbol means what its tables mean; its columns of cusps and of steps keep the standing rule; and two matrices have one
 --                             cusp in the column exactly when they have one under H
 --   CuspsMean                 an answer that is no refusal means this
+--   AmpleForCusps             RESULT SPACES OF 4,090 ENTRIES ARE ENOUGH for every accepted symbol: with these and a
+--                             work space of its length both columns are made, and 11 is not answered
 use mathlib.Core.Path.{_≡_}
 use mathlib.Core.Logic.{_↔_}
 use mathlib.Core.List.{List}
-use Prim.Native.Nat.{ℕ, zero, suc}
+use Prim.Native.Nat.{ℕ, zero, suc, _≤_}
+use lib.ListN.{length}
 use lib.IntN.{ℤ, pos}
+use Rattle.workspace.specs.Space.{workLength}
 use Rattle.refusal.specs.declared.Filled.{Filled}
 use Rattle.refusal.specs.declared.Filled.the-variants as filled
 use Rattle.symbol.specs.Check.{symbolCheck}
+use Rattle.symbol.specs.Symbol.{IsSymbol}
 use Rattle.matrix.specs.Matrix.{Mat, _⊗_, det, matT}
 use Rattle.pairing.specs.Generator.{generators}
 use Rattle.coset.specs.Positions.{SameCoset}
 use Rattle.numbering.specs.Table.{imageAt}
 use Rattle.coset.specs.Theorem.{leads}
-use Rattle.coset.specs.Tables.{indexOf, tableS, tableR, tableT}
+use Rattle.coset.specs.Tables.{indexOf, tableS, tableR, tableT, mostCosets}
 use Rattle.coset.specs.Answer.{roomTwo, tabledBy, Meaning}
 use Rattle.cusp_record.specs.Record.{cuspTable, stepTable, CosetRecord}
 
@@ -52,3 +57,8 @@ pub record CuspMeaning (v : ℕ) (t : List ℤ) : Type 0 where
 
 abbrev pub CuspsMean : ℕ → List ℤ → Filled → Type 0
 CuspsMean v t r = (n : ℕ) → r ≡ filled.Made n → CuspMeaning v t
+
+abbrev pub AmpleForCusps : (v : ℕ) → List ℤ → (w cusps steps : List ℕ) → Filled → Type 0
+AmpleForCusps v t w cusps steps a =
+    IsSymbol v t → workLength ≤ length w → mostCosets ≤ length cusps → mostCosets ≤ length steps
+    → a ≡ filled.Made (indexOf v t)

@@ -20,7 +20,7 @@ ghost use Rattle.pairing.specs.Generator.{workAfter};
 ghost use Rattle.figures.specs.Inner.Scan.{heldT};
 ghost use Rattle.coset.specs.Tables.{indexOf};
 ghost use Rattle.coset.specs.Answer.{roomTwo, columnLeft};
-ghost use Rattle.cusp_record.specs.Answer.{cuspedOf, cuspColumn, stepColumn, CuspsMean};
+ghost use Rattle.cusp_record.specs.Answer.{cuspedOf, cuspColumn, stepColumn, CuspsMean, AmpleForCusps};
 ghost use Rattle.cusp_record.specs.Inner.Fill.{CUSPS, STEPS, ByCusps, AtCusp, OnCusp, RecordFilled, SymbolRecord};
 
 // Where the work space holds the cusps and the steps: the steps below all other tables, so that those of S, R and T stay.
@@ -131,6 +131,7 @@ pub fn cusps(v: usize, t: &[i64], w: &mut [u16], cusps: &mut [u32], steps: &mut 
     ensures { λ a. ⌜ now (cusps .exit) ≡ columnLeft a (cuspColumn v (now (t .entry))) (now (cusps .entry)) ⌝ }
     ensures { λ a. ⌜ now (steps .exit) ≡ columnLeft a (stepColumn v (now (t .entry))) (now (steps .entry)) ⌝ }
     ensures { λ a. ⌜ CuspsMean v (now (t .entry)) a ⌝ }
+    ensures { λ a. ⌜ AmpleForCusps v (now (t .entry)) (now (w .entry)) (now (cusps .entry)) (now (steps .entry)) a ⌝ }
 {
     let admitted = admit(v, t, w.len());
     match admitted {

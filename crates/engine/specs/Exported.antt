@@ -4,7 +4,8 @@
 -- `samenessRefusal`, `inclusionRefusal`, `drawingRefusal`). Through `place` it writes the refusal's place or, where it returns 0, a count.
 --
 --   filledPlace                     place, or how many things were made: generators, cosets, cusps, vertices, numbers of a table
---   Served, ServedWidths            4,090 entries in each result space are enough for every accepted symbol: with a
+--   Served, ServedWidths, ServedCusps
+--                                   4,090 entries in each result space are enough for every accepted symbol: with a
 --                                   work space of its length the call returns 0, never 11 (`Ample`, in the crate coset)
 --   queryPlace                      place, or how many letters the word has
 --   signWritten                     the sign of a word, 1 or -1, or what stood there where the call refuses
@@ -53,6 +54,10 @@ Served v t w s r u n =
 
 abbrev pub ServedWidths : (v : ℕ) → List ℤ → (w out : List ℕ) → ℕ → Type 0
 ServedWidths v t w out n = IsSymbol v t → workLength ≤ length w → mostCosets ≤ length out → n ≡ 0
+
+abbrev pub ServedCusps : (v : ℕ) → List ℤ → (w cusps steps : List ℕ) → ℕ → Type 0
+ServedCusps v t w cusps steps n =
+    IsSymbol v t → workLength ≤ length w → mostCosets ≤ length cusps → mostCosets ≤ length steps → n ≡ 0
 
 abbrev pub queryPlace : Queried → ℕ
 queryPlace (queried.Word start n sign) = n

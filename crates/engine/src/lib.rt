@@ -37,7 +37,7 @@ ghost use Rattle.import_table.specs.Answer.{ruledLeft};
 ghost use Rattle.named_groups.specs.Group.{familyOf, groupCheck};
 ghost use Rattle.named_groups.specs.Answer.{namedTablesOf, NamedTables, namedRule, namedSymbolBy, NamedSymbol, ruledWord, namedQueryBy, namedQueryWork};
 ghost use Rattle.named_groups.specs.Claim.{NamedClaim, NamedQuerySays, NamedSignSays};
-ghost use Rattle.engine.specs.Exported.{Served, ServedWidths};
+ghost use Rattle.engine.specs.Exported.{Served, ServedWidths, ServedCusps};
 ghost use Rattle.engine.specs.Exported.{filledPlace, queryPlace, signWritten, samenessPlace, figuresLeft, GenusGiven, drawingPlace, boxLeft};
 
 mod answers;
@@ -45,6 +45,7 @@ pub mod cosets;
 pub mod exchanging;
 pub mod notation;
 pub mod subgroups;
+pub mod version;
 
 // The checks of a symbol: refusals 1 to 7.
 #[no_mangle]
@@ -140,6 +141,7 @@ pub extern "C" fn farey_cusps(
     ensures { λ n. ⌜ now (cusps .exit) ≡ columnLeft (cuspedOf v (now (t .entry)) (length (now (w .entry))) (length (now (cusps .entry))) (length (now (steps .entry)))) (cuspColumn v (now (t .entry))) (now (cusps .entry)) ⌝ }
     ensures { λ n. ⌜ now (steps .exit) ≡ columnLeft (cuspedOf v (now (t .entry)) (length (now (w .entry))) (length (now (cusps .entry))) (length (now (steps .entry)))) (stepColumn v (now (t .entry))) (now (steps .entry)) ⌝ }
     ensures { λ n. ⌜ (n ≡ 0 → CuspMeaning v (now (t .entry))) ⌝ }
+    ensures { λ n. ⌜ ServedCusps v (now (t .entry)) (now (w .entry)) (now (cusps .entry)) (now (steps .entry)) n ⌝ }
 {
     let said = of_filled(cusp_record::cusps(v, t, w, cusps, steps));
     *place = said.place;

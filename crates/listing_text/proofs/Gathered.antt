@@ -7,17 +7,17 @@
 -- Assumes nothing.
 use mathlib.Core.Path.{_≡_, refl, sym, ap, _∙_}
 use mathlib.Core.List.{List, _++_}
-use Prim.Native.Nat.{ℕ, _+_, _*_, _≤_}
+use Prim.Native.Nat.{ℕ, _*_, _≤_}
 use native.Mathlib.Omega.{arith}
 use lib.IntN.{ℤ}
 use lib.Dec.{ltb}
-use lib.ListN.{length, take, drop}
+use lib.ListN.{length, take, drop, length-map}
 use lib.Seq.{take-at}
 use borrow.Author.Tests.{le-ltb}
 use Rattle.workspace.specs.Space.{workLength}
 use Rattle.symbol.specs.Check.{symbolCheck}
 use Rattle.symbol.specs.Symbol.{IsSymbol}
-use Rattle.pairing.specs.Generator.{isLeader, leaders, generatorTable, roomOf, byWork, generatedOf, tableLeft}
+use Rattle.pairing.specs.Generator.{leaders, generator, generatorTable, roomOf, byWork, generatedOf, tableLeft}
 use Rattle.refusal.specs.Refusal.{tooShort, filledBy}
 use Rattle.refusal.specs.declared.Refusal.{Refusal}
 use Rattle.refusal.specs.declared.Checked.{Checked}
@@ -26,12 +26,11 @@ use Rattle.refusal.specs.declared.Filled.{Filled}
 use Rattle.refusal.specs.declared.Filled.the-variants as filled
 use Rattle.symbol.proofs.Accepted.{accepted}
 use Rattle.basics.proofs.Choice.{pick-false}
-use Rattle.basics.proofs.Count.{length-those}
 use Rattle.pairing.proofs.Rows.{length-rows}
-use Rattle.polygon.proofs.SymbolFacts.{count-most}
+use Rattle.coset.proofs.Positions.{positions}
 
 pub leaders-most : (v : ℕ) (t : List ℤ) → IsSymbol v t → length (leaders v t) ≤ 1024
-leaders-most v t ok = omega (arith, length-those (isLeader v t) (v + 1), count-most (isLeader v t) (v + 1), ok .most)
+leaders-most v t ok = omega (arith, length-map (leaders v t) (generator v t), positions ok .few-generators)
 
 pub rows-long : (v : ℕ) (t : List ℤ) → length (generatorTable v t) ≡ 5 * length (leaders v t)
 rows-long v t = length-rows v t (leaders v t)

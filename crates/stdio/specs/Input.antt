@@ -18,7 +18,8 @@ Within (piece.Came n) from end = (0 < n) × (from + n ≤ end)
 Within piece.End from end = Unit {0}
 Within piece.Failed from end = Unit {0}
 
--- The second part follows from the first; `&buf[..n]` asks for both.
+-- The second part follows from the first; a slice `&buf[..n]` asks for both. No program makes one: its answer takes the
+-- buffer and the `Input`.
 abbrev pub Held : Input → List ℕ → Type 0
 Held (input.Read n more) xs = (n ≤ length xs) × (n ≡ length (take n xs)) × (more ≡ true → n ≡ length xs)
 Held input.Failed xs = Unit {0}

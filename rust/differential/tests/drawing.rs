@@ -92,15 +92,17 @@ fn entries_at_the_limit() {
 #[test]
 fn named_groups() {
     for n in 1..=120 {
-        let symbol = Symbol::named(Family::Gamma0, n).expect("a symbol");
-        let (v, table) = (symbol.vertices(), symbol.table());
-        agrees(&Draft {
-            vertices: table[..2 * v]
-                .chunks(2)
-                .map(|pair| (pair[0], pair[1]))
-                .collect(),
-            pairings: table[2 * v..].to_vec(),
-        });
+        let by_both = [Symbol::gamma0(n), Symbol::gamma0_leftmost(n)];
+        for symbol in by_both.into_iter().flatten() {
+            let (v, table) = (symbol.vertices(), symbol.table());
+            agrees(&Draft {
+                vertices: table[..2 * v]
+                    .chunks(2)
+                    .map(|pair| (pair[0], pair[1]))
+                    .collect(),
+                pairings: table[2 * v..].to_vec(),
+            });
+        }
     }
 }
 

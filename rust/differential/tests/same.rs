@@ -59,8 +59,8 @@ fn by_rules(pair: &Pair) -> Vec<Numbers> {
     let points = |table: &[i64]| table.iter().map(|&x| x as u32).collect::<Vec<u32>>();
     let (s, r) = (points(&pair.s), points(&pair.r));
     let both = [
+        Symbol::from_permutations_leftmost(&s, &r),
         Symbol::from_permutations(&s, &r),
-        Symbol::from_permutations_wide(&s, &r),
     ];
     let found = both.into_iter().flatten();
     found

@@ -71,7 +71,7 @@ impl Met {
         let entry = entry.unwrap_or_else(|place| panic!("{name}: refused 16 {place}"));
         self.groups += 1;
         self.largest = self.largest.max(entry);
-        let leftmost = Symbol::from_permutations(&points(&pair.s), &points(&pair.r));
+        let leftmost = Symbol::from_permutations_leftmost(&points(&pair.s), &points(&pair.r));
         let expected = action(&pair).by_points(Rule::Leftmost);
         assert_eq!(leftmost.is_err(), expected.is_err(), "{name}");
         self.refused_from_the_left += usize::from(leftmost.is_err());
@@ -236,7 +236,7 @@ fn deep_groups() {
 fn gamma0_120_by_both_rules() {
     let pair = gamma0(120);
     let (s, r) = (points(&pair.s), points(&pair.r));
-    let leftmost = Symbol::from_permutations(&s, &r).expect_err("too deep");
+    let leftmost = Symbol::from_permutations_leftmost(&s, &r).expect_err("too deep");
     let expected = action(&pair)
         .by_points(Rule::Leftmost)
         .expect_err("too deep");

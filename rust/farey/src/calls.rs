@@ -7,6 +7,8 @@
 //! for writing overlaps nothing else; and nobody else writes during the call.
 //! Each function answers with its count, or with a refusal, and leaves what the
 //! header says.
+//!
+#![doc = include_str!("../CALLS.md")]
 
 use crate::refusal::Refusal;
 
@@ -36,6 +38,7 @@ pub(crate) const UNWRITTEN: usize = usize::MAX;
 // The engine's functions, as include/farey.h declares them.
 mod engine {
     extern "C" {
+        pub fn farey_version() -> u64;
         pub fn farey_check(v: usize, t: *const i64, t_len: usize, place: *mut usize) -> u64;
         pub fn farey_generators(
             v: usize,
@@ -315,6 +318,13 @@ pub(crate) fn answer(number: u64, place: usize) -> Result<usize, Refusal> {
         0 => Ok(place),
         _ => Err(Refusal { number, place }),
     }
+}
+
+/// The version of the engine that is linked: 10,000 times the major number, 100
+/// times the minor one and the patch.
+pub fn version() -> u64 {
+    // SAFETY: the function takes nothing and touches no memory.
+    unsafe { engine::farey_version() }
 }
 
 /// Whether t holds a symbol with v vertices.

@@ -111,7 +111,7 @@ pub fn write_cycles(s: &[u32], r: &[u32]) -> Result<String, Refusal> {
 
 impl Symbol {
     /// The symbol of the matrices that fix point 1 of a text in cycle notation, by the
-    /// wide rule: that of `from_permutations_wide` for the tables of `read_cycles`.
+    /// wide rule: that of `from_permutations` for the tables of `read_cycles`.
     /// Refusals 27, 12, 14 to 16.
     ///
     /// ```
@@ -124,7 +124,7 @@ impl Symbol {
     /// ```
     pub fn from_cycles(text: &[u8]) -> Result<Symbol, Refusal> {
         let (s, r) = read_cycles(text)?;
-        Symbol::from_permutations_wide(&s, &r)
+        Symbol::from_permutations(&s, &r)
     }
 
     /// The permutations S and R of the right cosets in cycle notation; refusal 12

@@ -10,6 +10,7 @@
 //! | `calls`   | one safe function for each exported one, on lent slices   |
 //! | `cycles`  | cycle notation, read and written                          |
 //! | `family`  | the families Γ0, Γ1 and Γ, and their tables by name       |
+//! | `making`  | symbols from permutations, and of groups by name          |
 //! | `refusal` | the error: number, place and a sentence                   |
 //! | `sheet`   | the words of many pairs                                   |
 //! | `same_coset` | whether two matrices share a coset, for one pair or many |
@@ -29,6 +30,7 @@
 pub mod calls;
 pub mod cycles;
 pub mod family;
+mod making;
 pub mod refusal;
 pub mod same_coset;
 pub mod sheet;
@@ -43,8 +45,3 @@ pub use subgroups::tower;
 pub use symbol::{
     Bounds, CosetCusps, Drawing, Figures, Generator, Kind, Shape, Side, Symbol, Tables, Word,
 };
-
-/// The Rust examples of the handbook, which are tests of this crate.
-#[cfg(doctest)]
-#[doc = include_str!("../../../docs/HANDBOOK.md")]
-pub struct Handbook;

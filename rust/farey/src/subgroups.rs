@@ -29,7 +29,7 @@ impl Symbol {
 
     /// The tables of S, R and T of the intersection of the two subgroups, numbered as
     /// those of a symbol: a matrix fixes point 0 precisely when it belongs to both.
-    /// Refusal 24 where there are more than 3,066 points. `from_permutations_wide`
+    /// Refusal 24 where there are more than 3,066 points. `from_permutations`
     /// makes a symbol of the intersection from S and R.
     ///
     /// ```
@@ -37,7 +37,7 @@ impl Symbol {
     ///
     /// let both = Symbol::gamma0(4)?.intersection(&Symbol::gamma0(6)?)?;
     /// assert_eq!(both, Symbol::gamma0(12)?.tables());
-    /// let gamma0_12 = Symbol::from_permutations_wide(&both.s, &both.r)?;
+    /// let gamma0_12 = Symbol::from_permutations(&both.s, &both.r)?;
     /// assert!(gamma0_12.is_same(&Symbol::gamma0(12)?));
     /// # Ok::<(), farey::Refusal>(())
     /// ```

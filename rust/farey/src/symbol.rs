@@ -1,7 +1,6 @@
 //! Symbols that own their tables, and what can be asked of them.
 
 use crate::calls::{self, COSETS, DRAWING, GENERATORS, TABLE, WORK};
-use crate::family::Family;
 use crate::refusal::Refusal;
 
 /// An accepted Farey symbol. Two are equal when their tables are; `is_same` asks
@@ -112,12 +111,6 @@ fn kind(number: i64) -> Kind {
     }
 }
 
-/// Either import of `calls`: S, R, work space and result space lent.
-type Import = fn(&[u32], &[u32], &mut [u16], &mut [i64]) -> Result<usize, Refusal>;
-
-/// Either symbol by name of `calls`: family, N, work space and result space lent.
-type Named = fn(u64, u64, &mut [u16], &mut [i64]) -> Result<usize, Refusal>;
-
 /// A fresh work space.
 pub(crate) fn work() -> Vec<u16> {
     vec![0; WORK]
@@ -164,98 +157,11 @@ impl Symbol {
         Ok(Symbol { v, table })
     }
 
-    /// The symbol of the matrices that fix point 0, from the images of the
-    /// points under S and R; refusals 12 to 16. The leftmost open side is split,
-    /// so that entries grow, and most groups of an index over a few hundred are
-    /// refused with 16; `from_permutations_wide` answers these.
-    pub fn from_permutations(s: &[u32], r: &[u32]) -> Result<Symbol, Refusal> {
-        Symbol::imported(calls::import, s, r)
-    }
-
-    /// Another symbol of the same group, by the wide rule: the side that has
-    /// been open longest is split, so that entries stay small, and 16 is for
-    /// groups that are deep in whatever order. Refusals 12 to 16.
-    ///
-    /// ```
-    /// use farey::Symbol;
-    ///
-    /// let gamma0_2 = Symbol::from_permutations_wide(&[1, 0, 2], &[2, 0, 1])?;
-    /// assert_eq!(gamma0_2.table(), [0, 1, 1, 1, 1, -2, 1]);
-    /// assert_eq!(gamma0_2.tables().s, [1, 0, 2]);
-    /// # Ok::<(), farey::Refusal>(())
-    /// ```
-    pub fn from_permutations_wide(s: &[u32], r: &[u32]) -> Result<Symbol, Refusal> {
-        Symbol::imported(calls::import_wide, s, r)
-    }
-
-    fn imported(import: Import, s: &[u32], r: &[u32]) -> Result<Symbol, Refusal> {
-        Symbol::made(|out| import(s, r, &mut work(), out))
-    }
-
-    /// A symbol of Γ0(N), the matrices (a b; c d) with c = 0 modulo N, for N from
-    /// 1 to 1,000; refusals 20 and 21. It is the one that `from_permutations`
-    /// makes of the group's tables, and where that is refused with 16, the one of
-    /// `from_permutations_wide`, as the program `named` has it. With both refused
-    /// it would be 16; no named group meets that in the tests.
-    ///
-    /// ```
-    /// use farey::Symbol;
-    ///
-    /// let gamma0_11 = Symbol::gamma0(11)?;
-    /// assert_eq!(gamma0_11.figures().index, 12);
-    /// assert_eq!(gamma0_11.figures().genus, Ok(1));
-    /// assert!(gamma0_11.word([1, 0, 0, 1], [1, 0, 11, 1])?.is_some());
-    /// let none = Symbol::gamma0(1_001).unwrap_err();
-    /// assert_eq!((none.number, none.place), (20, 0));
-    /// # Ok::<(), farey::Refusal>(())
-    /// ```
-    pub fn gamma0(n: u64) -> Result<Symbol, Refusal> {
-        Symbol::named(Family::Gamma0, n)
-    }
-
-    /// A symbol of Γ1(N) with -1, the matrices (a b; c d) for which, modulo N,
-    /// c = 0 and a and d are both 1 or both -1. By which rule, and what is
-    /// refused: as `gamma0`.
-    ///
-    /// ```
-    /// use farey::Symbol;
-    ///
-    /// let gamma1_7 = Symbol::gamma1(7)?;
-    /// assert_eq!(gamma1_7.figures().index, 24);
-    /// assert_eq!(gamma1_7.word([1, 0, 0, 1], [2, 1, 7, 4])?, None);
-    /// # Ok::<(), farey::Refusal>(())
-    /// ```
-    pub fn gamma1(n: u64) -> Result<Symbol, Refusal> {
-        Symbol::named(Family::Gamma1, n)
-    }
-
-    /// A symbol of Γ(N) with -1, the matrices that are the identity or its
-    /// negative modulo N. By which rule, and what is refused: as `gamma0`.
-    ///
-    /// ```
-    /// use farey::Symbol;
-    ///
-    /// let gamma_5 = Symbol::gamma(5)?;
-    /// assert_eq!(gamma_5.figures().index, 60);
-    /// assert_eq!(gamma_5.widths(), [5; 12]);
-    /// # Ok::<(), farey::Refusal>(())
-    /// ```
-    pub fn gamma(n: u64) -> Result<Symbol, Refusal> {
-        Symbol::named(Family::Gamma, n)
-    }
-
-    /// The symbol of a family's group, as `gamma0` says.
-    pub fn named(family: Family, n: u64) -> Result<Symbol, Refusal> {
-        let by = |call: Named| Symbol::made(|out| call(family.number(), n, &mut work(), out));
-        match by(calls::named_symbol) {
-            Err(Refusal { number: 16, .. }) => by(calls::named_symbol_wide),
-            answer => answer,
-        }
-    }
-
     /// The symbol whose table a call puts to the front of the space it is lent,
     /// with its vertices for the count.
-    fn made(call: impl FnOnce(&mut [i64]) -> Result<usize, Refusal>) -> Result<Symbol, Refusal> {
+    pub(crate) fn made(
+        call: impl FnOnce(&mut [i64]) -> Result<usize, Refusal>,
+    ) -> Result<Symbol, Refusal> {
         let mut table = vec![0; TABLE];
         let v = call(&mut table)?;
         table.truncate(3 * v + 1);

@@ -1,7 +1,7 @@
 //! The wrapper on the instances of the engine's paper on conventions: what is
 //! expected here is what the paper says, not what a run printed.
 
-use farey::{Family, Kind, Refusal, Shape, Symbol, Word};
+use farey::{calls, Family, Kind, Refusal, Shape, Symbol, Word};
 
 const ONE: [i64; 4] = [1, 0, 0, 1];
 const S: [i64; 4] = [0, -1, 1, 0];
@@ -149,14 +149,14 @@ fn permutations_and_back() {
     );
 }
 
-/// The same by the wide rule, and a group for which the two rules differ: the
+/// The same by the leftmost rule, and a group for which the two rules differ: the
 /// symbols have other vertices, the same tables and the same subgroup.
 #[test]
-fn permutations_and_back_by_the_wide_rule() {
-    let group = Symbol::from_permutations_wide(&[1, 0, 2], &[2, 0, 1]).expect("a transitive pair");
-    assert_eq!(group, gamma0_2());
+fn permutations_and_back_by_the_leftmost_rule() {
+    let group = Symbol::from_permutations_leftmost(&[1, 0, 2], &[2, 0, 1]);
+    assert_eq!(group, Ok(gamma0_2()));
     let split =
-        Symbol::from_permutations_wide(&[1, 0, 2], &[0, 1, 2]).expect_err("2 isn't reached");
+        Symbol::from_permutations_leftmost(&[1, 0, 2], &[0, 1, 2]).expect_err("2 isn't reached");
     assert_eq!(
         split,
         Refusal {
@@ -170,8 +170,12 @@ fn permutations_and_back_by_the_wide_rule() {
     )
     .expect("a symbol");
     let tables = gamma0_11.tables();
-    let leftmost = Symbol::from_permutations(&tables.s, &tables.r).expect("small entries");
-    let wide = Symbol::from_permutations_wide(&tables.s, &tables.r).expect("small entries");
+    let leftmost = Symbol::from_permutations_leftmost(&tables.s, &tables.r).expect("small entries");
+    let wide = Symbol::from_permutations(&tables.s, &tables.r).expect("small entries");
+    assert_eq!(
+        Symbol::from_permutations_wide(&tables.s, &tables.r),
+        Ok(wide.clone())
+    );
     assert_ne!(wide, leftmost);
     assert!(wide.is_same(&leftmost) && wide.is_same(&gamma0_11));
     assert_eq!(wide.tables(), tables);
@@ -260,6 +264,18 @@ fn drawings() {
     assert_eq!((drawing.bounds.top, drawing.bounds.right), (0.0, 0.0));
 }
 
+/// The symbol that an import makes.
+fn calls_by(
+    import: fn(&[u32], &[u32], &mut [u16], &mut [i64]) -> Result<usize, Refusal>,
+    s: &[u32],
+    r: &[u32],
+) -> Result<Symbol, Refusal> {
+    let mut out = vec![0; calls::TABLE];
+    let v = import(s, r, &mut vec![0; calls::WORK], &mut out)?;
+    out.truncate(3 * v + 1);
+    Symbol::from_table(v, out)
+}
+
 /// PSL2(Z) by each of its names, and Γ0(2).
 #[test]
 fn small_named_groups() {
@@ -277,21 +293,37 @@ fn small_named_groups() {
     );
 }
 
-/// The rule's symbol where there is one, and else that of the wide rule: Γ0(11)
-/// has two symbols, Γ0(120) is refused by the rule.
+/// The wide rule's symbol, and the leftmost rule's by its name: Γ0(11) has two
+/// symbols, Γ0(120) is refused by the leftmost rule.
 #[test]
 fn named_groups_by_which_rule() {
-    for (n, by_the_rule) in [(11, true), (120, false)] {
+    for (n, by_both) in [(11, true), (120, false)] {
         let (s, r) = Family::Gamma0.tables(n).expect("a small index");
-        let leftmost = Symbol::from_permutations(&s, &r);
-        let wide = Symbol::from_permutations_wide(&s, &r).expect("small entries");
-        assert_ne!(leftmost.as_ref(), Ok(&wide));
-        assert_eq!(leftmost.is_ok(), by_the_rule);
-        let expected = leftmost.unwrap_or_else(|refusal| {
-            assert_eq!(refusal.number, 16);
-            wide
-        });
-        assert_eq!(Symbol::gamma0(n), Ok(expected));
+        let leftmost = calls_by(calls::import, &s, &r);
+        let wide = calls_by(calls::import_wide, &s, &r);
+        assert!(wide.is_ok() && leftmost.is_ok() == by_both);
+        assert_ne!(leftmost, wide);
+        assert_eq!(Symbol::gamma0(n), wide);
+        assert_eq!(Symbol::from_permutations(&s, &r), wide);
+        assert_eq!(Symbol::gamma0_leftmost(n), leftmost);
+        assert_eq!(Symbol::from_permutations_leftmost(&s, &r), leftmost);
+    }
+    assert_ne!(Symbol::gamma1(7), Symbol::gamma1_leftmost(7));
+    assert_ne!(Symbol::gamma(3), Symbol::gamma_leftmost(3));
+}
+
+/// No generator of a Γ0(N) has an entry over 1,000,000 in size: each is taken back
+/// by a query, whose word is its own letter.
+#[test]
+fn generators_are_taken_back() {
+    for n in 1..=1_000 {
+        let group = Symbol::gamma0(n).expect("a symbol");
+        let generators = group.generators();
+        let entries = generators.iter().flat_map(|generator| generator.matrix);
+        assert!(entries.map(i64::abs).max() <= Some(1_000_000), "{n}");
+        let last = generators.len();
+        let found = group.word(ONE, generators[last - 1].matrix);
+        assert_eq!(found, word(1, &[last as i16]), "{n}");
     }
 }
 

@@ -49,7 +49,7 @@ pub mod text;
 pub mod word;
 
 pub use refusal::Refusal;
-pub use report::{cycles, to_cycles};
+pub use report::{cycles, named_leftmost, named_wide, to_cycles};
 pub use report::{
     exchange, import, import_wide, intersection, listing, named, query, same, sheet, tower,
 };

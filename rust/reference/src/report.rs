@@ -231,6 +231,22 @@ pub fn named(text: &[u8]) -> String {
     symbol_text(try_named(text))
 }
 
+/// What `./farey gamma0 N`, `gamma1 N` and `gamma N` print for the text of
+/// `named`: the symbol by the wide rule.
+pub fn named_wide(text: &[u8]) -> String {
+    symbol_text(try_named_by(Rule::Wide, text))
+}
+
+/// The same with `--leftmost`: the symbol by the leftmost rule, or refusal 16.
+pub fn named_leftmost(text: &[u8]) -> String {
+    symbol_text(try_named_by(Rule::Leftmost, text))
+}
+
+fn try_named_by(rule: Rule, text: &[u8]) -> Result<Imported, Refusal> {
+    let numbers = numbers(text, Format::Named)?;
+    named_symbol(rule, numbers[0], numbers.get(1).copied().unwrap_or(0))
+}
+
 fn try_named(text: &[u8]) -> Result<Imported, Refusal> {
     let numbers = numbers(text, Format::Named)?;
     // With another family the count is free, and refusal 20 comes first.

@@ -364,7 +364,7 @@ fn there_and_back() {
 }
 
 /// `./farey cycles` takes one line end away, and no more; `./farey to-cycles` is read by
-/// it, and a refusal is passed on.
+/// it, and the line of a refusal is a text like any other.
 #[test]
 fn line_ends() {
     let Some(script) = farey() else {
@@ -392,7 +392,7 @@ fn line_ends() {
         ("3 (1,2)\n(1,3,2)\n", "refused 27 7\n"),
         ("", "refused 27 0\n"),
         ("\n", "refused 27 0\n"),
-        ("refused 15 2\n", "refused 15 2\n"),
+        ("refused 15 2\n", "refused 27 0\n"),
         ("refused 15 2", "refused 27 0\n"),
         (&long, tables),
         (&format!("{long}\n"), tables),
@@ -405,5 +405,5 @@ fn line_ends() {
     let written = run("to-cycles", tables.as_bytes());
     assert_eq!(written, "3 (1,2);(1,3,2)\n");
     assert_eq!(run("cycles", written.as_bytes()), tables);
-    assert_eq!(run("to-cycles", b"refused 27 3\n"), "refused 27 3\n");
+    assert_eq!(run("to-cycles", b"refused 27 3\n"), "refused 19 0\n");
 }

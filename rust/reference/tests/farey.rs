@@ -1,5 +1,5 @@
-//! The script `./farey`: what it passes on, what it says of a refusal, and when
-//! it proves.
+//! The script `./farey`: what it hands to which program, and when it proves. Its
+//! words, options and sentences are in `words.rs`.
 //!
 //! The tests of proving run it in a folder of their own, where a small script
 //! stands for `rt`: it takes a moment, and what it makes tells which source it
@@ -49,7 +49,8 @@ if [ -f brief ]; then
 fi
 sum=$(cat $source)
 proved=no
-for crate in low "$2"; do
+shift
+for crate in low "$@"; do
     if [ -f "target/stamp/$crate" ] && [ "$(cat "target/stamp/$crate")" = "$sum" ]; then
         echo "rt: $crate proved (unchanged since it was last proved)"
         continue
@@ -71,7 +72,7 @@ for crate in low "$2"; do
     proved=yes
 done
 [ ! -f kept ] || mv kept $source
-[ $proved = no ] || echo "$2" >> proofs
+[ $proved = no ] || echo "$*" >> proofs
 rmdir busy
 echo "rt: ok, 2 crates proved"
 "#;
@@ -90,6 +91,8 @@ impl Folder {
             "bin",
             "examples",
             "rust/farey",
+            "tools/cli",
+            "target/farey",
             "crates/low/src",
             "crates/listing/src",
         ] {
@@ -98,9 +101,16 @@ impl Folder {
         for file in ["farey", SENTENCES, "examples/gamma0-2.txt"] {
             fs::copy(repository().join(file), folder.at(file)).expect("it can be copied");
         }
+        for entry in fs::read_dir(repository().join("tools/cli")).expect("it can be listed") {
+            let name = entry.expect("it can be listed").file_name();
+            let file = Path::new("tools/cli").join(name);
+            fs::copy(repository().join(&file), folder.0.join(&file)).expect("it can be copied");
+        }
+        // Something was made here before, so that only what a word needs is made.
+        folder.put("target/farey/whole", "");
         folder.put(
             "crates.txt",
-            "low:\nlisting: low io\nquery: low\nsheet: low\nimport_wide: low\nnamed: low\nsame: low\nintersection: low\ntower: low\n",
+            "low:\nlisting: low io\nquery: low\nsheet: low\nimport_wide: low\nnamed: low\nsame: low\nintersection: low\nimport: low\ntower: low\n",
         );
         folder.put("crates/low/src/lib.rt", "first");
         folder.put("crates/listing/src/main.rt", "");
@@ -297,6 +307,92 @@ fn only_what_is_edited_is_proved_again() {
     assert_eq!(folder.proofs(), 2);
 }
 
+/// `sha256sum` with a note of each time that it runs, in `sums`.
+fn note_sums(folder: &Folder) {
+    let found = Command::new("sh")
+        .args(["-c", "command -v sha256sum"])
+        .output();
+    let real = text(&found.expect("there is a shell").stdout);
+    let noted = folder.at("sums");
+    let script = format!(
+        "#!/bin/sh\necho once >> '{}'\nexec {} \"$@\"\n",
+        noted.display(),
+        real.trim_end()
+    );
+    folder.put("bin/sha256sum", &script);
+    let runnable = fs::Permissions::from_mode(0o755);
+    fs::set_permissions(folder.at("bin/sha256sum"), runnable).expect("it can be made a program");
+}
+
+/// Once contents were compared, and nothing is younger than two seconds, sizes and
+/// times tell that all is as it was: nothing is read.
+#[test]
+fn contents_are_read_once() {
+    let folder = Folder::new("seen");
+    note_sums(&folder);
+    folder.run(&["listing"]);
+    thread::sleep(Duration::from_millis(2_300));
+    folder.run(&["listing"]);
+    let sums = folder.lines("sums");
+    assert!(sums > 0);
+    for _ in 0..3 {
+        assert_eq!(text(&folder.run(&["listing"]).stdout), "first\n");
+    }
+    assert_eq!(folder.lines("sums"), sums);
+    // A file more, though an empty one, is seen.
+    folder.put("crates/low/src/more.rt", "");
+    folder.run(&["listing"]);
+    assert!(folder.lines("sums") > sums);
+    assert_eq!(folder.proofs(), 1);
+}
+
+/// Puts another text of the same length in the place of the source, with the old
+/// time of its last edit: the time at which its status changed is another one.
+fn edit_unnoticed(folder: &Folder, text: &str) {
+    let source = folder.at("crates/low/src/lib.rt");
+    let old = fs::metadata(&source).expect("it is there");
+    fs::write(&source, text).expect("it can be written");
+    let file = fs::File::options().write(true).open(&source);
+    let file = file.expect("it opens");
+    file.set_modified(old.modified().expect("a time"))
+        .expect("a time can be set");
+    drop(file);
+    let new = fs::metadata(&source).expect("it is there");
+    assert_eq!(new.len(), old.len());
+    assert_eq!(
+        new.modified().expect("a time"),
+        old.modified().expect("a time")
+    );
+}
+
+/// An edit of the same length with the old time is proved: long after the last
+/// proof, when what was seen then is kept, and at once after it.
+#[test]
+fn an_edit_with_the_old_time_is_proved() {
+    for pause in [0, 2_300] {
+        let folder = Folder::new(&format!("time-{pause}"));
+        folder.run(&["listing"]);
+        thread::sleep(Duration::from_millis(pause));
+        assert_eq!(text(&folder.run(&["listing"]).stdout), "first\n");
+        assert_eq!(folder.at("target/farey/seen-listing").is_file(), pause > 0);
+        edit_unnoticed(&folder, "other");
+        assert_eq!(text(&folder.run(&["listing"]).stdout), "other\n", "{pause}");
+        assert_eq!(folder.proofs(), 2);
+    }
+}
+
+/// What another word is made of may be edited: this one isn't proved for it.
+#[test]
+fn sources_of_another_word() {
+    let folder = Folder::new("sources");
+    folder.run(&["listing"]);
+    fs::create_dir_all(folder.at("crates/query/src")).expect("a folder can be made");
+    folder.put("crates/query/src/main.rt", "more");
+    let asked = folder.asked();
+    assert_eq!(text(&folder.run(&["listing"]).stdout), "first\n");
+    assert_eq!(folder.asked(), asked);
+}
+
 /// The sources are as they were, and the program isn't: another one, or none.
 #[test]
 fn another_program_is_made_again() {
@@ -366,16 +462,17 @@ fn sentences() -> Vec<(String, String)> {
     listed.lines().map(line).collect()
 }
 
-/// The line of a refusal, and behind it its sentence.
-fn explained(line: &str) -> String {
-    let words: Vec<&str> = line.split(' ').collect();
-    let [.., number, place] = words[..] else {
-        panic!("{line}: no refusal");
-    };
-    let all = sentences();
-    let found = all.iter().find(|(n, _)| n == number);
-    let (_, sentence) = found.expect("each refusal has a sentence");
-    format!("{line}: {}\n", sentence.replace("{place}", place))
+/// Standard error has one line, that of the refusal in the answer with its cause
+/// behind it; where the answer is none, it has nothing.
+fn must_explain(answer: &str, said: &str, on: &str) {
+    if answer.starts_with("refused ") {
+        let begin = format!("{}: ", answer.trim_end());
+        assert!(said.starts_with(&begin), "{on}: {said}");
+        assert!(said.len() > begin.len() + 8, "{on}: {said}");
+        assert_eq!(said.lines().count(), 1, "{on}: {said}");
+    } else {
+        assert_eq!(said, "", "{on}");
+    }
 }
 
 #[test]
@@ -386,72 +483,19 @@ fn refusals_have_numbers_in_order() {
     assert_eq!(numbers, expected);
 }
 
-/// Each example of a refusal: number and place on standard output, and the
-/// sentence on standard error.
-#[test]
-fn refusals_are_explained() {
-    let Some(farey) = farey() else {
-        return;
-    };
-    let mut seen = 0;
-    let folder = repository().join("examples/refusals");
-    for entry in fs::read_dir(folder).expect("there are examples") {
-        let path = entry.expect("it can be listed").path();
-        let kind = path.extension().and_then(|kind| kind.to_str());
-        let held = fs::read(&path).expect("it can be read");
-        let came: Vec<Output> = match kind {
-            Some("txt") => vec![run_on(&farey, "listing", &held)],
-            Some("query") => vec![run_on(&farey, "query", &held)],
-            Some("pair") => {
-                let names = ["import", "import-wide"];
-                names.map(|name| run_on(&farey, name, &held)).into()
-            }
-            Some("group") => vec![by_name(&farey, &text(&held))],
-            Some("drawing") => vec![run_on(&farey, "draw", &held)],
-            Some("exchange") => vec![run_on(&farey, "exchange", &held)],
-            Some("intersection") => vec![halves(&farey, &text(&held))],
-            Some("tower") => vec![run_on(&farey, "tower", &held)],
-            Some("cycles") => vec![run_on(&farey, "cycles", &held)],
-            _ => panic!("{}: no program reads this", path.display()),
-        };
-        for came in came {
-            let stdout = text(&came.stdout);
-            let line = stdout.lines().find(|line| line.contains("refused "));
-            let line = line.unwrap_or_else(|| panic!("{}: {stdout}", path.display()));
-            assert_eq!(text(&came.stderr), explained(line), "{}", path.display());
-            assert!(came.status.success(), "{}", path.display());
-        }
-        seen += 1;
-    }
-    assert!(seen >= 19, "only {seen} examples");
-}
-
-/// `./farey intersection` with the two symbols of a text, three lines each, in two files.
-fn halves(farey: &Program, both: &str) -> Output {
-    let lines: Vec<&str> = both.lines().collect();
-    let [one, other] = [&lines[..3], &lines[3..]].map(|lines| lines.join("\n") + "\n");
-    let folder = Folder::new("halves");
-    over_files(
-        farey,
-        "intersection",
-        &folder,
-        one.as_bytes(),
-        other.as_bytes(),
-    )
-}
-
 /// `./farey` with the words for a text of the program `named`.
-fn by_name(farey: &Program, text: &str) -> Output {
+fn by_name(farey: &Program, text: &str, options: &[&str]) -> Output {
     let (family, n) = text.trim_end().split_once(' ').expect("a family and N");
     let family: usize = family.parse().expect("a family's number");
     let mut command = farey.command();
     command.args([["gamma0", "gamma1", "gamma"][family], n]);
-    command.stdin(Stdio::null());
+    command.args(options).stdin(Stdio::null());
     command.output().expect("./farey starts")
 }
 
-/// A group by its name: what the program prints of its family and N, and a
-/// sentence where it is refused. A number out of range is, however long it is.
+/// A group by its name: the symbol by the wide rule, with `--leftmost` that by the
+/// other one, and a sentence where it is refused. A number out of range is, however
+/// long it is.
 #[test]
 fn groups_by_name() {
     let Some(farey) = farey() else {
@@ -478,15 +522,17 @@ fn groups_by_name() {
         ("1 -7", "1 -7"),
         (&format!("2 -{zeros}"), "2 -7"),
     ] {
-        let came = by_name(&farey, words);
-        let expected = reference::named(reads.as_bytes());
-        assert_eq!(text(&came.stdout), expected, "{words:.40}");
-        let said = match expected.strip_suffix('\n').expect("a whole line") {
-            line if line.starts_with("refused ") => explained(line),
-            _ => String::new(),
-        };
-        assert_eq!(text(&came.stderr), said, "{words:.40}");
-        assert!(came.status.success(), "{words:.40}");
+        for (options, reference) in [
+            (&[][..], reference::named_wide as fn(&[u8]) -> String),
+            (&["--leftmost"], reference::named_leftmost),
+        ] {
+            let came = by_name(&farey, words, options);
+            let expected = reference(reads.as_bytes());
+            let on = format!("{words:.40} {options:?}");
+            assert_eq!(text(&came.stdout), expected, "{on}");
+            must_explain(&expected, &text(&came.stderr), &on);
+            assert!(came.status.success(), "{on}");
+        }
     }
 }
 
@@ -496,7 +542,7 @@ fn a_name_reads_nothing() {
     let Some(farey) = farey() else {
         return;
     };
-    let expected = reference::named(b"0 11");
+    let expected = reference::named_wide(b"0 11");
     for line in [
         r#""$0" gamma0 11 <&-"#,
         r#"echo refused 15 2 | "$0" gamma0 11"#,
@@ -510,21 +556,30 @@ fn a_name_reads_nothing() {
     }
 }
 
-/// The program of a name is that of the crate `named`, and it is given the number
-/// of the family and N.
+/// The programs of a name: `named` is given the number of the family and N,
+/// `intersection` what that prints, twice, and `import_wide` or `import` what this
+/// prints.
 #[test]
-fn the_crate_of_a_name() {
-    let folder = Folder::new("name");
-    let came = folder.run(&["gamma1", "7"]);
-    assert_eq!(text(&came.stdout), "first\n", "{}", text(&came.stderr));
-    let asked = fs::read_to_string(folder.at("asked")).expect("rt was asked");
-    assert!(asked.lines().all(|line| line == "check named"), "{asked}");
-    for (family, number) in [("gamma0", 0), ("gamma1", 1), ("gamma", 2)] {
-        stand_in(&folder, "named");
-        let came = folder.run(&[family, "0042"]);
-        assert_eq!(text(&came.stdout), format!("{number} 42\n"));
+fn the_crates_of_a_name() {
+    for (option, rule) in [(None, "import_wide"), (Some("--leftmost"), "import")] {
+        let folder = Folder::new(rule);
+        let run = |family| {
+            let mut command = folder.command(&[family, "0042"]);
+            let came = command.args(option).output().expect("./farey starts");
+            text(&came.stdout)
+        };
+        assert_eq!(run("gamma1"), "first\n");
+        let asked = fs::read_to_string(folder.at("asked")).expect("rt was asked");
+        let check = format!("check named intersection {rule}");
+        assert!(asked.lines().all(|line| line == check), "{asked}");
+        for (family, number) in [("gamma0", 0), ("gamma1", 1), ("gamma", 2)] {
+            for name in ["named", "intersection", rule] {
+                stand_in(&folder, name);
+            }
+            assert_eq!(run(family), format!("{number} 42\n{number} 42\n"));
+        }
+        assert_eq!(folder.proofs(), 1);
     }
-    assert_eq!(folder.proofs(), 1);
 }
 
 /// Puts a program that prints what it reads in the place of one that was proved,
@@ -553,9 +608,10 @@ fn run_on(farey: &Program, name: &str, text: &[u8]) -> Output {
     command.output().expect("./farey starts")
 }
 
-/// A text that is a refusal is an answer already. Any other text is read.
+/// The line of a refusal is a text like any other, and no number: nothing that is
+/// typed or piped in comes out as an answer that no program gave.
 #[test]
-fn a_refusal_is_passed_on() {
+fn a_refusal_is_read_as_a_text() {
     let Some(farey) = farey() else {
         return;
     };
@@ -570,19 +626,11 @@ fn a_refusal_is_passed_on() {
         "to-cycles",
         "draw",
     ] {
-        for line in [
-            "refused 15 2\n",
-            "refused 19 65536\n",
-            "refused 26 0\n",
-            "refused 27 0\n",
-        ] {
-            let came = run_on(&farey, name, line.as_bytes());
-            assert_eq!(text(&came.stdout), line);
-            assert_eq!(text(&came.stderr), "");
-            assert!(came.status.success());
-        }
-        // A refusal of the engine has a number that has a sentence.
-        let read: [&[u8]; 10] = [
+        let read: [&[u8]; 14] = [
+            b"refused 10 0\n",
+            b"refused 15 2\n",
+            b"refused 19 65536\n",
+            b"refused 26 0\n",
             b"refused 0 0\n",
             b"refused 28 0\n",
             b"refused 999 7\n",
@@ -594,12 +642,38 @@ fn a_refusal_is_passed_on() {
             b"refused 15\n",
             b"refused 15 2 \n",
         ];
-        for other in read {
+        // One word is given all of them, and the others the first three.
+        let count = if name == "query" { read.len() } else { 3 };
+        for other in &read[..count] {
             let came = run_on(&farey, name, other);
-            assert_eq!(text(&came.stdout), "refused 19 0\n", "{other:?}");
-            assert_eq!(text(&came.stderr), explained("refused 19 0"));
+            assert_eq!(text(&came.stdout), "refused 19 0\n", "{name} {other:?}");
+            must_explain("refused 19 0\n", &text(&came.stderr), name);
         }
     }
+    let came = run_on(&farey, "cycles", b"refused 10 0\n");
+    assert_eq!(text(&came.stdout), "refused 27 0\n");
+}
+
+/// In a pipe the first one says its cause, and the second refuses its line.
+#[test]
+fn a_refusal_in_a_pipe() {
+    let Some(farey) = farey() else {
+        return;
+    };
+    let mut shell = Command::new("bash");
+    shell.args(["-c", r#""$0" gamma 19 | "$0" listing"#]);
+    let came = shell.arg(farey.command().get_program()).output();
+    let came = came.expect("there is a shell");
+    assert_eq!(text(&came.stdout), "refused 19 0\n");
+    let said = text(&came.stderr);
+    let mut lines: Vec<&str> = said.lines().collect();
+    lines.sort();
+    let [second, first] = lines[..] else {
+        panic!("{said}");
+    };
+    // The index is 19 * (19^2 - 1) / 2.
+    assert_eq!(first, "refused 21 0: Γ(19) has index 3420, over 3,066");
+    assert!(second.starts_with("refused 19 0: 'refused' at byte 0 is no whole number"));
 }
 
 /// A text that can't be read has no answer. To the next program in a pipe that
@@ -624,7 +698,7 @@ fn a_failure_in_a_pipe_is_told_by_the_status() {
         shell.args(["-c", &line]).arg(farey.command().get_program());
         let came = shell.output().expect("there is a shell");
         assert_eq!(text(&came.stdout), expected, "{line}");
-        assert!(text(&came.stderr).contains("farey: standard input could not be read"));
+        assert!(text(&came.stderr).contains("farey: standard input is a folder"));
     }
 }
 
@@ -644,54 +718,6 @@ fn the_repository_is_that_of_the_run() {
             .expect("these tests start");
         assert_eq!(came.status.success(), passes, "{}", text(&came.stdout));
         assert!(text(&came.stdout).contains("running 1 test"));
-    }
-}
-
-#[test]
-fn wrong_words_are_refused() {
-    let farey = repository().join("farey");
-    for words in [
-        &["list"][..],
-        &["listing", "query"],
-        &["-h"],
-        &["import_wide"],
-        &["import wide"],
-        &["gamma0"],
-        &["gamma0", "11", "12"],
-        &["gamma0", ""],
-        &["gamma0", "x"],
-        &["gamma1", "--7"],
-        &["gamma1", "-"],
-        &["gamma1", "+7"],
-        &["gamma", "5.0"],
-        &["gamma", "5x"],
-        &["gamma", " 5"],
-        &["gamma", "5\n6"],
-        &["gamma", "\u{b2}"],
-        &["gamma2", "5"],
-        &["Gamma0", "11"],
-        &["11", "gamma0"],
-        &["named"],
-        &["named", "11"],
-        &["sheets"],
-        &["sheet", "examples/gamma0-2.txt"],
-        &["listing", "11"],
-        &["same"],
-        &["same", "examples/gamma0-2.txt"],
-        &["same", "a", "b", "c"],
-        &["listing", "a", "b"],
-        &["Same", "a", "b"],
-        &["intersection"],
-        &["intersection", "examples/gamma0-2.txt"],
-        &["intersection", "a", "b", "c"],
-        &["tower", "examples/towers/gamma0.txt"],
-        &["towers"],
-    ] {
-        let came = Command::new(&farey).args(words).output();
-        let came = came.expect("./farey starts");
-        assert_eq!(came.status.code(), Some(2));
-        assert_eq!(text(&came.stdout), "");
-        assert!(text(&came.stderr).starts_with("usage: ./farey"));
     }
 }
 
@@ -722,7 +748,7 @@ fn over_files(farey: &Program, name: &str, folder: &Folder, one: &[u8], other: &
     }
     let mut command = farey.command();
     command.current_dir(&folder.0).stdin(Stdio::null());
-    command.args([name, "one text", "-other"]);
+    command.args([name, "--", "one text", "-other"]);
     command.output().expect("./farey starts")
 }
 
@@ -765,11 +791,7 @@ fn two_files() {
             };
             let texts = format!("{name} {first:.40}, {second:.40}");
             assert_eq!(text(&came.stdout), expected, "{texts}");
-            let said = match expected.strip_suffix('\n').expect("a whole line") {
-                line if line.starts_with("refused ") => explained(line),
-                _ => String::new(),
-            };
-            assert_eq!(text(&came.stderr), said, "{texts}");
+            must_explain(&expected, &text(&came.stderr), &texts);
             assert!(came.status.success());
         }
     }
@@ -794,23 +816,23 @@ fn two_files_without_line_ends() {
     assert_eq!(text(&came.stdout), "refused 19 15\n");
 }
 
-/// A file that is the line of a refusal is an answer already.
+/// A file that is the line of a refusal is a text like any other.
 #[test]
-fn a_refusal_in_a_file_is_passed_on() {
+fn a_refusal_in_a_file_is_read_as_a_text() {
     let Some(farey) = farey() else {
         return;
     };
     let folder = Folder::new("passed");
     let one = "2 0 1 1 1 1 -2 1\n";
     for (first, second, answer) in [
-        ("refused 16 28\n", one, "refused 16 28\n"),
-        (one, "refused 21 0\n", "refused 21 0\n"),
-        ("refused 6 0\n", "refused 21 0\n", "refused 6 0\n"),
+        ("refused 16 28\n", one, "refused 19 0\n"),
+        (one, "refused 21 0\n", "refused 19 17\n"),
+        ("refused 6 0\n", "refused 21 0\n", "refused 19 0\n"),
     ] {
         for name in ["same", "intersection"] {
             let came = over_files(&farey, name, &folder, first.as_bytes(), second.as_bytes());
             assert_eq!(text(&came.stdout), answer);
-            assert_eq!(text(&came.stderr), "");
+            must_explain(answer, &text(&came.stderr), name);
             assert!(came.status.success());
         }
     }
@@ -821,21 +843,26 @@ fn a_refusal_in_a_file_is_passed_on() {
 fn files_that_cannot_be_read() {
     let folder = Folder::new("unread");
     folder.put("held", "2 0 1 1 1 1 -2 1\n");
-    for words in [
-        ["same", "held", "none"],
-        ["same", "none", "held"],
-        ["same", "held", "crates"],
-        ["same", "", "held"],
-        ["intersection", "held", "none"],
+    for (words, said) in [
+        (&["same", "held", "none"][..], "there is no file 'none'"),
+        (&["same", "none", "held"], "there is no file 'none'"),
+        (
+            &["same", "held", "crates"],
+            "crates is a folder, and same reads a file",
+        ),
+        (&["same", "", "held"], "there is no file ''"),
+        (&["intersection", "held", "none"], "there is no file 'none'"),
+        (&["listing", "none"], "there is no file 'none'"),
+        (
+            &["listing", "crates"],
+            "crates is a folder, and listing reads a file",
+        ),
     ] {
-        let came = folder.command(&words).current_dir(&folder.0).output();
+        let came = folder.command(words).current_dir(&folder.0).output();
         let came = came.expect("./farey starts");
         assert_eq!(text(&came.stdout), "", "{words:?}");
         assert_eq!(came.status.code(), Some(1), "{words:?}");
-        let wrong = words[1..].iter().find(|word| **word != "held");
-        let wrong = wrong.expect("one of them can't be read");
-        let line = format!("farey: {wrong} could not be read to its end, so there is no answer\n");
-        assert_eq!(text(&came.stderr), line);
+        assert_eq!(text(&came.stderr), format!("farey: {said}\n"));
     }
     assert_eq!(folder.asked(), 0);
 }

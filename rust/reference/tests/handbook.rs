@@ -1,15 +1,14 @@
-//! The pages of docs/HANDBOOK.md: what they show of files and of the programs'
-//! answers is so, by the reference, by the programs and by `./farey`. Its Rust
-//! blocks are tests of the crate `farey`, and its Python and Sage blocks are run
-//! by `python/tests/test_pages.py`. And the commands of README.md.
+//! The pages: what README.md, docs/TUTORIAL.md and docs/HANDBOOK.md show of files
+//! and of the programs' answers is so, by the reference, by the programs and by
+//! `./farey`. Their other blocks are run by `python/tests/test_pages.py`.
 //!
-//! | block                     | what is checked                                       |
-//! |---------------------------|-------------------------------------------------------|
-//! | `text PATH`               | the file of that path holds just this                 |
-//! | `console`                 | `$ COMMAND`, and then all that the command prints     |
-//! | a row of the refusals     | the program answers its example so, and the sentence  |
-//! |                           | is that of rust/farey/refusals.txt                    |
-//! | `./farey ..` of README.md | it prints what the reference says                     |
+//! | block                 | what is checked                                          |
+//! |-----------------------|----------------------------------------------------------|
+//! | `text PATH`           | the file of that path holds just this                    |
+//! | `console`             | `$ COMMAND`, and then all that the command prints;       |
+//! |                       | several of them one after the other                      |
+//! | a row of the refusals | the program answers its example so, and the sentence is  |
+//! |                       | that of rust/farey/refusals.txt                          |
 
 mod child;
 
@@ -17,7 +16,7 @@ use std::fs;
 use std::process::Command;
 
 use child::{farey, repository, Program};
-use reference::{cycles, to_cycles};
+use reference::{cycles, named_leftmost, named_wide, to_cycles};
 use reference::{
     exchange, import, import_wide, intersection, listing, named, query, same, sheet, tower,
 };
@@ -39,6 +38,8 @@ struct Row {
 fn page(path: &str) -> String {
     fs::read_to_string(repository().join(path)).unwrap_or_else(|e| panic!("{path}: {e}"))
 }
+
+const PAGES: [&str; 3] = ["README.md", "docs/TUTORIAL.md", "docs/HANDBOOK.md"];
 
 fn handbook() -> String {
     page("docs/HANDBOOK.md")
@@ -75,7 +76,7 @@ fn blocks(page: &str) -> Vec<Block> {
 fn rows(page: &str) -> Vec<Row> {
     let unmarked = |cell: &str| cell.trim().trim_matches('`').to_string();
     let (_, behind) = page.split_once("\n## Refusals\n").expect("that page");
-    let (refusals, _) = behind.split_once("\n## ").expect("a page behind it");
+    let refusals = behind.split("\n## ").next().expect("that page");
     refusals
         .lines()
         .filter_map(|line| {
@@ -121,38 +122,52 @@ fn answers(program: &str, text: &[u8]) -> [String; 2] {
     }
 }
 
-/// The program that `./farey` runs for these words, and the text that it reads:
-/// that of a file, or of two, or what stands for a group's name.
-fn asked(words: &str) -> (String, Vec<u8>) {
-    let words = words.strip_prefix("./farey ").expect("./farey and words");
-    if let Some((program, path)) = words.split_once(" < ") {
-        return (program.to_string(), file(path));
+/// What the reference says of a group by its name, and what the programs say:
+/// `named`, `intersection` of its symbol with itself, and the import by a rule.
+fn by_name(family: usize, n: &str, leftmost: bool) -> [String; 2] {
+    let text = format!("{family} {n}\n").into_bytes();
+    let (import, expected) = match leftmost {
+        true => ("import", named_leftmost(&text)),
+        false => ("import-wide", named_wide(&text)),
+    };
+    let [_, symbol] = answers("named", &text);
+    if symbol.starts_with("refused ") {
+        return [expected, symbol];
     }
-    for program in ["same", "intersection"] {
-        let behind = words.strip_prefix(program);
-        if let Some(paths) = behind.and_then(|behind| behind.strip_prefix(' ')) {
-            let (one, other) = paths.split_once(' ').expect("two files");
-            return (program.to_string(), [file(one), file(other)].concat());
-        }
-    }
-    let (family, n) = words.split_once(' ').expect("a family and N");
-    let families = ["gamma0", "gamma1", "gamma"];
-    let number = families.iter().position(|&name| name == family);
-    let number = number.unwrap_or_else(|| panic!("no family {family}"));
-    ("named".to_string(), format!("{number} {n}\n").into_bytes())
+    let [_, tables] = answers("intersection", symbol.repeat(2).as_bytes());
+    let [_, answer] = answers(import, tables.as_bytes());
+    [expected, answer]
 }
 
-/// The answers to a command `./farey PROGRAM < PATH`, `./farey FAMILY N` or
-/// `./farey same PATH PATH` (or `intersection`), perhaps with `| ./farey PROGRAM` behind it: by
-/// the reference, by the programs, and by the command itself. `./farey` alone lists Γ0(2).
+/// The answers to the words behind the first `./farey` of a command: a program and
+/// its file, perhaps behind `<`, or two files, or a group's name.
+fn answers_to(words: &str) -> [String; 2] {
+    let words = words.strip_prefix("./farey ").expect("./farey and words");
+    let words: Vec<&str> = words.split(' ').filter(|&word| word != "<").collect();
+    let families = ["gamma0", "gamma1", "gamma"];
+    match words[..] {
+        [program @ ("same" | "intersection"), one, other] => {
+            answers(program, &[file(one), file(other)].concat())
+        }
+        [name, n, ref options @ ..] if families.contains(&name) => {
+            let family = families.iter().position(|&family| family == name);
+            assert!(options.is_empty() || options == ["--leftmost"], "{words:?}");
+            by_name(family.expect("one of them"), n, !options.is_empty())
+        }
+        [program, path] => answers(program, &file(path)),
+        _ => panic!("no program for {words:?}"),
+    }
+}
+
+/// The answers to a command, perhaps with `| ./farey PROGRAM` behind it: by the
+/// reference, by the programs, and by the command itself. `./farey` alone lists Γ0(2).
 fn run(command: &str) -> [String; 3] {
     let whole = match command {
-        "./farey" => "./farey listing < examples/gamma0-2.txt",
+        "./farey" => "./farey listing examples/gamma0-2.txt",
         _ => command,
     };
     let mut stages = whole.split(" | ");
-    let (program, text) = asked(stages.next().expect("there is a command"));
-    let mut came = answers(&program, &text);
+    let mut came = answers_to(stages.next().expect("there is a command"));
     for stage in stages {
         assert_eq!(came[0], came[1], "{command}");
         let program = stage.strip_prefix("./farey ").expect("./farey once more");
@@ -177,9 +192,8 @@ fn output_of(command: &str) -> String {
 
 #[test]
 fn files_are_shown_as_they_are() {
-    let page = handbook();
     let mut shown = 0;
-    for block in blocks(&page) {
+    for block in PAGES.iter().flat_map(|path| blocks(&page(path))) {
         if let Some(path) = block.info.strip_prefix("text ") {
             assert_eq!(block.text.as_bytes(), file(path), "{path}");
             shown += 1;
@@ -188,23 +202,32 @@ fn files_are_shown_as_they_are() {
     assert!(shown >= 3, "only {shown} files are shown");
 }
 
+/// The commands of a block, each with what it prints.
+fn commands(block: &Block) -> Vec<(String, String)> {
+    let mut commands: Vec<(String, String)> = Vec::new();
+    for line in block.text.lines() {
+        match (line.strip_prefix("$ "), commands.last_mut()) {
+            (Some(command), _) => commands.push((command.to_string(), String::new())),
+            (None, Some((_, printed))) => *printed += &format!("{line}\n"),
+            (None, None) => panic!("a block begins with {line:?} and not with a command"),
+        }
+    }
+    commands
+}
+
 #[test]
 fn commands_print_what_is_shown() {
-    let page = handbook();
     let mut programs = Vec::new();
-    for block in blocks(&page) {
-        if block.info != "console" {
-            continue;
+    for path in PAGES {
+        let blocks = blocks(&page(path));
+        let shown: Vec<_> = blocks.iter().filter(|b| b.info == "console").collect();
+        assert!(!shown.is_empty(), "{path} has no commands");
+        for (command, expected) in shown.into_iter().flat_map(commands) {
+            for came in run(&command) {
+                assert_eq!(came, expected, "{command}");
+            }
+            programs.extend(command.split(' ').nth(1).map(str::to_string));
         }
-        let (command, expected) = block
-            .text
-            .split_once('\n')
-            .expect("a command and its answer");
-        let command = command.strip_prefix("$ ").expect("a command begins with $");
-        for came in run(command) {
-            assert_eq!(came, expected, "{command}");
-        }
-        programs.extend(command.split(' ').nth(1).map(str::to_string));
     }
     for program in [
         "listing",
@@ -227,27 +250,6 @@ fn commands_print_what_is_shown() {
             "no example of {program}"
         );
     }
-}
-
-/// The lines of README.md that begin with `./farey`; what they do stands behind
-/// some of them. `./farey library` answers nothing: the gate runs it, and the
-/// Python tests run what follows it on the page, and `./farey draw`.
-#[test]
-fn commands_of_the_first_page() {
-    let readme = page("README.md");
-    let lines = readme.lines().filter_map(|line| line.strip_prefix("    "));
-    let commands: Vec<&str> = lines
-        .filter(|line| line.starts_with("./farey"))
-        .map(|line| line.split("  ").next().expect("there is a command"))
-        .filter(|command| *command != "./farey library" && !command.starts_with("./farey draw"))
-        .collect();
-    for command in &commands {
-        let [reference, by_programs, by_script] = run(command);
-        assert_eq!(by_programs, reference, "{command}");
-        assert_eq!(by_script, reference, "{command}");
-    }
-    assert!(commands.len() >= 4, "only {commands:?}");
-    assert!(commands.iter().any(|command| command.contains(" | ")));
 }
 
 /// The table has a row for each line of refusals.txt, and the same sentence with

@@ -1,6 +1,6 @@
 //! The table of the index of Γ0(N): what the program `index_table` writes, the
-//! constant that the engine holds and the handbook's table are one, and its
-//! numbers are those of an own reckoning.
+//! constant that the engine holds and the table of the handbook's page
+//! docs/INDEX-TABLE.md are one, and its numbers are those of an own reckoning.
 
 mod child;
 
@@ -89,12 +89,17 @@ fn printed(entries: &[u64]) -> String {
 
 #[test]
 fn the_handbook_has_the_same_numbers() {
+    let index_page = page("docs/INDEX-TABLE.md");
     let handbook = page("docs/HANDBOOK.md");
+    assert!(
+        handbook.contains("](INDEX-TABLE.md)"),
+        "no link to the page"
+    );
     let begin = "\n<!-- index table: written by tools/index-table, a row for ten numbers N -->\n";
     let end = "<!-- end of the index table -->\n";
-    assert_eq!(handbook.matches(begin).count(), 1);
-    assert_eq!(handbook.matches(end).count(), 1);
-    let (_, rest) = handbook.split_once(begin).expect("the table's beginning");
+    assert_eq!(index_page.matches(begin).count(), 1);
+    assert_eq!(index_page.matches(end).count(), 1);
+    let (_, rest) = index_page.split_once(begin).expect("the table's beginning");
     let (table, _) = rest.split_once(end).expect("its end");
     let entries = entries(&page("crates/family_index/src/gamma0.rt"));
     assert_eq!(table, printed(&entries));

@@ -1,5 +1,6 @@
 -- `cusps` meets its contract: a call that is not admitted leaves everything as it was; for one that is, the table is a symbol (`admitted`), the answer is
--- that of `make_cusps`, and the columns keep the standing rule (`cusp-meaning`). Assumes nothing.
+-- that of `make_cusps`, and the columns keep the standing rule (`cusp-meaning`). 4,090 entries are enough
+-- (`ample-for-cusps`). Assumes nothing.
 use mathlib.Core.Path.{_≡_, refl, sym, _∙_}
 use lib.ListN.{length}
 use Rattle.refusal.specs.declared.Checked.the-variants.{Accepted, Refused}
@@ -7,7 +8,7 @@ use Rattle.pairing.specs.Inner.Admitted.{admittedOf}
 use Rattle.pairing.proofs.Admitted.{admitted, filled-by, work-by}
 use Rattle.coset.specs.Tables.{indexOf}
 use Rattle.coset.specs.Answer.{roomTwo}
-use Rattle.cusp_record.proofs.Answer.{cusp-meaning, cusps-mean-refused}
+use Rattle.cusp_record.proofs.Answer.{cusp-meaning, cusps-mean-refused, ample-for-cusps}
 use borrow.Author.Needs.{needs}
 use Rattle.cusp_record.proofs.cusps.Statement.{statement}
 use Rattle.cusp_record.proofs.cusps.Tie as tie
@@ -44,10 +45,11 @@ returns c =
     let t = s .args .t .now in
     let w = s .args .w .now in
     let r = Refused (k .0 .0) in
-    let no = sym (k .1) ∙ a .admit .ensures in (
-      filled-by v t w r no (roomTwo (indexOf v t) (length (s .args .cusps .now)) (length (s .args .steps .now))),
-      (work-by v t w r no, (refl, (refl, cusps-mean-refused (k .0 .0)))),
-    )
+    let no = sym (k .1) ∙ a .admit .ensures in
+    let x = s .args .cusps .now in
+    let y = s .args .steps .now in
+    let answer = filled-by v t w r no (roomTwo (indexOf v t) (length x) (length y)) in
+    (answer, (work-by v t w r no, (refl, (refl, (cusps-mean-refused (k .0 .0), ample-for-cusps v t w x y _ answer)))))
 
 same-length : tie.Need-same-length
 same-length c = search needs
@@ -67,10 +69,11 @@ returns-2 c =
     let t = s .args .t .now in
     let w = s .args .w .now in
     let made = m .make-cusps .ensures in
-    let answer = made .0 ∙ filled-by v t w Accepted (ok e) (roomTwo (indexOf v t) (length (s .args .cusps .now)) (length (s .args .steps .now))) in (
-      answer,
-      (made .1 .0 ∙ work-by v t w Accepted (ok e), (made .1 .1 .0, (made .1 .1 .1, λ n z. cusp-meaning (admitted v t (length w) (ok e) .0)))),
-    )
+    let x = s .args .cusps .now in
+    let y = s .args .steps .now in
+    let mean = cusp-meaning (admitted v t (length w) (ok e) .0) in
+    let answer = made .0 ∙ filled-by v t w Accepted (ok e) (roomTwo (indexOf v t) (length x) (length y)) in
+    (answer, (made .1 .0 ∙ work-by v t w Accepted (ok e), (made .1 .1 .0, (made .1 .1 .1, (λ n z. mean, ample-for-cusps v t w x y _ answer)))))
 
 pub cusps-spec : {M : Type 1} → statement M
 cusps-spec =

@@ -45,9 +45,12 @@ returns c =
             l .0 ∙ ap (λ (r : Filled). columnLeft r (cuspColumn v t) (s .args .cusps .now)) e,
             (
               l .1 .0 ∙ ap (λ (r : Filled). columnLeft r (stepColumn v t) (s .args .steps .now)) e,
-              λ z. zero-means (λ (n : ℕ). CuspMeaning v t) (q .result)
-                  (subst AboveIn (sym e) (cusped-above v t (length (s .args .w .now)) (length (s .args .cusps .now)) (length (s .args .steps .now))))
-                  (l .1 .1) (sym (c .of-filled .ensures .0) ∙ z),
+              (
+                λ z. zero-means (λ (n : ℕ). CuspMeaning v t) (q .result)
+                    (subst AboveIn (sym e) (cusped-above v t (length (s .args .w .now)) (length (s .args .cusps .now)) (length (s .args .steps .now))))
+                    (l .1 .1 .0) (sym (c .of-filled .ensures .0) ∙ z),
+                λ ok h i j. c .of-filled .ensures .0 ∙ ap (λ (x : Filled). filledRefusal x .number) (l .1 .1 .1 ok h i j),
+              ),
             ),
           ),
         ),

@@ -31,8 +31,8 @@ returns-2 : tie.Need-returns-2
 returns-2 c = (
   omega (arith, puts-within (c .intersection-input .ensures .0) (omega arith) (omega arith)),
   let ended = c .before .before .before .before .before .before .before .before .before in
-  let p = c .intersection-input .ensures in
-  when-read (ended .before .before .input .given .1) (ended .text-end .ensures)
+      let p = c .intersection-input .ensures in
+      when-read (ended .before .before .input .given .1) (ended .text-end .ensures)
       (p .0, p .1, print-means _ _ _ (puts-front (p .0))),
 )
 
