@@ -7,8 +7,8 @@ use lib.IntN.{ℤ, pos, negsuc}
 use lib.Ieee.{Float, fin, div, ofInt, sub, add, lt}
 use Rattle.rounding.specs.Quotient.{quotient, floatOf}
 use Rattle.rounding.specs.Extreme.{leastOf, greatestOf}
-use Rattle.drawing.specs.Answer.{drawnRows, drawingOf}
-use Rattle.drawing.specs.declared.Drawing.the-variants as drawing
+use Rattle.drawing.specs.Bounding.{boxTo}
+use Rattle.drawing.specs.Answer.{drawnRows, boxNumbers}
 
 gamma0-2 : List ℤ
 gamma0-2 = pos 0 ∷ pos 1 ∷ pos 1 ∷ pos 1 ∷ pos 1 ∷ negsuc 1 ∷ pos 1 ∷ []
@@ -29,6 +29,6 @@ rows : drawnRows 2 gamma0-2 3 ≡ none ∷ none ∷ none ∷ one ∷ one ∷ hal
 unfolding gamma0-2 none one half two drawnRows quotient floatOf div ofInt
 rows = refl
 
-box : drawingOf 2 gamma0-2 12 ≡ drawing.Made (record { left = none; right = one; bottom = none; top = half })
+box : boxNumbers (boxTo 2 gamma0-2 3) ≡ none ∷ one ∷ none ∷ half ∷ []
 unfolding gamma0-2 none one half leastOf greatestOf quotient floatOf div ofInt sub add lt
 box = refl

@@ -1,6 +1,6 @@
-// Drawings of a symbol: `draw_symbol` turns its sides into lines and semicircles, writes their numbers as floats and gives the box around them.
+// Drawings of a symbol: `draw_symbol` turns its sides into lines and semicircles, stores their numbers as floats and gives the box around them.
 //
-// One side is `draw`, and its box `box_of`; `join` puts boxes together. `drawing_check` looks at the symbol first, and `draw_in_room` at the result space.
+// One side is `draw`, and its box `box_of`; `join` gives boxes together. `drawing_check` looks at the symbol first, and `draw_in_room` at the result space.
 use pairing::partner::kind_at;
 use refusal::Checked;
 use refusal::Refusal;
@@ -16,14 +16,16 @@ ghost use lib.Dec.{leb};
 ghost use lib.ListN.{length, drop};
 ghost use lib.IntN.{natAbs};
 ghost use Rattle.matrix.specs.Matrix.{nth};
+ghost use Rattle.call.specs.Call.{storesRows};
+ghost use Rattle.call.specs.Inner.Fills.{Fills};
 ghost use Rattle.symbol.specs.Table.{pairingEntries, pairingOf};
 ghost use Rattle.pairing.specs.Generator.{kindOf};
 ghost use Rattle.rounding.specs.Quotient.{quotient, floatOf};
 ghost use Rattle.rounding.specs.Extreme.{lesser, greater};
 ghost use Rattle.drawing.specs.Drawn.{arcOf, drawnOf};
 ghost use Rattle.drawing.specs.Bounding.{boxTo};
-ghost use Rattle.drawing.specs.Answer.{rowFor, drawnRows, check22, drawingCheck, drawingRoom, drawingOf, drawingLeft, DrawingMeans};
-ghost use Rattle.drawing.specs.Inner.Ready.{Drawable, SmallSymbol, sideBox, jointBox, putFour};
+ghost use Rattle.drawing.specs.Answer.{rowFor, drawnRows, check22, drawingSteps};
+ghost use Rattle.drawing.specs.Inner.Ready.{Drawable, SmallSymbol, sideBox, jointBox, putFour, drawingCheck, drawn};
 
 // How a side is drawn in the upper half plane.
 pub enum Drawn {
@@ -183,8 +185,7 @@ fn draw_sides(v: usize, t: &[i64], p: &[i64], out: &mut [f64]) -> BoundingBox
 // The result space has room for one side in each whole four of its floats.
 fn draw_in_room(v: usize, t: &[i64], out: &mut [f64]) -> Drawing
     requires { ⌜ SmallSymbol v (now t) ⌝ }
-    ensures { λ r. ⌜ r ≡ drawingRoom v (now (t .entry)) (length (now (out .entry))) ⌝ }
-    ensures { λ r. ⌜ now (out .exit) ≡ drawingLeft r (drawnRows v (now (t .entry)) (v + 1)) (now (out .entry)) ⌝ }
+    ensures { λ r. ⌜ Fills (storesRows 4 (v + 1) (drawnRows v (now (t .entry)) (v + 1)) out) (drawn (boxTo v (now (t .entry)) (v + 1))) r ⌝ }
 {
     let sides = v + 1;
     if out.len() / 4 < sides {
@@ -237,9 +238,7 @@ fn drawing_check(v: usize, t: &[i64]) -> Checked
 
 // Draws the symbol in t: a row of four floats in out for each side, in their order, and the box around them; or the first refusal.
 pub fn draw_symbol(v: usize, t: &[i64], out: &mut [f64]) -> Drawing
-    ensures { λ r. ⌜ r ≡ drawingOf v (now (t .entry)) (length (now (out .entry))) ⌝ }
-    ensures { λ r. ⌜ now (out .exit) ≡ drawingLeft r (drawnRows v (now (t .entry)) (v + 1)) (now (out .entry)) ⌝ }
-    ensures { λ r. ⌜ DrawingMeans v (now (t .entry)) r ⌝ }
+    ensures { λ r. ⌜ Fills (drawingSteps v (now (t .entry)) out) (drawn (boxTo v (now (t .entry)) (v + 1))) r ⌝ }
 {
     let checked = drawing_check(v, t);
     match checked {

@@ -1,41 +1,33 @@
--- WHAT A NUMBER 0 TELLS of a drawing: no drawing is refused with the number 0 (`drawing-above`). Assumes nothing.
-use mathlib.Core.Bool.{Bool, true, false}
-use mathlib.Core.List.{List}
-use Prim.Native.Nat.{ℕ, _+_, _*_, _/_, _<_}
+-- THE ANSWER OF A DRAWING tells the verdict of the checks: what was made where they pass (`made-verdict`, `made-box`), and their refusal
+-- otherwise (`refused-verdict`). Assumes nothing.
+use mathlib.Core.Path.{_≡_, refl, ap}
+use Prim.Native.Nat.{ℕ}
 use native.Mathlib.Omega.{arith}
-use lib.Dec.{ltb}
-use lib.IntN.{ℤ}
-use Rattle.basics.specs.Choice.{pick}
-use Rattle.basics.specs.Count.{first}
-use Rattle.refusal.specs.Refusal.{_orElse_, tooShort, tooLargeToDraw}
+use Rattle.refusal.specs.declared.Refusal.{Refusal}
 use Rattle.refusal.specs.declared.Checked.{Checked}
 use Rattle.refusal.specs.declared.Checked.the-variants.{Accepted, Refused}
-use Rattle.refusal.proofs.Numbered.{Among}
-use Rattle.symbol.specs.Check.{symbolCheck}
-use Rattle.symbol.proofs.Accepted.{among-refuse, check-among}
-use Rattle.drawing.specs.Bounding.{boxTo}
-use Rattle.drawing.specs.Answer.{tooLargeAt, check22, drawingRoom, drawingBy, drawingOf}
+use Rattle.drawing.specs.Inner.Ready.{drawn}
+use Rattle.drawing.specs.declared.BoundingBox.{BoundingBox}
 use Rattle.drawing.specs.declared.Drawing.{Drawing}
 use Rattle.drawing.specs.declared.Drawing.the-variants as drawing
 
-abbrev pub AboveDrawing : Drawing → Type 0
-AboveDrawing (drawing.Made b) = Unit {0}
-AboveDrawing (drawing.Refused f) = 0 < f .number
+abbrev boxIn : BoundingBox → Drawing → BoundingBox
+boxIn b (drawing.Made x) = x
+boxIn b (drawing.Refused f) = b
 
-module _ (v : ℕ) (t : List ℤ) (n : ℕ) where
-  room-above : (b : Bool) → AboveDrawing (pick b (drawing.Refused (tooShort (v + 1))) (drawing.Made (boxTo v t (v + 1))))
-  room-above true = omega arith
-  room-above false = tt
+abbrev refusalIn : Refusal → Drawing → Refusal
+refusalIn f (drawing.Made x) = f
+refusalIn f (drawing.Refused g) = g
 
-  size-above : (c : Checked) → Among 22 22 c → AboveDrawing (drawingBy c (drawingRoom v t n))
-  size-above (Refused f) h = omega (arith, h .0)
-  size-above Accepted h = room-above (ltb (n / 4) (v + 1))
+module _ (b : BoundingBox) where
+  pub made-verdict : (c : Checked) (x : BoundingBox) → drawn b c ≡ drawing.Made x → c ≡ Accepted
+  made-verdict Accepted x e = refl
+  made-verdict (Refused f) x e = let z : _≡_ {A = ℕ} 0 1 = cc in absurd (omega arith)
 
-  checked-above : (c d : Checked) → Among 1 7 c → Among 22 22 d → AboveDrawing (drawingBy (c orElse d) (drawingRoom v t n))
-  checked-above (Refused f) d h k = omega (arith, h .0)
-  checked-above Accepted d h k = size-above d k
+  pub made-box : (c : Checked) (x : BoundingBox) → drawn b c ≡ drawing.Made x → b ≡ x
+  made-box Accepted x e = ap (boxIn b) e
+  made-box (Refused f) x e = let z : _≡_ {A = ℕ} 0 1 = cc in absurd (omega arith)
 
-  pub drawing-above : AboveDrawing (drawingOf v t n)
-  drawing-above =
-      let i = first (tooLargeAt t) (2 * v) in
-      checked-above (symbolCheck v t) (check22 v t) (check-among v t) (among-refuse 22 22 (ltb i (2 * v)) (tooLargeToDraw i) (omega arith) (omega arith))
+  pub refused-verdict : (c : Checked) (f : Refusal) → drawn b c ≡ drawing.Refused f → c ≡ Refused f
+  refused-verdict Accepted f e = let z : _≡_ {A = ℕ} 0 1 = cc in absurd (omega arith)
+  refused-verdict (Refused g) f e = ap (λ (x : Drawing). Refused (refusalIn f x)) e

@@ -1,7 +1,7 @@
 -- What the exported functions return and write, from the answers of the calls beneath them.
 --
 -- Each returns a number: 0, or that of the answer's refusal (`checkedRefusal`, `filledRefusal`, `figuredRefusal`, `queryRefusal`,
--- `samenessRefusal`, `inclusionRefusal`, `drawingRefusal`). Through `place` it writes the refusal's place or, where it returns 0, a count.
+-- `samenessRefusal`, `inclusionRefusal`). Through `place` it writes the refusal's place or, where it returns 0, a count.
 --
 --   filledPlace                     place, or how many things were made: generators, cosets, cusps, vertices, numbers of a table
 --   Served, ServedWidths, ServedCusps
@@ -16,16 +16,12 @@
 --   previewPlace                    place, or how many cusps there would be
 --   GenusGiven out                  the number that stands for the genus among the eight is 0, so that the genus itself stands behind it: 18 is never
 --                                   written
---   drawingPlace v                  place, or the number of sides
---   boxLeft                         the four floats of the box: left, right, bottom, top; or all as it was
 use mathlib.Core.Path.{_≡_}
 use mathlib.Core.List.{List, [], _∷_}
 use Prim.Native.Nat.{ℕ, _+_, _≤_}
-use lib.Ieee.{Float}
 use lib.IntN.{ℤ}
 use lib.ListN.{length, getD}
-use Rattle.refusal.specs.declared.Filled.{Filled}
-use Rattle.refusal.specs.declared.Filled.the-variants as filled
+pub use Rattle.call.specs.Call.{filledPlace}
 use Rattle.sameness.specs.declared.Sameness.{Sameness}
 use Rattle.sameness.specs.declared.Sameness.the-variants as sameness
 use Rattle.inclusion.specs.declared.Inclusion.{Inclusion}
@@ -39,14 +35,8 @@ use Rattle.coset.specs.Tables.{mostCosets}
 use Rattle.coset.specs.declared.Figured.{Figured}
 use Rattle.coset.specs.declared.Figured.the-variants as figured
 use Rattle.word.specs.Answer.{signNumber}
-use Rattle.drawing.specs.declared.Drawing.{Drawing}
-use Rattle.drawing.specs.declared.Drawing.the-variants as drawing
 use Rattle.word.specs.declared.Queried.{Queried}
 use Rattle.word.specs.declared.Queried.the-variants as queried
-
-abbrev pub filledPlace : Filled → ℕ
-filledPlace (filled.Made n) = n
-filledPlace (filled.Refused f) = f .place
 
 abbrev pub Served : (v : ℕ) → List ℤ → (w s r u : List ℕ) → ℕ → Type 0
 Served v t w s r u n =
@@ -103,13 +93,3 @@ GenusGiven out = getD out 4 18 ≡ 0
 abbrev pub previewPlace : Figured → ℕ
 previewPlace (figured.Made f) = f .cusps
 previewPlace (figured.Refused f) = f .place
-
--- ---- drawings
-
-abbrev pub drawingPlace : ℕ → Drawing → ℕ
-drawingPlace v (drawing.Made b) = v + 1
-drawingPlace v (drawing.Refused f) = f .place
-
-abbrev pub boxLeft : Drawing → List Float → List Float
-boxLeft (drawing.Made b) out = b .left ∷ b .right ∷ b .bottom ∷ b .top ∷ []
-boxLeft (drawing.Refused f) out = out

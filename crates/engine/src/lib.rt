@@ -28,7 +28,8 @@ ghost use Rattle.permutations.specs.Check as passport;
 ghost use Rattle.permutations.specs.Import as import;
 ghost use Rattle.word.specs.Answer.{queryOf, queryRefusal, foundWord, wordLeft, queryWork};
 ghost use Rattle.word.specs.Claim.{Claim, QuerySays, SignSays};
-ghost use Rattle.drawing.specs.Answer.{drawnRows, drawingOf, drawingRefusal, drawingLeft, Picture};
+ghost use Rattle.call.specs.Call.{Call};
+ghost use Rattle.drawing.specs.Answer.{drawingCall};
 ghost use Rattle.sheets.specs.Sheet.{pairsIn, sheetCheck, spaceAt, linesTo, sheetOf, linesLeft, lettersAfter};
 ghost use Rattle.sheets.specs.Meaning.{SheetMeans};
 ghost use Rattle.congruence.specs.Cosets.{familyS, familyR};
@@ -38,7 +39,7 @@ ghost use Rattle.named_groups.specs.Group.{familyOf, groupCheck};
 ghost use Rattle.named_groups.specs.Answer.{namedTablesOf, NamedTables, namedRule, namedSymbolBy, NamedSymbol, ruledWord, namedQueryBy, namedQueryWork};
 ghost use Rattle.named_groups.specs.Claim.{NamedClaim, NamedQuerySays, NamedSignSays};
 ghost use Rattle.engine.specs.Exported.{Served, ServedWidths, ServedCusps};
-ghost use Rattle.engine.specs.Exported.{filledPlace, queryPlace, signWritten, samenessPlace, figuresLeft, GenusGiven, drawingPlace, boxLeft};
+ghost use Rattle.engine.specs.Exported.{filledPlace, queryPlace, signWritten, samenessPlace, figuresLeft, GenusGiven};
 
 mod answers;
 pub mod cosets;
@@ -341,11 +342,7 @@ pub extern "C" fn farey_drawing(
     bounds: &mut [f64; 4],
     place: &mut usize,
 ) -> u64
-    ensures { λ n. ⌜ n ≡ drawingRefusal (drawingOf v (now (t .entry)) (length (now (out .entry)))) .number ⌝ }
-    ensures { λ n. ⌜ now (place .exit) ≡ drawingPlace v (drawingOf v (now (t .entry)) (length (now (out .entry)))) ⌝ }
-    ensures { λ n. ⌜ now (out .exit) ≡ drawingLeft (drawingOf v (now (t .entry)) (length (now (out .entry)))) (drawnRows v (now (t .entry)) (v + 1)) (now (out .entry)) ⌝ }
-    ensures { λ n. ⌜ now (bounds .exit) ≡ boxLeft (drawingOf v (now (t .entry)) (length (now (out .entry)))) (now (bounds .entry)) ⌝ }
-    ensures { λ n. ⌜ (n ≡ 0 → Picture v (now (t .entry))) ⌝ }
+    ensures { λ n. ⌜ Call (drawingCall v (now (t .entry)) out bounds) n (now (place .exit)) ⌝ }
 {
     let answer = drawing::draw_symbol(v, t, out);
     match answer {

@@ -1,10 +1,11 @@
--- `draw_in_room`: 11 where a side has no room (`is-short`), and otherwise the rows and the box of all (`is-made`, `left-made`). Assumes nothing.
-use mathlib.Core.Path.{refl, _∙_, ap}
+-- `draw_in_room`: 11 where a side has no room (`no-room`), and otherwise the rows and the box of all (`in-room`). Assumes nothing.
+use mathlib.Core.Path.{refl, ap}
 use lib.ListN.{length}
 use borrow.Author.Needs.{needs}
 use Rattle.symbol.proofs.Order.{behind}
 use Rattle.drawing.specs.declared.Drawing.the-variants as drawing
-use Rattle.drawing.proofs.Judged.{is-short, is-made, whole-sides, left-made}
+use Rattle.call.proofs.Laws.{fills-as}
+use Rattle.drawing.proofs.Judged.{whole-sides, no-room, in-room}
 use Rattle.drawing.proofs.draw_in_room.Statement.{statement}
 use Rattle.drawing.proofs.draw_in_room.Tie as tie
 
@@ -14,7 +15,7 @@ add-sides c = search needs
 returns : tie.Need-returns
 returns c =
     let s = c .before .before in
-    (is-short (s .args .v) (s .args .t .now) (length (s .args .out .now)) (c .if1 .taken), refl)
+    fills-as (no-room (s .args .v) (s .args .t .now) (s .args .out .now) (c .if1 .taken)) refl
 
 mul-draw-sides : tie.Need-mul-draw-sides
 mul-draw-sides c = search needs
@@ -47,10 +48,7 @@ returns-2 c =
     let s = room .before .before in
     let v = s .args .v in
     let t = s .args .t .now in
-    let out = s .args .out .now in (
-      ap drawing.Made (all .draw-sides .ensures .0) ∙ is-made v t (length out) (room .if1 .left),
-      all .draw-sides .ensures .1 ∙ left-made v t (all .draw-sides .result) out,
-    )
+    fills-as (in-room v t (s .args .out .now) _ (room .if1 .left) (all .draw-sides .ensures .1)) (ap drawing.Made (all .draw-sides .ensures .0))
 
 pub draw-in-room-spec : {M : Type 1} → statement M
 draw-in-room-spec =

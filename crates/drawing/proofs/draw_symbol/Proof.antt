@@ -1,12 +1,16 @@
--- `draw_symbol`: the answer goes by the check (`drawingBy`); what passed it is a symbol with small vertex entries (`small-symbol`), and a drawing of it
--- means what it should (`picture`). Assumes nothing.
-use mathlib.Core.Path.{refl, sym, _∙_, ap}
+-- `draw_symbol`: the checks are made as one (`run-join`); what passed them is a symbol with small vertex entries (`small-symbol`), which is drawn where it
+-- has room. Assumes nothing.
+use mathlib.Core.Path.{refl, sym, _∙_}
+use mathlib.Core.List.{[], _∷_}
+use Prim.Native.Nat.{_+_, _/_}
 use lib.ListN.{length}
 use borrow.Author.Needs.{needs}
-use Rattle.refusal.specs.declared.Checked.{Checked}
-use Rattle.drawing.specs.Answer.{drawingBy, drawingRoom}
-use Rattle.drawing.proofs.Picture.{picture}
-use Rattle.drawing.proofs.Judged.{small-symbol, refused-means, room-means}
+use Rattle.call.specs.Call.{Asks, Gives, lengthCheck, atFront}
+use Rattle.call.proofs.Laws.{run-stop, run-pass, run-join, fills-as, ran}
+use Rattle.symbol.specs.Check.{symbolCheck}
+use Rattle.drawing.specs.Answer.{drawnRows, check22}
+use Rattle.drawing.specs.Inner.Ready.{drawingCheck}
+use Rattle.drawing.proofs.Judged.{small-symbol}
 use Rattle.drawing.proofs.draw_symbol.Statement.{statement}
 use Rattle.drawing.proofs.draw_symbol.Tie as tie
 
@@ -31,16 +35,16 @@ same-length c = search needs
 
 returns : tie.Need-returns
 returns c =
-    let room = c .before .before in
-    let told = room .before .before in
+    let drawn = c .before .before in
+    let told = drawn .before .before in
     let r = told .before .before in
     let s = r .before .before in
     let v = s .args .v in
     let t = s .args .t .now in
-    let passed = sym (r .drawing-check .ensures) ∙ told .enum-told .given .1 in (
-      room .draw-in-room .ensures .0 ∙ ap (λ (x : Checked). drawingBy x (drawingRoom v t (length (s .args .out .now)))) (sym passed),
-      (room .draw-in-room .ensures .1, room-means v t (room .draw-in-room .result) (picture v t (small-symbol v t passed))),
-    )
+    let g = drawn .draw-in-room .ensures in
+    let l = Asks (lengthCheck (v + 1) (length (s .args .out .now) / 4)) ∷ Gives (atFront (drawnRows v t (v + 1)) (s .args .out .now)) (s .args .out .now) _ ∷ [] in
+    fills-as (run-join (symbolCheck v t) (check22 v t) l (run-pass (drawingCheck v t) l (sym (r .drawing-check .ensures) ∙ told .enum-told .given .1) (ran g)))
+    (g .answer)
 
 returns-2 : tie.Need-returns-2
 returns-2 c =
@@ -49,8 +53,9 @@ returns-2 c =
     let s = r .before .before in
     let v = s .args .v in
     let t = s .args .t .now in
-    let refused = sym (told .checked .given .1) ∙ r .drawing-check .ensures in
-    (ap (λ (x : Checked). drawingBy x (drawingRoom v t (length (s .args .out .now)))) refused, (refl, refused-means v t (told .checked .given .0 .0)))
+    let f = told .checked .given .0 .0 in
+    let l = Asks (lengthCheck (v + 1) (length (s .args .out .now) / 4)) ∷ Gives (atFront (drawnRows v t (v + 1)) (s .args .out .now)) (s .args .out .now) _ ∷ [] in
+    fills-as (run-join (symbolCheck v t) (check22 v t) l (run-stop f (drawingCheck v t) l (sym (r .drawing-check .ensures) ∙ told .checked .given .1) (refl, tt))) refl
 
 pub draw-symbol-spec : {M : Type 1} → statement M
 draw-symbol-spec =

@@ -6,6 +6,8 @@
 --   jointBox a b           the smallest box that holds two with one bottom
 --   putFour i r out        four floats in place of those from 4 i on
 --   DrawnTo v t i w w'     w' begins with the rows of the first i sides, and goes on as w does
+--   drawingCheck v t       the checks 1 to 7, then 22
+--   drawn b c              the answer of `draw_symbol`, from the verdict c: the box b, or the refusal
 use mathlib.Core.Path.{_≡_}
 use mathlib.Core.List.{List, _++_}
 use Prim.Native.Nat.{ℕ, _+_, _*_, _≤_, _<_}
@@ -13,14 +15,20 @@ use lib.IntN.{ℤ, pos, natAbs}
 use lib.ListN.{length, take, drop}
 use lib.Ieee.{Float}
 use Rattle.matrix.specs.Matrix.{nth}
+use Rattle.refusal.specs.Refusal.{_orElse_}
+use Rattle.refusal.specs.declared.Checked.{Checked}
+use Rattle.refusal.specs.declared.Checked.the-variants.{Accepted, Refused}
+use Rattle.symbol.specs.Check.{symbolCheck}
 use Rattle.symbol.specs.Symbol.{IsSymbol}
 use Rattle.symbol.specs.declared.Side.{Side}
 use Rattle.rounding.specs.Quotient.{floatOf}
 use Rattle.rounding.specs.Extreme.{lesser, greater}
 use Rattle.drawing.specs.Drawn.{leftReach, rightReach, height}
-use Rattle.drawing.specs.Answer.{drawnRows}
+use Rattle.drawing.specs.Answer.{drawnRows, check22}
 use Rattle.drawing.specs.declared.Drawn.{Drawn}
 use Rattle.drawing.specs.declared.BoundingBox.{BoundingBox}
+use Rattle.drawing.specs.declared.Drawing.{Drawing}
+use Rattle.drawing.specs.declared.Drawing.the-variants as drawing
 
 pub record Drawable (s : Side) : Type 0 where
   pub in-a : natAbs (s .a) ≤ 33554432
@@ -47,3 +55,10 @@ putFour i r out = take (4 * i) out ++ r ++ drop (4 * i + 4) out
 pub record DrawnTo (v : ℕ) (t : List ℤ) (i : ℕ) (out out' : List Float) : Type 0 where
   pub table : out' ≡ drawnRows v t i ++ drop (4 * i) out
   pub long : length out' ≡ length out
+
+abbrev pub drawingCheck : ℕ → List ℤ → Checked
+drawingCheck v t = symbolCheck v t orElse check22 v t
+
+abbrev pub drawn : BoundingBox → Checked → Drawing
+drawn b Accepted = drawing.Made b
+drawn b (Refused f) = drawing.Refused f

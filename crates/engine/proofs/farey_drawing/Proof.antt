@@ -1,13 +1,19 @@
--- `farey_drawing` meets its contract: in each arm, what the answer says gives the number, the place and the box. Assumes nothing.
-use mathlib.Core.Path.{sym, ap, subst, _∙_}
+-- `farey_drawing` meets its contract: the answer tells the verdict of the checks (`made-verdict`, `refused-verdict`), by which number, place and box
+-- are those of the contract. Assumes nothing.
+use mathlib.Core.Path.{_≡_, refl, sym, ap, _∙_}
 use native.Mathlib.Omega.{arith}
 use Prim.Native.Nat.{_+_}
-use lib.ListN.{length}
+use lib.Ieee.{Float}
+use mathlib.Core.List.{List}
 use borrow.Author.Needs.{needs}
-use Rattle.drawing.specs.Answer.{drawnRows, drawingRefusal, drawingLeft}
-use Rattle.drawing.specs.declared.Drawing.{Drawing}
-use Rattle.engine.specs.Exported.{drawingPlace, boxLeft}
-use Rattle.engine.proofs.Drawn.{AboveDrawing, drawing-above}
+use Rattle.refusal.specs.Refusal.{checkedRefusal}
+use Rattle.refusal.specs.declared.Checked.{Checked}
+use Rattle.call.specs.Call.{verdict, ifAccepted}
+use Rattle.call.proofs.Laws.{call}
+use Rattle.drawing.specs.Bounding.{boxTo}
+use Rattle.drawing.specs.Answer.{boxNumbers}
+use Rattle.drawing.proofs.Judged.{drawingVerdict, drawn-symbol, drawing-says}
+use Rattle.engine.proofs.Drawn.{made-verdict, made-box, refused-verdict}
 use Rattle.engine.proofs.farey_drawing.Statement.{statement}
 use Rattle.engine.proofs.farey_drawing.Tie as tie
 
@@ -23,8 +29,11 @@ enum-known-answer-2 c = search needs
 add-place : tie.Need-add-place
 add-place c =
     let q = c .before .before .before .before .before .draw-symbol in
+    let s = c .before .before .before .before .before .before .before .before in
     let told = c .before .answer2 .given in
-    omega (arith, q .ensures .1 .1 (told .0 .0) (told .1) .symbol .most)
+    let v = s .args .v in
+    let e = made-verdict (boxTo v (s .args .t .now) (v + 1)) (drawingVerdict v (s .args .t .now) (s .args .out .now)) (told .0 .0) (sym (q .ensures .answer) ∙ told .1) in
+    omega (arith, drawn-symbol v (s .args .t .now) (s .args .out .now) e .symbol .most)
 
 same-length : tie.Need-same-length
 same-length c = search needs
@@ -36,17 +45,12 @@ returns c =
     let v = s .args .v in
     let t = s .args .t .now in
     let told = c .before .answer .given in
-    let k = sym (told .1) ∙ q .ensures .0 in
-    let above = subst AboveDrawing (sym k) (drawing-above v t (length (s .args .out .now))) in (
-      ap (λ (x : Drawing). drawingRefusal x .number) k,
-      (
-        ap (drawingPlace v) k,
-        (
-          q .ensures .1 .0 ∙ ap (λ (x : Drawing). drawingLeft x (drawnRows v t (v + 1)) (s .args .out .now)) (q .ensures .0),
-          (ap (λ (x : Drawing). boxLeft x (s .args .bounds .now)) k, λ z. absurd (omega (arith, above, z))),
-        ),
-      ),
-    )
+    let b = boxTo v t (v + 1) in
+    let e = refused-verdict b (drawingVerdict v t (s .args .out .now)) (told .0 .0) (sym (q .ensures .answer) ∙ told .1) in
+    call _ (drawing-says v t (s .args .out .now))
+    (q .ensures .leaves .0, (ap (λ (x : Checked). ifAccepted x (boxNumbers b) (s .args .bounds .now)) (sym e), tt))
+    (ap (λ (x : Checked). checkedRefusal x .number) (sym e))
+    (ap (λ (x : Checked). ifAccepted x (v + 1) (checkedRefusal x .place)) (sym e))
 
 same-length-2 : tie.Need-same-length-2
 same-length-2 c = search needs
@@ -58,16 +62,15 @@ returns-2 c =
     let v = s .args .v in
     let t = s .args .t .now in
     let told = c .before .before .answer2 .given in
-    let k = sym (told .1) ∙ q .ensures .0 in (
-      ap (λ (x : Drawing). drawingRefusal x .number) k,
-      (
-        ap (drawingPlace v) k,
-        (
-          q .ensures .1 .0 ∙ ap (λ (x : Drawing). drawingLeft x (drawnRows v t (v + 1)) (s .args .out .now)) (q .ensures .0),
-          (ap (λ (x : Drawing). boxLeft x (s .args .bounds .now)) k, λ z. q .ensures .1 .1 (told .0 .0) (told .1)),
-        ),
-      ),
+    let b = boxTo v t (v + 1) in
+    let k = sym (q .ensures .answer) ∙ told .1 in
+    let e = made-verdict b (drawingVerdict v t (s .args .out .now)) (told .0 .0) k in
+    call _ (drawing-says v t (s .args .out .now)) (
+      q .ensures .leaves .0,
+      (ap boxNumbers (sym (made-box b (drawingVerdict v t (s .args .out .now)) (told .0 .0) k)) ∙ ap (λ (x : Checked). ifAccepted x (boxNumbers b) (s .args .bounds .now)) (sym e), tt),
     )
+    (ap (λ (x : Checked). checkedRefusal x .number) (sym e))
+    (ap (λ (x : Checked). ifAccepted x (v + 1) (checkedRefusal x .place)) (sym e))
 
 pub farey-drawing-spec : {M : Type 1} → statement M
 farey-drawing-spec =
