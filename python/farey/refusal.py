@@ -7,12 +7,13 @@ from typing import Any, Dict, Iterator, Optional
 
 from .causes import cause
 
-#: The sentence of each refusal, with `{place}` for its place. The table is that
-#: of `rust/farey/refusals.txt`, and a test compares the two.
+#: The sentence of each refusal, with `{place}` for its place. Made by tools/refusals of
+#: `rust/farey/refusals.txt`.
 SENTENCES: Dict[int, str] = {
     1: "the number of vertices isn't from 1 to 1,023",
     2: "the table has {place} numbers, which isn't 3v + 1",
-    3: "vertex entry {place} is out of range: a numerator over 10^9 in size, or a denominator that isn't from 1 to 10^9",
+    3: "vertex entry {place} is out of range: a numerator over 10^9 in size, or a denominator that isn't from 1 "
+        "to 10^9",
     4: "side {place} has ends a/b and a'/b' without a'b - ab' = 1",
     5: "no vertex is 0/1",
     6: "the pairing of side {place} isn't allowed, or its label isn't on exactly two sides",
@@ -20,7 +21,9 @@ SENTENCES: Dict[int, str] = {
     8: "matrix entry {place} is over 1,000,000 in size; 0 to 3 are those of A, 4 to 7 those of B",
     9: "the determinant of matrix {place} isn't 1; 0 is A, 1 is B",
     10: "there is no word: no product of generators and inverses takes A to B",
-    11: "a space is too short: it needs {place}, for a drawing in sides, for a line table in lines, each of four numbers in a sheet; or the entries of a sheet are no pairs of eight, or more than 2,048; or a tower has more than 64 entries",
+    11: "a space is too short: it needs {place}, for a drawing in sides, for a line table in lines, each of four "
+        "numbers in a sheet; or the entries of a sheet are no pairs of eight, or more than 2,048; or a tower has "
+        "more than 64 entries",
     12: "the index isn't from 1 to 3,066, or the tables differ in length",
     13: "entry {place} is no point or is equal to an earlier one; it is one of S, or of R if S has no such fault",
     14: "S twice or R three times moves point {place}",
@@ -28,7 +31,8 @@ SENTENCES: Dict[int, str] = {
     16: "side {place} can't be split: a vertex entry would be over 10^9 in size",
     17: "the level is 2^64 or more",
     18: "the genus formula gives no whole number from 0",
-    19: "at byte {place} the text gets too long, has a piece that is no number of 64 signed bits, has a number too many or ends too early",
+    19: "at byte {place} the text gets too long, has a piece that is no number of 64 signed bits, has a number too"
+        " many or ends too early",
     20: "N isn't from 1 to 1,000, or the family isn't Γ0, Γ1 or Γ",
     21: "the index of this group is over 3,066",
     22: "vertex entry {place} is over 33,554,432 in size, which is too large for a drawing",
@@ -36,7 +40,8 @@ SENTENCES: Dict[int, str] = {
     24: "the intersection has more than 3,066 points",
     25: "entry {place} of the tower names one that isn't listed before it",
     26: "entry {place} of the tower isn't contained in the one that it names",
-    27: "at byte {place} the text gets too long, breaks the form of cycle notation, repeats a point, names one outside 1 to the index or ends too early",
+    27: "at byte {place} the text gets too long, breaks the form of cycle notation, repeats a point, names one "
+        "outside 1 to the index or ends too early",
 }
 
 

@@ -89,8 +89,8 @@ class Commands(unittest.TestCase):
         came = draw(H.text())
         self.assertEqual((came.returncode, came.stdout), (0, H.svg()), came.stderr)
         large = (by_hand.REPOSITORY / "examples/refusals/22.drawing").read_text("utf-8")
-        page = (by_hand.REPOSITORY / "docs/HANDBOOK.md").read_text("utf-8")
-        row = re.search(r"^\| 22 \|.*`examples/refusals/22.drawing` \| `(.*)` \|$", page, re.M)
+        table = (by_hand.REPOSITORY / "rust/farey/refusals.txt").read_text("utf-8")
+        row = re.search(r"^  example: examples/refusals/22.drawing: (.*)$", table, re.M)
         for text, answer in (
             (large, row.group(1) + "\n"),
             ("2 0 1 1 1 1 -2", "refused 19 14\n"),

@@ -11,7 +11,7 @@ from pathlib import Path
 
 from . import reckoning as by_hand
 
-#: It proves crates, of which each that isn't `engine` is a program that prints its name. The source of `engine` is a number, and an archive of it
+#: It proves crates, of which each that isn't `engine` is a program that prints its name and its job. The source of `engine` is a number, and an archive of it
 #: has one function that returns the number. `asked` has a line for each time that it was asked to prove or to make the archive. Where there is a
 #: file `unproved` it proves nothing of the crate that it names; where there is `edit`, that becomes the source while the archive is made.
 RT = r"""#!/bin/sh
@@ -36,7 +36,7 @@ case $word in
                 echo "rt: $crate proved (unchanged since it was last proved)"
             else
                 echo "$sum" > target/stamp/$crate
-                printf '#!/bin/sh\ncat > /dev/null\necho %s\n' $crate > target/bin/$crate
+                printf '#!/bin/sh\ncat > /dev/null\necho %s "$@"\n' $crate > target/bin/$crate
                 chmod +x target/bin/$crate
                 echo "rt: $crate proved (1 s)"
             fi
@@ -53,7 +53,7 @@ case $word in
 esac
 """
 #: The programs that the words are made of.
-PROGRAMS = "listing query sheet named intersection import_wide import exchange cycles to_cycles same tower".split()
+PROGRAMS = ["listing", "query", "farey"]
 
 
 class Folder(unittest.TestCase):
@@ -203,12 +203,11 @@ class FareyBuild(Folder):
         # to prove, to see that nothing is left to prove, to make the archive
         self.assertEqual([line.split()[0] for line in asked], ["check", "check", "staticlib"])
         seen = {path.name for path in (self.folder / "target/farey").glob("seen-*")}
-        words = {f"seen-{name}" for name in (*PROGRAMS, "library")} - {"seen-named"}
-        self.assertLessEqual(words | {"seen-named-intersection-import_wide"}, seen)
-        for word in ("listing", "query", "import-wide", "to-cycles"):
+        self.assertLessEqual({f"seen-{name}" for name in (*PROGRAMS, "library")}, seen)
+        for word, expected in (("listing", "listing"), ("query", "query"), ("import-wide", "farey import-wide"), ("to-cycles", "farey to-cycles")):
             answer = self.run_farey(word)
-            self.assertEqual((answer.stdout, answer.stderr), (word.replace("-", "_") + "\n", ""))
-        self.assertEqual(self.run_farey("gamma0", "11").stdout, "import_wide\n")
+            self.assertEqual((answer.stdout, answer.stderr), (expected + "\n", ""))
+        self.assertEqual(self.run_farey("gamma0", "11").stdout, "farey import-wide\n")
         self.assertEqual(self.run_farey("library").returncode, 0)
         again = self.run_farey("build")
         self.assertEqual((again.returncode, again.stderr), (0, "farey: all of it is proved and compiled already\n"))
@@ -219,7 +218,7 @@ class FareyBuild(Folder):
         self.assertEqual((came.returncode, came.stdout), (0, "listing\n"), came.stderr)
         asked = self.asked()
         self.assertEqual(set(asked[0].split()[1:]), self.ALL)
-        self.assertEqual(self.run_farey("tower").stdout, "tower\n")
+        self.assertEqual(self.run_farey("tower").stdout, "farey tower\n")
         self.assertEqual(self.asked(), asked)
         # later only what the word needs is made again
         self.put("crates/engine/src/lib.rt", "6")
@@ -249,8 +248,8 @@ class FareyBuild(Folder):
             came = self.run_farey("build")
         finally:
             os.environ.pop("RT_JOBS") if settings is None else os.environ.update(RT_JOBS=settings)
-        self.assertIn("made of 13 crates; those that aren't proved yet are proved now, about 13 min\n", came.stderr)
-        self.assertIn("farey: 0 of 13 are done, about 13 min left, next: ", came.stderr)
+        self.assertIn("made of 4 crates; those that aren't proved yet are proved now, about 4 min\n", came.stderr)
+        self.assertIn("farey: 0 of 4 are done, about 4 min left, next: ", came.stderr)
 
 
 class FareyInstall(Folder):
@@ -270,7 +269,7 @@ class FareyInstall(Folder):
         for script in (site / "bin/farey", site / "libexec/farey/farey"):
             answer = self.run_farey("listing", script=script)
             self.assertEqual((answer.returncode, answer.stdout, answer.stderr), (0, "listing\n", ""))
-        self.assertEqual(self.run_farey("gamma", "5", script=site / "bin/farey").stdout, "import_wide\n")
+        self.assertEqual(self.run_farey("gamma", "5", script=site / "bin/farey").stdout, "farey import-wide\n")
         self.assertEqual(self.run_farey("library", script=site / "bin/farey").stdout, f"{site}/lib/libfarey.so\n")
         self.assertIn("proved by kit-of-a-test", self.run_farey("--version", script=site / "bin/farey").stdout)
         self.assertEqual(self.run_farey("build", script=site / "bin/farey").returncode, 1)

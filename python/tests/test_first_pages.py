@@ -122,17 +122,17 @@ class Readme(Session):
         limits = dict(rows("README.md", "## Limits"))
         numbers = {name: [int(each.replace(",", "")) for each in re.findall(r"\d[\d,]*\d|\d", limit)] for name, limit in limits.items()}
         self.assertEqual(numbers["vertices of a symbol; its index"], [(constants["TABLE"] - 1) // 3, constants["COSETS"]])
-        self.assertIn("v isn't from 1 to 1,023", header)
+        self.assertIn("the number of vertices isn't from 1 to 1,023", header)
         (permutations,) = numbers["index of permutations, of groups by name, of intersections"]
         self.assertEqual({permutations}, {constants["NAMED"], constants["INTERSECTION"]})
         indexes = {family: sum(index_of(family, N) <= permutations for N in range(1, 1001)) for family in (0, 1, 2)}
         self.assertEqual(numbers["Γ0(N), Γ1(N), Γ(N) by name"], [1000, 0, indexes[1], 1, indexes[2]])
         self.assertEqual(indexes[0], 1000)
         self.assertEqual(numbers["vertex entries; those of a drawing"][1:], [33554432])
-        self.assertIn("vertex entry over 33,554,432 in size", header)
-        self.assertIn("numerator is over 10^9 in size", header)
+        self.assertIn("vertex entry P is over 33,554,432 in size", header)
+        self.assertIn("a numerator over 10^9 in size", header)
         self.assertEqual(numbers["matrix entries of a proved query"], [1000000])
-        self.assertIn("matrix entry over 1,000,000 in size", header)
+        self.assertIn("matrix entry P is over 1,000,000 in size", header)
         self.assertEqual(numbers["pairs in a sheet; symbols in a tower"], [constants["SHEET"], constants["TOWER"]])
         self.assertEqual(numbers["the text that a program reads"], [65536])
         self.assertEqual(numbers["work space of a call; stack, measured"], [constants["WORK"], 16, constants["STACK"] // 1024])

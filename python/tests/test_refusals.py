@@ -1,7 +1,12 @@
 """The exception, its sentences, and the example of each refusal."""
 
 import pickle
+import re
+import shutil
+import subprocess
+import tempfile
 import unittest
+from pathlib import Path
 
 import farey
 from farey import Refusal, Symbol
@@ -9,14 +14,60 @@ from farey.refusal import SENTENCES
 
 from . import reckoning as by_hand
 
+TABLE = by_hand.REPOSITORY / "rust/farey/refusals.txt"
+TOOL = by_hand.REPOSITORY / "tools/refusals"
+
 
 class Sentences(unittest.TestCase):
     def test_one_table(self):
         """The sentences are those of rust/farey/refusals.txt."""
-        lines = (by_hand.REPOSITORY / "rust/farey/refusals.txt").read_text("utf-8").splitlines()
+        lines = [line for line in TABLE.read_text("utf-8").splitlines() if line[:1].isdigit()]
         listed = {int(number): sentence for number, sentence in (line.split(" ", 1) for line in lines)}
         self.assertEqual(SENTENCES, listed)
-        self.assertGreaterEqual(len(listed), 21)
+        self.assertGreaterEqual(len(listed), 27)
+
+    def test_all_lists(self):
+        """The lists of the header and of the handbook, and the names and numbers of statements and code, are those of the table."""
+        came = subprocess.run([TOOL], capture_output=True, text=True, timeout=60)
+        self.assertEqual((came.returncode, came.stdout, came.stderr), (0, "27 refusals, all lists as the table\n", ""))
+
+    def test_a_difference_is_found(self):
+        """In a copy with one wrong word the tool names the file."""
+        with tempfile.TemporaryDirectory() as folder:
+            copy = Path(folder)
+            named = ["tools/refusals", "rust/farey/refusals.txt", "include/farey.h", "python/farey/refusal.py"]
+            named += ["docs/HANDBOOK.md", "docs/CONVENTIONS.md"]
+            (statements,) = [path for path in (by_hand.REPOSITORY / "crates").glob("*/specs/*.antt") if "abbrev pub noRefusal" in path.read_text("utf-8")]
+            home = statements.relative_to(by_hand.REPOSITORY)
+            (source,) = [
+                path.relative_to(by_hand.REPOSITORY)
+                for path in (statements.parents[1] / "src").glob("*.rt")
+                if "pub const NO_WORD" in path.read_text("utf-8")
+            ]
+            examples = [f"examples/{part}" for part in ("refusals", "imports")]
+            for name in [*named, home, source]:
+                (copy / name).parent.mkdir(parents=True, exist_ok=True)
+                shutil.copy(by_hand.REPOSITORY / name, copy / name)
+            for name in examples:
+                shutil.copytree(by_hand.REPOSITORY / name, copy / name)
+            said = lambda: subprocess.run([copy / "tools/refusals"], capture_output=True, text=True, timeout=60)
+            self.assertEqual(said().returncode, 0)
+            for name, old, new in (
+                ("include/farey.h", "no vertex is 0/1", "a vertex is 0/1"),
+                ("python/farey/refusal.py", "no vertex is 0/1", "a vertex is 0/1"),
+                ("docs/HANDBOOK.md", "5. no vertex is 0/1", "5. a vertex is 0/1"),
+                ("docs/CONVENTIONS.md", "| 21 | ", "| 22 | "),
+                (str(home), "refusal 14 x", "refusal 15 x"),
+                (str(home), "badPairing", "wrongPairing"),
+                (str(source), "NO_WORD: u64 = 10", "NO_WORD: u64 = 11"),
+            ):
+                text = (copy / name).read_text("utf-8")
+                self.assertIn(old, text)
+                (copy / name).write_text(text.replace(old, new), "utf-8")
+                came = said()
+                self.assertEqual(came.returncode, 1)
+                self.assertIn(name.rsplit("/", 1)[0] if name.endswith(".rt") else name, came.stdout)
+                (copy / name).write_text(text, "utf-8")
 
     def test_place_is_put_in(self):
         for number, sentence in SENTENCES.items():
@@ -47,14 +98,12 @@ class Sentences(unittest.TestCase):
 
 
 class Examples(unittest.TestCase):
-    """The example of each row of the handbook's table gets the answer that is shown there."""
+    """The example of each refusal in the table gets the answer that is shown there."""
 
     def answers(self):
-        page = (by_hand.REPOSITORY / "docs/HANDBOOK.md").read_text("utf-8")
-        for line in page.splitlines():
-            cells = [cell.strip().strip("`") for cell in line.split("|")]
-            if len(cells) == 7 and cells[4].startswith("examples/"):
-                yield int(cells[1]), by_hand.REPOSITORY / cells[4], cells[5]
+        shown = re.findall(r"^(\d+) .*\n(?:  .*\n)*?  example: (\S+): (.*)$", TABLE.read_text("utf-8"), re.M)
+        for number, file, answer in shown:
+            yield int(number), by_hand.REPOSITORY / file, answer
 
     def symbol(self, numbers):
         return Symbol.parse(" ".join(map(str, numbers)))

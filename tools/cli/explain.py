@@ -145,7 +145,7 @@ def main(sentences: str, word: str, file: str, *words: str) -> None:
     with open(file, "rb") as opened:
         text = opened.read()
     with open(sentences, encoding="utf-8") as listed:
-        general = dict(line.rstrip("\n").split(" ", 1) for line in listed)
+        general = dict(line.rstrip("\n").split(" ", 1) for line in listed if line[:1].isdigit())
     answer = sys.stdin.buffer.read().decode("utf-8", "replace").splitlines()
     answer = [line for line in answer if line]
     given = given_to(word, text, words)

@@ -66,20 +66,22 @@ without_line_end() {
     esac
 }
 
-# what the proved program NAME answers to a text, in the variable `answer`. It says something on standard error only
-# where it failed, and no answer has 'farey:' in it.
+# What the proved program of the word answers to a text, in the variable `answer`. NAME is the job that it is asked for,
+# its argument, unless the program itself has that name. It says something on standard error only where it failed, and
+# no answer has 'farey:' in it.
 ask() {
-    local status
-    answer=$("$here/target/bin/$1" < "$2" 2>&1; status=$?; printf .; exit "$status")
+    local status program=("$here/target/bin/$made_of")
+    [ "$made_of" = "$1" ] || program+=("$1")
+    answer=$("${program[@]}" < "$2" 2>&1; status=$?; printf .; exit "$status")
     status=$?
     answer=${answer%.}
     [[ $answer != *farey:* ]] || status=1
     [ "$status" -ne 0 ] || return 0
     printf '%s' "$answer" >&2
-    fail "the program $1 failed, so there is no answer"
+    fail "$1 failed, so there is no answer"
 }
 
-# runs the program NAME over a text
+# runs a program or its job NAME over a text
 run() {
     local answer
     # in cycle notation a line end is as wrong as any other byte, and most files end in one
@@ -96,7 +98,7 @@ joined() {
     cat "$2"
 }
 
-# runs the program NAME over two files, one of which may be -
+# does the job NAME over two files, one of which may be -
 over_files() {
     local first second both
     [ "$2 $3" != "- -" ] || wrong "only one of the two can be standard input"
@@ -104,15 +106,15 @@ over_files() {
     take_text second "$3"
     new_file both
     joined "$first" "$second" | head -c 65539 > "$both"
-    build "$1"
+    build "$made_of"
     run "$1" "$both"
 }
 
-# A group by its name: the program `named` makes a symbol of it, `intersection` of that with itself gives its coset
-# tables, and of these `import_wide` makes the symbol by the wide rule, or `import` the one by the leftmost rule. All of
-# them are proved.
+# A group by its name: the job `named` makes a symbol of it, `intersection` of that with itself gives its coset tables,
+# and of these `import-wide` makes the symbol by the wide rule, or `import` the one by the leftmost rule. All of them are
+# proved.
 by_name() {
-    local N family=0 symbol tables answer rule=import_wide
+    local N family=0 symbol tables answer rule=import-wide
     [[ $2 =~ ^-?0*([0123456789]+)$ ]] || wrong "N is a whole number, and not '$2'"
     N=${BASH_REMATCH[1]}
     # a negative number is out of range, as 0 is
@@ -122,7 +124,7 @@ by_name() {
     [ "$1" != gamma1 ] || family=1
     [ "$1" != gamma ] || family=2
     [ $leftmost = no ] || rule=import
-    build named intersection $rule
+    build "$made_of"
     new_file symbol
     echo "$family $N" > "$symbol"
     ask named "$symbol"

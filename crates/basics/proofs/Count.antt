@@ -221,5 +221,6 @@ those-at test i (suc n) d h e = elim (decLt i n) [
   | no l ↦ let z : i ≡ n = omega arith in
       let p : those test (suc n) ≡ those test n ++ (n ∷ []) = ap (λ (b : Bool). those test n ++ pick b (n ∷ []) []) (ap test (sym z) ∙ e) in
       let q : count test i ≡ length (those test n) + 0 = ap (count test) z ∙ sym (length-those test n) ∙ omega arith in
-      ap (λ (x : List ℕ). getD x (count test i) d) p ∙ ap (λ (k : ℕ). getD (those test n ++ (n ∷ [])) k d) q ∙ getD-append-add (those test n) (n ∷ []) 0 d ∙ sym z
+      ap (λ (x : List ℕ). getD x (count test i) d) p ∙ ap (λ (k : ℕ). getD (those test n ++ (n ∷ [])) k d) q ∙ getD-append-add (those test n) (n ∷ []) 0 d
+      ∙ sym z
 ]

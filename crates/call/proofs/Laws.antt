@@ -24,18 +24,19 @@ use lib.Dec.{ltb}
 use lib.ListN.{length, drop}
 use borrow.Author.Tests.{lt-ltb, le-ltb}
 use Rattle.basics.specs.Choice.{pick}
-use Rattle.workspace.specs.Space.{workLength, zeros}
-use Rattle.refusal.specs.Refusal.{_orElse_, checkedRefusal, filledRefusal, tooShort}
-use Rattle.refusal.specs.declared.Refusal.{Refusal}
-use Rattle.refusal.specs.declared.Checked.{Checked}
-use Rattle.refusal.specs.declared.Checked.the-variants.{Accepted, Refused}
-use Rattle.refusal.specs.declared.Filled.{Filled}
-use Rattle.refusal.proofs.Apart.{refused-accepted}
-use Rattle.refusal.proofs.Answers.{both-pass}
-use Rattle.refusal.proofs.Numbered.{Among}
+use Rattle.call.specs.Space.{workLength, zeros}
+use Rattle.call.specs.Refusal.{_orElse_, checkedRefusal, filledRefusal, tooShort}
+use Rattle.call.specs.declared.refusal.Refusal.{Refusal}
+use Rattle.call.specs.declared.refusal.Checked.{Checked}
+use Rattle.call.specs.declared.refusal.Checked.the-variants.{Accepted, Refused}
+use Rattle.call.specs.declared.refusal.Filled.{Filled}
+use Rattle.call.proofs.Apart.{refused-accepted}
+use Rattle.call.proofs.Answers.{both-pass}
+use Rattle.call.proofs.Numbered.{Among}
 use Rattle.call.specs.declared.Decision.{Decision}
 use Rattle.call.specs.declared.Decision.the-variants as decision
-use Rattle.call.specs.Call.{Step, Asks, Clears, Gives, lengthCheck, verdict, ifAccepted, LeavesFrom, Leaves, Contract, numberOf, placeOf, Call, filledPlace, bit}
+use Rattle.call.specs.Call.{Step, Asks, Clears, Gives, lengthCheck, verdict, ifAccepted, LeavesFrom, Leaves, Contract, numberOf, placeOf, Call}
+use Rattle.call.specs.Call.{filledPlace, bit}
 use Rattle.call.specs.Inner.Fills.{Fills, madeIf, decided, decisionRefusal, decisionPlace}
 
 -- ---- nothing is touched
@@ -118,7 +119,8 @@ module _ (w : List ℕ) (l : List Step) where
   admit-pass c w' e z k =
       let both = both-pass c (lengthCheck workLength (length w)) (sym e) in
       let space = Clears w w' ∷ l in
-      run-pass c (Asks (lengthCheck workLength (length w)) ∷ space) (both .0) (run-pass (lengthCheck workLength (length w)) space (both .1) (run-clear w w' l z k))
+      run-pass c (Asks (lengthCheck workLength (length w)) ∷ space) (both .0)
+      (run-pass (lengthCheck workLength (length w)) space (both .1) (run-clear w w' l z k))
 
   pub admit-stop : (c : Checked) (w' : List ℕ) (f : Refusal) → Refused f ≡ (c orElse lengthCheck workLength (length w)) → w' ≡ w → Untouched l
       → Run (Asks c ∷ Asks (lengthCheck workLength (length w)) ∷ Clears w w' ∷ l) (Refused f)

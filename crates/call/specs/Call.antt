@@ -30,12 +30,12 @@ use lib.ListN.{length, drop}
 use denote.Ref.{RefT}
 use denote.Triple.Both.{Both}
 use Rattle.basics.specs.Choice.{pick}
-use Rattle.workspace.specs.Space.{workLength, zeros}
-use Rattle.refusal.specs.Refusal.{_orElse_, checkedRefusal, tooShort}
-use Rattle.refusal.specs.declared.Checked.{Checked}
-use Rattle.refusal.specs.declared.Checked.the-variants.{Accepted, Refused}
-use Rattle.refusal.specs.declared.Filled.{Filled}
-use Rattle.refusal.specs.declared.Filled.the-variants as filled
+use Rattle.call.specs.Space.{workLength, zeros}
+use Rattle.call.specs.Refusal.{_orElse_, checkedRefusal, tooShort}
+use Rattle.call.specs.declared.refusal.Checked.{Checked}
+use Rattle.call.specs.declared.refusal.Checked.the-variants.{Accepted, Refused}
+use Rattle.call.specs.declared.refusal.Filled.{Filled}
+use Rattle.call.specs.declared.refusal.Filled.the-variants as filled
 
 abbrev pub Lent : Type 0 → Type 0
 Lent X = Both (RefT X) (RefT X)

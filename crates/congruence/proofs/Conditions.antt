@@ -10,19 +10,21 @@ use lib.IntN.{ℤ, pos, negsuc, _+ℤ_, _-ℤ_, _*ℤ_}
 use Rattle.matrix.specs.Matrix.{Mat, _⊗_, 𝟙, neg, adj}
 use Rattle.matrix.proofs.Ring.{con, var, _⊕_, _⊙_, ring}
 use Rattle.matrix.proofs.Matrix.{neg-neg, neg-⊗, ⊗-neg, adj-neg}
-use Rattle.congruence.specs.Condition.{Condition}
+use Rattle.right_cosets.specs.Condition.{Condition}
 use Rattle.congruence.specs.Congruence.{Multiple, Gamma0}
 use Rattle.congruence.proofs.Signed.{Signed, Upper, SignedUpper, Trivial, SignedTrivial}
 use Rattle.congruence.proofs.Multiple.{mult-as, mult-zero, mult-+, mult-*, mult-neg}
 
 -- x y + z w, where y and z are multiples
 cross : {n : ℕ} (x : ℤ) {y z : ℤ} (w : ℤ) → Multiple n y → Multiple n z → Multiple n (x *ℤ y +ℤ z *ℤ w)
-cross x {y} {z} w h k = mult-as (ring (x ∷ y ∷ z ∷ w ∷ []) (var 0 ⊙ var 1 ⊕ var 3 ⊙ var 2) (var 0 ⊙ var 1 ⊕ var 2 ⊙ var 3) tt) (mult-+ (mult-* x h) (mult-* w k))
+cross x {y} {z} w h k = mult-as (ring (x ∷ y ∷ z ∷ w ∷ []) (var 0 ⊙ var 1 ⊕ var 3 ⊙ var 2) (var 0 ⊙ var 1 ⊕ var 2 ⊙ var 3) tt)
+    (mult-+ (mult-* x h) (mult-* w k))
 
 -- x y + z w, where x and y are 1, and w is 0
 ones : {n : ℕ} (x y z : ℤ) {w : ℤ} → Multiple n (x -ℤ pos 1) → Multiple n (y -ℤ pos 1) → Multiple n w → Multiple n (x *ℤ y +ℤ z *ℤ w -ℤ pos 1)
 ones x y z {w} h k l = mult-as
-    (ring (x ∷ y ∷ z ∷ w ∷ []) (var 1 ⊙ (var 0 ⊕ con (negsuc 0)) ⊕ (var 1 ⊕ con (negsuc 0)) ⊕ var 2 ⊙ var 3) (var 0 ⊙ var 1 ⊕ var 2 ⊙ var 3 ⊕ con (negsuc 0)) tt)
+    (ring (x ∷ y ∷ z ∷ w ∷ []) (var 1 ⊙ (var 0 ⊕ con (negsuc 0)) ⊕ (var 1 ⊕ con (negsuc 0)) ⊕ var 2 ⊙ var 3) (var 0 ⊙ var 1 ⊕ var 2 ⊙ var 3 ⊕ con (negsuc 0))
+    tt)
     (mult-+ (mult-+ (mult-* y h) k) (mult-* z l))
 
 -- z w + x y, where x and y are 1, and z is 0
@@ -36,7 +38,8 @@ module _ (n : ℕ) where
   unfolding _⊗_ 𝟙 neg adj
   gamma0 = record {
     one = mult-zero;
-    product = λ l m h k. mult-as (ring (l .d ∷ m .c ∷ l .c ∷ m .a ∷ []) (var 0 ⊙ var 1 ⊕ var 2 ⊙ var 3) (var 2 ⊙ var 3 ⊕ var 0 ⊙ var 1) tt) (cross (l .d) (m .a) k h);
+    product = λ l m h k. mult-as (ring (l .d ∷ m .c ∷ l .c ∷ m .a ∷ []) (var 0 ⊙ var 1 ⊕ var 2 ⊙ var 3) (var 2 ⊙ var 3 ⊕ var 0 ⊙ var 1) tt)
+        (cross (l .d) (m .a) k h);
     inverse = λ m h. mult-neg h;
     sign = λ m h. mult-neg h;
   }

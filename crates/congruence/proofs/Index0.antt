@@ -15,14 +15,15 @@ use Rattle.matrix.proofs.Integer.{*-one}
 use Rattle.basics.specs.Choice.{pick}
 use Rattle.numbering.proofs.Find.{test, true-false}
 use Rattle.congruence.specs.Congruence.{Multiple, Gamma0}
-use Rattle.congruence.specs.Transversal.{Everything, Index}
+use Rattle.right_cosets.specs.Transversal.{Everything, Index}
 use Rattle.congruence.specs.Index.{divides, leastDivisor, isFactor, overPrimes, index0}
 use Rattle.congruence.proofs.Multiple.{mult-part}
 use Rattle.congruence.proofs.Conditions.{gamma0}
-use Rattle.congruence.proofs.Transversal.{index-tower, one-length, everything}
+use Rattle.right_cosets.proofs.Transversal.{index-tower, one-length, everything}
 use Rattle.congruence.proofs.Prime.{Least, multiple-or-inverse}
 use Rattle.congruence.proofs.Step0.{lower, old, news, new}
-use Rattle.congruence.proofs.Factor.{dvd-mult, mult-dvd, divides-true, dvd-divides, lowest-is, lowest-prime, factor-other, factor-new, factor-old, factor-none, factor-one, over-none, over-same, over-more, over-some}
+use Rattle.congruence.proofs.Factor.{dvd-mult, mult-dvd, divides-true, dvd-divides, lowest-is, lowest-prime, factor-other, factor-new, factor-old}
+use Rattle.congruence.proofs.Factor.{factor-none, factor-one, over-none, over-same, over-more, over-some}
 
 -- ---- Γ0(1) is everything
 
@@ -47,7 +48,8 @@ step-old m p some big d i = index-tower everything (gamma0 m) (λ x h. tt) (λ x
 pub step-new : (m p : ℕ) → 0 < m → Least p p → (p ∣ m → ⊥) → {i : ℕ} → Index Everything (Gamma0 m) i → Index Everything (Gamma0 (m * p)) (suc p * i)
 step-new m p some prime d i = elim (multiple-or-inverse p prime (pos m)) [
   | inl h ↦ absurd (d (mult-dvd p m h))
-  | inr e ↦ index-tower everything (gamma0 m) (λ x h. tt) (λ x h. mult-part m p h) i (record { rep = news m p some prime e; transversal = new m p some prime e })
+  | inr e ↦ index-tower everything (gamma0 m) (λ x h. tt) (λ x h. mult-part m p h) i
+      (record { rep = news m p some prime e; transversal = new m p some prime e })
 ]
 
 -- ---- n as its least prime and the rest
@@ -173,4 +175,5 @@ pub index0-splits : (n : ℕ) → 1 < n → let p = leastDivisor n in let m = n 
 index0-splits n h =
     let l = lowest-is n h in
     let e = div-mul-cancel (leastDivisor n) (l .divisor) in
-    ap index0 (sym e) ∙ index0-times (n / leastDivisor n) (leastDivisor n) (positive-left (n / leastDivisor n) (leastDivisor n) n e (omega arith)) (lowest-prime l)
+    ap index0 (sym e) ∙ index0-times (n / leastDivisor n) (leastDivisor n) (positive-left (n / leastDivisor n) (leastDivisor n) n e (omega arith))
+    (lowest-prime l)

@@ -7,9 +7,11 @@ use Rattle.matrix.specs.Matrix.{_⊗_, 𝟙, neg, adj, matS, matT, matR}
 use Rattle.congruence.specs.declared.Family.the-variants as family
 use Rattle.congruence.specs.Congruence.{meets}
 use Rattle.congruence.specs.Index.{divisorFrom, overPrimes, familyIndex}
-use Rattle.congruence.specs.Cosets.{withCoset, cosetsTo, cosetTable, familyS, familyR}
+use Rattle.right_cosets.specs.Cosets.{withCoset, cosetsTo, cosetTable}
+use Rattle.congruence.specs.Cosets.{familyS, familyR}
 
-indexes-0 : map (familyIndex family.Gamma0) (1 ∷ 2 ∷ 3 ∷ 4 ∷ 5 ∷ 6 ∷ 7 ∷ 8 ∷ 9 ∷ 10 ∷ 11 ∷ 12 ∷ 36 ∷ 1000 ∷ []) ≡ 1 ∷ 3 ∷ 4 ∷ 6 ∷ 6 ∷ 12 ∷ 8 ∷ 12 ∷ 12 ∷ 18 ∷ 12 ∷ 24 ∷ 72 ∷ 1800 ∷ []
+indexes-0 : map (familyIndex family.Gamma0) (1 ∷ 2 ∷ 3 ∷ 4 ∷ 5 ∷ 6 ∷ 7 ∷ 8 ∷ 9 ∷ 10 ∷ 11 ∷ 12 ∷ 36 ∷ 1000 ∷ [])
+    ≡ 1 ∷ 3 ∷ 4 ∷ 6 ∷ 6 ∷ 12 ∷ 8 ∷ 12 ∷ 12 ∷ 18 ∷ 12 ∷ 24 ∷ 72 ∷ 1800 ∷ []
 unfolding divisorFrom overPrimes
 indexes-0 = refl
 

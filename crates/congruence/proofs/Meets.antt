@@ -9,7 +9,7 @@ use lib.IntN.{ℤ, pos, negsuc, natAbs, _-ℤ_}
 use Rattle.matrix.specs.Matrix.{Mat, 𝟙, neg}
 use Rattle.matrix.proofs.Integer.{abs-*}
 use Rattle.numbering.proofs.Find.{true-false}
-use Rattle.congruence.specs.Condition.{Decides}
+use Rattle.right_cosets.specs.Condition.{Decides}
 use Rattle.congruence.specs.Congruence.{Multiple, Diagonal, Modulo, Meets, isMultiple, isDiagonal, isModulo, meets}
 use Rattle.congruence.specs.declared.Family.{Family}
 use Rattle.congruence.specs.declared.Family.the-variants as family

@@ -15,7 +15,8 @@ use Rattle.congruence.proofs.Multiple.{mult-as, mult-zero, mult-+, mult
 
 module _ {n : ℕ} where
   -- x y + z w, with each factor changed by a multiple
-  change : (x x' y y' z z' w w' : ℤ) → Multiple n (x -ℤ x') → Multiple n (y -ℤ y') → Multiple n (z -ℤ z') → Multiple n (w -ℤ w') → Multiple n (x *ℤ y +ℤ z *ℤ w -ℤ (x' *ℤ y' +ℤ z' *ℤ w'))
+  change : (x x' y y' z z' w w' : ℤ) → Multiple n (x -ℤ x') → Multiple n (y -ℤ y') → Multiple n (z -ℤ z') → Multiple n (w -ℤ w')
+      → Multiple n (x *ℤ y +ℤ z *ℤ w -ℤ (x' *ℤ y' +ℤ z' *ℤ w'))
   change x x' y y' z z' w w' h k l m = mult-as
       (ring (x ∷ x' ∷ y ∷ y' ∷ z ∷ z' ∷ w ∷ w' ∷ [])
       (var 2 ⊙ (var 0 ⊕ ⊖ var 1) ⊕ var 1 ⊙ (var 2 ⊕ ⊖ var 3) ⊕ (var 6 ⊙ (var 4 ⊕ ⊖ var 5) ⊕ var 5 ⊙ (var 6 ⊕ ⊖ var 7)))
@@ -48,7 +49,12 @@ module _ {n : ℕ} where
   mod-adj {l} {m} h = record { a-is = h .d-is; b-is = opposite (l .b) (m .b) (h .b-is); c-is = opposite (l .c) (m .c) (h .c-is); d-is = h .a-is }
 
   pub mod-sym : {l m : Mat} → Modulo n l m → Modulo n m l
-  mod-sym {l} {m} h = record { a-is = turned (l .a) (m .a) (h .a-is); b-is = turned (l .b) (m .b) (h .b-is); c-is = turned (l .c) (m .c) (h .c-is); d-is = turned (l .d) (m .d) (h .d-is) }
+  mod-sym {l} {m} h = record {
+    a-is = turned (l .a) (m .a) (h .a-is);
+    b-is = turned (l .b) (m .b) (h .b-is);
+    c-is = turned (l .c) (m .c) (h .c-is);
+    d-is = turned (l .d) (m .d) (h .d-is);
+  }
 
   pub mod-refl : {m : Mat} → Modulo n m m
   mod-refl {m} = record { a-is = nothing (m .a); b-is = nothing (m .b); c-is = nothing (m .c); d-is = nothing (m .d) }
@@ -63,7 +69,12 @@ module _ {n : ℕ} where
 
   pub mod-neg : {l m : Mat} → Modulo n l m → Modulo n (neg l) (neg m)
   unfolding neg
-  mod-neg {l} {m} h = record { a-is = opposite (l .a) (m .a) (h .a-is); b-is = opposite (l .b) (m .b) (h .b-is); c-is = opposite (l .c) (m .c) (h .c-is); d-is = opposite (l .d) (m .d) (h .d-is) }
+  mod-neg {l} {m} h = record {
+    a-is = opposite (l .a) (m .a) (h .a-is);
+    b-is = opposite (l .b) (m .b) (h .b-is);
+    c-is = opposite (l .c) (m .c) (h .c-is);
+    d-is = opposite (l .d) (m .d) (h .d-is);
+  }
 
   -- x is a multiple, or 1, with y
   zero-with : (x y : ℤ) → Multiple n (x -ℤ y) → Multiple n y → Multiple n x
@@ -73,7 +84,11 @@ module _ {n : ℕ} where
   one-with x y h k = mult-as (ring (x ∷ y ∷ []) (var 0 ⊕ ⊖ var 1 ⊕ (var 1 ⊕ con (negsuc 0))) (var 0 ⊕ con (negsuc 0)) tt) (mult-+ h k)
 
   mod-upper : (l m : Mat) → Modulo n l m → Upper n m → Upper n l
-  mod-upper l m h k = record { a-is = one-with (l .a) (m .a) (h .a-is) (k .a-is); c-is = zero-with (l .c) (m .c) (h .c-is) (k .c-is); d-is = one-with (l .d) (m .d) (h .d-is) (k .d-is) }
+  mod-upper l m h k = record {
+    a-is = one-with (l .a) (m .a) (h .a-is) (k .a-is);
+    c-is = zero-with (l .c) (m .c) (h .c-is) (k .c-is);
+    d-is = one-with (l .d) (m .d) (h .d-is) (k .d-is);
+  }
 
   mod-trivial : (l m : Mat) → Modulo n l m → Trivial n m → Trivial n l
   mod-trivial l m h k = record {

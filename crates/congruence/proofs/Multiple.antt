@@ -78,7 +78,11 @@ pub residue : (n : ℕ) → 0 < n → (z : ℤ) → Residue n z
 residue n h (pos k) = record {
   is = k % n;
   low = mod-lt k h;
-  differs = record { times = pos (k / n); is = ap (λ (x : ℕ). pos x -ℤ pos (k % n)) (sym (div-add-mod' k n)) ∙ ring (pos (k / n) ∷ pos n ∷ pos (k % n) ∷ []) (var 0 ⊙ var 1 ⊕ var 2 ⊕ ⊖ var 2) (var 0 ⊙ var 1) tt };
+  differs = record {
+    times = pos (k / n);
+    is = ap (λ (x : ℕ). pos x -ℤ pos (k % n)) (sym (div-add-mod' k n))
+        ∙ ring (pos (k / n) ∷ pos n ∷ pos (k % n) ∷ []) (var 0 ⊙ var 1 ⊕ var 2 ⊕ ⊖ var 2) (var 0 ⊙ var 1) tt;
+  };
 }
 residue n h (negsuc k) =
     let r = k % n in

@@ -45,7 +45,8 @@ reflected : (n : ℕ) (a b : List ℕ) → Once a → ((x : ℕ) → x ∈ a →
 reflected n a b once low over = pigeonhole (length a) (length b) (λ j. find b (n - getD a j 0)) (λ j h. over (getD a j 0) (getD-in a j h)) (λ j k h l e.
     let x = getD a j 0 in
     let y = getD a k 0 in
-    let same : n - x ≡ n - y = sym (getD-find b (n - x) (over x (getD-in a j h))) ∙ ap (λ (i : ℕ). getD b i 0) e ∙ getD-find b (n - y) (over y (getD-in a k l)) in
+    let same : n - x ≡ n - y = sym (getD-find b (n - x) (over x (getD-in a j h))) ∙ ap (λ (i : ℕ). getD b i 0) e
+    ∙ getD-find b (n - y) (over y (getD-in a k l)) in
     once-inj a once j k h l (omega (arith, low x (getD-in a j h), low y (getD-in a k l))))
 
 module _ (n : ℕ) (big : 2 < n) where

@@ -44,7 +44,8 @@ module _ (p : ℕ) (prime : Least p p) where
           by = negℤ (pos q *ℤ s);
           is = mult-as
               (ap (λ (x : ℕ). pos r *ℤ s -ℤ pos 1 +ℤ negℤ s *ℤ pos x) (sym (div-add-mod' p d))
-              ∙ ring (pos d ∷ pos q ∷ pos r ∷ s ∷ []) (var 2 ⊙ var 3 ⊕ con (negsuc 0) ⊕ ⊖ var 3 ⊙ (var 1 ⊙ var 0 ⊕ var 2)) (var 0 ⊙ ⊖ (var 1 ⊙ var 3) ⊕ con (negsuc 0)) tt)
+              ∙ ring (pos d ∷ pos q ∷ pos r ∷ s ∷ []) (var 2 ⊙ var 3 ⊕ con (negsuc 0) ⊕ ⊖ var 3 ⊙ (var 1 ⊙ var 0 ⊕ var 2))
+              (var 0 ⊙ ⊖ (var 1 ⊙ var 3) ⊕ con (negsuc 0)) tt)
               (mult-+ (i .is) (mult-* (negℤ s) mult-self));
         }
   ]

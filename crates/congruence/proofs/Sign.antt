@@ -13,7 +13,7 @@ use borrow.Author.Tests.{eqb-true, eq-eqb, ltb-true, lt-ltb}
 use Rattle.matrix.specs.Matrix.{Mat, neg, det}
 use Rattle.matrix.proofs.Ring.{con, var, _⊕_, _⊙_, ⊖_, ring}
 use Rattle.matrix.proofs.Matrix.{det-neg}
-use Rattle.congruence.specs.Condition.{Unit}
+use Rattle.right_cosets.specs.Condition.{Unit}
 use Rattle.congruence.specs.Congruence.{Multiple, Gamma0}
 use Rattle.congruence.proofs.Signed.{Upper, SignedUpper}
 use Rattle.basics.specs.Count.{first}
@@ -21,7 +21,7 @@ use Rattle.congruence.specs.Index.{isInverse, isUnit}
 use Rattle.congruence.proofs.Multiple.{mult-as, mult-+, mult-*, mult-neg, residue, residue-one}
 use Rattle.congruence.proofs.Prime.{Inverse}
 use Rattle.basics.proofs.Count.{found}
-use Rattle.congruence.proofs.First.{first-some}
+use Rattle.right_cosets.proofs.First.{first-some}
 
 abbrev pub Sign : ℕ → ℤ → ℤ → Type 0
 Sign n x y = Multiple n (x -ℤ y) ⊎ Multiple n (x +ℤ y)
@@ -52,18 +52,21 @@ module _ {n : ℕ} where
   pub sign-inverse : (d x : ℤ) → Sign n d x → Inverse n d → Inverse n x
   sign-inverse d x (inl h) i = record {
     by = i .by;
-    is = mult-as (ring (d ∷ x ∷ i .by ∷ []) (var 0 ⊙ var 2 ⊕ con (negsuc 0) ⊕ ⊖ var 2 ⊙ (var 0 ⊕ ⊖ var 1)) (var 1 ⊙ var 2 ⊕ con (negsuc 0)) tt) (mult-+ (i .is) (mult-* (negℤ (i .by)) h));
+    is = mult-as (ring (d ∷ x ∷ i .by ∷ []) (var 0 ⊙ var 2 ⊕ con (negsuc 0) ⊕ ⊖ var 2 ⊙ (var 0 ⊕ ⊖ var 1)) (var 1 ⊙ var 2 ⊕ con (negsuc 0)) tt)
+        (mult-+ (i .is) (mult-* (negℤ (i .by)) h));
   }
   sign-inverse d x (inr h) i = record {
     by = negℤ (i .by);
-    is = mult-as (ring (d ∷ x ∷ i .by ∷ []) (var 0 ⊙ var 2 ⊕ con (negsuc 0) ⊕ ⊖ var 2 ⊙ (var 0 ⊕ var 1)) (var 1 ⊙ ⊖ var 2 ⊕ con (negsuc 0)) tt) (mult-+ (i .is) (mult-* (negℤ (i .by)) h));
+    is = mult-as (ring (d ∷ x ∷ i .by ∷ []) (var 0 ⊙ var 2 ⊕ con (negsuc 0) ⊕ ⊖ var 2 ⊙ (var 0 ⊕ var 1)) (var 1 ⊙ ⊖ var 2 ⊕ con (negsuc 0)) tt)
+        (mult-+ (i .is) (mult-* (negℤ (i .by)) h));
   }
 
 -- numbers up to n / 2 that are equal up to sign are equal
 pub half-one : (n u w : ℕ) → u < n → w < n → u + u ≤ n → w + w ≤ n → Sign n (pos u) (pos w) → u ≡ w
 half-one n u w h k a b (inl m) = residue-one n u w h k m
 half-one n u w h k a b (inr m) = elim (decLt (u + w) n) [
-  | yes l ↦ let z = residue-one n (u + w) 0 l (omega arith) (mult-as (ring (pos u ∷ pos w ∷ []) (var 0 ⊕ var 1) (var 0 ⊕ var 1 ⊕ ⊖ con (pos 0)) tt) m) in omega arith
+  | yes l ↦ let z = residue-one n (u + w) 0 l (omega arith) (mult-as (ring (pos u ∷ pos w ∷ []) (var 0 ⊕ var 1) (var 0 ⊕ var 1 ⊕ ⊖ con (pos 0)) tt) m) in
+      omega arith
   | no l ↦ omega arith
 ]
 
@@ -88,7 +91,8 @@ mult-mod n x y some h =
     rest : (x : ℕ) → 0 < n → Multiple n (pos x -ℤ pos (x % n))
     rest x h = record {
       times = pos (x / n);
-      is = ap (λ (z : ℕ). pos z -ℤ pos (x % n)) (sym (div-add-mod' x n)) ∙ ring (pos (x / n) ∷ pos n ∷ pos (x % n) ∷ []) (var 0 ⊙ var 1 ⊕ var 2 ⊕ ⊖ var 2) (var 0 ⊙ var 1) tt;
+      is = ap (λ (z : ℕ). pos z -ℤ pos (x % n)) (sym (div-add-mod' x n)) ∙ ring (pos (x / n) ∷ pos n ∷ pos (x % n) ∷ []) (var 0 ⊙ var 1 ⊕ var 2 ⊕ ⊖ var 2)
+          (var 0 ⊙ var 1) tt;
     }
 
 pub unit-inverse : (n u : ℕ) → isUnit n u ≡ true → Inverse n (pos u)
@@ -110,7 +114,8 @@ inverse-unit n u some i =
 a-by-d : (n : ℕ) (m : Mat) → Unit m → Multiple n (m .c) → Multiple n (m .d -ℤ pos 1) → Multiple n (m .a -ℤ pos 1)
 unfolding det
 a-by-d n m u h k = mult-as
-    (ring (m .a ∷ m .b ∷ m .c ∷ m .d ∷ []) (⊖ var 0 ⊙ (var 3 ⊕ con (negsuc 0)) ⊕ var 1 ⊙ var 2) (var 0 ⊕ ⊖ (var 0 ⊙ var 3 ⊕ ⊖ (var 1 ⊙ var 2))) tt ∙ ap (λ (x : ℤ). m .a -ℤ x) u)
+    (ring (m .a ∷ m .b ∷ m .c ∷ m .d ∷ []) (⊖ var 0 ⊙ (var 3 ⊕ con (negsuc 0)) ⊕ var 1 ⊙ var 2) (var 0 ⊕ ⊖ (var 0 ⊙ var 3 ⊕ ⊖ (var 1 ⊙ var 2))) tt
+    ∙ ap (λ (x : ℤ). m .a -ℤ x) u)
     (mult-+ (mult-* (negℤ (m .a)) k) (mult-* (m .b) h))
 
 upper-by : (n : ℕ) (m : Mat) → Unit m → Multiple n (m .c) → Multiple n (m .d -ℤ pos 1) → Upper n m

@@ -8,14 +8,14 @@ use lib.IntN.{pos, negsuc, negℤ, _-ℤ_, _*ℤ_}
 use Rattle.matrix.specs.Matrix.{Mat, mat, _⊗_, neg, adj, det}
 use Rattle.matrix.proofs.Ring.{con, var, _⊕_, _⊙_, ⊖_, ring}
 use Rattle.matrix.proofs.Matrix.{neg-⊗, neg-neg}
-use Rattle.congruence.specs.Condition.{_within_, Condition}
+use Rattle.right_cosets.specs.Condition.{_within_, Condition}
 use Rattle.congruence.specs.Congruence.{Multiple}
 use Rattle.congruence.proofs.Signed.{Upper, SignedUpper, Trivial, SignedTrivial}
-use Rattle.congruence.specs.Transversal.{Everything, CosetPlace, Transversal, Index}
+use Rattle.right_cosets.specs.Transversal.{Everything, CosetPlace, Transversal, Index}
 use Rattle.congruence.specs.Index.{index1}
 use Rattle.congruence.proofs.Multiple.{mult-as, mult-zero, mult-+, mult-*, mult-neg}
 use Rattle.congruence.proofs.Conditions.{gamma1, gamma}
-use Rattle.congruence.proofs.Transversal.{index-tower, everything}
+use Rattle.right_cosets.proofs.Transversal.{index-tower, everything}
 use Rattle.congruence.proofs.Prime.{Inverse}
 use Rattle.congruence.proofs.Step0.{solve}
 use Rattle.congruence.proofs.Step1.{index1-is}
@@ -53,12 +53,14 @@ module _ (n : ℕ) (m : Mat) (h : Upper n m) (j : ℕ) where
   power-out : SignedTrivial n (m ⊗ adj (power j)) → Multiple n (m .b -ℤ m .a *ℤ pos j)
   unfolding _⊗_ adj neg
   power-out (inl k) = mult-as (ring (m .a ∷ m .b ∷ pos j ∷ []) (var 0 ⊙ ⊖ var 2 ⊕ var 1 ⊙ con (pos 1)) (var 1 ⊕ ⊖ (var 0 ⊙ var 2)) tt) (k .b-is)
-  power-out (inr k) = mult-as (ring (m .a ∷ m .b ∷ pos j ∷ []) (⊖ ⊖ (var 0 ⊙ ⊖ var 2 ⊕ var 1 ⊙ con (pos 1))) (var 1 ⊕ ⊖ (var 0 ⊙ var 2)) tt) (mult-neg (k .b-is))
+  power-out (inr k) = mult-as (ring (m .a ∷ m .b ∷ pos j ∷ []) (⊖ ⊖ (var 0 ⊙ ⊖ var 2 ⊕ var 1 ⊙ con (pos 1))) (var 1 ⊕ ⊖ (var 0 ⊙ var 2)) tt)
+      (mult-neg (k .b-is))
 
 module _ (n : ℕ) (some : 0 < n) where
   upper-place : (m : Mat) → Upper n m → CosetPlace (SignedTrivial n) n power m
   upper-place m h =
-      let i : Inverse n (m .a) = record { by = pos 1; is = mult-as (ring (m .a ∷ []) (var 0 ⊕ con (negsuc 0)) (var 0 ⊙ con (pos 1) ⊕ con (negsuc 0)) tt) (h .a-is) } in
+      let i : Inverse n (m .a) =
+      record { by = pos 1; is = mult-as (ring (m .a ∷ []) (var 0 ⊕ con (negsuc 0)) (var 0 ⊙ con (pos 1) ⊕ con (negsuc 0)) tt) (h .a-is) } in
       let s = solve n some (m .b) (m .a) i in
       record { at = s .is; low = s .low; hit = inl (power-in n m h (s .is) (s .solves)); only = λ j l c. s .only j l (power-out n m h j c) }
 

@@ -14,9 +14,9 @@ use borrow.Author.Tests.{lt-ltb, le-ltb}
 use Rattle.matrix.specs.Matrix.{Mat, mat, _⊗_, adj, det}
 use Rattle.matrix.proofs.Ring.{con, var, _⊕_, _⊙_, ⊖_, ring}
 use Rattle.basics.specs.Choice.{pick}
-use Rattle.congruence.specs.Condition.{Unit, _within_}
+use Rattle.right_cosets.specs.Condition.{Unit, _within_}
 use Rattle.congruence.specs.Congruence.{Multiple, Gamma0}
-use Rattle.congruence.specs.Transversal.{CosetPlace, Transversal}
+use Rattle.right_cosets.specs.Transversal.{CosetPlace, Transversal}
 use Rattle.congruence.proofs.Multiple.{mult-as, mult-self, mult-+, mult-*, mult-neg, mult-up, mult-down, residue, residue-one}
 use Rattle.congruence.proofs.Prime.{Least, Inverse, not-one, multiple-or-inverse}
 
@@ -40,7 +40,8 @@ solve p some t d i =
           (ring (t ∷ d ∷ e ∷ pos k ∷ []) (⊖ var 0 ⊙ (var 1 ⊙ var 2 ⊕ con (negsuc 0)) ⊕ var 1 ⊙ (var 0 ⊙ var 2 ⊕ ⊖ var 3)) (var 0 ⊕ ⊖ (var 1 ⊙ var 3)) tt)
           (mult-+ (mult-* (negℤ t) (i .is)) (mult-* d (r .differs)));
       only = λ j l h. residue-one p j k l (r .low) (mult-as
-          (ring (t ∷ d ∷ e ∷ pos k ∷ pos j ∷ []) (⊖ var 4 ⊙ (var 1 ⊙ var 2 ⊕ con (negsuc 0)) ⊕ ((var 0 ⊙ var 2 ⊕ ⊖ var 3) ⊕ ⊖ var 2 ⊙ (var 0 ⊕ ⊖ (var 1 ⊙ var 4)))) (var 4 ⊕ ⊖ var 3) tt)
+          (ring (t ∷ d ∷ e ∷ pos k ∷ pos j ∷ [])
+          (⊖ var 4 ⊙ (var 1 ⊙ var 2 ⊕ con (negsuc 0)) ⊕ ((var 0 ⊙ var 2 ⊕ ⊖ var 3) ⊕ ⊖ var 2 ⊙ (var 0 ⊕ ⊖ (var 1 ⊙ var 4)))) (var 4 ⊕ ⊖ var 3) tt)
           (mult-+ (mult-* (negℤ (pos j)) (i .is)) (mult-+ (r .differs) (mult-* (negℤ e) h))));
     }
 
@@ -48,7 +49,8 @@ solve p some t d i =
 
 det-da : (m : Mat) → Unit m → m .b *ℤ m .c ≡ m .d *ℤ m .a -ℤ pos 1
 unfolding det
-det-da m u = ring (m .a ∷ m .b ∷ m .c ∷ m .d ∷ []) (var 1 ⊙ var 2) (var 3 ⊙ var 0 ⊕ ⊖ (var 0 ⊙ var 3 ⊕ ⊖ (var 1 ⊙ var 2))) tt ∙ ap (λ (x : ℤ). m .d *ℤ m .a -ℤ x) u
+det-da m u = ring (m .a ∷ m .b ∷ m .c ∷ m .d ∷ []) (var 1 ⊙ var 2) (var 3 ⊙ var 0 ⊕ ⊖ (var 0 ⊙ var 3 ⊕ ⊖ (var 1 ⊙ var 2))) tt
+    ∙ ap (λ (x : ℤ). m .d *ℤ m .a -ℤ x) u
 
 -- where c is a multiple of n, a is inverse to d
 pub diagonal : (n : ℕ) (m : Mat) → Unit m → Multiple n (m .c) → Inverse n (m .d)
@@ -107,7 +109,8 @@ module _ (n : ℕ) where
       unfolding det last
       last-member = record {
         unit = ring (i .is .times ∷ i .by ∷ pos n ∷ pos p ∷ []) (⊖ var 0 ⊙ var 3 ⊕ ⊖ (⊖ var 1 ⊙ var 2)) (var 2 ⊙ var 1 ⊕ ⊖ (var 0 ⊙ var 3)) tt
-            ∙ ap (λ (x : ℤ). pos n *ℤ i .by -ℤ x) (sym (i .is .is)) ∙ ring (pos n ∷ i .by ∷ []) (var 0 ⊙ var 1 ⊕ ⊖ (var 0 ⊙ var 1 ⊕ con (negsuc 0))) (con (pos 1)) tt;
+            ∙ ap (λ (x : ℤ). pos n *ℤ i .by -ℤ x) (sym (i .is .is)) ∙ ring (pos n ∷ i .by ∷ []) (var 0 ⊙ var 1 ⊕ ⊖ (var 0 ⊙ var 1 ⊕ con (negsuc 0)))
+            (con (pos 1)) tt;
         meets = mult-self;
       }
 

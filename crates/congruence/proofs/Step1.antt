@@ -18,20 +18,21 @@ use Rattle.matrix.proofs.Ring.{con, var, _⊕_, _⊙_, ⊖_, ring}
 use Rattle.numbering.specs.Find.{find, _∈_}
 use Rattle.numbering.proofs.Find.{test, true-false, getD-find, getD-in}
 use Rattle.numbering.proofs.Those.{those-once, those-low, those-true, those-in}
-use Rattle.congruence.specs.Condition.{_within_}
+use Rattle.right_cosets.specs.Condition.{_within_}
 use Rattle.congruence.specs.Congruence.{Multiple, Gamma0}
 use Rattle.congruence.proofs.Signed.{SignedUpper}
-use Rattle.congruence.specs.Transversal.{Everything, Transversal, Index}
+use Rattle.right_cosets.specs.Transversal.{Everything, Transversal, Index}
 use Rattle.basics.specs.Count.{those}
 use Rattle.basics.proofs.Count.{length-those}
 use Rattle.congruence.specs.Index.{isUnit, isHalfUnit, index1}
 use Rattle.congruence.proofs.Multiple.{mult-as, mult-self, mult-+, mult-*, mult-neg, residue}
 use Rattle.congruence.proofs.Conditions.{gamma0}
-use Rattle.congruence.proofs.Transversal.{unit-over, index-tower, everything}
+use Rattle.right_cosets.proofs.Transversal.{unit-over, index-tower, everything}
 use Rattle.congruence.proofs.Prime.{Inverse}
 use Rattle.congruence.proofs.Step0.{diagonal}
 use Rattle.congruence.proofs.Index0.{index0-is}
-use Rattle.congruence.proofs.Sign.{Sign, sign-from, sign-to, sign-times, sign-join, sign-inverse, half-one, unit-inverse, inverse-unit, gamma1-by, gamma1-d, gamma1-inside}
+use Rattle.congruence.proofs.Sign.{Sign, sign-from, sign-to, sign-times, sign-join, sign-inverse, half-one, unit-inverse, inverse-unit, gamma1-by}
+use Rattle.congruence.proofs.Sign.{gamma1-d, gamma1-inside}
 
 -- ---- one matrix
 
@@ -51,7 +52,8 @@ turned n u (inl e) h =
     record {
       member = record {
         unit = ring (i .by ∷ (i .is .times *ℤ pos n) ∷ pos u ∷ []) (var 0 ⊙ var 2 ⊕ ⊖ var 1) (var 2 ⊙ var 0 ⊕ ⊖ var 1) tt
-            ∙ ap (λ (x : ℤ). pos u *ℤ i .by -ℤ x) (sym (i .is .is)) ∙ ring (pos u ∷ i .by ∷ []) (var 0 ⊙ var 1 ⊕ ⊖ (var 0 ⊙ var 1 ⊕ con (negsuc 0))) (con (pos 1)) tt;
+            ∙ ap (λ (x : ℤ). pos u *ℤ i .by -ℤ x) (sym (i .is .is)) ∙ ring (pos u ∷ i .by ∷ []) (var 0 ⊙ var 1 ⊕ ⊖ (var 0 ⊙ var 1 ⊕ con (negsuc 0)))
+            (con (pos 1)) tt;
         meets = mult-self;
       };
       inverse = i .is;
@@ -61,7 +63,8 @@ turned n u (inr e) h = true-false h e
 -- the entry d of m w⁻¹
 d-over : (n : ℕ) (m w : Mat) → Gamma0 n m → Multiple n ((m ⊗ adj w) .d -ℤ m .d *ℤ w .a)
 unfolding _⊗_ adj
-d-over n m w h = mult-as (ring (m .c ∷ m .d ∷ w .b ∷ w .a ∷ []) (⊖ var 2 ⊙ var 0) (var 0 ⊙ ⊖ var 2 ⊕ var 1 ⊙ var 3 ⊕ ⊖ (var 1 ⊙ var 3)) tt) (mult-* (negℤ (w .b)) h)
+d-over n m w h = mult-as (ring (m .c ∷ m .d ∷ w .b ∷ w .a ∷ []) (⊖ var 2 ⊙ var 0) (var 0 ⊙ ⊖ var 2 ⊕ var 1 ⊙ var 3 ⊕ ⊖ (var 1 ⊙ var 3)) tt)
+    (mult-* (negℤ (w .b)) h)
 
 module _ (n u : ℕ) (w m : Mat) (t : Turned n u w) (h : Gamma0 n within m) where
   abbrev x : Mat
@@ -70,7 +73,8 @@ module _ (n u : ℕ) (w m : Mat) (t : Turned n u w) (h : Gamma0 n within m) wher
   turned-in : Sign n (m .d) (pos u) → SignedUpper n x
   turned-in s = gamma1-by n x (unit-over m w (h .unit) (t .member .unit))
       (gamma0 n .product m (adj w) (h .meets) (gamma0 n .inverse w (t .member .meets)))
-      (sign-from (x .d) (m .d *ℤ w .a) (pos 1) (d-over n m w (h .meets)) (sign-to (m .d *ℤ w .a) (pos u *ℤ w .a) (pos 1) (sign-times (m .d) (pos u) (w .a) s) (t .inverse)))
+      (sign-from (x .d) (m .d *ℤ w .a) (pos 1) (d-over n m w (h .meets))
+      (sign-to (m .d *ℤ w .a) (pos u *ℤ w .a) (pos 1) (sign-times (m .d) (pos u) (w .a) s) (t .inverse)))
 
   turned-out : SignedUpper n x → Sign n (m .d) (pos u)
   turned-out g =
@@ -78,7 +82,8 @@ module _ (n u : ℕ) (w m : Mat) (t : Turned n u w) (h : Gamma0 n within m) wher
       let back : Multiple n (da -ℤ x .d) = mult-as (ring (x .d ∷ da ∷ []) (⊖ (var 0 ⊕ ⊖ var 1)) (var 1 ⊕ ⊖ var 0) tt) (mult-neg (d-over n m w (h .meets))) in
       let s : Sign n (da *ℤ pos u) (pos 1 *ℤ pos u) = sign-times da (pos 1) (pos u) (sign-from da (x .d) (pos 1) back (gamma1-d n x g)) in
       let e : Multiple n (m .d -ℤ da *ℤ pos u) = mult-as
-      (ring (m .d ∷ w .a ∷ pos u ∷ []) (⊖ var 0 ⊙ (var 2 ⊙ var 1 ⊕ con (negsuc 0))) (var 0 ⊕ ⊖ (var 0 ⊙ var 1 ⊙ var 2)) tt) (mult-* (negℤ (m .d)) (t .inverse)) in
+      (ring (m .d ∷ w .a ∷ pos u ∷ []) (⊖ var 0 ⊙ (var 2 ⊙ var 1 ⊕ con (negsuc 0))) (var 0 ⊕ ⊖ (var 0 ⊙ var 1 ⊙ var 2)) tt)
+      (mult-* (negℤ (m .d)) (t .inverse)) in
       rw (ring (pos u ∷ []) (con (pos 1) ⊙ var 0) (var 0) tt) at (sign-from (m .d) (da *ℤ pos u) (pos 1 *ℤ pos u) e s)
 
 -- ---- units up to sign
@@ -127,14 +132,16 @@ module _ (n : ℕ) (some : 0 < n) where
   turns j = let u = getD (units n) j 0 in turn n u (test (isUnit n u))
 
   turns-is : (j : ℕ) → j < length (units n) → Turned n (getD (units n) j 0) (turns j)
-  turns-is j h = let u = getD (units n) j 0 in turned n u (test (isUnit n u)) (both-true (isUnit n u) (leb (u + u) n) (those-true passes n u (getD-in (units n) j h)) .0)
+  turns-is j h = let u = getD (units n) j 0 in
+      turned n u (test (isUnit n u)) (both-true (isUnit n u) (leb (u + u) n) (those-true passes n u (getD-in (units n) j h)) .0)
 
   turns-only : (d : ℤ) (z : Half n d) (j : ℕ) → j < length (units n) → Sign n d (pos (getD (units n) j 0)) → j ≡ find (units n) (z .u)
   turns-only d z j h s =
       let u = getD (units n) j 0 in
       let k = getD-in (units n) j h in
       let half = leb-true (u + u) n (both-true (isUnit n u) (leb (u + u) n) (those-true passes n u k) .1) in
-      sym (those-once passes n .place j h) ∙ ap (find (units n)) (half-one n u (z .u) (those-low passes n u k) (z .low) half (z .half) (sign-join d (pos u) (pos (z .u)) s (z .sign)))
+      sym (those-once passes n .place j h)
+      ∙ ap (find (units n)) (half-one n u (z .u) (those-low passes n u k) (z .low) half (z .half) (sign-join d (pos u) (pos (z .u)) s (z .sign)))
 
   pub step1 : Transversal (Gamma0 n) (SignedUpper n) (length (units n)) turns
   step1 = record {
@@ -152,4 +159,5 @@ module _ (n : ℕ) (some : 0 < n) where
   }
 
   pub index1-is : Index Everything (SignedUpper n) (index1 n)
-  index1-is = rw (length-those (isHalfUnit n) n) at (index-tower everything (gamma0 n) (λ m h. tt) (gamma1-inside n) (index0-is n some) (record { rep = turns; transversal = step1 }))
+  index1-is = rw (length-those (isHalfUnit n) n) at (index-tower everything (gamma0 n) (λ m h. tt) (gamma1-inside n) (index0-is n some)
+      (record { rep = turns; transversal = step1 }))

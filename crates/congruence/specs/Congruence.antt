@@ -1,5 +1,5 @@
--- The three families: conditions on (a b; c d) modulo N, for integers of either sign. Matrices count up to sign, so these are the groups that are
--- written ±Γ1(N) and ±Γ(N) where signs count.
+-- The three families: conditions on (a b; c d) modulo N, for integers of either sign. Matrices count up to sign, so
+-- these are the groups that are written ±Γ1(N) and ±Γ(N) where signs count.
 --
 --   Multiple n z             the integer z is a multiple of n: z is 0 modulo n
 --   Diagonal n m z           a and d are both z modulo n
@@ -56,7 +56,8 @@ abbrev pub isDiagonal : ℕ → Mat → ℤ → Bool
 isDiagonal n m z = isMultiple n (m .a -ℤ z) && isMultiple n (m .d -ℤ z)
 
 abbrev pub isModulo : ℕ → (l m : Mat) → Bool
-isModulo n l m = isMultiple n (l .a -ℤ m .a) && isMultiple n (l .b -ℤ m .b) && isMultiple n (l .c -ℤ m .c) && isMultiple n (l .d -ℤ m .d)
+isModulo n l m = isMultiple n (l .a -ℤ m .a) && isMultiple n (l .b -ℤ m .b) && isMultiple n (l .c -ℤ m .c) && isMultiple
+    n (l .d -ℤ m .d)
 
 unfoldable pub meets : Family → ℕ → Mat → Bool
 meets family.Gamma0 n m = isMultiple n (m .c)

@@ -5,13 +5,15 @@
 --   isPrime q            whether q is a prime: above 1, and its own least divisor from 2 on
 --   isFactor n q         whether q is a prime that divides n
 --   overPrimes f n b     the product of f q over the primes q below b that divide n
---   index0 n             n times the product, over the primes q that divide n, of (1 + 1/q): as a whole number, n times the product of the
---                        q + 1 by that of the q, a division without a rest
+--   index0 n             n times the product, over the primes q that divide n, of (1 + 1/q): as a whole number, n times
+--                        the product of the q + 1 by that of the q, a division without a rest
 --   isInverse n u v      whether u v is 1 modulo n
 --   isUnit n u           whether some v below n is inverse to u
 --   phi n                how many units modulo n there are
---   halfUnits n          how many units modulo n there are up to sign: of u and n - u the one that isn't above n / 2 is counted
---   familyIndex f n      the index of the family f for n: of Γ1 the units up to sign times that of Γ0, of Γ n times that of Γ1
+--   halfUnits n          how many units modulo n there are up to sign: of u and n - u the one that isn't above n / 2 is
+--                        counted
+--   familyIndex f n      the index of the family f for n: of Γ1 the units up to sign times that of Γ0, of Γ n times
+--                        that of Γ1
 use Prim.Native.Nat.{ℕ, zero, suc, _+_, _*_, _/_, _%_}
 use mathlib.Core.Bool.{Bool, false, _&&_}
 use lib.Dec.{eqb, leb, ltb}
@@ -23,7 +25,8 @@ use Rattle.congruence.specs.declared.Family.the-variants as family
 abbrev pub divides : ℕ → ℕ → Bool
 divides d n = eqb (n % d) 0
 
--- the least of d, d + 1, .. d + k - 1 that divides n, else d + k; a `let` is computed only where it is read, so it stops at the first
+-- the least of d, d + 1, .. d + k - 1 that divides n, else d + k; a `let` is computed only where it is read, so it
+-- stops at the first
 unfoldable pub divisorFrom : ℕ → ℕ → ℕ → ℕ
 divisorFrom zero d n = d
 divisorFrom (suc k) d n = let further = divisorFrom k (suc d) n in pick (divides d n) d further

@@ -1,2 +1,3 @@
--- What the proofs of the crate `congruence` share with the crates above. A reader who trusts the checker need not read it.
-pub mod Listed
+-- What the functions of the crate `congruence` promise each other and the crates above: what is asked of a modulus, and
+-- a common divisor. A reader who trusts the checker need not read it.
+pub mod Common

@@ -1,5 +1,8 @@
-// The congruence groups Γ0(N), Γ1(N) and Γ(N): the conditions that name them, their indexes, and the numbering of their right cosets.
-// The only code is the name of a family; specs/ has the definitions and the theorems. The crates above compute by them.
+// The congruence groups Γ0(N), Γ1(N) and Γ(N): the conditions that name them, their indexes, and the numbering of their
+// right cosets. specs/ has the definitions and the theorems. The code is the name of a family, and arithmetic modulo N
+// (`modular`), by which the crates above compute.
+
+pub mod modular;
 
 // Which of the three groups of a number N.
 pub enum Family {

@@ -12,12 +12,12 @@ use lib.IntN.{pos, negℤ, _+ℤ_, _-ℤ_}
 use lib.ListN.{length, getD, set, length-set}
 use lib.Seq.{getD-set-same, getD-set-other}
 use Rattle.matrix.proofs.Ring.{var, _⊕_, _⊙_, ⊖_, ring}
-use Rattle.workspace.specs.Space.{workLength}
+use Rattle.call.specs.Space.{workLength}
 use Rattle.congruence.specs.Congruence.{Multiple}
 use Rattle.congruence.proofs.Multiple.{mult-as, mult-self, mult-+, mult-*, mult-neg}
 use Rattle.congruence.proofs.Factor.{dvd-mult, mult-dvd}
-use Rattle.modular.specs.declared.Common.{Common}
-use Rattle.modular.specs.Inner.Common.{Modulus, CommonOf}
+use Rattle.congruence.specs.declared.modular.Common.{Common}
+use Rattle.congruence.specs.Inner.Common.{Modulus, CommonOf}
 use Rattle.congruence_tables.specs.Inner.Held.{PART, MULTIPLIER, ColumnAt, withColumn, ColumnsMade, Points, PointAt}
 
 -- ---- the column of -c

@@ -11,22 +11,22 @@ use native.Mathlib.Decide.{decLt, ℕ-discrete}
 use lib.ListN.{length, getD, set, length-set, length-append}
 use lib.Seq.{getD-set-same, getD-set-other}
 use Rattle.matrix.specs.Matrix.{Mat, _⊗_, adj}
-use Rattle.workspace.specs.Space.{workLength}
+use Rattle.call.specs.Space.{workLength}
 use Rattle.basics.proofs.Count.{first-clear}
 use Rattle.basics.proofs.Choice.{either, clash}
-use Rattle.congruence.specs.Condition.{Condition}
+use Rattle.right_cosets.specs.Condition.{Condition}
 use Rattle.congruence.specs.Congruence.{Meets, meets}
-use Rattle.congruence.specs.Cosets.{cosetIn, withCoset}
+use Rattle.right_cosets.specs.Cosets.{cosetIn, withCoset}
 use Rattle.congruence.specs.declared.Family.{Family}
-use Rattle.congruence.proofs.Transversal.{self}
+use Rattle.right_cosets.proofs.Transversal.{self}
 use Rattle.congruence.proofs.Meets.{decided}
 use Rattle.congruence.proofs.Theorem.{families, indexes}
-use Rattle.congruence.specs.Inner.Listed.{matrixAt, CosetList}
-use Rattle.congruence.proofs.Listed.{in-is, joined-old, joined-new, joined-listed, listed-few, last-extends, entry-last}
-use Rattle.residues.specs.declared.Residues.{Residues}
-use Rattle.residues.specs.Inner.Residues.{Stands, sameEntry, bucketOf}
-use Rattle.residues.proofs.Signs.{entry-small}
-use Rattle.residues.proofs.Keys.{same-bucket, same-meets, meets-same}
+use Rattle.right_cosets.specs.Inner.Listed.{matrixAt, CosetList}
+use Rattle.right_cosets.proofs.Listed.{in-is, joined-old, joined-new, joined-listed, listed-few, last-extends, entry-last}
+use Rattle.congruence_tables.specs.declared.residues.Residues.{Residues}
+use Rattle.congruence_tables.specs.Inner.Residues.{Stands, sameEntry, bucketOf}
+use Rattle.congruence_tables.proofs.Signs.{entry-small}
+use Rattle.congruence_tables.proofs.Keys.{same-bucket, same-meets, meets-same}
 use Rattle.congruence_tables.specs.Inner.Held.{ENTRY-A, ENTRY-B, ENTRY-C, ENTRY-D, HEAD, EARLIER, PART, MULTIPLIER, residuesAt, Group, Columns}
 use Rattle.congruence_tables.specs.Inner.Held.{Latest, HoldsCosets, HoldsSome, Finds, withEntries, withMatrix, Pushes, Seeks, Enters, EntersAs}
 
@@ -167,13 +167,15 @@ module _ (w : List ℕ) (i : ℕ) (x : Residues) (k : ℕ) (long : workLength �
   pub pushed-next : getD (withMatrix w i x k) (EARLIER + i) 0 ≡ getD w (HEAD + k) 0
   pushed-next =
       let l = stored-long in
-      getD-set-other w2 (HEAD + k) (EARLIER + i) (i + 1) 0 (λ e. omega arith) ∙ getD-set-same w1 (EARLIER + i) (getD w1 (HEAD + k) 0) 0 (omega arith) ∙ stored-head
+      getD-set-other w2 (HEAD + k) (EARLIER + i) (i + 1) 0 (λ e. omega arith) ∙ getD-set-same w1 (EARLIER + i) (getD w1 (HEAD + k) 0) 0 (omega arith)
+      ∙ stored-head
 
   pub pushed-head : getD (withMatrix w i x k) (HEAD + k) 0 ≡ i + 1
   pushed-head = getD-set-same w2 (HEAD + k) (i + 1) 0 (omega (arith, put-length w1 stored-long (EARLIER + i) (getD w1 (HEAD + k) 0)))
 
   pub pushed-nexts : (j : ℕ) → j < i → getD (withMatrix w i x k) (EARLIER + j) 0 ≡ getD w (EARLIER + j) 0
-  pushed-nexts j h = pushed-other (EARLIER + j) (λ e. omega arith) (λ e. omega arith) (λ e. omega arith) (λ e. omega arith) (λ e. omega arith) (λ e. omega arith)
+  pushed-nexts j h = pushed-other (EARLIER + j) (λ e. omega arith) (λ e. omega arith) (λ e. omega arith) (λ e. omega arith) (λ e. omega arith)
+      (λ e. omega arith)
 
   pub pushed-heads : (b : ℕ) → b < 4096 → b ≢ k → getD (withMatrix w i x k) (HEAD + b) 0 ≡ getD w (HEAD + b) 0
   pushed-heads b h ne =
@@ -289,7 +291,8 @@ module _ (f : Family) (n : ℕ) {l : List Mat} {w : List ℕ} {count : ℕ} (g :
   pub place-joined : Finds f n w count x count → count ≡ cosetIn (meets f n) (withCoset (meets f n) l m) m
   place-joined z =
       let h : length l ≤ cosetIn (meets f n) l m = let e = z l m g s in omega (arith, g .size) in
-      let at = in-is c (decided f n) (new-listed h) m (s .unit) (length l) (omega (arith, length-append l (m ∷ []))) (rw (entry-last l m) (self c m (s .unit))) in
+      let at = in-is c (decided f n) (new-listed h) m (s .unit) (length l) (omega (arith, length-append l (m ∷ [])))
+      (rw (entry-last l m) (self c m (s .unit))) in
       rw (joined-new c (decided f n) l m h) (sym (at ∙ g .size))
 
 pub entered-old : {f : Family} {n : ℕ} {w : List ℕ} {count : ℕ} {x : Residues} {p : ℕ} → Finds f n w count x p → p < count → EntersAs f n w count x w p count
@@ -311,7 +314,8 @@ entered-new {f} {n} {w} {count} {x} k a is key z =
     }
 
 -- a search goes on as long as p isn't 0
-pub searching-as : (f : Family) (n : ℕ) {w : List ℕ} {count : ℕ} (x : Residues) (k : ℕ) {p q : ℕ} → q + 1 ≡ p → Searching f n w count x k p → Searching f n w count x k (suc q)
+pub searching-as : (f : Family) (n : ℕ) {w : List ℕ} {count : ℕ} (x : Residues) (k : ℕ) {p q : ℕ} → q + 1 ≡ p → Searching f n w count x k p
+    → Searching f n w count x k (suc q)
 searching-as f n x k {p} {q} e z = let d : p ≡ suc q = omega arith in rw d at z
 
 -- ---- `find`: what its loop needs, at each place

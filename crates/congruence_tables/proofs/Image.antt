@@ -10,16 +10,16 @@ use lib.ListN.{length}
 use lib.IntN.{pos, _-ℤ_}
 use Rattle.matrix.specs.Matrix.{𝟙, matS, matR}
 use Rattle.matrix.proofs.Matrix.{det-𝟙}
-use Rattle.workspace.specs.Space.{workLength}
+use Rattle.call.specs.Space.{workLength}
 use Rattle.congruence.specs.Congruence.{Multiple, Modulo}
 use Rattle.congruence.specs.declared.Family.{Family}
 use Rattle.congruence.specs.declared.Family.the-variants as family
 use Rattle.congruence.proofs.Multiple.{mult-as, mult-zero}
 use Rattle.congruence.proofs.Sign.{mod-mult}
-use Rattle.modular.specs.Inner.Common.{Modulus}
-use Rattle.residues.specs.declared.Residues.{Residues}
-use Rattle.residues.specs.Inner.Residues.{matrixOf, ResiduesOf, negated, SignedOf, PointOf, MatrixOf, EntryOf, RowOf, Stands, ImageBy}
-use Rattle.residues.proofs.Images.{image-point-s, image-point-r, signed-stands}
+use Rattle.congruence.specs.Inner.Common.{Modulus}
+use Rattle.congruence_tables.specs.declared.residues.Residues.{Residues}
+use Rattle.congruence_tables.specs.Inner.Residues.{matrixOf, ResiduesOf, negated, SignedOf, PointOf, MatrixOf, EntryOf, RowOf, Stands, ImageBy}
+use Rattle.congruence_tables.proofs.Images.{image-point-s, image-point-r, signed-stands}
 use Rattle.congruence_tables.specs.Inner.Held.{Columns, Points, PointAt, TakesImage}
 
 -- ---- images

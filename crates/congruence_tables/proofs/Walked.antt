@@ -10,23 +10,24 @@ use native.Mathlib.Omega.{arith}
 use native.Mathlib.Decide.{ℕ-discrete}
 use lib.ListN.{length, getD, set, take, drop, length-set}
 use Rattle.matrix.specs.Matrix.{Mat, 𝟙, _⊗_, matS, matR}
-use Rattle.workspace.specs.Space.{workLength, zeros}
-use Rattle.workspace.proofs.Zeros.{length-zeros, getD-zeros}
+use Rattle.call.specs.Space.{workLength, zeros}
+use Rattle.call.proofs.Zeros.{length-zeros, getD-zeros}
 use Rattle.numbering.specs.Table.{imageAt}
 use Rattle.numbering.proofs.Find.{none-below}
-use Rattle.congruence.specs.Condition.{Condition}
+use Rattle.right_cosets.specs.Condition.{Condition}
 use Rattle.congruence.specs.Congruence.{Meets, meets}
 use Rattle.congruence.specs.Index.{familyIndex}
-use Rattle.congruence.specs.Cosets.{cosetIn, withCoset, afterVisit, cosetsTo, familyCosets, familyS, familyR}
+use Rattle.right_cosets.specs.Cosets.{cosetIn, withCoset, afterVisit, cosetsTo}
+use Rattle.congruence.specs.Cosets.{familyCosets, familyS, familyR}
 use Rattle.congruence.specs.declared.Family.{Family}
-use Rattle.congruence.specs.Inner.Listed.{matrixAt, Extends, CosetList}
+use Rattle.right_cosets.specs.Inner.Listed.{matrixAt, Extends, CosetList}
 use Rattle.congruence.proofs.Meets.{decided}
 use Rattle.congruence.proofs.Theorem.{families, indexes}
-use Rattle.congruence.proofs.Listed.{unit-S, unit-R, in-le, extends-trans, in-extends, joined-in, joined-extends, joined-listed, visited-extends}
-use Rattle.congruence.proofs.Listed.{to-more, to-listed, to-extends, to-stop, listed-index, table-length, table-at}
-use Rattle.residues.specs.declared.Residues.{Residues}
-use Rattle.residues.specs.Inner.Residues.{EntryOf, ImageBy, Stands, bucketOf}
-use Rattle.residues.proofs.Signs.{entry-small}
+use Rattle.right_cosets.proofs.Listed.{unit-S, unit-R, in-le, extends-trans, in-extends, joined-in, joined-extends, joined-listed, visited-extends}
+use Rattle.right_cosets.proofs.Listed.{to-more, to-listed, to-extends, to-stop, listed-index, table-length, table-at}
+use Rattle.congruence_tables.specs.declared.residues.Residues.{Residues}
+use Rattle.congruence_tables.specs.Inner.Residues.{EntryOf, ImageBy, Stands, bucketOf}
+use Rattle.congruence_tables.proofs.Signs.{entry-small}
 use Rattle.congruence_tables.specs.Inner.Held.{HEAD, residuesAt, withMatrix, Group, ColumnsMade, TakesImage, HoldsCosets}
 use Rattle.congruence_tables.specs.Inner.Held.{Enters, EntersAs, Visits, VisitsTo, Started, Pushes, Tabulates}
 use Rattle.congruence_tables.proofs.Held.{stands-as, pushed-length, pushed-new, pushed-columns, pushed-head, pushed-heads, pushed-next}
@@ -41,15 +42,18 @@ module _ {f : Family} {n : ℕ} {l : List Mat} {w : List ℕ} {count : ℕ} (h :
   stands-R x p = let s = h .stands i low in record { unit = unit-R (matrixAt l i) (s .unit); entry = p .entry; is = p .is (matrixAt l i) (s .is) }
 
 -- S joins, and then R
-module _ {f : Family} {n : ℕ} {w : List ℕ} {i count : ℕ} (low : i < count) {x y : Residues} (p : ImageBy f n matS (residuesAt w i) x) (q : ImageBy f n matR (residuesAt w i) y)
+module _ {f : Family} {n : ℕ} {w : List ℕ} {i count : ℕ} (low : i < count) {x y : Residues} (p : ImageBy f n matS (residuesAt w i) x)
+    (q : ImageBy f n matR (residuesAt w i) y)
     {w1 w2 : List ℕ} {a b c d : ℕ} (first : EntersAs f n w count x w1 a b) (second : EntersAs f n w1 b y w2 c d) where
   pub visit-to : (s r : List ℕ) → VisitsTo f n w s r i count w2 (set s i a) (set r i c) d
   visit-to s r = record {
     same = second .same ∙ first .same;
-    holds = λ l h. second .holds (withCoset (meets f n) l (matrixAt l i ⊗ matS)) (matrixAt l i ⊗ matR) (first .holds l (matrixAt l i ⊗ matS) h (stands-S h i low x p)) (stands-R h i low y q);
+    holds = λ l h. second .holds (withCoset (meets f n) l (matrixAt l i ⊗ matS)) (matrixAt l i ⊗ matR)
+        (first .holds l (matrixAt l i ⊗ matS) h (stands-S h i low x p)) (stands-R h i low y q);
     S-is = λ l h. ap (λ (z : ℕ). set s i z) (first .place-is l (matrixAt l i ⊗ matS) h (stands-S h i low x p));
     R-is = λ l h. ap (λ (z : ℕ). set r i z)
-        (second .place-is (withCoset (meets f n) l (matrixAt l i ⊗ matS)) (matrixAt l i ⊗ matR) (first .holds l (matrixAt l i ⊗ matS) h (stands-S h i low x p)) (stands-R h i low y q));
+        (second .place-is (withCoset (meets f n) l (matrixAt l i ⊗ matS)) (matrixAt l i ⊗ matR) (first .holds l (matrixAt l i ⊗ matS) h (stands-S h i low x p))
+        (stands-R h i low y q));
   }
 
 -- ---- a table filled from the front
@@ -112,7 +116,7 @@ module _ (f : Family) (n : ℕ) (g : Group f n) where
 
   -- what is listed isn't more than the index
   pub few : (i : ℕ) {w : List ℕ} {count : ℕ} → HoldsCosets f n (cosetsTo (meets f n) i) w count → count ≤ N
-  few i h = omega (arith, Rattle.congruence.proofs.Listed.listed-few c (decided f n) (indexes f n (g .modulus .some)) (h .listed), h .size)
+  few i h = omega (arith, Rattle.right_cosets.proofs.Listed.listed-few c (decided f n) (indexes f n (g .modulus .some)) (h .listed), h .size)
 
   module _ (i : ℕ) {w : List ℕ} {count : ℕ} (h : HoldsCosets f n (cosetsTo (meets f n) i) w count) (low : i < count) where
     abbrev l : List Mat
@@ -124,7 +128,7 @@ module _ (f : Family) (n : ℕ) (g : Group f n) where
     below : i < length l
     below = rw (h .size) low
 
-    unit-m : Rattle.congruence.specs.Condition.Unit m
+    unit-m : Rattle.right_cosets.specs.Condition.Unit m
     unit-m = h .listed .unit i below
 
     next : Extends (afterVisit (meets f n) l i) (familyCosets f n)
@@ -180,8 +184,10 @@ module _ {f : Family} {n : ℕ} {s₀ r₀ w s r : List ℕ} {count i : ℕ} (p 
         room-R = p .room-R;
         same-S = rw a (length-set s i _ ∙ p .same-S);
         same-R = rw b (length-set r i _ ∙ p .same-R);
-        S-is = rw (add-one i) (a ∙ ap (λ (z : List ℕ). set z i (imageAt (familyS f n) i)) (p .S-is) ∙ filled-more (familyS f n) s₀ i (omega arith) (omega (arith, p .room-S)));
-        R-is = rw (add-one i) (b ∙ ap (λ (z : List ℕ). set z i (imageAt (familyR f n) i)) (p .R-is) ∙ filled-more (familyR f n) r₀ i (omega arith) (omega (arith, p .room-R)));
+        S-is = rw (add-one i)
+            (a ∙ ap (λ (z : List ℕ). set z i (imageAt (familyS f n) i)) (p .S-is) ∙ filled-more (familyS f n) s₀ i (omega arith) (omega (arith, p .room-S)));
+        R-is = rw (add-one i)
+            (b ∙ ap (λ (z : List ℕ). set z i (imageAt (familyR f n) i)) (p .R-is) ∙ filled-more (familyR f n) r₀ i (omega arith) (omega (arith, p .room-R)));
       }
 
   pub part-visits : i < count → Visits f n w s r i count
@@ -194,7 +200,8 @@ module _ {f : Family} {n : ℕ} {s₀ r₀ w s r : List ℕ} {count i : ℕ} (p 
   }
 
   ended : count ≤ i → i ≡ familyIndex f n
-  ended h = let e : i ≡ count = omega (arith, p .upto) in stopped f n (p .group) i {w = w} (subst (λ (z : ℕ). HoldsCosets f n (cosetsTo (meets f n) i) w z) (sym e) (p .holds))
+  ended h = let e : i ≡ count = omega (arith, p .upto) in
+      stopped f n (p .group) i {w = w} (subst (λ (z : ℕ). HoldsCosets f n (cosetsTo (meets f n) i) w z) (sym e) (p .holds))
 
   pub part-end : count ≤ i → count ≡ familyIndex f n
   part-end h = let e = ended h in omega (arith, p .upto)
@@ -274,7 +281,8 @@ module _ {f : Family} {n : ℕ} {w s r : List ℕ} {i count : ℕ} (a : Visits f
 
 -- ---- `begin`: the identity alone, where the heads are 0
 
-module _ (f : Family) (n : ℕ) (a : Group f n) (w₀ w : List ℕ) (long : workLength ≤ length w₀) (cleared : w ≡ zeros (length w₀)) {u : List ℕ} (made : ColumnsMade n w u)
+module _ (f : Family) (n : ℕ) (a : Group f n) (w₀ w : List ℕ) (long : workLength ≤ length w₀) (cleared : w ≡ zeros (length w₀)) {u : List ℕ}
+    (made : ColumnsMade n w u)
     (x : Residues) (st : Stands f n x 𝟙) (k : ℕ) (is : k ≡ bucketOf f n x) (key : k < 4096) where
   same₀ : length u ≡ length w₀
   same₀ = made .same ∙ ap length cleared ∙ length-zeros (length w₀)

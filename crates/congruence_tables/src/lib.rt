@@ -1,28 +1,33 @@
-// The tables of S and R of Γ0(N), Γ1(N) and Γ(N). The right cosets are numbered as they are met: each is kept as an entry of four numbers, of which
-// some tell the cosets apart (crate `residues`), and found again by a bucket of these. specs/Inner/Held.antt says what stands in the work space.
-// The functions have `requires`, for they are called from inside the engine.
+// The tables of S and R of Γ0(N), Γ1(N) and Γ(N). The right cosets are numbered as they are met: each is kept as an
+// entry of four numbers, of which some tell the cosets apart (module `residues`), and found again by a bucket of these.
+// specs/Inner/Held.antt says what stands in the work space. The functions have `requires`, for they are called from
+// inside the engine.
+use crate::residues::Residues;
+use crate::residues::bucket;
+use crate::residues::difference;
+use crate::residues::opposite;
+use crate::residues::same_entry;
+use crate::residues::signed;
+use crate::residues::times_r;
+use crate::residues::times_s;
 use congruence::Family;
-use modular::common_divisor;
-use residues::Residues;
-use residues::bucket;
-use residues::difference;
-use residues::opposite;
-use residues::same_entry;
-use residues::signed;
-use residues::times_r;
-use residues::times_s;
+use congruence::modular::common_divisor;
 ghost use mathlib.Core.Path.{_≡_};
 ghost use mathlib.Core.List.{_++_};
 ghost use Prim.Native.Nat.{_+_, _≤_, _<_};
 ghost use lib.ListN.{length, drop};
-ghost use Rattle.workspace.specs.Space.{workLength};
+ghost use Rattle.call.specs.Space.{workLength};
 ghost use Rattle.congruence.specs.Index.{familyIndex};
 ghost use Rattle.congruence.specs.Cosets.{familyCosets, familyS, familyR};
 ghost use Rattle.matrix.specs.Matrix.{𝟙, matS, matR};
-ghost use Rattle.modular.specs.Inner.Common.{Modulus};
-ghost use Rattle.residues.specs.Inner.Residues.{Stands, ImageBy};
-ghost use Rattle.congruence_tables.specs.Inner.Held.{residuesAt, Group, HoldsCosets, Finds, withColumn, Columns, ColumnsMade, Points, PointAt, TakesImage};
-ghost use Rattle.congruence_tables.specs.Inner.Held.{withMatrix, Pushes, Seeks, Enters, EntersAs, Visits, VisitsTo, Started, Tabulates};
+ghost use Rattle.congruence.specs.Inner.Common.{Modulus};
+ghost use Rattle.congruence_tables.specs.Inner.Residues.{Stands, ImageBy};
+ghost use Rattle.congruence_tables.specs.Inner.Held.{residuesAt, Group, HoldsCosets, Finds, withColumn, Columns};
+ghost use Rattle.congruence_tables.specs.Inner.Held.{ColumnsMade, Points, PointAt, TakesImage};
+ghost use Rattle.congruence_tables.specs.Inner.Held.{withMatrix, Pushes, Seeks, Enters, EntersAs, Visits};
+ghost use Rattle.congruence_tables.specs.Inner.Held.{VisitsTo, Started, Tabulates};
+
+pub mod residues;
 
 // The places of the tables in the work space.
 pub const ENTRY_A: usize = 4096;
@@ -148,14 +153,14 @@ fn find(f: Family, n: u64, w: &[u16], count: usize, x: Residues, k: usize) -> us
     ensures { λ p. ⌜ Finds f n (now (w .entry)) count x p ⌝ }
     ensures { λ p. ⌜ p ≤ count ⌝ }
 {
-    let mut p = workspace::index(w[HEAD + k]);
+    let mut p = call::workspace::index(w[HEAD + k]);
     while 0 < p {
         let q = p - 1;
         let y = load(w, q);
         if same_entry(f, x, y) {
             return q;
         }
-        p = workspace::index(w[EARLIER + q]);
+        p = call::workspace::index(w[EARLIER + q]);
     }
     count
 }
@@ -187,8 +192,8 @@ fn narrow(x: usize) -> u32
     x as u32
 }
 
-// The images of the coset i by S, and next by R, join the list; their places are the images of i in the tables s and r. How many
-// there are now.
+// The images of the coset i by S, and next by R, join the list; their places are the images of i in the tables s and r.
+// How many there are now.
 fn visit(
     f: Family,
     n: u64,
@@ -199,7 +204,8 @@ fn visit(
     count: usize,
 ) -> usize
     requires { ⌜ Visits f n (now w) (now s) (now r) i count ⌝ }
-    ensures { λ k. ⌜ VisitsTo f n (now (w .entry)) (now (s .entry)) (now (r .entry)) i count (now (w .exit)) (now (s .exit)) (now (r .exit)) k ⌝ }
+    ensures { λ k. ⌜ VisitsTo f n (now (w .entry)) (now (s .entry)) (now (r .entry)) i count (now (w .exit))
+        (now (s .exit)) (now (r .exit)) k ⌝ }
 {
     let x = load(w, i);
     let y = image_s(f, n, w, x);
@@ -245,7 +251,7 @@ fn begin(f: Family, n: u64, w: &mut [u16])
     requires { ⌜ Group f n × (workLength ≤ length (now w)) ⌝ }
     ensures { λ _. ⌜ Started f n (now (w .entry)) (now (w .exit)) ⌝ }
 {
-    workspace::clear(w);
+    call::workspace::clear(w);
     columns(n, w);
     let x = identity(f, n, w);
     let k = bucket(f, n, x);

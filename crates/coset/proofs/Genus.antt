@@ -12,9 +12,9 @@ use Rattle.polygon.specs.Theorem.{Polygon}
 use Rattle.numbering.specs.Table.{imageAt, _thenTable_}
 use Rattle.numbering.proofs.Table.{then-at, natural-then, natural-fixed}
 use Rattle.figures.specs.FiguresOf.{figuresIn}
-use Rattle.genus.specs.Genus.{CosetPair, HasGenus}
-use Rattle.genus.proofs.Transitive.{numbered-transitive}
-use Rattle.genus.proofs.Genus.{tables-genus}
+use Rattle.figures.specs.Genus.{CosetPair, HasGenus}
+use Rattle.figures.proofs.Transitive.{numbered-transitive}
+use Rattle.figures.proofs.Genus.{tables-genus}
 use Rattle.coset.specs.Tables.{cosets, tableS, tableR, tableT, indexOf}
 use Rattle.coset.specs.Theorem.{Cosets}
 use Rattle.coset.specs.Answer.{figuresOf}
@@ -50,7 +50,8 @@ module _ (v : ℕ) (t : List ℤ) (g : Polygon v t) where
 
   pub coset-pair : CosetPair s r
   coset-pair = record {
-    transitive = numbered-transitive (omega (arith, numbers v t g .some, names v t g .S .long, c .size-S)) (c .size-S) (c .size-R) (c .permutations .S) (c .permutations .R) (c .numbered);
+    transitive = numbered-transitive (omega (arith, numbers v t g .some, names v t g .S .long, c .size-S)) (c .size-S) (c .size-R) (c .permutations .S)
+        (c .permutations .R) (c .numbered);
     twice = twice;
     thrice = thrice;
   }

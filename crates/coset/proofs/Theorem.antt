@@ -38,7 +38,8 @@ use Rattle.basics.proofs.Count.{length-those}
 use Rattle.numbering.proofs.Filled.{order-count}
 use Rattle.numbering.proofs.Numbered.{numbered}
 use Rattle.coset.specs.Tables.{stepR, cosets, tableS, tableR, tableT, indexOf}
-use Rattle.coset.specs.Theorem.{byTableQ, leads, Led, Cosets}
+use Rattle.right_cosets.specs.Leads.{byTableQ, leads, Led}
+use Rattle.coset.specs.Theorem.{Cosets}
 
 module _ (v : ℕ) (t : List ℤ) (g : Polygon v t) where
   abbrev σ : ℕ → ℕ
@@ -270,7 +271,12 @@ module _ (v : ℕ) (t : List ℤ) (g : Polygon v t) where
   all-led j h =
       let p = getD (cosets v t) j 0 in
       let k = listed-real p (numbers .only p (getD-in (cosets v t) j h)) in
-      record { matrix = g .frame p; unit = g .cut .unit p (g .within p k); is = leads-is (g .frame p) ∙ ap number (g .walks .by-frame p k) ∙ numbers .once .place j h }
+      record {
+        matrix = g .frame p;
+        unit = g .cut .unit p (g .within p k);
+        is = leads-is (g .frame p) ∙ ap number (g .walks .by-frame p k)
+            ∙ numbers .once .place j h;
+      }
 
   in-order : orderOf (imageAt s) (imageAt r) 0 (indexOf v t) ≡ upTo (indexOf v t)
   unfolding cosets tableS tableR

@@ -19,7 +19,7 @@ use borrow.Author.Tests.{lt-ltb, le-ltb, ltb-true}
 use borrow.Author.Count.{below-more}
 use Rattle.basics.specs.Choice.{pick}
 use Rattle.matrix.specs.Matrix.{nth}
-use Rattle.workspace.specs.Space.{workLength}
+use Rattle.call.specs.Space.{workLength}
 use Rattle.symbol.specs.Table.{pairingEntry, pairingOf}
 use Rattle.symbol.specs.Symbol.{IsSymbol}
 use Rattle.pairing.specs.Generator.{pairingAt}

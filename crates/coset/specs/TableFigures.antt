@@ -1,19 +1,20 @@
--- WHAT THE FIGURES ARE (docs/CONVENTIONS.md, 5), of tables s, r and u of S, R and T. The proof is `table-figures`, in proofs/TableFigures.antt.
+-- WHAT THE FIGURES ARE (docs/CONVENTIONS.md, 5), of tables s, r and u of S, R and T. The proof is `table-figures`, in
+-- proofs/TableFigures.antt.
 --
 --   TableFigures s r u f     the figures f are those of the tables, in these parts:
 --     counts     as many points as its index, of which S fixes e2 and R fixes e3; as many cusps as it says
---     widths     there is one width for each cusp, and the width at place j is the length of the cycle of the cusp at place j: so many steps of
---                T lead from that point back to it, and no fewer
---     genus      it is the g with 12 g = 12 + index - 3 e2 - 4 e3 - 6 cusps; it is refused with 18 where there is none, which is so
---                for no symbol (`Meaning`, in Answer.antt)
---     level      it is the least common multiple of the widths (each width divides it, and it divides whatever they all divide); it is refused
---                with 17 where that is 2^64 or more
+--     widths     there is one width for each cusp, and the width at place j is the length of the cycle of the cusp at
+--                place j: so many steps of T lead from that point back to it, and no fewer
+--     genus      it is the g with 12 g = 12 + index - 3 e2 - 4 e3 - 6 cusps; it is refused with 18 where there is none,
+--                which is so for no symbol (`Meaning`, in Answer.antt)
+--     level      it is the least common multiple of the widths (each width divides it, and it divides whatever they all
+--                divide); it is refused with 17 where that is 2^64 or more
 use mathlib.Core.Path.{_≡_}
 use mathlib.Core.Logic.{_↔_}
 use mathlib.Core.List.{List}
 use Prim.Native.Nat.{ℕ, _+_, _*_, _<_, _≤_}
 use lib.ListN.{length}
-use Rattle.refusal.specs.Refusal.{levelTooLarge, noGenus}
+use Rattle.call.specs.Refusal.{levelTooLarge, noGenus}
 use Rattle.numbering.specs.Table.{imageAt}
 use Rattle.figures.specs.Cusps.{fixedPoints, cusps, widths, Width}
 use Rattle.figures.specs.declared.Figure.the-variants.{Value, Refused}

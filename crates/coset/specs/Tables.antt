@@ -1,8 +1,8 @@
 -- The coset tables of an accepted symbol (docs/CONVENTIONS.md, 4).
 --
 --   stepR v t p         where R leads from the position p: R is S Q⁻¹ S up to sign, and Q⁻¹ is Q twice
---   cosets v t          the positions that stand for the cosets of H, by number: H is 0; then, for each in order, its S image and next
---                       its R image take the next free number if new
+--   cosets v t          the positions that stand for the cosets of H, by number: H is 0; then, for each in order, its S
+--                       image and next its R image take the next free number if new
 --   tableS v t          the images of the numbers under multiplication on the right by S
 --   tableR v t          by R
 --   tableT v t          by T, which is S first and then R

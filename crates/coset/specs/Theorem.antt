@@ -1,16 +1,15 @@
--- WHAT THE COSET TABLES SAY, for every accepted symbol: `Cosets v t s r u`, of its tables s, r and u of S, R and T, which are tables
--- of the right cosets of the subgroup H that its side pairings generate. The proof is `cosets-are`, in proofs/Theorem.antt.
+-- WHAT THE COSET TABLES SAY, for every accepted symbol: `Cosets v t s r u`, of its tables s, r and u of S, R and T,
+-- which are tables of the right cosets of the subgroup H that its side pairings generate. The proof is `cosets-are`, in
+-- proofs/Theorem.antt.
 --
---   byTableQ s r x      where Q leads from the point x: Q is S R R S up to sign
---   leads s r m         where the matrix m leads from point 0: its alternating word, followed in the tables
---   Led s r j           some matrix of determinant 1 leads from point 0 to j
 --   Cosets v t s r u    the promise, in these parts:
 --     size              each table has as many entries as the index says, and is a permutation
 --     S, R, T           multiplication on the right by S, R and T is one step in the table; T is S first and then R
---     zero, cosets      point 0 is H; two matrices lead to one point exactly where some product of generators and inverses takes one to
---                       the other, up to sign
+--     zero, cosets      point 0 is H; two matrices lead to one point exactly where some product of generators and
+--                       inverses takes one to the other, up to sign
 --     reached           each point is some matrix's coset, so the number of points is the index of H
---     numbered          the points are numbered as docs/CONVENTIONS.md says: the rule, followed in the tables from point 0, gives 0, 1, 2, ..
+--     numbered          the points are numbered as docs/CONVENTIONS.md says: the rule, followed in the tables from
+--                       point 0, gives 0, 1, 2, ..
 use mathlib.Core.Path.{_≡_}
 use mathlib.Core.Logic.{_↔_}
 use mathlib.Core.List.{List}
@@ -18,23 +17,12 @@ use Prim.Native.Nat.{ℕ, _<_}
 use lib.ListN.{length}
 use lib.IntN.{ℤ, pos}
 use Rattle.matrix.specs.Matrix.{Mat, _⊗_, 𝟙, det, matS, matR, matT}
-use Rattle.matrix.specs.Action as action
 use Rattle.pairing.specs.Generator.{generators}
 use Rattle.polygon.specs.Theorem.{SameCoset}
 use Rattle.numbering.specs.Order.{orderOf, upTo}
 use Rattle.numbering.specs.Table.{imageAt, _thenTable_, Permutations}
 use Rattle.coset.specs.Tables.{indexOf}
-
-abbrev pub byTableQ : (s r : List ℕ) → ℕ → ℕ
-byTableQ s r x = imageAt s (imageAt r (imageAt r (imageAt s x)))
-
-abbrev pub leads : (s r : List ℕ) → Mat → ℕ
-leads s r m = action.at (imageAt s) (byTableQ s r) 0 m
-
-pub record Led (s r : List ℕ) (j : ℕ) : Type 0 where
-  pub matrix : Mat
-  pub unit : det matrix ≡ pos 1
-  pub is : leads s r matrix ≡ j
+use Rattle.right_cosets.specs.Leads.{Led, leads}
 
 pub record Cosets (v : ℕ) (t : List ℤ) (s r u : List ℕ) : Type 0 where
   -- size
@@ -50,7 +38,8 @@ pub record Cosets (v : ℕ) (t : List ℤ) (s r u : List ℕ) : Type 0 where
   pub T-is : u ≡ s thenTable r
   -- zero, cosets
   pub zero : leads s r 𝟙 ≡ 0
-  pub cosets : (m n : Mat) → det m ≡ pos 1 → det n ≡ pos 1 → (leads s r m ≡ leads s r n) ↔ SameCoset (generators v t) m n
+  pub cosets : (m n : Mat) → det m ≡ pos 1 → det n ≡ pos 1 → (leads s r m ≡ leads s r n)
+      ↔ SameCoset (generators v t) m n
   -- reached
   pub reached : (j : ℕ) → j < indexOf v t → Led s r j
   -- numbered

@@ -9,7 +9,7 @@ use symbol::read_pairing;
 ghost use mathlib.Core.Path.{_≡_};
 ghost use Prim.Native.Nat.{_≤_, _<_};
 ghost use lib.ListN.{length};
-ghost use Rattle.workspace.specs.Space.{workLength};
+ghost use Rattle.call.specs.Space.{workLength};
 ghost use Rattle.symbol.specs.Symbol.{IsSymbol};
 ghost use Rattle.polygon.specs.Cut.{places};
 ghost use Rattle.polygon.specs.Step.{stepS, startOf, originOf};
@@ -37,7 +37,8 @@ fn image_s(t: &[i64], v: usize, w: &[u16], p: usize) -> usize
 // The S images of all places.
 fn fill_s(t: &[i64], v: usize, w: &mut [u16])
     requires { ⌜ PolygonTables (now t) v (now w) ⌝ }
-    ensures { λ _. ⌜ FilledS (now (t .entry)) v (now (w .exit)) (places v) × (length (now (w .exit)) ≡ length (now (w .entry))) ⌝ }
+    ensures { λ _. ⌜ FilledS (now (t .entry)) v (now (w .exit)) (places v)
+        × (length (now (w .exit)) ≡ length (now (w .entry))) ⌝ }
 {
     let end = 3 * (v - 1) + (v + 1);
     let mut p: usize = 0;
@@ -56,7 +57,7 @@ fn fill_r(v: usize, w: &mut [u16])
     let end = 3 * (v - 1) + (v + 1);
     let mut p: usize = 0;
     while p < end {
-        let a = workspace::index(w[SIGMA + p]);
+        let a = call::workspace::index(w[SIGMA + p]);
         let b = turn_q(v, a);
         let c = turn_q(v, b);
         w[RHO + p] = w[SIGMA + c];
@@ -78,7 +79,8 @@ fn origin(t: &[i64], v: usize, w: &[u16], start: usize) -> usize
 // The tables of S, R and T of an accepted symbol are put into the work space: how many cosets there are.
 pub fn arrange(v: usize, t: &[i64], w: &mut [u16]) -> usize
     requires { ⌜ IsSymbol v (now t) × (workLength ≤ length (now w)) ⌝ }
-    ensures { λ r. ⌜ Arranged (now (t .entry)) v (now (w .exit)) r × (length (now (w .exit)) ≡ length (now (w .entry))) ⌝ }
+    ensures { λ r. ⌜ Arranged (now (t .entry)) v (now (w .exit)) r
+        × (length (now (w .exit)) ≡ length (now (w .entry))) ⌝ }
 {
     let start = polygon::build(t, v, w);
     let zero = origin(t, v, w, start);

@@ -121,7 +121,8 @@ fn with_sign(code: u16, sign: bool) -> u16
 // The step from the real position p is noted.
 fn note_step(t: &[i64], v: usize, w: &mut [u16], p: usize)
     requires { ⌜ StepsReady (now t) v (now w) p × (p < places v) × Real v (now t) p ⌝ }
-    ensures { λ _. ⌜ StepsReady (now (t .entry)) v (now (w .exit)) (p + 1) × (length (now (w .exit)) ≡ length (now (w .entry))) ⌝ }
+    ensures { λ _. ⌜ StepsReady (now (t .entry)) v (now (w .exit)) (p + 1)
+        × (length (now (w .exit)) ≡ length (now (w .entry))) ⌝ }
 {
     let to = step_s(t, v, w, p);
     let letter = letter_s(t, v, w, p);
@@ -139,7 +140,8 @@ fn note_step(t: &[i64], v: usize, w: &mut [u16], p: usize)
 // The same for any place p, where nothing is noted if it is no position.
 fn note_place(t: &[i64], v: usize, w: &mut [u16], p: usize)
     requires { ⌜ StepsReady (now t) v (now w) p × (p < places v) ⌝ }
-    ensures { λ _. ⌜ StepsReady (now (t .entry)) v (now (w .exit)) (p + 1) × (length (now (w .exit)) ≡ length (now (w .entry))) ⌝ }
+    ensures { λ _. ⌜ StepsReady (now (t .entry)) v (now (w .exit)) (p + 1)
+        × (length (now (w .exit)) ≡ length (now (w .entry))) ⌝ }
 {
     if is_real(t, v, p) {
         note_step(t, v, w, p);
@@ -178,7 +180,7 @@ pub fn next(t: &[i64], v: usize, w: &[u16], p: usize) -> usize
     requires { ⌜ StepTables (now t) v (now w) × Real v (now t) p ⌝ }
     ensures { λ r. ⌜ r ≡ stepS v (now (t .entry)) p ⌝ }
 {
-    workspace::index(w[NEXT + p])
+    call::workspace::index(w[NEXT + p])
 }
 
 // A code as the letter.
@@ -232,7 +234,7 @@ pub fn forth(t: &[i64], v: usize, w: &[u16], p: usize) -> usize
     requires { ⌜ StepTables (now t) v (now w) × Real v (now t) p ⌝ }
     ensures { λ r. ⌜ r ≡ turnQ v (stepS v (now (t .entry)) p) ⌝ }
 {
-    workspace::index(w[FORTH + p])
+    call::workspace::index(w[FORTH + p])
 }
 
 // S and then Q⁻¹ there.
@@ -240,7 +242,7 @@ pub fn back(t: &[i64], v: usize, w: &[u16], p: usize) -> usize
     requires { ⌜ StepTables (now t) v (now w) × Real v (now t) p ⌝ }
     ensures { λ r. ⌜ r ≡ turnQ v (turnQ v (stepS v (now (t .entry)) p)) ⌝ }
 {
-    workspace::index(w[BACK + p])
+    call::workspace::index(w[BACK + p])
 }
 
 // The letter that Q, or Q⁻¹ where `inverse` holds, writes at the real position p, 0 where it writes none. The sign of a

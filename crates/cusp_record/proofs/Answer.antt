@@ -1,20 +1,20 @@
--- Laws for the public call: the two result spaces in their order (`both-…`), the record of a symbol (`symbol-record`), what an answer means (`cusp-meaning`,
--- `cusps-mean-refused`), that 4,090 entries are enough (`ample-for-cusps`).
+-- Laws for the public call: the two result spaces in their order (`both-…`), the record of a symbol (`symbol-record`), what it means (`cusp-meaning`), and
+-- what the call's number says (`cusps-says`).
 -- Assumes nothing.
-use mathlib.Core.Path.{_≡_, refl, sym, _∙_, ap}
-use mathlib.Core.List.{List}
+use mathlib.Core.Path.{_≡_, refl, sym, _∙_, ap, subst}
+use mathlib.Core.List.{List, [], _∷_, _++_}
 use Prim.Native.Nat.{ℕ, zero, suc, _+_, _-_, _≤_, _<_}
 use native.Mathlib.Omega.{arith}
-use lib.ListN.{length}
+use lib.ListN.{length, drop}
 use lib.IntN.{ℤ, pos}
-use borrow.Author.Tests.{lt-ltb, le-ltb}
-use Rattle.workspace.specs.Space.{workLength}
+use Rattle.call.specs.Refusal.{tooShort, _orElse_}
+use Rattle.call.specs.declared.refusal.Checked.the-variants.{Accepted, Refused}
+use Rattle.call.specs.declared.refusal.Filled.{Filled}
+use Rattle.call.proofs.Answers.{pass-both}
+use Rattle.call.specs.Call.{Lent, Step, Asks, Gives, lengthCheck, numberOf, placeOf}
+use Rattle.call.specs.Inner.Fills.{Fills, madeIf}
+use Rattle.call.proofs.Laws.{Run, run-end, run-write, run-hold, short-write, above-room, room-long}
 use Rattle.symbol.specs.Symbol.{IsSymbol}
-use Rattle.symbol.proofs.Accepted.{accepted}
-use Rattle.refusal.specs.Refusal.{tooShort}
-use Rattle.refusal.specs.declared.Refusal.{Refusal}
-use Rattle.refusal.specs.declared.Filled.{Filled}
-use Rattle.refusal.specs.declared.Filled.the-variants as filled
 use Rattle.matrix.specs.Matrix.{Mat, _⊗_, 𝟙, det, matT}
 use Rattle.matrix.proofs.Matrix.{det-𝟙, det-one}
 use Rattle.numbering.specs.Table.{Permutes}
@@ -24,24 +24,49 @@ use Rattle.figures.specs.Cusps.{times, cusps}
 use Rattle.figures.specs.Inner.Scan.{heldT, CuspWidths}
 use Rattle.figures.proofs.Filled.{S-stays, R-stays, T-stays}
 use Rattle.coset.specs.Tables.{indexOf, tableS, tableR, tableT}
-use Rattle.coset.specs.Theorem.{leads, Cosets}
-use Rattle.coset.specs.Answer.{roomTwo}
-use Rattle.coset.proofs.Answer.{Made, meaning}
+use Rattle.right_cosets.specs.Leads.{leads}
+use Rattle.coset.specs.Theorem.{Cosets}
+use Rattle.coset.proofs.Answer.{Made, meaning, sizes, few-cosets, symbol-says}
 use Rattle.cusp_record.specs.Record.{cuspWidth, cuspOf, cuspSteps, cuspTable, stepTable}
-use Rattle.cusp_record.specs.Answer.{cuspedOf, cuspReached, timesT, OneCusp, CuspMeaning, CuspsMean, AmpleForCusps}
+use Rattle.cusp_record.specs.Answer.{cuspColumn, stepColumn, cuspReached, timesT, OneCusp, CuspMeaning, cuspsCall}
 use Rattle.cusp_record.specs.Inner.Fill.{ByCusps, RecordFilled, SymbolRecord}
 use Rattle.cusp_record.proofs.Record.{ahead, cusp-at, in-order, coset-record}
 use Rattle.cusp_record.proofs.Fill.{scanned}
 
-module _ (n a b : ℕ) where
-  pub both-first : a < n → filled.Refused (tooShort n) ≡ roomTwo n a b
-  both-first h = rw (lt-ltb a n h)
+-- ---- the result spaces
 
-  pub both-second : n ≤ a → b < n → filled.Refused (tooShort n) ≡ roomTwo n a b
-  both-second h k = rw (le-ltb a n h, lt-ltb b n k)
+-- two lists of n entries in their spaces
+module _ (n : ℕ) (x y p q : List ℕ) (lx : length x ≡ n) (ly : length y ≡ n) where
+  abbrev both : (p' q' : List ℕ) → List Step
+  both p' q' =
+      Asks (lengthCheck (length x) (length p)) ∷ Gives (x ++ drop (length x) p) p p' ∷ Asks (lengthCheck (length y) (length q))
+      ∷ Gives (y ++ drop (length y) q) q q' ∷ []
 
-  pub both-room : n ≤ a → n ≤ b → filled.Made n ≡ roomTwo n a b
-  both-room h k = rw (le-ltb a n h, le-ltb b n k)
+  abbrev second : (q' : List ℕ) → List Step
+  second q' = Asks (lengthCheck (length y) (length q)) ∷ Gives (y ++ drop (length y) q) q q' ∷ []
+
+  pub both-first : length p < n → Run (both p q) (Refused (tooShort n))
+  both-first h = short-write x p n lx (second q) h (refl, tt)
+
+  pub both-second : n ≤ length p → length q < n → Run (both p q) (Refused (tooShort n))
+  both-second h k = run-hold x p n lx (second q) (tooShort n) h (short-write y q n ly [] k tt)
+
+  pub both-room : {p' q' : List ℕ} → n ≤ length p → n ≤ length q → p' ≡ x ++ drop n p → q' ≡ y ++ drop n q → Run (both p' q') Accepted
+  both-room {p'} {q'} h k e f = run-write x p n lx (second q') p' h e (run-write y q n ly [] q' k f run-end)
+
+-- the same of the lists that they are
+pub both-as : (x y x' y' p q : List ℕ) {p' q' : List ℕ} {n n' : ℕ} {a : Filled}
+    → Fills (Asks (lengthCheck (length x) (length p)) ∷ Gives (x ++ drop (length x) p) p p' ∷ Asks (lengthCheck (length y) (length q))
+    ∷ Gives (y ++ drop (length y) q) q q' ∷ []) (madeIf n) a → x ≡ x' → y ≡ y' → n ≡ n'
+    → Fills (Asks (lengthCheck (length x') (length p)) ∷ Gives (x' ++ drop (length x') p) p p' ∷ Asks (lengthCheck (length y') (length q))
+    ∷ Gives (y' ++ drop (length y') q) q q' ∷ []) (madeIf n') a
+both-as x y x' y' p q {p'} {q'} {n} {n'} {a} k e f h =
+    subst (λ (i : ℕ). Fills (Asks (lengthCheck (length x') (length p)) ∷ Gives (x' ++ drop (length x') p) p p' ∷ Asks (lengthCheck (length y') (length q))
+    ∷ Gives (y' ++ drop (length y') q) q q' ∷ []) (madeIf i) a) h
+    (subst (λ (m : List ℕ). Fills (Asks (lengthCheck (length x') (length p)) ∷ Gives (x' ++ drop (length x') p) p p' ∷ Asks (lengthCheck (length m) (length q))
+    ∷ Gives (m ++ drop (length m) q) q q' ∷ []) (madeIf n) a) f
+    (subst (λ (l : List ℕ). Fills (Asks (lengthCheck (length l) (length p)) ∷ Gives (l ++ drop (length l) p) p p' ∷ Asks (lengthCheck (length y) (length q))
+    ∷ Gives (y ++ drop (length y) q) q q' ∷ []) (madeIf n) a) e k))
 
 -- ---- what it means
 
@@ -100,18 +125,22 @@ module _ {v : ℕ} {t : List ℤ} (ok : IsSymbol v t) where
     one-cusp = λ a b da db. (one-cusp-if a b da db, one-cusp-only a b da db);
   }
 
-pub cusps-mean-refused : {v : ℕ} {t : List ℤ} (f : Refusal) → CuspsMean v t (filled.Refused f)
-cusps-mean-refused f n e = let z : _≡_ {A = ℕ} 0 1 = cc in absurd (omega arith)
+-- ---- what the number says
 
--- ---- 4,090 entries are enough
-
-pub ample-for-cusps : (v : ℕ) (t : List ℤ) (w x y : List ℕ) (a : Filled) → a ≡ cuspedOf v t (length w) (length x) (length y)
-    → AmpleForCusps v t w x y a
-ample-for-cusps v t w x y a e ok h i j =
-    let n = indexOf v t in
-    let few = meaning ok .few in
-    let room : roomTwo n (length x) (length y) ≡ filled.Made n = sym (both-room n (length x) (length y) (omega (arith, few, i)) (omega (arith, few, j))) in
-    e ∙ rw (accepted v t .1 ok, le-ltb (length w) workLength h) room
+pub cusps-says : (v : ℕ) (t : List ℤ) (w cusps steps : Lent (List ℕ))
+    → cuspsCall v t w cusps steps .Says (numberOf (cuspsCall v t w cusps steps)) (placeOf (cuspsCall v t w cusps steps))
+cusps-says v t w cusps steps =
+    let x = length (cuspColumn v t) in
+    let y = length (stepColumn v t) in
+    let a = lengthCheck x (length (cusps .entry .now)) in
+    let b = lengthCheck y (length (steps .entry .now)) in
+    symbol-says v t w (cusps ∷ steps ∷ []) (Asks a ∷ Asks b ∷ []) (above-room x (length (cusps .entry .now)), (above-room y (length (steps .entry .now)), tt))
+    (λ ok all. cusp-meaning ok) (λ ok ample.
+    let rule = cusp-meaning ok .rule .columns in
+    let long = sizes ok .T-long in
+    let few = few-cosets ok in
+    pass-both a (b orElse Accepted) (room-long x (length (cusps .entry .now)) (omega (arith, rule .size-cusps, long, few, ample .0)))
+    (pass-both b Accepted (room-long y (length (steps .entry .now)) (omega (arith, rule .size-steps, long, few, ample .1 .0))) refl))
 
 -- ---- the record of a symbol: from the tables that were arranged, through the scan of the cusps
 module _ {t : List ℤ} {v n k : ℕ} {w w1 : List ℕ} (ok : IsSymbol v t) (m : Made t v w n) (c : CuspWidths n w w1 k) where

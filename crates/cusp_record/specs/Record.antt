@@ -1,7 +1,9 @@
--- THE COSET RECORD. The cosets are the points 0, 1, .. of the tables s, r and u of S, R and T. The record has two tables more: the cusp of each coset, and
--- its steps. Both are defined here by the table u alone, which is a permutation.
+-- THE COSET RECORD. The cosets are the points 0, 1, .. of the tables s, r and u of S, R and T. The record has two
+-- tables more: the cusp of each coset, and its steps. Both are defined here by the table u alone, which is a
+-- permutation.
 --
---   cuspPoint u k      the entry k of figures' `cusps`, which lists the smallest points of the cycles of u: it stands for the cusp k
+--   cuspPoint u k      the entry k of figures' `cusps`, which lists the smallest points of the cycles of u: it stands
+--                      for the cusp k
 --   cuspWidth u k      the length of its cycle
 --   cuspAmong u l x    which entry of l is the first with x in its cycle
 --   cuspOf u x         the cusp that x lies in, by its number
@@ -10,17 +12,23 @@
 --   cuspOrder u        all points, cusp by cusp, each cusp from its smallest point in the order of T
 --   cuspPlace u x      where x stands in cuspOrder
 --   cuspFirst u k      how many points the cusps below k have together: the cusp k begins there in cuspOrder
---   cuspOnward u n x   T^n from x by one look at cuspOrder: n is added to the steps, and the width taken off as often as it goes
---   CuspColumns u c d  THE STANDING RULE of the columns c of cusps and d of steps beside the table u of T, in these parts:
+--   cuspOnward u n x   T^n from x by one look at cuspOrder: n is added to the steps, and the width taken off as often
+--                      as it goes
+--   CuspColumns u c d  THE STANDING RULE of the columns c of cusps and d of steps beside the table u of T, in these
+--                      parts:
 --     size             each has an entry for each point
 --     listing          the cusps are numbered by their smallest points, in ascending order
 --     cusp             the entry of x in c is one of the cusps; its smallest point isn't above x
---     steps            from that point T comes to x in as many steps as d says; these are less than the width, and a smaller number does not lead to x
+--     steps            from that point T comes to x in as many steps as d says; these are less than the width, and a
+--                      smaller number does not lead to x
 --     smallest         the smallest point of the cusp k has k and no steps
 --     rule             T keeps the cusp and adds one step, back to 0 after the width
---   CosetRecord s r u c d   the standing rule of the whole record: s, r and u are permutations, u is s first and then r, and `CuspColumns u c d`
---   InCuspOrder u      what cuspOrder is for: it has each point once, cuspSteps behind its cusp's first place, and so any number of steps of T is one look
--- `proofs/Record.antt` proves `columns` and `in-order` for every u with `Permutes u`, and `coset-record` for permutations s, r and their product.
+--   CosetRecord s r u c d   the standing rule of the whole record: s, r and u are permutations, u is s first and then
+--                           r, and `CuspColumns u c d`
+--   InCuspOrder u      what cuspOrder is for: it has each point once, cuspSteps behind its cusp's first place, and so
+--                      any number of steps of T is one look
+-- `proofs/Record.antt` proves `columns` and `in-order` for every u with `Permutes u`, and `coset-record` for
+-- permutations s, r and their product.
 use mathlib.Core.Path.{_≡_}
 use mathlib.Core.Logic.{_≢_}
 use mathlib.Core.List.{List, [], _∷_, map}

@@ -1,29 +1,30 @@
-// Every coset knows its cusp: the number of its cusp, and its steps of T from the cusp's smallest point. specs/Record.antt says what these are and how T
-// moves them, specs/Answer.antt what `cusps` answers and leaves.
+// Every coset knows its cusp: the number of its cusp, and its steps of T from the cusp's smallest point.
+// specs/Record.antt says what these are and how T moves them, specs/Answer.antt what `cusps` answers and leaves.
+use call::refusal::Checked;
+use call::refusal::Filled;
+use call::refusal::Refusal;
+use call::refusal::TOO_SHORT;
 use coset::arrange::arrange;
 use figures::cusp_widths;
 use numbering::ORDER;
 use numbering::WIDTHS;
 use numbering::copy_out;
 use pairing::admit::admit;
-use refusal::Checked;
-use refusal::Filled;
-use refusal::Refusal;
-use refusal::TOO_SHORT;
 ghost use mathlib.Core.Path.{_≡_};
+ghost use mathlib.Core.List.{_++_};
 ghost use Prim.Native.Nat.{_≤_, _<_};
 ghost use lib.ListN.{length};
-ghost use Rattle.workspace.specs.Space.{workLength, zeros, entries};
-ghost use Rattle.symbol.specs.Check.{symbolCheck};
+ghost use Rattle.call.specs.Space.{workLength, zeros, entries};
+ghost use Rattle.call.specs.Call.{stores};
+ghost use Rattle.call.specs.Inner.Fills.{Fills, madeIf};
 ghost use Rattle.symbol.specs.Symbol.{IsSymbol};
-ghost use Rattle.pairing.specs.Generator.{workAfter};
 ghost use Rattle.figures.specs.Inner.Scan.{heldT};
 ghost use Rattle.coset.specs.Tables.{indexOf};
-ghost use Rattle.coset.specs.Answer.{roomTwo, columnLeft};
-ghost use Rattle.cusp_record.specs.Answer.{cuspedOf, cuspColumn, stepColumn, CuspsMean, AmpleForCusps};
+ghost use Rattle.cusp_record.specs.Answer.{cuspColumn, stepColumn, cuspsCall};
 ghost use Rattle.cusp_record.specs.Inner.Fill.{CUSPS, STEPS, ByCusps, AtCusp, OnCusp, RecordFilled, SymbolRecord};
 
-// Where the work space holds the cusps and the steps: the steps below all other tables, so that those of S, R and T stay.
+// Where the work space holds the cusps and the steps: the steps below all other tables, so that those of S, R and T
+// stay.
 pub const CUSPS: usize = 12288;
 
 pub const STEPS: usize = 0;
@@ -46,7 +47,7 @@ pub fn advance(w: &[u16], n: usize, k: usize, c: Cusp, y: usize) -> Cusp
         return Cusp {
             number,
             first: end,
-            width: workspace::index(w[WIDTHS + number]),
+            width: call::workspace::index(w[WIDTHS + number]),
         };
     }
     c
@@ -57,7 +58,7 @@ fn enter_cusps(w: &mut [u16], n: usize, k: usize)
     requires { ⌜ ByCusps (heldT n (now w)) n k (now w) ⌝ }
     ensures { λ _. ⌜ RecordFilled (heldT n (now (w .entry))) n k (now (w .entry)) (now (w .exit)) ⌝ }
 {
-    let width = workspace::index(w[WIDTHS]);
+    let width = call::workspace::index(w[WIDTHS]);
     let mut c = Cusp {
         number: 0,
         first: 0,
@@ -66,15 +67,15 @@ fn enter_cusps(w: &mut [u16], n: usize, k: usize)
     let mut y: usize = 0;
     while y < n {
         c = advance(w, n, k, c, y);
-        let x = workspace::index(w[ORDER + y]);
+        let x = call::workspace::index(w[ORDER + y]);
         w[CUSPS + x] = c.number as u16;
         w[STEPS + x] = (y - c.first) as u16;
         y += 1;
     }
 }
 
-// The coset record of an accepted symbol in the work space, how many cosets there are: the tables of S, R and T, the cusps and the steps, and the points by
-// cusps.
+// The coset record of an accepted symbol in the work space, how many cosets there are: the tables of S, R and T, the
+// cusps and the steps, and the points by cusps.
 pub fn arrange_record(v: usize, t: &[i64], w: &mut [u16]) -> usize
     requires { ⌜ IsSymbol v (now t) × (workLength ≤ length (now w)) ⌝ }
     ensures { λ n. ⌜ SymbolRecord v (now (t .entry)) (now (w .entry)) (now (w .exit)) n ⌝ }
@@ -88,9 +89,8 @@ pub fn arrange_record(v: usize, t: &[i64], w: &mut [u16]) -> usize
 // Copies the cusps and the steps of n cosets, where there is room for both.
 fn copy_columns(w: &[u16], n: usize, cusps: &mut [u32], steps: &mut [u32]) -> Filled
     requires { ⌜ (n ≤ 4096) × (workLength ≤ length (now w)) ⌝ }
-    ensures { λ a. ⌜ a ≡ roomTwo n (length (now (cusps .entry))) (length (now (steps .entry))) ⌝ }
-    ensures { λ a. ⌜ now (cusps .exit) ≡ columnLeft a (entries CUSPS n (now (w .entry))) (now (cusps .entry)) ⌝ }
-    ensures { λ a. ⌜ now (steps .exit) ≡ columnLeft a (entries STEPS n (now (w .entry))) (now (steps .entry)) ⌝ }
+    ensures { λ a. ⌜ Fills (stores (entries CUSPS n (now (w .entry))) cusps
+        ++ stores (entries STEPS n (now (w .entry))) steps) (madeIf n) a ⌝ }
 {
     if cusps.len() < n {
         return Filled::Refused(Refusal {
@@ -112,26 +112,21 @@ fn copy_columns(w: &[u16], n: usize, cusps: &mut [u32], steps: &mut [u32]) -> Fi
 // The same from an accepted symbol; the work space is cleared after.
 fn make_cusps(v: usize, t: &[i64], w: &mut [u16], cusps: &mut [u32], steps: &mut [u32]) -> Filled
     requires { ⌜ IsSymbol v (now t) × (workLength ≤ length (now w)) ⌝ }
-    ensures { λ a. ⌜ a ≡ roomTwo (indexOf v (now (t .entry))) (length (now (cusps .entry))) (length (now (steps .entry))) ⌝ }
+    ensures { λ a. ⌜ Fills (stores (cuspColumn v (now (t .entry))) cusps
+        ++ stores (stepColumn v (now (t .entry))) steps) (madeIf (indexOf v (now (t .entry)))) a ⌝ }
     ensures { λ a. ⌜ now (w .exit) ≡ zeros (length (now (w .entry))) ⌝ }
-    ensures { λ a. ⌜ now (cusps .exit) ≡ columnLeft a (cuspColumn v (now (t .entry))) (now (cusps .entry)) ⌝ }
-    ensures { λ a. ⌜ now (steps .exit) ≡ columnLeft a (stepColumn v (now (t .entry))) (now (steps .entry)) ⌝ }
 {
     let n = arrange_record(v, t, w);
     let made = copy_columns(w, n, cusps, steps);
-    workspace::clear(w);
+    call::workspace::clear(w);
     made
 }
 
-// The cusp of each coset of the symbol in t and its steps of T from the cusp's smallest point, each at the front of its space: checks 1 to 7, then the work
-// space, then the result spaces for cusps and for steps.
+// The cusp of each coset of the symbol in t and its steps of T from the cusp's smallest point, each at the front of its
+// space: checks 1 to 7, then the work space, then the result spaces for cusps and for steps.
 pub fn cusps(v: usize, t: &[i64], w: &mut [u16], cusps: &mut [u32], steps: &mut [u32]) -> Filled
-    ensures { λ a. ⌜ a ≡ cuspedOf v (now (t .entry)) (length (now (w .entry))) (length (now (cusps .entry))) (length (now (steps .entry))) ⌝ }
-    ensures { λ a. ⌜ now (w .exit) ≡ workAfter (symbolCheck v (now (t .entry))) (now (w .entry)) ⌝ }
-    ensures { λ a. ⌜ now (cusps .exit) ≡ columnLeft a (cuspColumn v (now (t .entry))) (now (cusps .entry)) ⌝ }
-    ensures { λ a. ⌜ now (steps .exit) ≡ columnLeft a (stepColumn v (now (t .entry))) (now (steps .entry)) ⌝ }
-    ensures { λ a. ⌜ CuspsMean v (now (t .entry)) a ⌝ }
-    ensures { λ a. ⌜ AmpleForCusps v (now (t .entry)) (now (w .entry)) (now (cusps .entry)) (now (steps .entry)) a ⌝ }
+    ensures { λ a. ⌜ Fills (cuspsCall v (now (t .entry)) w cusps steps .steps)
+        (madeIf (indexOf v (now (t .entry)))) a ⌝ }
 {
     let admitted = admit(v, t, w.len());
     match admitted {

@@ -12,7 +12,8 @@ use Rattle.basics.proofs.Choice.{pick-true, pick-false, clash}
 use Rattle.cycle_notation.specs.Piece.{CyclePiece, number, blank, opening, closing, comma, semicolon, another}
 use Rattle.cycle_notation.specs.Form.{free, inRange, Right, Completes}
 use Rattle.cycle_notation.specs.Verdict.{Read}
-use Rattle.cycle_notation.specs.Inner.Reader.{Phase, start, opened, empty, point, wanted, closed, room, PartTurn, on, over, stop, turnOf, State, front, within-S, within-R, dead, WithinPart, after, beginR, indexed, readPiece, readAll, outcome, mayEnd, isDead}
+use Rattle.cycle_notation.specs.Inner.Reader.{Phase, start, opened, empty, point, wanted, closed, room, PartTurn, on, over, stop, turnOf, State, front}
+use Rattle.cycle_notation.specs.Inner.Reader.{within-S, within-R, dead, WithinPart, after, beginR, indexed, readPiece, readAll, outcome, mayEnd, isDead}
 use Rattle.cycle_notation.proofs.Points.{no-read, room-point}
 use Rattle.cycle_notation.proofs.Along.{Steps, Settled, behind-identity, behind-cycle, moved, over-wanted}
 use Rattle.cycle_notation.proofs.Back.{run-dead}
@@ -90,7 +91,8 @@ turn-sane semi n seen cur done wanted semicolon = tt
 turn-sane semi n seen cur done wanted another = tt
 turn-sane semi n seen cur done closed (number x) = tt
 turn-sane semi n seen cur done closed blank = tt
-turn-sane semi n seen cur done closed opening = sane-choice n semi (pick (room n seen) (on wanted seen [] done) stop) over (sane-pick n (room n seen) (on wanted seen [] done) (λ e. e)) tt
+turn-sane semi n seen cur done closed opening = sane-choice n semi (pick (room n seen) (on wanted seen [] done) stop) over
+    (sane-pick n (room n seen) (on wanted seen [] done) (λ e. e)) tt
 turn-sane semi n seen cur done closed closing = tt
 turn-sane semi n seen cur done closed comma = tt
 turn-sane semi n seen cur done closed semicolon = sane-choice n semi over stop tt tt
@@ -125,7 +127,8 @@ sane-indexed another = tt
 
 sane-step : (semi : Bool) (q : State) (p : CyclePiece) → Sane (readPiece semi q p)
 sane-step semi front p = sane-indexed p
-sane-step semi (within-S n ph seen cur done) p = sane-S n (beginR semi n done) (turnOf semi n seen cur done ph p) (sane-begin semi n done) (turn-sane semi n seen cur done ph p)
+sane-step semi (within-S n ph seen cur done) p = sane-S n (beginR semi n done) (turnOf semi n seen cur done ph p) (sane-begin semi n done)
+    (turn-sane semi n seen cur done ph p)
 sane-step semi (within-R n sc ph seen cur done) p = sane-R n sc dead (turnOf semi n seen cur done ph p) tt (turn-sane semi n seen cur done ph p)
 sane-step semi dead p = tt
 
@@ -250,7 +253,8 @@ dead-is (within-S n ph seen cur done) e = clash e refl
 dead-is (within-R n sc ph seen cur done) e = clash e refl
 dead-is dead e = refl
 
-lost-for-good : (semi : Bool) (ps qs : List CyclePiece) (r : Read) → isDead (readAll semi front ps) ≡ true → outcome (readAll semi front (ps ++ qs)) ≡ some r → ⊥
+lost-for-good : (semi : Bool) (ps qs : List CyclePiece) (r : Read) → isDead (readAll semi front ps) ≡ true → outcome (readAll semi front (ps ++ qs)) ≡ some r
+    → ⊥
 lost-for-good semi ps qs r e h =
     no-read (sym (ap outcome (run-append semi front ps qs ∙ ap (λ (q : State). readAll semi q qs) (dead-is _ e) ∙ run-dead semi qs)) ∙ h)
 

@@ -12,8 +12,10 @@ use Rattle.basics.specs.Choice.{pick}
 use Rattle.basics.proofs.Choice.{pick-true, pick-false}
 use Rattle.cycle_notation.specs.Piece.{CyclePiece, number, blank, opening, closing, comma, semicolon, another}
 use Rattle.cycle_notation.specs.Form
-use Rattle.cycle_notation.specs.Form.{Blanks, here, past, More, last, further, Cycles, end, gap, cycle, Enough, Written, cycles, pointsOf, free, Disjoint, all, next}
-use Rattle.cycle_notation.specs.Inner.Reader.{Phase, start, opened, empty, point, wanted, closed, room, PartTurn, on, over, stop, turnOf, State, WithinPart, after, readPiece, readAll}
+use Rattle.cycle_notation.specs.Form.{Blanks, here, past, More, last, further, Cycles, end, gap, cycle, Enough, Written, cycles, pointsOf, free, Disjoint}
+use Rattle.cycle_notation.specs.Form.{all, next}
+use Rattle.cycle_notation.specs.Inner.Reader.{Phase, start, opened, empty, point, wanted, closed, room, PartTurn, on, over, stop, turnOf, State}
+use Rattle.cycle_notation.specs.Inner.Reader.{WithinPart, after, readPiece, readAll}
 use Rattle.cycle_notation.proofs.Points.{free-room}
 
 -- a permutation that is over, and may have blanks behind it

@@ -10,7 +10,8 @@ use Rattle.basics.proofs.Choice.{clash}
 use Rattle.cycle_notation.specs.Piece.{CyclePiece, number, blank, opening, closing, comma, semicolon, another}
 use Rattle.cycle_notation.specs.Form.{Blanks, here, past, More, last, further, Cycles, end, gap, cycle, pointsOf, free, Disjoint, all, next}
 use Rattle.cycle_notation.specs.Verdict.{Read}
-use Rattle.cycle_notation.specs.Inner.Reader.{Phase, start, opened, empty, point, wanted, closed, room, PartTurn, on, over, stop, turnOf, State, dead, WithinPart, after, readPiece, readAll, outcome, mayEnd}
+use Rattle.cycle_notation.specs.Inner.Reader.{Phase, start, opened, empty, point, wanted, closed, room, PartTurn, on, over, stop, turnOf, State, dead}
+use Rattle.cycle_notation.specs.Inner.Reader.{WithinPart, after, readPiece, readAll, outcome, mayEnd}
 use Rattle.cycle_notation.proofs.Points.{no-read}
 use Rattle.cycle_notation.proofs.Along.{Steps, moved}
 
@@ -64,7 +65,8 @@ module _ (semi : Bool) (n : ℕ) (within : WithinPart) (then : List (List ℕ) �
 
   pub data StartTail (seen cur : List ℕ) (done : List (List ℕ)) (ps : List CyclePiece) : Type 0 where
     nothing : Blanks ps [] → Ends done → StartTail seen cur done ps
-    nothing-more : (mid : List CyclePiece) → semi ≡ true → Blanks ps (semicolon ∷ mid) → outcome (readAll semi (then done) mid) ≡ some r → StartTail seen cur done ps
+    nothing-more : (mid : List CyclePiece) → semi ≡ true → Blanks ps (semicolon ∷ mid) → outcome (readAll semi (then done) mid) ≡ some r
+        → StartTail seen cur done ps
     bracket : (ps' : List CyclePiece) → Blanks ps (opening ∷ ps') → OpenedTail seen cur done ps' → StartTail seen cur done ps
 
   abbrev pub Tail : Phase → (seen cur : List ℕ) → (done : List (List ℕ)) → List CyclePiece → Type 0
@@ -91,20 +93,25 @@ module _ (semi : Bool) (n : ℕ) (within : WithinPart) (then : List (List ℕ) �
     follow = rw (append-nil done) (ended (h .1));
   }
 
-  module _ (ps : List CyclePiece) (ih : (ph : Phase) (seen cur : List ℕ) (done : List (List ℕ)) → outcome (readAll semi (within ph seen cur done) ps) ≡ some r → Tail ph seen cur done ps)
+  module _ (ps : List CyclePiece)
+      (ih : (ph : Phase) (seen cur : List ℕ) (done : List (List ℕ)) → outcome (readAll semi (within ph seen cur done) ps) ≡ some r → Tail ph seen cur done ps)
       (seen cur : List ℕ) (done : List (List ℕ)) where
     -- the piece p in the phase ph took the turn t
-    came : (ph : Phase) (p : CyclePiece) (t : PartTurn) → turnOf semi n seen cur done ph p ≡ t → outcome (readAll semi (within ph seen cur done) (p ∷ ps)) ≡ some r
+    came : (ph : Phase) (p : CyclePiece) (t : PartTurn) → turnOf semi n seen cur done ph p ≡ t → outcome (readAll semi (within ph seen cur done) (p ∷ ps))
+        ≡ some r
         → outcome (readAll semi (after within (then done) t) ps) ≡ some r
     came ph p t e h = ap outcome (sym (moved semi n within then law ph seen cur done p ps t e)) ∙ h
 
-    stuck : {A : Type 0} (ph : Phase) (p : CyclePiece) → turnOf semi n seen cur done ph p ≡ stop → outcome (readAll semi (within ph seen cur done) (p ∷ ps)) ≡ some r → A
+    stuck : {A : Type 0} (ph : Phase) (p : CyclePiece) → turnOf semi n seen cur done ph p ≡ stop → outcome (readAll semi (within ph seen cur done) (p ∷ ps))
+        ≡ some r → A
     stuck ph p e h = no-read (sym (ap outcome (run-dead semi ps)) ∙ came ph p stop e h)
 
     from-named : (ph : Phase) (x : ℕ) (b : Bool) → free n seen x ≡ b
         → turnOf semi n seen cur done ph (number x) ≡ pick (free n seen x) (on point (x ∷ seen) (cur ++ (x ∷ [])) done) stop
         → outcome (readAll semi (within ph seen cur done) (number x ∷ ps)) ≡ some r → WantedTail seen cur done (number x ∷ ps)
-    from-named ph x true f e h = named x f (ih point (x ∷ seen) (cur ++ (x ∷ [])) done (came ph (number x) _ (e ∙ ap (λ (z : Bool). pick z (on point (x ∷ seen) (cur ++ (x ∷ [])) done) stop) f) h))
+    from-named ph x true f e h =
+        named x f (ih point (x ∷ seen) (cur ++ (x ∷ [])) done
+        (came ph (number x) _ (e ∙ ap (λ (z : Bool). pick z (on point (x ∷ seen) (cur ++ (x ∷ [])) done) stop) f) h))
     from-named ph x false f e h = stuck ph (number x) (e ∙ ap (λ (z : Bool). pick z (on point (x ∷ seen) (cur ++ (x ∷ [])) done) stop) f) h
 
     -- a semicolon behind a permutation that may be over
@@ -229,7 +236,8 @@ module _ (semi : Bool) (n : ℕ) (within : WithinPart) (then : List (List ℕ) �
         }
 
         go : (b : Bool) → semi ≡ b → (m : Bool) → room n seen ≡ m → ClosedTail seen done (opening ∷ ps)
-        go true f true g = grown f (ih wanted seen [] done (came closed opening _ (ap (λ (z : Bool). turned z (room n seen)) f ∙ ap (λ (z : Bool). turned true z) g) h))
+        go true f true g = grown f
+            (ih wanted seen [] done (came closed opening _ (ap (λ (z : Bool). turned z (room n seen)) f ∙ ap (λ (z : Bool). turned true z) g) h))
         go true f false g = stuck closed opening (ap (λ (z : Bool). turned z (room n seen)) f ∙ ap (λ (z : Bool). turned true z) g) h
         go false f m g =
             let z : separator semi ≡ opening = ap separator f in
@@ -247,7 +255,8 @@ module _ (semi : Bool) (n : ℕ) (within : WithinPart) (then : List (List ℕ) �
     from wanted p h = from-wanted p h
     from closed p h = from-closed p h
 
-  pub back : (ps : List CyclePiece) (ph : Phase) (seen cur : List ℕ) (done : List (List ℕ)) → outcome (readAll semi (within ph seen cur done) ps) ≡ some r → Tail ph seen cur done ps
+  pub back : (ps : List CyclePiece) (ph : Phase) (seen cur : List ℕ) (done : List (List ℕ)) → outcome (readAll semi (within ph seen cur done) ps) ≡ some r
+      → Tail ph seen cur done ps
   unfolding readAll
   back [] ph seen cur done h = at-end ph seen cur done (ends ph seen cur done h)
   back (p ∷ ps) ph seen cur done h = from ps (back ps) seen cur done ph p h

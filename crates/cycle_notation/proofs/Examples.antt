@@ -9,12 +9,14 @@ use Rattle.cycle_notation.specs.Inner.Reader.{readAll, lost, badIndex, v
 use Rattle.numbering.specs.Find.{find}
 
 -- `3 (1,2) (1,3,2)`
-two-groups : verdictOf (51 ∷ 32 ∷ 40 ∷ 49 ∷ 44 ∷ 50 ∷ 41 ∷ 32 ∷ 40 ∷ 49 ∷ 44 ∷ 51 ∷ 44 ∷ 50 ∷ 41 ∷ []) ≡ reads (record { index = 3; ofS = (1 ∷ 2 ∷ []) ∷ []; ofR = (1 ∷ 3 ∷ 2 ∷ []) ∷ [] })
+two-groups : verdictOf (51 ∷ 32 ∷ 40 ∷ 49 ∷ 44 ∷ 50 ∷ 41 ∷ 32 ∷ 40 ∷ 49 ∷ 44 ∷ 51 ∷ 44 ∷ 50 ∷ 41 ∷ [])
+    ≡ reads (record { index = 3; ofS = (1 ∷ 2 ∷ []) ∷ []; ofR = (1 ∷ 3 ∷ 2 ∷ []) ∷ [] })
 unfolding verdictOf cyclePieces cyclePiecesFrom runValue withoutOffsets readAll lost badIndex find
 two-groups = refl
 
 -- ` 003(2,1)(3) ;(1,3,2)`
-with-semicolon : verdictOf (32 ∷ 48 ∷ 48 ∷ 51 ∷ 40 ∷ 50 ∷ 44 ∷ 49 ∷ 41 ∷ 40 ∷ 51 ∷ 41 ∷ 32 ∷ 59 ∷ 40 ∷ 49 ∷ 44 ∷ 51 ∷ 44 ∷ 50 ∷ 41 ∷ []) ≡ reads (record { index = 3; ofS = (2 ∷ 1 ∷ []) ∷ (3 ∷ []) ∷ []; ofR = (1 ∷ 3 ∷ 2 ∷ []) ∷ [] })
+with-semicolon : verdictOf (32 ∷ 48 ∷ 48 ∷ 51 ∷ 40 ∷ 50 ∷ 44 ∷ 49 ∷ 41 ∷ 40 ∷ 51 ∷ 41 ∷ 32 ∷ 59 ∷ 40 ∷ 49 ∷ 44 ∷ 51 ∷ 44 ∷ 50 ∷ 41 ∷ [])
+    ≡ reads (record { index = 3; ofS = (2 ∷ 1 ∷ []) ∷ (3 ∷ []) ∷ []; ofR = (1 ∷ 3 ∷ 2 ∷ []) ∷ [] })
 unfolding verdictOf cyclePieces cyclePiecesFrom runValue withoutOffsets readAll lost badIndex find
 with-semicolon = refl
 
@@ -59,7 +61,8 @@ unfolding verdictOf cyclePieces cyclePiecesFrom runValue withoutOffsets readAll 
 none-written = refl
 
 -- `3 () (1,2,3)`
-identity-first : verdictOf (51 ∷ 32 ∷ 40 ∷ 41 ∷ 32 ∷ 40 ∷ 49 ∷ 44 ∷ 50 ∷ 44 ∷ 51 ∷ 41 ∷ []) ≡ reads (record { index = 3; ofS = []; ofR = (1 ∷ 2 ∷ 3 ∷ []) ∷ [] })
+identity-first : verdictOf (51 ∷ 32 ∷ 40 ∷ 41 ∷ 32 ∷ 40 ∷ 49 ∷ 44 ∷ 50 ∷ 44 ∷ 51 ∷ 41 ∷ [])
+    ≡ reads (record { index = 3; ofS = []; ofR = (1 ∷ 2 ∷ 3 ∷ []) ∷ [] })
 unfolding verdictOf cyclePieces cyclePiecesFrom runValue withoutOffsets readAll lost badIndex find
 identity-first = refl
 

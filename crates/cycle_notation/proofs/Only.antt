@@ -15,7 +15,8 @@ use Rattle.basics.specs.Choice.{pick}
 use Rattle.basics.proofs.Choice.{pick-true, pick-false, clash}
 use Rattle.cycle_notation.specs.Piece.{CyclePiece, number, blank, opening, closing, comma, semicolon, another, PlacedPiece, cyclePieces, withoutOffsets}
 use Rattle.cycle_notation.specs.Form
-use Rattle.cycle_notation.specs.Form.{Blanks, here, past, More, last, further, Cycles, end, gap, cycle, Written, cycles, behindS, Reading, inRange, Right, Completes}
+use Rattle.cycle_notation.specs.Form.{Blanks, here, past, More, last, further, Cycles, end, gap, cycle, Written, cycles, behindS, Reading, inRange, Right}
+use Rattle.cycle_notation.specs.Form.{Completes}
 use Rattle.cycle_notation.specs.Place.{WrongAt, at-piece, stops-short}
 use Rattle.cycle_notation.specs.Verdict.{Read, Verdict, reads, index-out, leaves, IndexOut, VerdictMeans, right, no-index, wrong}
 use Rattle.cycle_notation.specs.Inner.Reader.{front, readAll, outcome, lost, badIndex, eitherRead, verdictOf}
@@ -93,7 +94,8 @@ longer : (pre : List CyclePiece) (x : CyclePiece) (l : List CyclePiece) → pre 
 longer pre x l = sym (append-assoc pre (x ∷ []) l)
 
 same-place : (a b : List PlacedPiece) (pre : List CyclePiece) (p q : PlacedPiece) (l m : List PlacedPiece) → a ++ (p ∷ l) ≡ b ++ (q ∷ m)
-    → Completes (pre ++ withoutOffsets a) → Completes (pre ++ withoutOffsets b) → ¬ Completes (pre ++ (withoutOffsets a ++ (p .piece ∷ []))) → ¬ Completes (pre ++ (withoutOffsets b ++ (q .piece ∷ [])))
+    → Completes (pre ++ withoutOffsets a) → Completes (pre ++ withoutOffsets b) → ¬ Completes (pre ++ (withoutOffsets a ++ (p .piece ∷ [])))
+    → ¬ Completes (pre ++ (withoutOffsets b ++ (q .piece ∷ [])))
     → p .at ≡ q .at
 unfolding withoutOffsets
 same-place [] [] pre p q l m e ca cb na nb = ap (λ (z : PlacedPiece). z .at) (head-same e)
@@ -107,7 +109,8 @@ same-place (x ∷ a) [] pre p q l m e ca cb na nb =
     (shorter (pre ++ (x .piece ∷ [])) (withoutOffsets a) (subst (λ (k : List CyclePiece). Completes k) (longer pre (x .piece) (withoutOffsets a)) ca))))
 same-place (x ∷ a) (y ∷ b) pre p q l m e ca cb na nb =
     let z : y .piece ≡ x .piece = ap (λ (k : PlacedPiece). k .piece) (sym (head-same e)) in
-    let go : (k : List CyclePiece) → pre ++ (y .piece ∷ k) ≡ (pre ++ (x .piece ∷ [])) ++ k = λ k. ap (λ (w : CyclePiece). pre ++ (w ∷ k)) z ∙ longer pre (x .piece) k in
+    let go : (k : List CyclePiece) → pre ++ (y .piece ∷ k) ≡ (pre ++ (x .piece ∷ [])) ++ k = λ k. ap (λ (w : CyclePiece). pre ++ (w ∷ k)) z
+    ∙ longer pre (x .piece) k in
     same-place a b (pre ++ (x .piece ∷ [])) p q l m (tail-same e)
     (subst (λ (k : List CyclePiece). Completes k) (longer pre (x .piece) (withoutOffsets a)) ca)
     (subst (λ (k : List CyclePiece). Completes k) (go (withoutOffsets b)) cb)
@@ -116,12 +119,14 @@ same-place (x ∷ a) (y ∷ b) pre p q l m e ca cb na nb =
 
 module _ (t : List ℕ) where
   -- what can be completed to its end has no piece that spoils it
-  not-at : (before : List PlacedPiece) (p : PlacedPiece) (behind : List PlacedPiece) → cyclePieces t ≡ before ++ (p ∷ behind) → Completes (withoutOffsets (cyclePieces t))
+  not-at : (before : List PlacedPiece) (p : PlacedPiece) (behind : List PlacedPiece) → cyclePieces t ≡ before ++ (p ∷ behind)
+      → Completes (withoutOffsets (cyclePieces t))
       → Completes (withoutOffsets before ++ (p .piece ∷ []))
   unfolding withoutOffsets
   not-at before p behind e c =
       shorter (withoutOffsets before ++ (p .piece ∷ [])) (withoutOffsets behind)
-      (subst (λ (k : List CyclePiece). Completes k) (ap withoutOffsets e ∙ bare-append before (p ∷ behind) ∙ longer (withoutOffsets before) (p .piece) (withoutOffsets behind)) c)
+      (subst (λ (k : List CyclePiece). Completes k)
+      (ap withoutOffsets e ∙ bare-append before (p ∷ behind) ∙ longer (withoutOffsets before) (p .piece) (withoutOffsets behind)) c)
 
   pub wrong-only : (x y : ℕ) → WrongAt t x → WrongAt t y → x ≡ y
   wrong-only x y (at-piece a p l e ca na) (at-piece b q m f cb nb) = same-place a b [] p q l m (sym e ∙ f) ca cb na nb
@@ -164,7 +169,8 @@ module _ (t : List ℕ) where
     lost-one v (wrong p i u) place w = ap leaves (wrong-only p place u w)
 
     by-readers : (v : Verdict) → VerdictMeans t v
-        → (a : Option Read) → outcome (readAll true front (withoutOffsets (cyclePieces t))) ≡ a → (b : Option Read) → outcome (readAll false front (withoutOffsets (cyclePieces t))) ≡ b
+        → (a : Option Read) → outcome (readAll true front (withoutOffsets (cyclePieces t))) ≡ a → (b : Option Read)
+        → outcome (readAll false front (withoutOffsets (cyclePieces t))) ≡ b
         → v ≡ eitherRead a b (lost front front (cyclePieces t) (length t))
     by-readers v m (some q) ea b eb = read-one v m q (right-of q true (withoutOffsets (cyclePieces t)) ea)
     by-readers v m none ea (some q) eb = read-one v m q (right-of q false (withoutOffsets (cyclePieces t)) eb)
@@ -176,10 +182,12 @@ module _ (t : List ℕ) where
   out-now v (wrong p j w) i = absurd (j i)
 
   decided : (i : Bool) → badIndex (withoutOffsets (cyclePieces t)) ≡ i → verdictOf t ≡ pick i index-out
-      (eitherRead (outcome (readAll true front (withoutOffsets (cyclePieces t)))) (outcome (readAll false front (withoutOffsets (cyclePieces t)))) (lost front front (cyclePieces t) (length t)))
+      (eitherRead (outcome (readAll true front (withoutOffsets (cyclePieces t)))) (outcome (readAll false front (withoutOffsets (cyclePieces t))))
+      (lost front front (cyclePieces t) (length t)))
   unfolding verdictOf
   decided i e = ap (λ (b : Bool). pick b index-out
-      (eitherRead (outcome (readAll true front (withoutOffsets (cyclePieces t)))) (outcome (readAll false front (withoutOffsets (cyclePieces t)))) (lost front front (cyclePieces t) (length t)))) e
+      (eitherRead (outcome (readAll true front (withoutOffsets (cyclePieces t)))) (outcome (readAll false front (withoutOffsets (cyclePieces t))))
+      (lost front front (cyclePieces t) (length t)))) e
 
   pub verdict-only : (v : Verdict) → VerdictMeans t v → v ≡ verdictOf t
   verdict-only v m = go (badIndex (withoutOffsets (cyclePieces t))) refl

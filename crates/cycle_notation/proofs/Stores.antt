@@ -158,7 +158,8 @@ linked-at n seen f (a ∷ []) t i d g l e = go (eqb a (suc i)) refl (ℕ-discret
         let k : a - 1 ≡ i = omega arith in
         ap (λ (j : ℕ). getD (set t j (f - 1)) i d) k ∙ getD-set-same t i (f - 1) d l ∙ ap (λ (y : ℕ). y - 1) (sym (pick-true _ _ _ (eq-eqb a (suc i) z)))
     go b q (no z) = clash (sym (is-in-cons a [] (suc i) ∙ pick-false (eqb a (suc i)) _ _ (ne-eqb a (suc i) z)) ∙ e) (not-in-none (suc i))
-linked-at n seen f (a ∷ b ∷ c) t i d (next h g) l e = go (ℕ-discrete a (suc i)) (λ q. linked-at n (a ∷ seen) f (b ∷ c) (set t (a - 1) (b - 1)) i d g (rw (length-set t (a - 1) (b - 1)) l) q)
+linked-at n seen f (a ∷ b ∷ c) t i d (next h g) l e =
+    go (ℕ-discrete a (suc i)) (λ q. linked-at n (a ∷ seen) f (b ∷ c) (set t (a - 1) (b - 1)) i d g (rw (length-set t (a - 1) (b - 1)) l) q)
   where
     go : Dec (a ≡ suc i) → (isIn (b ∷ c) (suc i) ≡ true → getD (linksStored f (b ∷ c) (set t (a - 1) (b - 1))) i d ≡ behindIn f (b ∷ c) (suc i) - 1)
         → getD (linksStored f (b ∷ c) (set t (a - 1) (b - 1))) i d ≡ pick (eqb a (suc i)) b (behindIn f (b ∷ c) (suc i)) - 1
@@ -176,7 +177,8 @@ turned-other : (n : ℕ) (seen : List ℕ) (c t : List ℕ) (i d : ℕ) → Disj
 turned-other n seen [] t i d g e = refl
 turned-other n seen (f ∷ c) t i d g e = linked-other n seen f (f ∷ c) t i d g e
 
-turned-at : (n : ℕ) (seen : List ℕ) (c t : List ℕ) (i d : ℕ) → Disjoint n seen c → i < length t → isIn c (suc i) ≡ true → getD (turnedIn c t) i d ≡ turnedBy c (suc i) - 1
+turned-at : (n : ℕ) (seen : List ℕ) (c t : List ℕ) (i d : ℕ) → Disjoint n seen c → i < length t → isIn c (suc i) ≡ true → getD (turnedIn c t) i d
+    ≡ turnedBy c (suc i) - 1
 turned-at n seen [] t i d g l e = clash e (not-in-none (suc i))
 turned-at n seen (f ∷ c) t i d g l e = linked-at n seen f (f ∷ c) t i d g l e
 
@@ -219,7 +221,8 @@ stored-table n m cs h g =
     ∙ sym (getD-tabled (λ (k : ℕ). imageBy cs (suc k) - 1) n i 0 (rw long at l)))
   where
     long : length (take n (cyclesStored cs (tabled (λ (i : ℕ). i) m))) ≡ n
-    long = length-take-le n (cyclesStored cs (tabled (λ (i : ℕ). i) m)) (omega (arith, length-stored cs (tabled (λ (i : ℕ). i) m), length-tabled (λ (i : ℕ). i) m))
+    long = length-take-le n (cyclesStored cs (tabled (λ (i : ℕ). i) m))
+        (omega (arith, length-stored cs (tabled (λ (i : ℕ). i) m), length-tabled (λ (i : ℕ). i) m))
 
 -- ---- one more point, one more cycle
 

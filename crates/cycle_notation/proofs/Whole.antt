@@ -13,9 +13,11 @@ use Rattle.basics.specs.Choice.{pick}
 use Rattle.basics.proofs.Choice.{pick-true, pick-false, clash}
 use Rattle.cycle_notation.specs.Piece.{CyclePiece, number, blank, opening, closing, comma, semicolon, another}
 use Rattle.cycle_notation.specs.Form
-use Rattle.cycle_notation.specs.Form.{Blanks, here, past, Cycles, end, gap, cycle, Enough, Written, cycles, behindS, Reading, pointsOf, Disjoint, all, next, inRange, Right}
+use Rattle.cycle_notation.specs.Form.{Blanks, here, past, Cycles, end, gap, cycle, Enough, Written, cycles, behindS, Reading, pointsOf, Disjoint, all}
+use Rattle.cycle_notation.specs.Form.{next, inRange, Right}
 use Rattle.cycle_notation.specs.Verdict.{Read}
-use Rattle.cycle_notation.specs.Inner.Reader.{Phase, start, opened, empty, point, wanted, closed, on, over, turnOf, State, front, within-S, within-R, dead, beginR, indexed, readPiece, readAll, outcome, mayEnd}
+use Rattle.cycle_notation.specs.Inner.Reader.{Phase, start, opened, empty, point, wanted, closed, on, over, turnOf, State, front, within-S, within-R}
+use Rattle.cycle_notation.specs.Inner.Reader.{dead, beginR, indexed, readPiece, readAll, outcome, mayEnd}
 use Rattle.cycle_notation.proofs.Points.{no-read}
 use Rattle.cycle_notation.proofs.Along.{Steps, Settled, behind-identity, behind-cycle, moved, over-blanks, Begun, bracket, nothing, written-begun}
 use Rattle.cycle_notation.proofs.Back
@@ -38,7 +40,8 @@ unfolding readAll
 over-front semi n {behind = behind} i here = ap (λ (q : State). readAll semi q behind) (pick-true (inRange n) _ _ i)
 over-front semi n i (past b) = over-front semi n i b
 
-settled-quiet : (semi : Bool) (n : ℕ) (ph : Phase) (seen : List ℕ) (done : List (List ℕ)) → Settled ph → turnOf semi n seen [] done ph blank ≡ on ph seen [] done
+settled-quiet : (semi : Bool) (n : ℕ) (ph : Phase) (seen : List ℕ) (done : List (List ℕ)) → Settled ph → turnOf semi n seen [] done ph blank
+    ≡ on ph seen [] done
 settled-quiet semi n empty seen done behind-identity = refl
 settled-quiet semi n closed seen done behind-cycle = refl
 
@@ -143,7 +146,8 @@ fronted semi r (number n ∷ ps) e = go (inRange n) refl
       read = sym (ap (λ (q : State). outcome (readAll semi q ps)) (pick-true (inRange n) _ _ f)) ∙ e;
     }
     go false f = no-read (sym (ap (λ (q : State). outcome (readAll semi q ps)) (pick-false (inRange n) _ _ f) ∙ ap outcome (run-dead semi ps)) ∙ e)
-fronted semi r (blank ∷ ps) e = let f = fronted semi r ps e in record { n = f .n; behind = f .behind; blanks = past (f .blanks); range = f .range; read = f .read }
+fronted semi r (blank ∷ ps) e = let f = fronted semi r ps e in
+    record { n = f .n; behind = f .behind; blanks = past (f .blanks); range = f .range; read = f .read }
 fronted semi r (opening ∷ ps) e = no-read (sym (ap outcome (run-dead semi ps)) ∙ e)
 fronted semi r (closing ∷ ps) e = no-read (sym (ap outcome (run-dead semi ps)) ∙ e)
 fronted semi r (comma ∷ ps) e = no-read (sym (ap outcome (run-dead semi ps)) ∙ e)
@@ -172,7 +176,8 @@ module _ (semi : Bool) (n : ℕ) (within : Phase → (seen cur : List ℕ) → (
     pub disjoint : Disjoint n [] (pointsOf cs)
     pub follow : Back.Follow semi n within then law r Ends ends cs rest
 
-  opened-wrote : (ps : List CyclePiece) {ps' : List CyclePiece} → Blanks ps (opening ∷ ps') → Back.OpenedTail semi n within then law r Ends ends [] [] [] ps' → Wrote ps
+  opened-wrote : (ps : List CyclePiece) {ps' : List CyclePiece} → Blanks ps (opening ∷ ps') → Back.OpenedTail semi n within then law r Ends ends [] [] [] ps'
+      → Wrote ps
   unfolding pointsOf
   opened-wrote ps b (Back.shut t) = record { cs = []; rest = t .rest; written = Form.identity b (t .blanks); disjoint = all; follow = t .follow }
   opened-wrote ps b (Back.point-first (Back.named x f t)) = record {
@@ -187,16 +192,19 @@ module _ (semi : Bool) (n : ℕ) (within : Phase → (seen cur : List ℕ) → (
   wrote-opened ps e = opened-wrote (opening ∷ ps) here (back semi n within then law r Ends ends ps opened [] [] [] e)
 
   -- from its beginning; nothing written needs a semicolon beside it
-  start-wrote : (ps : List CyclePiece) → (semi ≡ true) ⊎ ((cs : List (List ℕ)) → ¬ Ends cs) → Back.StartTail semi n within then law r Ends ends [] [] [] ps → Wrote ps
+  start-wrote : (ps : List CyclePiece) → (semi ≡ true) ⊎ ((cs : List (List ℕ)) → ¬ Ends cs) → Back.StartTail semi n within then law r Ends ends [] [] [] ps
+      → Wrote ps
   unfolding pointsOf
   start-wrote ps h (Back.bracket ps' b o) = opened-wrote ps b o
   start-wrote ps h (Back.nothing-more mid t b e) =
       let z : Back.separator semi ≡ semicolon = ap Back.separator t in
       record { cs = []; rest = semicolon ∷ mid; written = cycles {cs = []} (rw t tt) (no-cycles b); disjoint = all; follow = rw (← z) (Back.behind e) }
-  start-wrote ps (inl t) (Back.nothing b e) = record { cs = []; rest = []; written = cycles {cs = []} (rw t tt) (no-cycles b); disjoint = all; follow = Back.ended e }
+  start-wrote ps (inl t) (Back.nothing b e) =
+      record { cs = []; rest = []; written = cycles {cs = []} (rw t tt) (no-cycles b); disjoint = all; follow = Back.ended e }
   start-wrote ps (inr h) (Back.nothing b e) = absurd (h [] e)
 
-  pub wrote-start : (ps : List CyclePiece) → (semi ≡ true) ⊎ ((cs : List (List ℕ)) → ¬ Ends cs) → outcome (readAll semi (within start [] [] []) ps) ≡ some r → Wrote ps
+  pub wrote-start : (ps : List CyclePiece) → (semi ≡ true) ⊎ ((cs : List (List ℕ)) → ¬ Ends cs) → outcome (readAll semi (within start [] [] []) ps) ≡ some r
+      → Wrote ps
   wrote-start ps h e = start-wrote ps h (back semi n within then law r Ends ends ps start [] [] [] e)
 
 -- S is never the end of a text, and R ends with what is read
@@ -240,7 +248,8 @@ module _ (r : Read) where
       go [] (Back.ended e) g = record { rc = w .cs; written = g; disjoint = w .disjoint; is = e }
       go (p ∷ mid) (Back.behind e) g = no-read (sym (ap outcome (run-dead semi mid)) ∙ e)
 
-  assembled : (semi : Bool) {ps : List CyclePiece} (n : ℕ) (sc : List (List ℕ)) (behind mid : List CyclePiece) → Blanks ps (number n ∷ behind) → inRange n ≡ true
+  assembled : (semi : Bool) {ps : List CyclePiece} (n : ℕ) (sc : List (List ℕ)) (behind mid : List CyclePiece) → Blanks ps (number n ∷ behind) → inRange n
+      ≡ true
       → Written semi behind sc (behindS semi mid) → Disjoint n [] (pointsOf sc) → WholeR semi n sc mid → Right ps (r .index) (r .ofS) (r .ofR)
   assembled semi {ps} n sc behind mid b i s d w =
       let h : Right ps n sc (w .rc) = record {
@@ -263,7 +272,8 @@ module _ (r : Read) where
       go (p ∷ rest) (Back.behind {mid} e) g =
           assembled true (f .n) (w .cs) (f .behind) mid (f .blanks) (f .range) g (w .disjoint)
           (whole-R true (f .n) (w .cs) mid
-          (wrote-start true (f .n) (within-R (f .n) (w .cs)) (λ cs. dead) (law-R true (f .n) (w .cs)) r (ReadR (f .n) (w .cs)) (its-end (f .n) (w .cs) r) mid (inl refl) e))
+          (wrote-start true (f .n) (within-R (f .n) (w .cs)) (λ cs. dead) (law-R true (f .n) (w .cs)) r (ReadR (f .n) (w .cs)) (its-end (f .n) (w .cs) r) mid
+          (inl refl) e))
 
   right-without : {ps : List CyclePiece} → (f : Fronted false ps r) → WroteS false (f .n) (f .behind) → Right ps (r .index) (r .ofS) (r .ofR)
   unfolding WroteS WroteR
@@ -276,13 +286,16 @@ module _ (r : Read) where
       go (p ∷ rest) (Back.behind {mid} e) g =
           assembled false (f .n) (w .cs) (f .behind) (opening ∷ mid) (f .blanks) (f .range) g (w .disjoint)
           (whole-R false (f .n) (w .cs) (opening ∷ mid)
-          (wrote-opened false (f .n) (within-R (f .n) (w .cs)) (λ cs. dead) (law-R false (f .n) (w .cs)) r (ReadR (f .n) (w .cs)) (its-end (f .n) (w .cs) r) mid e))
+          (wrote-opened false (f .n) (within-R (f .n) (w .cs)) (λ cs. dead) (law-R false (f .n) (w .cs)) r (ReadR (f .n) (w .cs))
+          (its-end (f .n) (w .cs) r) mid e))
 
   pub right-of : (semi : Bool) (ps : List CyclePiece) → outcome (readAll semi front ps) ≡ some r → Right ps (r .index) (r .ofS) (r .ofR)
   unfolding WroteS
   right-of true ps e =
       let f = fronted true r ps e in
-      right-with f (wrote-start true (f .n) (within-S (f .n)) (beginR true (f .n)) (law-S true (f .n)) r (λ cs. ⊥) (no-end (f .n) r) (f .behind) (inl refl) (f .read))
+      right-with f (wrote-start true (f .n) (within-S (f .n)) (beginR true (f .n)) (law-S true (f .n)) r (λ cs. ⊥) (no-end (f .n) r) (f .behind) (inl refl)
+      (f .read))
   right-of false ps e =
       let f = fronted false r ps e in
-      right-without f (wrote-start false (f .n) (within-S (f .n)) (beginR false (f .n)) (law-S false (f .n)) r (λ cs. ⊥) (no-end (f .n) r) (f .behind) (inr (λ cs h. h)) (f .read))
+      right-without f (wrote-start false (f .n) (within-S (f .n)) (beginR false (f .n)) (law-S false (f .n)) r (λ cs. ⊥) (no-end (f .n) r) (f .behind)
+      (inr (λ cs h. h)) (f .read))

@@ -23,7 +23,8 @@ unfolding withoutOffsets
 bare-append [] qs = refl
 bare-append (p ∷ ps) qs = ap (λ (l : List CyclePiece). p .piece ∷ l) (bare-append ps qs)
 
-one-more : (semi : Bool) (before : List PlacedPiece) (p : PlacedPiece) → readAll semi front (withoutOffsets before ++ (p .piece ∷ [])) ≡ readPiece semi (readAll semi front (withoutOffsets before)) (p .piece)
+one-more : (semi : Bool) (before : List PlacedPiece) (p : PlacedPiece) → readAll semi front (withoutOffsets before ++ (p .piece ∷ []))
+    ≡ readPiece semi (readAll semi front (withoutOffsets before)) (p .piece)
 unfolding readAll
 one-more semi before p = run-append semi front (withoutOffsets before) (p .piece ∷ [])
 
@@ -39,7 +40,8 @@ alive-then ps h = go (alive-either _ _ h)
     go (inr e) = alive-completes false ps e
 
 module _ (t : List ℕ)
-    (not-A : outcome (readAll true front (withoutOffsets (cyclePieces t))) ≡ none) (not-B : outcome (readAll false front (withoutOffsets (cyclePieces t))) ≡ none) where
+    (not-A : outcome (readAll true front (withoutOffsets (cyclePieces t))) ≡ none)
+    (not-B : outcome (readAll false front (withoutOffsets (cyclePieces t))) ≡ none) where
   never-right : (n : ℕ) (sc rc : List (List ℕ)) → ¬ Right (withoutOffsets (cyclePieces t)) n sc rc
   never-right n sc rc h = go (h .semi) (accepted (withoutOffsets (cyclePieces t)) n sc rc h)
     where
@@ -47,16 +49,19 @@ module _ (t : List ℕ)
       go true e = no-read (sym not-A ∙ e)
       go false e = no-read (sym not-B ∙ e)
 
-  lost-wrong : (ps before : List PlacedPiece) (a b : State) → cyclePieces t ≡ before ++ ps → readAll true front (withoutOffsets before) ≡ a → readAll false front (withoutOffsets before) ≡ b
+  lost-wrong : (ps before : List PlacedPiece) (a b : State) → cyclePieces t ≡ before ++ ps → readAll true front (withoutOffsets before) ≡ a
+      → readAll false front (withoutOffsets before) ≡ b
       → (isDead a && isDead b) ≡ false → WrongAt t (lost a b ps (length t))
   unfolding lost withoutOffsets
   lost-wrong [] before a b e ea eb h =
       let z : before ≡ cyclePieces t = sym (e ∙ append-nil before) in
       stops-short
       (alive-then (withoutOffsets (cyclePieces t))
-      (subst (λ (l : List PlacedPiece). (isDead (readAll true front (withoutOffsets l)) && isDead (readAll false front (withoutOffsets l))) ≡ false) z (rw (ea, eb) h)))
+      (subst (λ (l : List PlacedPiece). (isDead (readAll true front (withoutOffsets l)) && isDead (readAll false front (withoutOffsets l))) ≡ false) z
+      (rw (ea, eb) h)))
       never-right
-  lost-wrong (p ∷ ps) before a b e ea eb h = go (isDead a' && isDead b') refl (λ k. lost-wrong ps (before ++ (p ∷ [])) a' b' (e ∙ sym (append-assoc before (p ∷ []) ps)) ra rb k)
+  lost-wrong (p ∷ ps) before a b e ea eb h =
+      go (isDead a' && isDead b') refl (λ k. lost-wrong ps (before ++ (p ∷ [])) a' b' (e ∙ sym (append-assoc before (p ∷ []) ps)) ra rb k)
     where
       a' : State
       a' = readPiece true a (p .piece)
@@ -80,12 +85,14 @@ module _ (t : List ℕ)
       rb = ap (readAll false front) behind-it ∙ nb
 
       go : (d : Bool) → (isDead (readPiece true a (p .piece)) && isDead (readPiece false b (p .piece))) ≡ d
-          → ((isDead (readPiece true a (p .piece)) && isDead (readPiece false b (p .piece))) ≡ false → WrongAt t (lost (readPiece true a (p .piece)) (readPiece false b (p .piece)) ps (length t)))
+          → ((isDead (readPiece true a (p .piece)) && isDead (readPiece false b (p .piece))) ≡ false
+          → WrongAt t (lost (readPiece true a (p .piece)) (readPiece false b (p .piece)) ps (length t)))
           → WrongAt t (lost a b (p ∷ ps) (length t))
       go true f ih =
           subst (λ (k : ℕ). WrongAt t k) (sym (pick-true (isDead (readPiece true a (p .piece)) && isDead (readPiece false b (p .piece))) (p .at) _ f))
           (at-piece before p ps e (alive-then (withoutOffsets before) (rw (ea, eb) h))
-          (completes-alive (withoutOffsets before ++ (p .piece ∷ [])) (ap isDead na ∙ and-left _ _ f) (ap isDead nb ∙ and-right (isDead (readPiece true a (p .piece))) _ f)))
+          (completes-alive (withoutOffsets before ++ (p .piece ∷ [])) (ap isDead na ∙ and-left _ _ f)
+          (ap isDead nb ∙ and-right (isDead (readPiece true a (p .piece))) _ f)))
       go false f ih =
           subst (λ (k : ℕ). WrongAt t k) (sym (pick-false (isDead (readPiece true a (p .piece)) && isDead (readPiece false b (p .piece))) (p .at) _ f)) (ih f)
 
@@ -122,13 +129,15 @@ index-in ps e i = clash (bad-behind (i .n) (i .behind) (i .out) (i .n-is)) e
 
 pub verdict-means : (t : List ℕ) → VerdictMeans t (verdictOf t)
 unfolding verdictOf
-verdict-means t = go (badIndex (withoutOffsets (cyclePieces t))) refl (outcome (readAll true front (withoutOffsets (cyclePieces t)))) refl (outcome (readAll false front (withoutOffsets (cyclePieces t)))) refl
+verdict-means t = go (badIndex (withoutOffsets (cyclePieces t))) refl (outcome (readAll true front (withoutOffsets (cyclePieces t)))) refl
+    (outcome (readAll false front (withoutOffsets (cyclePieces t)))) refl
   where
     place : ℕ
     place = lost front front (cyclePieces t) (length t)
 
     go : (i : Bool) → badIndex (withoutOffsets (cyclePieces t)) ≡ i
-        → (a : Option Read) → outcome (readAll true front (withoutOffsets (cyclePieces t))) ≡ a → (b : Option Read) → outcome (readAll false front (withoutOffsets (cyclePieces t))) ≡ b
+        → (a : Option Read) → outcome (readAll true front (withoutOffsets (cyclePieces t))) ≡ a → (b : Option Read)
+        → outcome (readAll false front (withoutOffsets (cyclePieces t))) ≡ b
         → VerdictMeans t (pick i index-out (eitherRead a b (lost front front (cyclePieces t) (length t))))
     go true e a ea b eb = no-index (index-out-is (withoutOffsets (cyclePieces t)) e)
     go false e (some r) ea b eb = right r (right-of r true (withoutOffsets (cyclePieces t)) ea)

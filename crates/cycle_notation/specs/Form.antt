@@ -1,16 +1,20 @@
--- Which texts are of the form: the index, then S and R as disjoint cycles. `X ps .. rest` says that the pieces ps are an X and then rest.
+-- Which texts are of the form: the index, then S and R as disjoint cycles. `X ps .. rest` says that the pieces ps are
+-- an X and then rest.
 --
 --     Blanks ps rest           blanks (byte 32), or none
 --     More ps xs rest          behind a point of a cycle: `)`, or a comma, a point x and more; xs are these points
 --     Cycles ps cs rest        the cycles cs with blanks around them or none; there may be no cycle
---     Written semi ps cs rest  a permutation with blanks around it: cycles, or `()` alone. Beside a semicolon (semi is true) there may be any number of
---                              cycles, and none written is the identity; without it a permutation is one cycle or `()`
---     Reading semi ps n sc rc  the whole text: the index n, S with the cycles sc, a semicolon or none, R with the cycles rc
+--     Written semi ps cs rest  a permutation with blanks around it: cycles, or `()` alone. Beside a semicolon (semi is
+--                              true) there may be any number of cycles, and none written is the identity; without it a
+--                              permutation is one cycle or `()`
+--     Reading semi ps n sc rc  the whole text: the index n, S with the cycles sc, a semicolon or none, R with the
+--                              cycles rc
 --     pointsOf cs              the points that the cycles cs name, in their order
 --     free n seen x            x is a point from 1 to n, and not among those seen
 --     Disjoint n seen xs       each of xs is free when those before it have been seen
 --     inRange n                n is an index from 1 to 3,066
---     Right ps n sc rc         the pieces ps are of the form, by one of the two readings, with such an index, and disjoint cycles in S and in R
+--     Right ps n sc rc         the pieces ps are of the form, by one of the two readings, with such an index, and
+--                              disjoint cycles in S and in R
 --     Completes ps             some ending makes the pieces ps right
 -- Assumes nothing.
 use mathlib.Core.Path.{_≡_}
@@ -29,7 +33,8 @@ pub data Blanks : List CyclePiece → List CyclePiece → Type 0 where
 
 pub data More : List CyclePiece → List ℕ → List CyclePiece → Type 0 where
   last : {ps : List CyclePiece} → More (closing ∷ ps) [] ps
-  further : {ps rest : List CyclePiece} {x : ℕ} {xs : List ℕ} → More ps xs rest → More (comma ∷ number x ∷ ps) (x ∷ xs) rest
+  further : {ps rest : List CyclePiece} {x : ℕ} {xs : List ℕ} → More ps xs rest
+      → More (comma ∷ number x ∷ ps) (x ∷ xs) rest
 
 pub data Cycles : List CyclePiece → List (List ℕ) → List CyclePiece → Type 0 where
   end : {ps : List CyclePiece} → Cycles ps [] ps
@@ -42,8 +47,10 @@ Enough true cs = Unit {0}
 Enough false cs = length cs ≡ 1
 
 pub data Written (semi : Bool) : List CyclePiece → List (List ℕ) → List CyclePiece → Type 0 where
-  cycles : {ps rest : List CyclePiece} {cs : List (List ℕ)} → Enough semi cs → Cycles ps cs rest → Written semi ps cs rest
-  identity : {ps mid rest : List CyclePiece} → Blanks ps (opening ∷ closing ∷ mid) → Blanks mid rest → Written semi ps [] rest
+  cycles : {ps rest : List CyclePiece} {cs : List (List ℕ)} → Enough semi cs → Cycles ps cs rest
+      → Written semi ps cs rest
+  identity : {ps mid rest : List CyclePiece} → Blanks ps (opening ∷ closing ∷ mid) → Blanks mid rest
+      → Written semi ps [] rest
 
 -- what stands between S and R: their own blanks aside, the semicolon or nothing
 abbrev pub behindS : (semi : Bool) → List CyclePiece → List CyclePiece

@@ -1,11 +1,13 @@
 -- The pieces of a text in cycle notation: a whole run of digits, or one other byte.
 --
 --     digitByte b                  b is a digit (48 to 57)
---     CyclePiece                   a number, as its run of digits says it; one of the five bytes that the form has; another byte
+--     CyclePiece                   a number, as its run of digits says it; one of the five bytes that the form has;
+--                                  another byte
 --     mark b                       the piece that the byte b is, which is no digit
 --     runValue m t                 the number that a run of digits says which has said m so far and goes on with t
 --     PlacedPiece                  a piece with the offset where it begins
---     cyclePiecesFrom at inside t  the pieces that begin in t, whose first byte stands at the offset `at`; `inside` where the byte before is a digit
+--     cyclePiecesFrom at inside t  the pieces that begin in t, whose first byte stands at the offset `at`; `inside`
+--                                  where the byte before is a digit
 --     cyclePieces t                the pieces of the text t
 --     withoutOffsets ps            the same without their offsets
 -- Zeros in front of a number change nothing, and a number may have any length. A line end (10, 13) is another byte.

@@ -1,7 +1,8 @@
 -- The table of a permutation that is given by cycles: points count from 1 in the text and from 0 in the table.
 --
 --     behindIn f c x   the point behind x in c, whose points go round to f; x itself where c does not have it
---     imageBy cs x     where the cycles cs lead from x: to the point behind it in its cycle, round to the first; x itself where no cycle has it
+--     imageBy cs x     where the cycles cs lead from x: to the point behind it in its cycle, round to the first; x
+--                      itself where no cycle has it
 --     tabled f n       f 0 to f (n - 1)
 --     cycleTable n cs  the table of the permutation of n points with the cycles cs
 -- Assumes nothing.

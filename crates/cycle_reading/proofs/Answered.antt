@@ -15,12 +15,12 @@ use lib.Seq.{take-at}
 use borrow.Author.Tests.{lt-ltb, le-ltb}
 use Rattle.basics.specs.Choice.{pick}
 use Rattle.basics.proofs.Choice.{pick-true, pick-false}
-use Rattle.refusal.specs.Refusal.{tooShort, filledBy}
-use Rattle.refusal.specs.declared.Refusal.{Refusal}
-use Rattle.refusal.specs.declared.Checked.{Checked}
-use Rattle.refusal.specs.declared.Checked.the-variants as checked
-use Rattle.refusal.specs.declared.Filled.{Filled}
-use Rattle.refusal.specs.declared.Filled.the-variants as filled
+use Rattle.call.specs.Refusal.{tooShort, filledBy}
+use Rattle.call.specs.declared.refusal.Refusal.{Refusal}
+use Rattle.call.specs.declared.refusal.Checked.{Checked}
+use Rattle.call.specs.declared.refusal.Checked.the-variants as checked
+use Rattle.call.specs.declared.refusal.Filled.{Filled}
+use Rattle.call.specs.declared.refusal.Filled.the-variants as filled
 use Rattle.coset.specs.Answer.{roomTwo, columnLeft}
 use Rattle.permutations.specs.Check.{pairCheck, Passport}
 use Rattle.permutations.proofs.Accepted.{accepted}
@@ -43,7 +43,8 @@ clash e = absurd (omega arith)
 
 -- ---- what the answer means, for a text that is right
 
-module _ (t : List ℕ) (q : Read) (h : RightAs t q) (a b : ℕ) (s r s' r' : List ℕ) (f : Filled) (S-left : s' ≡ columnLeft f (tableOfS q) s) (R-left : r' ≡ columnLeft f (tableOfR q) r) where
+module _ (t : List ℕ) (q : Read) (h : RightAs t q) (a b : ℕ) (s r s' r' : List ℕ) (f : Filled) (S-left : s' ≡ columnLeft f (tableOfS q) s)
+    (R-left : r' ≡ columnLeft f (tableOfR q) r) where
   abbrev room : Filled
   room = roomTwo (q .index) a b
 
@@ -61,8 +62,10 @@ module _ (t : List ℕ) (q : Read) (h : RightAs t q) (a b : ℕ) (s r s' r' : Li
     | yes l ↦ subst (λ (g : Filled). Meant g) (sym (ef ∙ pick-true (ltb a (q .index)) _ _ (lt-ltb a (q .index) l))) (reading.no-room q good (inl l))
     | no l ↦ elim (decLt b (q .index)) [
       | yes m ↦ subst (λ (g : Filled). Meant g)
-          (sym (ef ∙ pick-false (ltb a (q .index)) _ _ (le-ltb a (q .index) (omega arith)) ∙ pick-true (ltb b (q .index)) _ _ (lt-ltb b (q .index) m))) (reading.no-room q good (inr m))
-      | no m ↦ whole (ef ∙ pick-false (ltb a (q .index)) _ _ (le-ltb a (q .index) (omega arith)) ∙ pick-false (ltb b (q .index)) _ _ (le-ltb b (q .index) (omega arith))) (omega arith) (omega arith)
+          (sym (ef ∙ pick-false (ltb a (q .index)) _ _ (le-ltb a (q .index) (omega arith)) ∙ pick-true (ltb b (q .index)) _ _ (lt-ltb b (q .index) m)))
+          (reading.no-room q good (inr m))
+      | no m ↦ whole (ef ∙ pick-false (ltb a (q .index)) _ _ (le-ltb a (q .index) (omega arith))
+          ∙ pick-false (ltb b (q .index)) _ _ (le-ltb b (q .index) (omega arith))) (omega arith) (omega arith)
     ]
   ]
     where

@@ -45,7 +45,8 @@ module _ (semi : Bool) (n : ℕ) (t : List ℕ) where
   SaysR : List (List ℕ) → State → List PlacedPiece → PartOut → Type 0
   SaysR sc q ps out = Says semi n (within-R n sc) (λ cs. dead) (law-R semi n sc) (live-R sc) t (length t) q ps out
 
-  from-R : (sc : List (List ℕ)) (q : State) (ps : List PlacedPiece) (out : PartOut) → SaysR sc q ps out → AloneSays semi n (length t) q ps (aloneBehindR (length t) sc out)
+  from-R : (sc : List (List ℕ)) (q : State) (ps : List PlacedPiece) (out : PartOut) → SaysR sc q ps out
+      → AloneSays semi n (length t) q ps (aloneBehindR (length t) sc out)
   unfolding SaysR
   from-R sc q ps out (says-lost r d) = it-fails (ap outcome r) d
   from-R sc q ps out (says-passed {at} r d) = it-fails (ap outcome (r ∙ run-dead semi (withoutOffsets (piecesLeft t (at + 1))))) d
@@ -67,7 +68,8 @@ module _ (semi : Bool) (n : ℕ) (t : List ℕ) where
       (subst (λ (ph : Phase). AloneSays semi n (length t) (within-R n sc ph [] [] []) (piecesLeft t (at + 1))
       (aloneBehindR (length t) sc (partRun semi n (beginAt (not semi)) [] [] [] (piecesLeft t (at + 1))))) (sym (begin-same semi))
       (from-R sc (within-R n sc (beginAt (not semi)) [] [] []) (piecesLeft t (at + 1)) (partRun semi n (beginAt (not semi)) [] [] [] (piecesLeft t (at + 1)))
-      (says semi n (within-R n sc) (λ cs. dead) (law-R semi n sc) (live-R sc) t (length t) (piecesLeft t (at + 1)) (at + 1) refl (beginAt (not semi)) [] [] [])))
+      (says semi n (within-R n sc) (λ cs. dead) (law-R semi n sc) (live-R sc) t (length t) (piecesLeft t (at + 1)) (at + 1) refl
+      (beginAt (not semi)) [] [] [])))
     where
       carried : (x : Alone) → AloneSays semi n (length t) (beginR semi n sc) (piecesLeft t (at + 1)) x → AloneSays semi n (length t) q ps x
       carried x (it-fails o e) = it-fails (ap outcome r ∙ o) (d ∙ e)
@@ -100,14 +102,17 @@ module _ (t : List ℕ) where
   died-low semi [] o q e h = h
   died-low semi (p ∷ ps) o q e h =
       let x = next-of t o p ps e in
-      go (isDead (readPiece semi q (p .piece))) (let k = died-low semi ps (x .to) (readPiece semi q (p .piece)) (sym (x .rest)) (x .inside) in omega (arith, x .onward)) (omega (arith, x .at-is))
+      go (isDead (readPiece semi q (p .piece))) (let k = died-low semi ps (x .to) (readPiece semi q (p .piece)) (sym (x .rest)) (x .inside) in
+      omega (arith, x .onward)) (omega (arith, x .at-is))
     where
-      go : (b : Bool) → o ≤ died semi (readPiece semi q (p .piece)) ps (length t) → o ≤ p .at → o ≤ pick b (p .at) (died semi (readPiece semi q (p .piece)) ps (length t))
+      go : (b : Bool) → o ≤ died semi (readPiece semi q (p .piece)) ps (length t) → o ≤ p .at
+          → o ≤ pick b (p .at) (died semi (readPiece semi q (p .piece)) ps (length t))
       go true k l = l
       go false k l = k
 
   -- and a reader that is lost already is so at once
-  dead-first : (semi other : Bool) (ps : List PlacedPiece) (o : ℕ) (q : State) → piecesLeft t o ≡ ps → o ≤ length t → died semi dead ps (length t) ≤ died other q ps (length t)
+  dead-first : (semi other : Bool) (ps : List PlacedPiece) (o : ℕ) (q : State) → piecesLeft t o ≡ ps → o ≤ length t
+      → died semi dead ps (length t) ≤ died other q ps (length t)
   unfolding died
   dead-first semi other [] o q e h = omega arith
   dead-first semi other (p ∷ ps) o q e h =
@@ -123,16 +128,19 @@ module _ (t : List ℕ) where
         → lost (readPiece true a (p .piece)) (readPiece false b (p .piece)) ps (length t)
         ≡ later (died true (readPiece true a (p .piece)) ps (length t)) (died false (readPiece false b (p .piece)) ps (length t))
         → pick (i && j) (p .at) (lost (readPiece true a (p .piece)) (readPiece false b (p .piece)) ps (length t))
-        ≡ later (pick i (p .at) (died true (readPiece true a (p .piece)) ps (length t))) (pick j (p .at) (died false (readPiece false b (p .piece)) ps (length t)))
+        ≡ later (pick i (p .at) (died true (readPiece true a (p .piece)) ps (length t)))
+        (pick j (p .at) (died false (readPiece false b (p .piece)) ps (length t)))
     cases true ei true ej rest = sym (later-left (p .at) (p .at) (omega arith))
     cases true ei false ej rest =
         rest
-        ∙ ap (λ (q : State). later (died true q ps (length t)) (died false (readPiece false b (p .piece)) ps (length t))) (dead-is (readPiece true a (p .piece)) ei)
+        ∙ ap (λ (q : State). later (died true q ps (length t)) (died false (readPiece false b (p .piece)) ps (length t)))
+        (dead-is (readPiece true a (p .piece)) ei)
         ∙ later-right _ _ (dead-first true false ps (x .to) (readPiece false b (p .piece)) (sym (x .rest)) (x .inside))
         ∙ sym (later-right (p .at) _ (early false (readPiece false b (p .piece))))
     cases false ei true ej rest =
         rest
-        ∙ ap (λ (q : State). later (died true (readPiece true a (p .piece)) ps (length t)) (died false q ps (length t))) (dead-is (readPiece false b (p .piece)) ej)
+        ∙ ap (λ (q : State). later (died true (readPiece true a (p .piece)) ps (length t)) (died false q ps (length t)))
+        (dead-is (readPiece false b (p .piece)) ej)
         ∙ later-left _ _ (dead-first false true ps (x .to) (readPiece true a (p .piece)) (sym (x .rest)) (x .inside))
         ∙ sym (later-left _ (p .at) (early true (readPiece true a (p .piece))))
     cases false ei false ej rest = rest
@@ -143,11 +151,14 @@ module _ (t : List ℕ) where
         → lost a b (p ∷ ps) (length t) ≡ later (died true a (p ∷ ps) (length t)) (died false b (p ∷ ps) (length t))
     unfolding lost died
     either-lost i ei j ej rest =
-        ap (λ (z : Bool). pick (z && isDead (readPiece false b (p .piece))) (p .at) (lost (readPiece true a (p .piece)) (readPiece false b (p .piece)) ps (length t))) ei
+        ap (λ (z : Bool). pick (z && isDead (readPiece false b (p .piece))) (p .at)
+        (lost (readPiece true a (p .piece)) (readPiece false b (p .piece)) ps (length t))) ei
         ∙ ap (λ (z : Bool). pick (i && z) (p .at) (lost (readPiece true a (p .piece)) (readPiece false b (p .piece)) ps (length t))) ej
         ∙ cases i ei j ej rest
-        ∙ sym (ap (λ (z : Bool). later (pick z (p .at) (died true (readPiece true a (p .piece)) ps (length t))) (pick (isDead (readPiece false b (p .piece))) (p .at) (died false (readPiece false b (p .piece)) ps (length t)))) ei
-        ∙ ap (λ (z : Bool). later (pick i (p .at) (died true (readPiece true a (p .piece)) ps (length t))) (pick z (p .at) (died false (readPiece false b (p .piece)) ps (length t)))) ej)
+        ∙ sym (ap (λ (z : Bool). later (pick z (p .at) (died true (readPiece true a (p .piece)) ps (length t)))
+        (pick (isDead (readPiece false b (p .piece))) (p .at) (died false (readPiece false b (p .piece)) ps (length t)))) ei
+        ∙ ap (λ (z : Bool). later (pick i (p .at) (died true (readPiece true a (p .piece)) ps (length t)))
+        (pick z (p .at) (died false (readPiece false b (p .piece)) ps (length t)))) ej)
 
   pub lost-later : (ps : List PlacedPiece) (o : ℕ) (a b : State) → piecesLeft t o ≡ ps → o ≤ length t
       → lost a b ps (length t) ≡ later (died true a ps (length t)) (died false b ps (length t))

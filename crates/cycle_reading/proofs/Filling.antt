@@ -19,12 +19,12 @@ use borrow.Author.Tests.{lt-ltb, le-ltb, leb-true}
 use Rattle.basics.specs.Choice.{pick}
 use Rattle.basics.specs.Count.{first}
 use Rattle.basics.proofs.Choice.{pick-true, pick-false, and-left, and-right}
-use Rattle.refusal.specs.Refusal.{_orElse_, tooShort, pointCount, badCycles, tableEntry, wrongOrder, unreached, filledBy}
-use Rattle.refusal.specs.declared.Refusal.{Refusal}
-use Rattle.refusal.specs.declared.Checked.{Checked}
-use Rattle.refusal.specs.declared.Checked.the-variants as checked
-use Rattle.refusal.specs.declared.Filled.{Filled}
-use Rattle.refusal.specs.declared.Filled.the-variants as filled
+use Rattle.call.specs.Refusal.{_orElse_, tooShort, pointCount, badCycles, tableEntry, wrongOrder, unreached, filledBy}
+use Rattle.call.specs.declared.refusal.Refusal.{Refusal}
+use Rattle.call.specs.declared.refusal.Checked.{Checked}
+use Rattle.call.specs.declared.refusal.Checked.the-variants as checked
+use Rattle.call.specs.declared.refusal.Filled.{Filled}
+use Rattle.call.specs.declared.refusal.Filled.the-variants as filled
 use Rattle.symbol.specs.Check.{refuse, refuseAt}
 use Rattle.coset.specs.Answer.{roomTwo, columnLeft}
 use Rattle.permutations.specs.Check.{badEntry, check13, check14, check15, twiceMoved, thriceMoved, notReached, pairCheck, Passport}
@@ -76,7 +76,11 @@ module _ (a b s r : List ℕ) where
 
   module _ (e : pairCheck a b ≡ checked.Accepted) where
     pub given-short-S : length s < length a → Given (filled.Refused (tooShort (length a))) s r
-    given-short-S h = record { returned = sym (checked-as checked.Accepted e ∙ pick-true (ltb (length s) (length a)) _ _ (lt-ltb (length s) (length a) h)); S-left = refl; R-left = refl }
+    given-short-S h = record {
+      returned = sym (checked-as checked.Accepted e ∙ pick-true (ltb (length s) (length a)) _ _ (lt-ltb (length s) (length a) h));
+      S-left = refl;
+      R-left = refl;
+    }
 
     pub given-short-R : length a ≤ length s → length r < length a → Given (filled.Refused (tooShort (length a))) s r
     given-short-R h k = record {
@@ -86,7 +90,8 @@ module _ (a b s r : List ℕ) where
       R-left = refl;
     }
 
-    pub given-both : length b ≡ length a → length a ≤ length s → length a ≤ length r → (s' r' : List ℕ) → s' ≡ a ++ drop (length a) s → r' ≡ b ++ drop (length b) r
+    pub given-both : length b ≡ length a → length a ≤ length s → length a ≤ length r → (s' r' : List ℕ) → s' ≡ a ++ drop (length a) s → r'
+        ≡ b ++ drop (length b) r
         → Given (filled.Made (length a)) s' r'
     given-both even h k s' r' es er = record {
       returned = sym (checked-as checked.Accepted e ∙ pick-false (ltb (length s) (length a)) _ _ (le-ltb (length s) (length a) h)

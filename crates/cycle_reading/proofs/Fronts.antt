@@ -37,8 +37,10 @@ front-more t at f l e = record {
         ∙ ap (λ (b : ℕ). record { at = at; piece = mark b } ∷ piecesLeft t (at + 1)) e
 
 -- the index n stands at `at`, and the rest from `to` on
-module _ (t : List ℕ) (at to n : ℕ) (f : FrontSame t at) (here : piecesLeft t at ≡ record { at = at; piece = number n } ∷ piecesLeft t to) (i : inRange n ≡ true) where
-  behind-run : (semi : Bool) → readAll semi front (withoutOffsets (piecesLeft t 0)) ≡ readAll semi (within-S n start [] [] []) (withoutOffsets (piecesLeft t to))
+module _ (t : List ℕ) (at to n : ℕ) (f : FrontSame t at) (here : piecesLeft t at ≡ record { at = at; piece = number n } ∷ piecesLeft t to)
+    (i : inRange n ≡ true) where
+  behind-run : (semi : Bool) → readAll semi front (withoutOffsets (piecesLeft t 0))
+      ≡ readAll semi (within-S n start [] [] []) (withoutOffsets (piecesLeft t to))
   unfolding readAll withoutOffsets
   behind-run semi =
       f .runs semi ∙ ap (λ (ps : List PlacedPiece). readAll semi front (withoutOffsets ps)) here
@@ -58,7 +60,8 @@ module _ (t : List ℕ) (at to n : ℕ) (f : FrontSame t at) (here : piecesLeft 
   unfolding verdictOf cyclePieces piecesLeft
   verdict-alone =
       pick-false (badIndex (withoutOffsets (piecesLeft t 0))) _ _ behind-good
-      ∙ ap (eitherRead (outcome (readAll true front (withoutOffsets (piecesLeft t 0)))) (outcome (readAll false front (withoutOffsets (piecesLeft t 0))))) (lost-later t (piecesLeft t 0) 0 front front refl (omega arith))
+      ∙ ap (eitherRead (outcome (readAll true front (withoutOffsets (piecesLeft t 0)))) (outcome (readAll false front (withoutOffsets (piecesLeft t 0)))))
+      (lost-later t (piecesLeft t 0) 0 front front refl (omega arith))
       ∙ go (aloneOf true n t to) (alone-says true n t to) (aloneOf false n t to) (alone-says false n t to)
     where
       go : (a : Alone) → AloneSays true n (length t) (within-S n start [] [] []) (piecesLeft t to) a
@@ -66,15 +69,20 @@ module _ (t : List ℕ) (at to n : ℕ) (f : FrontSame t at) (here : piecesLeft 
           → eitherRead (outcome (readAll true front (withoutOffsets (piecesLeft t 0)))) (outcome (readAll false front (withoutOffsets (piecesLeft t 0))))
           (later (died true front (piecesLeft t 0) (length t)) (died false front (piecesLeft t 0) (length t))) ≡ eitherAlone n a b
       go (through sc rc) (it-reads o) b s =
-          ap (λ (x : Option Read). eitherRead x (outcome (readAll false front (withoutOffsets (piecesLeft t 0)))) (later (died true front (piecesLeft t 0) (length t)) (died false front (piecesLeft t 0) (length t))))
+          ap (λ (x : Option Read). eitherRead x (outcome (readAll false front (withoutOffsets (piecesLeft t 0))))
+          (later (died true front (piecesLeft t 0) (length t)) (died false front (piecesLeft t 0) (length t))))
           (ap outcome (behind-run true) ∙ o)
       go (fails x) (it-fails o d) (through sc rc) (it-reads q) =
-          ap (λ (y : Option Read). eitherRead y (outcome (readAll false front (withoutOffsets (piecesLeft t 0)))) (later (died true front (piecesLeft t 0) (length t)) (died false front (piecesLeft t 0) (length t))))
+          ap (λ (y : Option Read). eitherRead y (outcome (readAll false front (withoutOffsets (piecesLeft t 0))))
+          (later (died true front (piecesLeft t 0) (length t)) (died false front (piecesLeft t 0) (length t))))
           (ap outcome (behind-run true) ∙ o)
-          ∙ ap (λ (y : Option Read). eitherRead none y (later (died true front (piecesLeft t 0) (length t)) (died false front (piecesLeft t 0) (length t)))) (ap outcome (behind-run false) ∙ q)
+          ∙ ap (λ (y : Option Read). eitherRead none y (later (died true front (piecesLeft t 0) (length t)) (died false front (piecesLeft t 0) (length t))))
+          (ap outcome (behind-run false) ∙ q)
       go (fails x) (it-fails o d) (fails y) (it-fails p e) =
-          ap (λ (z : Option Read). eitherRead z (outcome (readAll false front (withoutOffsets (piecesLeft t 0)))) (later (died true front (piecesLeft t 0) (length t)) (died false front (piecesLeft t 0) (length t))))
+          ap (λ (z : Option Read). eitherRead z (outcome (readAll false front (withoutOffsets (piecesLeft t 0))))
+          (later (died true front (piecesLeft t 0) (length t)) (died false front (piecesLeft t 0) (length t))))
           (ap outcome (behind-run true) ∙ o)
-          ∙ ap (λ (z : Option Read). eitherRead none z (later (died true front (piecesLeft t 0) (length t)) (died false front (piecesLeft t 0) (length t)))) (ap outcome (behind-run false) ∙ p)
+          ∙ ap (λ (z : Option Read). eitherRead none z (later (died true front (piecesLeft t 0) (length t)) (died false front (piecesLeft t 0) (length t))))
+          (ap outcome (behind-run false) ∙ p)
           ∙ ap (λ (k : ℕ). eitherRead none none (later k (died false front (piecesLeft t 0) (length t)))) (behind-died true (length t) ∙ d)
           ∙ ap (λ (k : ℕ). eitherRead none none (later x k)) (behind-died false (length t) ∙ e)

@@ -14,7 +14,8 @@ use borrow.Author.Tests.{lt-ltb, le-ltb, lt-leb, le-leb, eq-eqb, ne-eqb, leb-tru
 use Rattle.basics.specs.Choice.{pick}
 use Rattle.basics.specs.Count.{first, count}
 use Rattle.basics.proofs.Choice.{pick-true, pick-false, and-left, and-right, either, clash}
-use Rattle.basics.proofs.Count.{Clear, Found, search-first, first-clear, count-none, count-some, count-eq, count-without, count-le, without, without-at, without-other}
+use Rattle.basics.proofs.Count.{Clear, Found, search-first, first-clear, count-none, count-some, count-eq, count-without, count-le, without, without-at}
+use Rattle.basics.proofs.Count.{without-other}
 use Rattle.numbering.specs.Find.{isIn}
 use Rattle.cycle_notation.specs.Piece.{CyclePiece, number, blank, opening, closing, comma, semicolon, another}
 use Rattle.cycle_notation.specs.Form.{free}
@@ -23,7 +24,8 @@ use Rattle.cycle_notation.specs.Inner.Stores.{linksStored, turnedIn, cyclesStor
 use Rattle.cycle_notation.proofs.Points.{free-range, free-room}
 use Rattle.cycle_notation.proofs.Stores.{is-in-cons, in-head, linked-last, stored-last, last-last}
 use Rattle.cycle_reading.specs.declared.Part.{Part}
-use Rattle.cycle_reading.specs.Inner.Hand.{bounded, isQuiet, behindBlank, behindOpening, behindClosing, behindComma, behindSemicolon, takesPoint, canName, firstOr, lastOr, Hand, hand, moved, namedHand, namedOr, stepHand, PartFits, shutPart}
+use Rattle.cycle_reading.specs.Inner.Hand.{bounded, isQuiet, behindBlank, behindOpening, behindClosing, behindComma, behindSemicolon, takesPoint, canName}
+use Rattle.cycle_reading.specs.Inner.Hand.{firstOr, lastOr, Hand, hand, moved, namedHand, namedOr, stepHand, PartFits, shutPart}
 use Rattle.cycle_reading.specs.Inner.PartRun.{codeOf, CycleUnderWay, ShutAt, HandHolds, made}
 use Rattle.cycle_reading.proofs.Naming.{no-phase, by-room, too-low, too-high, marked, pick-low}
 
@@ -39,7 +41,8 @@ none-open done cur t e h =
     h ∙ ap (λ (c : List ℕ). made (done ++ (c ∷ []))) e ∙ stored-last done [] (identity 3066)
 
 module _ (n : ℕ) (seen cur : List ℕ) (done : List (List ℕ)) (h : Hand) where
-  moved-held : (ph : Phase) → HandHolds n ph seen cur done h → (ph' : Phase) (k : ℕ) → k ≡ codeOf ph' → ShutAt ph' cur → HandHolds n ph' seen cur done (moved h k)
+  moved-held : (ph : Phase) → HandHolds n ph seen cur done h → (ph' : Phase) (k : ℕ) → k ≡ codeOf ph' → ShutAt ph' cur
+      → HandHolds n ph' seen cur done (moved h k)
   moved-held ph H ph' k e s = record {
     phase = e;
     marks = H .marks;
@@ -84,7 +87,8 @@ module _ (n : ℕ) (seen cur : List ℕ) (done : List (List ℕ)) (h : Hand) whe
   abbrev closedHand : ℕ → Hand
   closedHand k = record { part = shutPart (h .part) k; marks = h .marks; table = h .table }
 
-  shut-empty : HandHolds n opened seen cur done h → behindClosing (h .part .phase) ≡ 2 → HandHolds n empty seen cur done (closedHand (behindClosing (h .part .phase)))
+  shut-empty : HandHolds n opened seen cur done h → behindClosing (h .part .phase) ≡ 2
+      → HandHolds n empty seen cur done (closedHand (behindClosing (h .part .phase)))
   shut-empty H e = record {
     phase = e;
     marks = H .marks;
@@ -114,7 +118,8 @@ module _ (n : ℕ) (seen cur : List ℕ) (done : List (List ℕ)) (h : Hand) whe
       go : Clear (λ (i : ℕ). free n seen (suc i)) n ⊎ Found (λ (i : ℕ). free n seen (suc i)) n → ltb (h .part .used) n ≡ room n seen
       go (inl c) =
           let z = count-none (λ (i : ℕ). free n seen (suc i)) n c in
-          le-ltb (h .part .used) n (omega (arith, H .used)) ∙ sym (le-ltb (first (λ (i : ℕ). free n seen (suc i)) n) n (omega (arith, first-clear (λ (i : ℕ). free n seen (suc i)) n c)))
+          le-ltb (h .part .used) n (omega (arith, H .used))
+          ∙ sym (le-ltb (first (λ (i : ℕ). free n seen (suc i)) n) n (omega (arith, first-clear (λ (i : ℕ). free n seen (suc i)) n c)))
       go (inr f) =
           let z = count-some (λ (i : ℕ). free n seen (suc i)) (first (λ (i : ℕ). free n seen (suc i)) n) n (f .below) (f .passes) in
           lt-ltb (h .part .used) n (omega (arith, H .used)) ∙ sym (lt-ltb (first (λ (i : ℕ). free n seen (suc i)) n) n (f .below))
@@ -125,7 +130,8 @@ module _ (n : ℕ) (seen cur : List ℕ) (done : List (List ℕ)) (h : Hand) whe
       (pick-false (canName n (min x 3067) (h .part .phase) (h .part .used) (h .marks)) (namedHand h (min x 3067 - 1)) (moved h 7)
       (sym (no-phase n (min x 3067) (h .part .phase) (h .part .used) (h .marks) (ap takesPoint (H .phase) ∙ e))))
 
-pub room-same : (n : ℕ) (ph : Phase) (seen cur : List ℕ) (done : List (List ℕ)) (h : Hand) → HandHolds n ph seen cur done h → ltb (h .part .used) n ≡ room n seen
+pub room-same : (n : ℕ) (ph : Phase) (seen cur : List ℕ) (done : List (List ℕ)) (h : Hand) → HandHolds n ph seen cur done h → ltb (h .part .used) n
+    ≡ room n seen
 room-same n ph seen cur done h H = room-same' n seen cur done h ph H
 
 never : (semi : Bool) → _≡_ {A = ℕ} (pick semi 7 7) 7
@@ -193,7 +199,8 @@ module _ (n : ℕ) (n-most : n ≤ 3066) (seen cur : List ℕ) (done : List (Lis
           low = omega arith;
           first-low = pick-low (p .going) (p .first) (x - 1) 3066 (H .fits .first-low) (omega arith);
           marks-long = length-set (h .marks) (x - 1) 1 ∙ H .fits .marks-long;
-          table-long = length-set (set (h .table) (lastOr p (x - 1)) (x - 1)) (x - 1) (firstOr p (x - 1)) ∙ length-set (h .table) (lastOr p (x - 1)) (x - 1) ∙ H .fits .table-long;
+          table-long = length-set (set (h .table) (lastOr p (x - 1)) (x - 1)) (x - 1) (firstOr p (x - 1)) ∙ length-set (h .table) (lastOr p (x - 1)) (x - 1)
+              ∙ H .fits .table-long;
         };
         cycle = going-on cur (H .cycle);
         shut = tt;
@@ -203,11 +210,13 @@ module _ (n : ℕ) (n-most : n ≤ 3066) (seen cur : List ℕ) (done : List (Lis
       marked-at r i l (yes z) =
           ap (λ (k : ℕ). getD (set (h .marks) (x - 1) 1) k 0) z
           ∙ getD-set-same (h .marks) (x - 1) 1 0 (let e = H .fits .marks-long in omega arith)
-          ∙ sym (ap (λ (b : Bool). pick b 1 0) (is-in-cons x seen (suc i) ∙ pick-true (eqb x (suc i)) true (isIn seen (suc i)) (eq-eqb x (suc i) (omega arith))))
+          ∙ sym (ap (λ (b : Bool). pick b 1 0)
+          (is-in-cons x seen (suc i) ∙ pick-true (eqb x (suc i)) true (isIn seen (suc i)) (eq-eqb x (suc i) (omega arith))))
       marked-at r i l (no z) =
           getD-set-other (h .marks) (x - 1) i 1 0 z
           ∙ H .marks i l
-          ∙ sym (ap (λ (b : Bool). pick b 1 0) (is-in-cons x seen (suc i) ∙ pick-false (eqb x (suc i)) true (isIn seen (suc i)) (ne-eqb x (suc i) (λ k. z (omega arith)))))
+          ∙ sym (ap (λ (b : Bool). pick b 1 0)
+          (is-in-cons x seen (suc i) ∙ pick-false (eqb x (suc i)) true (isIn seen (suc i)) (ne-eqb x (suc i) (λ k. z (omega arith)))))
 
   -- the code's tests are those of a free point; a number past 3,066 is as good as 3,067
   can-same : (ph : Phase) → HandHolds n ph seen cur done h → takesPoint (codeOf ph) ≡ true
@@ -252,7 +261,8 @@ module _ (n : ℕ) (n-most : n ≤ 3066) (seen cur : List ℕ) (done : List (Lis
           let r = free-range n seen x f in
           let z : min x 3067 - 1 ≡ x - 1 = omega arith in
           subst (λ (g : Hand). HandHolds n point (x ∷ seen) (cur ++ (x ∷ [])) done g)
-          (sym (pick-true (canName n (min x 3067) (p .phase) (p .used) (h .marks)) (namedHand h (min x 3067 - 1)) (moved h 7) (can-same ph H e ∙ f) ∙ ap (namedHand h) z))
+          (sym (pick-true (canName n (min x 3067) (p .phase) (p .used) (h .marks)) (namedHand h (min x 3067 - 1)) (moved h 7) (can-same ph H e ∙ f)
+          ∙ ap (namedHand h) z))
           (point-held ph H f)
       go false f =
           ap (λ (g : Hand). g .part .phase)
@@ -264,7 +274,8 @@ pub turn-held : (semi : Bool) (n : ℕ) (n-most : n ≤ 3066) (seen cur : List �
     → HandHolds n ph seen cur done h → TurnHeld n done (turnOf semi n seen cur done ph q) (stepHand semi n h (bounded q))
 turn-held semi n n-most seen cur done h start (number x) H = no-number n seen cur done h x start H refl
 turn-held semi n n-most seen cur done h start blank H = moved-held n seen cur done h start H start _ (ap behindBlank (H .phase)) (H .shut)
-turn-held semi n n-most seen cur done h start opening H = moved-held n seen cur done h start H opened _ (ap (behindOpening semi (ltb (h .part .used) n)) (H .phase)) (H .shut)
+turn-held semi n n-most seen cur done h start opening H =
+    moved-held n seen cur done h start H opened _ (ap (behindOpening semi (ltb (h .part .used) n)) (H .phase)) (H .shut)
 turn-held semi n n-most seen cur done h start closing H = ap (behindClosing) (H .phase)
 turn-held semi n n-most seen cur done h start comma H = ap (behindComma (ltb (h .part .used) n)) (H .phase)
 turn-held semi n n-most seen cur done h start semicolon H = behind-quiet n seen cur done h start H (H .shut) semi _ (ap (behindSemicolon semi) (H .phase))
@@ -287,7 +298,9 @@ turn-held semi n n-most seen cur done h point (number x) H = no-number n seen cu
 turn-held semi n n-most seen cur done h point blank H = ap (behindBlank) (H .phase)
 turn-held semi n n-most seen cur done h point opening H = ap (behindOpening semi (ltb (h .part .used) n)) (H .phase)
 turn-held semi n n-most seen cur done h point closing H = shut-closed n seen cur done h H (ap behindClosing (H .phase))
-turn-held semi n n-most seen cur done h point comma H = behind-point n seen cur done h H (room n seen) _ (ap (behindComma (ltb (h .part .used) n)) (H .phase) ∙ ap (λ (m : Bool). pick m 4 7) (room-same n point seen cur done h H))
+turn-held semi n n-most seen cur done h point comma H =
+    behind-point n seen cur done h H (room n seen) _
+    (ap (behindComma (ltb (h .part .used) n)) (H .phase) ∙ ap (λ (m : Bool). pick m 4 7) (room-same n point seen cur done h H))
 turn-held semi n n-most seen cur done h point semicolon H = ap (behindSemicolon semi) (H .phase) ∙ never semi
 turn-held semi n n-most seen cur done h point another H = refl
 turn-held semi n n-most seen cur done h wanted (number x) H = named-held n n-most seen cur done h x wanted H refl
@@ -299,7 +312,9 @@ turn-held semi n n-most seen cur done h wanted semicolon H = ap (behindSemicolon
 turn-held semi n n-most seen cur done h wanted another H = refl
 turn-held semi n n-most seen cur done h closed (number x) H = no-number n seen cur done h x closed H refl
 turn-held semi n n-most seen cur done h closed blank H = moved-held n seen cur done h closed H closed _ (ap behindBlank (H .phase)) (H .shut)
-turn-held semi n n-most seen cur done h closed opening H = behind-closed n seen cur done h H semi (room n seen) _ (ap (behindOpening semi (ltb (h .part .used) n)) (H .phase) ∙ ap (λ (m : Bool). pick semi (pick m 4 7) 6) (room-same n closed seen cur done h H))
+turn-held semi n n-most seen cur done h closed opening H =
+    behind-closed n seen cur done h H semi (room n seen) _
+    (ap (behindOpening semi (ltb (h .part .used) n)) (H .phase) ∙ ap (λ (m : Bool). pick semi (pick m 4 7) 6) (room-same n closed seen cur done h H))
 turn-held semi n n-most seen cur done h closed closing H = ap (behindClosing) (H .phase)
 turn-held semi n n-most seen cur done h closed comma H = ap (behindComma (ltb (h .part .used) n)) (H .phase)
 turn-held semi n n-most seen cur done h closed semicolon H = behind-quiet n seen cur done h closed H (H .shut) semi _ (ap (behindSemicolon semi) (H .phase))

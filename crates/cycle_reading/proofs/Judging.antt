@@ -17,7 +17,8 @@ use lib.ListN.{length, getD, drop}
 use borrow.Author.Tests.{lt-ltb, le-ltb, lt-leb, le-leb, ne-eqb}
 use Rattle.basics.specs.Choice.{pick}
 use Rattle.basics.proofs.Choice.{pick-true, pick-false}
-use Rattle.cycle_notation.specs.Piece.{CyclePiece, number, blank, opening, closing, comma, semicolon, another, mark, PlacedPiece, digitByte, runValue, cyclePieces, withoutOffsets}
+use Rattle.cycle_notation.specs.Piece.{CyclePiece, number, blank, opening, closing, comma, semicolon, another, mark, PlacedPiece, digitByte, runValue}
+use Rattle.cycle_notation.specs.Piece.{cyclePieces, withoutOffsets}
 use Rattle.cycle_notation.specs.Form.{inRange}
 use Rattle.cycle_notation.specs.Verdict.{Read, Verdict, reads, index-out, leaves}
 use Rattle.cycle_notation.specs.Inner.Reader.{State, front, dead, indexed, readPiece, readAll, outcome, isDead, lost, badIndex, eitherRead, verdictOf}
@@ -178,7 +179,8 @@ module _ (t : List ℕ) (at : ℕ) (f : FrontSame t at) (l : at < length t) (s r
 
 -- ---- the number at the front, as the code reads it
 
-module _ (t : List ℕ) (at : ℕ) (f : FrontSame t at) (l : at < length t) (e : digitByte (getD t at 0) ≡ true) (d : Digits) (D : DigitsRead t at d) (s r : List ℕ) where
+module _ (t : List ℕ) (at : ℕ) (f : FrontSame t at) (l : at < length t) (e : digitByte (getD t at 0) ≡ true) (d : Digits) (D : DigitsRead t at d)
+    (s r : List ℕ) where
   abbrev value : ℕ
   value = runValue 0 (drop at t)
 

@@ -18,7 +18,8 @@ use lib.Seq.{drop-cons, drop-length, drop-drop}
 use borrow.Author.Tests.{leb-true}
 use Rattle.basics.specs.Choice.{pick}
 use Rattle.basics.proofs.Choice.{and-left, and-right}
-use Rattle.cycle_notation.specs.Piece.{CyclePiece, number, blank, opening, closing, comma, semicolon, another, mark, PlacedPiece, digitByte, runValue, numberBegun, cyclePiecesFrom}
+use Rattle.cycle_notation.specs.Piece.{CyclePiece, number, blank, opening, closing, comma, semicolon, another, mark, PlacedPiece, digitByte, runValue}
+use Rattle.cycle_notation.specs.Piece.{numberBegun, cyclePiecesFrom}
 use Rattle.cycle_reading.specs.Inner.Hand.{piecesLeft, digitRun, bounded}
 
 pub digit-range : (b : ℕ) → digitByte b ≡ true → (48 ≤ b) × (b ≤ 57)
@@ -95,7 +96,8 @@ value-end t v = rw (drop-length t)
 -- ---- the first piece
 
 module _ (b : ℕ) (l : List ℕ) (at : ℕ) where
-  pub begins-number : digitByte b ≡ true → cyclePiecesFrom at false (b ∷ l) ≡ record { at = at; piece = number (runValue 0 (b ∷ l)) } ∷ cyclePiecesFrom (suc at) true l
+  pub begins-number : digitByte b ≡ true → cyclePiecesFrom at false (b ∷ l)
+      ≡ record { at = at; piece = number (runValue 0 (b ∷ l)) } ∷ cyclePiecesFrom (suc at) true l
   unfolding cyclePiecesFrom
   begins-number e = rw (cyclePiecesFrom, e)
 
@@ -103,7 +105,8 @@ module _ (b : ℕ) (l : List ℕ) (at : ℕ) where
   unfolding cyclePiecesFrom
   goes-on e = rw (cyclePiecesFrom, e)
 
-  pub is-mark : (inside : Bool) → digitByte b ≡ false → cyclePiecesFrom at inside (b ∷ l) ≡ record { at = at; piece = mark b } ∷ cyclePiecesFrom (suc at) false l
+  pub is-mark : (inside : Bool) → digitByte b ≡ false → cyclePiecesFrom at inside (b ∷ l)
+      ≡ record { at = at; piece = mark b } ∷ cyclePiecesFrom (suc at) false l
   unfolding cyclePiecesFrom
   is-mark inside e = rw (cyclePiecesFrom, e)
 
@@ -123,11 +126,13 @@ module _ (t : List ℕ) (at : ℕ) (h : at < length t) where
       → piecesLeft t at ≡ record { at = at; piece = number (runValue 0 (drop at t)) } ∷ piecesLeft t (at + digitRun (drop at t))
   unfolding piecesLeft
   number-left e =
-      let digits : at + digitRun (drop at t) ≡ suc at + digitRun (drop (suc at) t) = omega (arith, ap digitRun (drop-cons t at 0 h) ∙ run-yes (getD t at 0) (drop (suc at) t) e) in
+      let digits : at + digitRun (drop at t) ≡ suc at + digitRun (drop (suc at) t) =
+      omega (arith, ap digitRun (drop-cons t at 0 h) ∙ run-yes (getD t at 0) (drop (suc at) t) e) in
       ap (cyclePiecesFrom at false) (drop-cons t at 0 h)
       ∙ begins-number (getD t at 0) (drop (suc at) t) at e
       ∙ rw (digits, ← drop-cons t at 0 h) (ap (λ (ps : List PlacedPiece). record { at = at; piece = number (runValue 0 (drop at t)) } ∷ ps)
-      (run-over (drop (suc at) t) (suc at) ∙ ap (λ (l : List ℕ). cyclePiecesFrom (suc at + digitRun (drop (suc at) t)) false l) (drop-drop (digitRun (drop (suc at) t)) (suc at) t)))
+      (run-over (drop (suc at) t) (suc at) ∙ ap (λ (l : List ℕ). cyclePiecesFrom (suc at + digitRun (drop (suc at) t)) false l)
+      (drop-drop (digitRun (drop (suc at) t)) (suc at) t)))
 
   pub mark-left : digitByte (getD t at 0) ≡ false → piecesLeft t at ≡ record { at = at; piece = mark (getD t at 0) } ∷ piecesLeft t (at + 1)
   unfolding piecesLeft

@@ -25,8 +25,10 @@ use Rattle.cycle_reading.specs.declared.Part.{Part}
 use Rattle.cycle_reading.specs.declared.Found.{Found}
 use Rattle.cycle_reading.specs.declared.PartEnd.{PartEnd}
 use Rattle.cycle_reading.specs.declared.PartEnd.the-variants as ending
-use Rattle.cycle_reading.specs.Inner.Hand.{pieceOf, piecesLeft, bounded, FoundAt, isQuiet, canName, firstOr, lastOr, Hand, hand, moved, namedHand, stepHand, Stepped, PartFits}
-use Rattle.cycle_reading.specs.Inner.PartRun.{PartOut, lost, passed, ended, partRun, partEndOf, made, Kept, codeOf, ShutAt, HandHolds, ReadTo, PartRead, beginAt, FreshPart, Start}
+use Rattle.cycle_reading.specs.Inner.Hand.{pieceOf, piecesLeft, bounded, FoundAt, isQuiet, canName, firstOr, lastOr, Hand, hand, moved, namedHand}
+use Rattle.cycle_reading.specs.Inner.Hand.{stepHand, Stepped, PartFits}
+use Rattle.cycle_reading.specs.Inner.PartRun.{PartOut, lost, passed, ended, partRun, partEndOf, made, Kept, codeOf, ShutAt, HandHolds, ReadTo, PartRead}
+use Rattle.cycle_reading.specs.Inner.PartRun.{beginAt, FreshPart, Start}
 use Rattle.cycle_reading.proofs.Held.{TurnHeld, turn-held, none-open}
 
 -- what a turn leads to
@@ -61,7 +63,8 @@ step-long : (semi : Bool) (n : ℕ) (h : Hand) (q : CyclePiece) → length (step
 step-long semi n h (number x) = go (canName n x (h .part .phase) (h .part .used) (h .marks))
   where
     go : (b : Bool) → length (pick b (namedHand h (x - 1)) (moved h 7) .table) ≡ length (h .table)
-    go true = length-set (set (h .table) (lastOr (h .part) (x - 1)) (x - 1)) (x - 1) (firstOr (h .part) (x - 1)) ∙ length-set (h .table) (lastOr (h .part) (x - 1)) (x - 1)
+    go true = length-set (set (h .table) (lastOr (h .part) (x - 1)) (x - 1)) (x - 1) (firstOr (h .part) (x - 1))
+        ∙ length-set (h .table) (lastOr (h .part) (x - 1)) (x - 1)
     go false = refl
 step-long semi n h blank = refl
 step-long semi n h opening = refl
@@ -99,7 +102,16 @@ module _ (semi : Bool) (n : ℕ) (n-most : n ≤ 3066) (ph₀ : Phase) (t : List
   again no-stop no-over = go (turnOf semi n (R .seen) (R .cur) (R .done) (R .ph) (F .piece)) refl
     where
       go : (v : PartTurn) → turnOf semi n (R .seen) (R .cur) (R .done) (R .ph) (F .piece) ≡ v → ReadTo semi n ph₀ t from (found .to) p' marks' table'
-      go (on ph seen cur done) e = record { ph = ph; seen = seen; cur = cur; done = done; holds = held-after (on ph seen cur done) e; same = all-after (on ph seen cur done) e; within = F .inside }
+      go (on ph seen cur done) e =
+          record {
+            ph = ph;
+            seen = seen;
+            cur = cur;
+            done = done;
+            holds = held-after (on ph seen cur done) e;
+            same = all-after (on ph seen cur done) e;
+            within = F .inside;
+          }
       go over e = absurd (no-over (held-after over e .0))
       go stop e = absurd (no-stop (held-after stop e))
 
@@ -113,7 +125,8 @@ module _ (semi : Bool) (n : ℕ) (n-most : n ≤ 3066) (ph₀ : Phase) (t : List
   pub lost-here : p' .phase ≡ 7 → PartRead (partRun semi n ph₀ [] [] [] (piecesLeft t from)) (ending.Lost at) table'
   lost-here f = go (turnOf semi n (R .seen) (R .cur) (R .done) (R .ph) (F .piece)) refl
     where
-      go : (v : PartTurn) → turnOf semi n (R .seen) (R .cur) (R .done) (R .ph) (F .piece) ≡ v → PartRead (partRun semi n ph₀ [] [] [] (piecesLeft t from)) (ending.Lost at) table'
+      go : (v : PartTurn) → turnOf semi n (R .seen) (R .cur) (R .done) (R .ph) (F .piece) ≡ v
+          → PartRead (partRun semi n ph₀ [] [] [] (piecesLeft t from)) (ending.Lost at) table'
       go (on ph seen cur done) e = let H = held-after (on ph seen cur done) e in absurd (omega (arith, H .phase, code-low ph))
       go over e = let H = held-after over e in absurd (omega (arith, H .0))
       go stop e = read-as (lost at) (all-after stop e) (ending.Lost at) refl tt
@@ -121,7 +134,8 @@ module _ (semi : Bool) (n : ℕ) (n-most : n ≤ 3066) (ph₀ : Phase) (t : List
   pub over-here : p' .phase ≡ 6 → PartRead (partRun semi n ph₀ [] [] [] (piecesLeft t from)) (ending.Over at) table'
   over-here f = go (turnOf semi n (R .seen) (R .cur) (R .done) (R .ph) (F .piece)) refl
     where
-      go : (v : PartTurn) → turnOf semi n (R .seen) (R .cur) (R .done) (R .ph) (F .piece) ≡ v → PartRead (partRun semi n ph₀ [] [] [] (piecesLeft t from)) (ending.Over at) table'
+      go : (v : PartTurn) → turnOf semi n (R .seen) (R .cur) (R .done) (R .ph) (F .piece) ≡ v
+          → PartRead (partRun semi n ph₀ [] [] [] (piecesLeft t from)) (ending.Over at) table'
       go (on ph seen cur done) e = let H = held-after (on ph seen cur done) e in absurd (omega (arith, H .phase, code-low ph))
       go over e = read-as (passed at (R .done)) (all-after over e) (ending.Over at) refl (held-after over e .1)
       go stop e = let H = held-after stop e in absurd (omega (arith, H))

@@ -34,7 +34,8 @@ solo-as e h = record { returned = sym e ∙ h .returned; kept = h .kept; long-S 
 
 module _ (semi : Bool) (n : ℕ) (t : List ℕ) where
   at-turn : (done : List (List ℕ)) (p : PlacedPiece) (ps : List PlacedPiece) (o : ℕ) → Next t o p ps
-      → ((ph : Phase) (seen cur : List ℕ) (done : List (List ℕ)) (at : ℕ) (cs : List (List ℕ)) → partRun semi n ph seen cur done ps ≡ passed at cs → at < length t)
+      → ((ph : Phase) (seen cur : List ℕ) (done : List (List ℕ)) (at : ℕ) (cs : List (List ℕ)) → partRun semi n ph seen cur done ps ≡ passed at cs
+      → at < length t)
       → (u : PartTurn) (at : ℕ) (cs : List (List ℕ)) → runAfter semi n done (p .at) ps u ≡ passed at cs → at < length t
   at-turn done p ps o x ih (on ph seen cur done') at cs e = ih ph seen cur done' at cs e
   at-turn done p ps o x ih over at cs e = let z : p .at ≡ at = passed-at e in omega (arith, x .at-is, x .onward, x .inside)
@@ -59,7 +60,8 @@ module _ (out : PartOut) (len : ℕ) (r : List ℕ) where
   second-lost at h = go out h
     where
       go : (x : PartOut) → PartRead x (ending.Lost at) r → SecondRead x len (solo.Fails at) r
-      go (lost a) h = let z : at ≡ a = same (h .returned) in record { both = λ sc s e l. record { returned = ap solo.Fails z; kept = tt; long-S = l; long-R = h .long } }
+      go (lost a) h = let z : at ≡ a = same (h .returned) in
+          record { both = λ sc s e l. record { returned = ap solo.Fails z; kept = tt; long-S = l; long-R = h .long } }
         where
           same : {a b : ℕ} → ending.Lost a ≡ ending.Lost b → a ≡ b
           same e = cc
@@ -70,7 +72,8 @@ module _ (out : PartOut) (len : ℕ) (r : List ℕ) where
   second-over at h = go out h
     where
       go : (x : PartOut) → PartRead x (ending.Over at) r → SecondRead x len (solo.Fails at) r
-      go (passed a done) h = let z : at ≡ a = same (h .returned) in record { both = λ sc s e l. record { returned = ap solo.Fails z; kept = tt; long-S = l; long-R = h .long } }
+      go (passed a done) h = let z : at ≡ a = same (h .returned) in
+          record { both = λ sc s e l. record { returned = ap solo.Fails z; kept = tt; long-S = l; long-R = h .long } }
         where
           same : {a b : ℕ} → ending.Over a ≡ ending.Over b → a ≡ b
           same e = cc
@@ -112,7 +115,8 @@ module _ (semi : Bool) (n : ℕ) (t : List ℕ) (out : PartOut) (s : List ℕ) w
       go (passed a done) h = let q = h .returned in clash (cc)
       go (ended b done) h = let q = h .returned in clash (cc)
 
-  pub alone-short : (w : Bool) (r : List ℕ) → length r ≡ 3066 → PartRead out (ending.Ended w) s → AloneRead (aloneBehindS semi n t out) (solo.Fails (length t)) s r
+  pub alone-short : (w : Bool) (r : List ℕ) → length r ≡ 3066 → PartRead out (ending.Ended w) s
+      → AloneRead (aloneBehindS semi n t out) (solo.Fails (length t)) s r
   alone-short w r r-long h = go out h
     where
       go : (x : PartOut) → PartRead x (ending.Ended w) s → AloneRead (aloneBehindS semi n t x) (solo.Fails (length t)) s r
@@ -129,13 +133,15 @@ module _ (semi : Bool) (n : ℕ) (t : List ℕ) (out : PartOut) (s : List ℕ) w
     where
       go : (x : PartOut) → PartRead x (ending.Over at) s → AloneRead (aloneBehindS semi n t x) o s r
       go (passed a done) h =
-          subst (λ (z : ℕ). AloneRead (aloneBehindR (length t) done (partRun semi n (beginAt (not semi)) [] [] [] (piecesLeft t (z + 1)))) o s r) (over-same (h .returned))
+          subst (λ (z : ℕ). AloneRead (aloneBehindR (length t) done (partRun semi n (beginAt (not semi)) [] [] [] (piecesLeft t (z + 1)))) o s r)
+          (over-same (h .returned))
           (k .both done s (h .kept) (h .long))
       go (lost a) h = let q = h .returned in clash (cc)
       go (ended b done) h = let q = h .returned in clash (cc)
 
 -- where the code goes on with R, there is text left
-pub over-in : (semi : Bool) (n : ℕ) (t : List ℕ) (from at : ℕ) (s : List ℕ) → PartRead (partRun semi n start [] [] [] (piecesLeft t from)) (ending.Over at) s → at < length t
+pub over-in : (semi : Bool) (n : ℕ) (t : List ℕ) (from at : ℕ) (s : List ℕ) → PartRead (partRun semi n start [] [] [] (piecesLeft t from)) (ending.Over at) s
+    → at < length t
 over-in semi n t from at s h = go (partRun semi n start [] [] [] (piecesLeft t from)) refl h
   where
     go : (x : PartOut) → partRun semi n start [] [] [] (piecesLeft t from) ≡ x → PartRead x (ending.Over at) s → at < length t

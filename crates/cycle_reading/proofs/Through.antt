@@ -10,9 +10,11 @@ use native.Mathlib.Decide.{decLt}
 use lib.ListN.{length, getD, drop, drop-of-length-le}
 use Rattle.basics.specs.Choice.{pick}
 use Rattle.basics.proofs.Choice.{pick-true, pick-false, clash}
-use Rattle.cycle_notation.specs.Piece.{CyclePiece, number, blank, opening, closing, comma, semicolon, another, mark, PlacedPiece, digitByte, runValue, cyclePiecesFrom, withoutOffsets}
+use Rattle.cycle_notation.specs.Piece.{CyclePiece, number, blank, opening, closing, comma, semicolon, another, mark, PlacedPiece, digitByte, runValue}
+use Rattle.cycle_notation.specs.Piece.{cyclePiecesFrom, withoutOffsets}
 use Rattle.cycle_notation.specs.Form.{free}
-use Rattle.cycle_notation.specs.Inner.Reader.{Phase, start, opened, empty, point, wanted, closed, PartTurn, on, over, stop, turnOf, State, dead, WithinPart, after, readPiece, readAll, isDead, mayEnd}
+use Rattle.cycle_notation.specs.Inner.Reader.{Phase, start, opened, empty, point, wanted, closed, PartTurn, on, over, stop, turnOf, State, dead, WithinPart}
+use Rattle.cycle_notation.specs.Inner.Reader.{after, readPiece, readAll, isDead, mayEnd}
 use Rattle.cycle_notation.proofs.Along.{Steps}
 use Rattle.cycle_notation.proofs.Back.{run-dead}
 use Rattle.cycle_reading.specs.Inner.Hand.{piecesLeft, digitRun}
@@ -83,7 +85,8 @@ not-over true ph seen cur done e = let z : _≡_ {A = ℕ} 0 1 = cc in absurd (o
 not-over false ph seen cur done e = let z : _≡_ {A = ℕ} 0 1 = cc in absurd (omega arith)
 
 -- only a mark is behind a permutation
-over-mark : (semi : Bool) (n : ℕ) (seen cur : List ℕ) (done : List (List ℕ)) (ph : Phase) (q : CyclePiece) → turnOf semi n seen cur done ph q ≡ over → isNumber q ≡ false
+over-mark : (semi : Bool) (n : ℕ) (seen cur : List ℕ) (done : List (List ℕ)) (ph : Phase) (q : CyclePiece) → turnOf semi n seen cur done ph q ≡ over
+    → isNumber q ≡ false
 over-mark semi n seen cur done ph blank e = refl
 over-mark semi n seen cur done ph opening e = refl
 over-mark semi n seen cur done ph closing e = refl
@@ -106,11 +109,13 @@ module _ (semi : Bool) (n : ℕ) (within : WithinPart) (then : List (List ℕ) �
     says-lost : {at : ℕ} → readAll semi q (withoutOffsets ps) ≡ dead → died semi q ps len ≡ at → Says q ps (lost at)
     says-passed : {at : ℕ} {done : List (List ℕ)} → readAll semi q (withoutOffsets ps) ≡ readAll semi (then done) (withoutOffsets (piecesLeft t (at + 1)))
         → died semi q ps len ≡ pick (isDead (then done)) at (died semi (then done) (piecesLeft t (at + 1)) len) → Says q ps (passed at done)
-    says-ended : {b : Bool} {done : List (List ℕ)} (ph : Phase) (seen cur : List ℕ) → readAll semi q (withoutOffsets ps) ≡ within ph seen cur done → mayEnd ph ≡ b
+    says-ended : {b : Bool} {done : List (List ℕ)} (ph : Phase) (seen cur : List ℕ) → readAll semi q (withoutOffsets ps) ≡ within ph seen cur done → mayEnd ph
+        ≡ b
         → died semi q ps len ≡ len → Says q ps (ended b done)
 
   -- one piece more in front
-  before : (q q' : State) (p : PlacedPiece) (ps : List PlacedPiece) (out : PartOut) → readPiece semi q (p .piece) ≡ q' → isDead q' ≡ false → Says q' ps out → Says q (p ∷ ps) out
+  before : (q q' : State) (p : PlacedPiece) (ps : List PlacedPiece) (out : PartOut) → readPiece semi q (p .piece) ≡ q' → isDead q' ≡ false → Says q' ps out
+      → Says q (p ∷ ps) out
   unfolding readAll withoutOffsets died
   before q q' p ps out e a (says-lost r d) = says-lost (ap (λ (k : State). readAll semi k (withoutOffsets ps)) e ∙ r) (dies ∙ d)
     where
@@ -134,13 +139,16 @@ module _ (semi : Bool) (n : ℕ) (within : WithinPart) (then : List (List ℕ) �
       (law .steps ph seen cur done (p .piece) ∙ ap (after within (then done)) e) (alive ph' seen' cur' done') (ih ph' seen' cur' done')
   one-turn ph seen cur done p ps o x ih over e =
       let s : readPiece semi (within ph seen cur done) (p .piece) ≡ then done = law .steps ph seen cur done (p .piece) ∙ ap (after within (then done)) e in
-      let r : ps ≡ piecesLeft t (p .at + 1) = x .rest ∙ ap (piecesLeft t) (x .one (over-mark semi n seen cur done ph (p .piece) e) ∙ ap (λ (k : ℕ). k + 1) (sym (x .at-is))) in
+      let r : ps ≡ piecesLeft t (p .at + 1) = x .rest
+      ∙ ap (piecesLeft t) (x .one (over-mark semi n seen cur done ph (p .piece) e) ∙ ap (λ (k : ℕ). k + 1) (sym (x .at-is))) in
       says-passed
       (ap (λ (k : State). readAll semi k (withoutOffsets ps)) s ∙ ap (λ (l : List PlacedPiece). readAll semi (then done) (withoutOffsets l)) r)
-      (ap (λ (k : State). pick (isDead k) (p .at) (died semi k ps len)) s ∙ ap (λ (l : List PlacedPiece). pick (isDead (then done)) (p .at) (died semi (then done) l len)) r)
+      (ap (λ (k : State). pick (isDead k) (p .at) (died semi k ps len)) s
+      ∙ ap (λ (l : List PlacedPiece). pick (isDead (then done)) (p .at) (died semi (then done) l len)) r)
   one-turn ph seen cur done p ps o x ih stop e =
       let s : readPiece semi (within ph seen cur done) (p .piece) ≡ dead = law .steps ph seen cur done (p .piece) ∙ ap (after within (then done)) e in
-      says-lost (ap (λ (k : State). readAll semi k (withoutOffsets ps)) s ∙ run-dead semi (withoutOffsets ps)) (ap (λ (k : State). pick (isDead k) (p .at) (died semi k ps len)) s)
+      says-lost (ap (λ (k : State). readAll semi k (withoutOffsets ps)) s ∙ run-dead semi (withoutOffsets ps))
+      (ap (λ (k : State). pick (isDead k) (p .at) (died semi k ps len)) s)
 
   pub says : (ps : List PlacedPiece) (o : ℕ) → piecesLeft t o ≡ ps → (ph : Phase) (seen cur : List ℕ) (done : List (List ℕ))
       → Says (within ph seen cur done) ps (partRun semi n ph seen cur done ps)
@@ -149,5 +157,6 @@ module _ (semi : Bool) (n : ℕ) (within : WithinPart) (then : List (List ℕ) �
   says (p ∷ ps) o e ph seen cur done =
       let x = next-of t o p ps e in
       let u = turnOf semi n seen cur done ph (p .piece) in
-      subst (λ (out : PartOut). Says (within ph seen cur done) (p ∷ ps) out) (sym (run-turn semi n ph seen cur done p ps (turnOf semi n seen cur done ph (p .piece)) refl))
+      subst (λ (out : PartOut). Says (within ph seen cur done) (p ∷ ps) out)
+      (sym (run-turn semi n ph seen cur done p ps (turnOf semi n seen cur done ph (p .piece)) refl))
       (one-turn ph seen cur done p ps o x (says ps (x .to) (sym (x .rest))) (turnOf semi n seen cur done ph (p .piece)) refl)

@@ -1,27 +1,31 @@
 -- Cycle notation read: the answer of `read_cycles`, what it leaves in the result spaces, and what it means.
 --
 --     tableOfS q, tableOfR q    the tables of S and R that the reading q has cycles for
---     answerBy v a b            the answer by the verdict v on a text: 27 with its place, or 12; or else the permutation checks on the tables, whose
---                               places count from 0, and then the room for them in spaces of length a and b
+--     answerBy v a b            the answer by the verdict v on a text: 27 with its place, or 12; or else the
+--                               permutation checks on the tables, whose places count from 0, and then the room for them
+--                               in spaces of length a and b
 --     readCyclesOf t a b        the answer for the text t
 --     readS t, readR t          the tables of S and R of a text that is right; nothing for another text
---     PairFault s r f           the tables s and r are no pair of permutations as wanted, and f, one of 13 to 15, is their first fault
---     ReadCyclesMean t a b s r f    what the answer f means, for result spaces of length a and b that have s and r in them after the call: a place where the
---                               text leaves the form; a written number that is no index; a text of the form, whose tables have a fault, or find no room,
+--     PairFault s r f           the tables s and r are no pair of permutations as wanted, and f, one of 13 to 15, is
+--                               their first fault
+--     ReadCyclesMean t a b s r f    what the answer f means, for result spaces of length a and b that have s and r in
+--                                   them after the call: a place where the
+--                               text leaves the form; a written number that is no index; a text of the form, whose
+--                               tables have a fault, or find no room,
 --                               or stand in the result spaces
 --
--- proofs/Answered.antt, `means-only`: what an answer means allows no other answer, so `verdictOf`, which runs two readers, need not be read.
--- Assumes nothing.
+-- proofs/Answered.antt, `means-only`: what an answer means allows no other answer, so `verdictOf`, which runs two
+-- readers, need not be read. Assumes nothing.
 use mathlib.Core.Path.{_≡_}
 use mathlib.Core.Logic.{_⊎_}
 use mathlib.Core.List.{List, []}
 use Prim.Native.Nat.{ℕ, _≤_, _<_}
 use lib.ListN.{take}
-use Rattle.refusal.specs.Refusal.{tooShort, pointCount, badCycles, filledBy}
-use Rattle.refusal.specs.declared.Refusal.{Refusal}
-use Rattle.refusal.specs.declared.Checked.the-variants as checked
-use Rattle.refusal.specs.declared.Filled.{Filled}
-use Rattle.refusal.specs.declared.Filled.the-variants as filled
+use Rattle.call.specs.Refusal.{tooShort, pointCount, badCycles, filledBy}
+use Rattle.call.specs.declared.refusal.Refusal.{Refusal}
+use Rattle.call.specs.declared.refusal.Checked.the-variants as checked
+use Rattle.call.specs.declared.refusal.Filled.{Filled}
+use Rattle.call.specs.declared.refusal.Filled.the-variants as filled
 use Rattle.coset.specs.Answer.{roomTwo}
 use Rattle.permutations.specs.Check.{pairCheck, Passport}
 use Rattle.cycle_notation.specs.Piece.{cyclePieces, withoutOffsets}
@@ -74,9 +78,13 @@ pub record GoodPair (t : List ℕ) (q : Read) : Type 0 where
   pub passport : Passport (tableOfS q) (tableOfR q)
 
 pub data ReadCyclesMean (t : List ℕ) (a b : ℕ) (s r : List ℕ) : Filled → Type 0 where
-  leaves-form : (place : ℕ) → ¬ IndexOut (withoutOffsets (cyclePieces t)) → WrongAt t place → ReadCyclesMean t a b s r (filled.Refused (badCycles place))
+  leaves-form : (place : ℕ) → ¬ IndexOut (withoutOffsets (cyclePieces t)) → WrongAt t place
+      → ReadCyclesMean t a b s r (filled.Refused (badCycles place))
   no-index : IndexOut (withoutOffsets (cyclePieces t)) → ReadCyclesMean t a b s r (filled.Refused pointCount)
-  no-pair : (q : Read) → RightAs t q → (f : Refusal) → PairFault (tableOfS q) (tableOfR q) f → ReadCyclesMean t a b s r (filled.Refused f)
-  no-room : (q : Read) → GoodPair t q → (a < q .index) ⊎ (b < q .index) → ReadCyclesMean t a b s r (filled.Refused (tooShort (q .index)))
-  tables-made : (q : Read) → GoodPair t q → q .index ≤ a → q .index ≤ b → take (q .index) s ≡ tableOfS q → take (q .index) r ≡ tableOfR q
+  no-pair : (q : Read) → RightAs t q → (f : Refusal) → PairFault (tableOfS q) (tableOfR q) f
+      → ReadCyclesMean t a b s r (filled.Refused f)
+  no-room : (q : Read) → GoodPair t q → (a < q .index) ⊎ (b < q .index)
+      → ReadCyclesMean t a b s r (filled.Refused (tooShort (q .index)))
+  tables-made : (q : Read) → GoodPair t q → q .index ≤ a → q .index ≤ b → take (q .index) s ≡ tableOfS q
+      → take (q .index) r ≡ tableOfR q
       → ReadCyclesMean t a b s r (filled.Made (q .index))

@@ -1,18 +1,18 @@
 // Cycle notation read: the index and the cycles of S and R, as tables (specs/Reading.antt).
 //
-// A reader goes through the pieces of the text with one state for each thing that may come next, once with a semicolon to come and once without;
-// the place where the second of them is lost is the one where the text leaves the form.
+// A reader goes through the pieces of the text with one state for each thing that may come next, once with a semicolon
+// to come and once without; the place where the second of them is lost is the one where the text leaves the form.
+use call::refusal::BAD_CYCLES;
+use call::refusal::Checked;
+use call::refusal::Filled;
+use call::refusal::POINT_COUNT;
+use call::refusal::Refusal;
+use call::refusal::TOO_SHORT;
 use phases::quiet;
 use pieces::digit;
 use pieces::digits_at;
 use pieces::piece_at;
 use points::turn;
-use refusal::BAD_CYCLES;
-use refusal::Checked;
-use refusal::Filled;
-use refusal::POINT_COUNT;
-use refusal::Refusal;
-use refusal::TOO_SHORT;
 ghost use mathlib.Core.Path.{_≡_};
 ghost use mathlib.Core.Bool.{true, false, not};
 ghost use mathlib.Core.List.{[], _++_};
@@ -32,8 +32,8 @@ mod phases;
 pub mod pieces;
 mod points;
 
-// The phases of a permutation: at its beginning; behind its first `(`; behind `()`; behind a point; where a point must come; behind a cycle. It was
-// over before the piece, or no text can go on so.
+// The phases of a permutation: at its beginning; behind its first `(`; behind `()`; behind a point; where a point must
+// come; behind a cycle. It was over before the piece, or no text can go on so.
 const START: u8 = 0;
 
 const OPENED: u8 = 1;
@@ -73,8 +73,8 @@ pub struct Digits {
     pub to: usize,
 }
 
-// What is known of a permutation: its phase; whether a cycle is under way, with its first and its last point; how many points were named. Points
-// count from 0 here.
+// What is known of a permutation: its phase; whether a cycle is under way, with its first and its last point; how many
+// points were named. Points count from 0 here.
 pub struct Part {
     pub phase: u8,
     pub going: bool,
@@ -83,8 +83,8 @@ pub struct Part {
     pub last: usize,
 }
 
-// How a permutation was read: a piece begins here after which no text can go on; it was over before the piece that begins here; or the text has
-// come to its end, where it may be over or not.
+// How a permutation was read: a piece begins here after which no text can go on; it was over before the piece that
+// begins here; or the text has come to its end, where it may be over or not.
 pub enum PartEnd {
     Lost(usize),
     Over(usize),
@@ -97,8 +97,8 @@ pub enum Solo {
     Fails(usize),
 }
 
-// What is said of a text: its index, and its permutations are in the two tables; a number out of range for an index; or the place where it leaves
-// the form.
+// What is said of a text: its index, and its permutations are in the two tables; a number out of range for an index; or
+// the place where it leaves the form.
 pub enum Judged {
     Reads(u64),
     IndexOut,
@@ -134,7 +134,8 @@ fn begin(behind: bool) -> Part
     }
 }
 
-// Reads a permutation from `from` on: up to the piece at which it is lost, to the one before which it was over, or to the text's end.
+// Reads a permutation from `from` on: up to the piece at which it is lost, to the one before which it was over, or to
+// the text's end.
 fn go_through(
     text: &[u8],
     from: usize,
@@ -145,7 +146,8 @@ fn go_through(
     table: &mut [u32; 3066],
 ) -> PartEnd
     requires { ⌜ Start (now text) from n (now marks) (now table) ⌝ }
-    ensures { λ r. ⌜ PartRead (partRun semi n (beginAt behind) [] [] [] (piecesLeft (now (text .entry)) from)) r (now (table .exit)) ⌝ }
+    ensures { λ r. ⌜ PartRead (partRun semi n (beginAt behind) [] [] [] (piecesLeft (now (text .entry)) from)) r
+        (now (table .exit)) ⌝ }
 {
     let mut part = begin(behind);
     let mut at = from;
@@ -176,7 +178,8 @@ fn read_part(
     table: &mut [u32; 3066],
 ) -> PartEnd
     requires { ⌜ (from ≤ length (now text)) × (n ≤ 3066) × (length (now table) ≡ 3066) ⌝ }
-    ensures { λ r. ⌜ PartRead (partRun semi n (beginAt behind) [] [] [] (piecesLeft (now (text .entry)) from)) r (now (table .exit)) ⌝ }
+    ensures { λ r. ⌜ PartRead (partRun semi n (beginAt behind) [] [] [] (piecesLeft (now (text .entry)) from)) r
+        (now (table .exit)) ⌝ }
 {
     let mut marks = [0u8; 3066];
     fill_identity(table);
@@ -186,7 +189,8 @@ fn read_part(
 // Reads R from behind the piece that begins at `at`.
 fn read_second(text: &[u8], at: usize, n: u64, semi: bool, r: &mut [u32; 3066]) -> Solo
     requires { ⌜ (at < length (now text)) × (n ≤ 3066) × (length (now r) ≡ 3066) ⌝ }
-    ensures { λ o. ⌜ SecondRead (partRun semi n (beginAt (not semi)) [] [] [] (piecesLeft (now (text .entry)) (at + 1))) (length (now (text .entry))) o (now (r .exit)) ⌝ }
+    ensures { λ o. ⌜ SecondRead (partRun semi n (beginAt (not semi)) [] [] [] (piecesLeft (now (text .entry)) (at + 1)))
+        (length (now (text .entry))) o (now (r .exit)) ⌝ }
 {
     let end = read_part(text, at + 1, n, semi, !semi, r);
     match end {
@@ -231,7 +235,8 @@ fn read_other(
     r: &mut [u32; 3066],
 ) -> Judged
     requires { ⌜ (from ≤ length (now text)) × (n ≤ 3066) × (length (now s) ≡ 3066) × (length (now r) ≡ 3066) ⌝ }
-    ensures { λ o. ⌜ VerdictRead (eitherAlone n (fails x) (aloneOf false n (now (text .entry)) from)) o (now (s .exit)) (now (r .exit)) ⌝ }
+    ensures { λ o. ⌜ VerdictRead (eitherAlone n (fails x) (aloneOf false n (now (text .entry)) from)) o (now (s .exit))
+        (now (r .exit)) ⌝ }
 {
     let second = read_alone(text, from, n, false, s, r);
     match second {
@@ -248,7 +253,9 @@ fn read_other(
 // Both readers, behind the index: the first that comes through decides.
 fn read_both(text: &[u8], from: usize, n: u64, s: &mut [u32; 3066], r: &mut [u32; 3066]) -> Judged
     requires { ⌜ (from ≤ length (now text)) × (n ≤ 3066) × (length (now s) ≡ 3066) × (length (now r) ≡ 3066) ⌝ }
-    ensures { λ o. ⌜ VerdictRead (eitherAlone n (aloneOf true n (now (text .entry)) from) (aloneOf false n (now (text .entry)) from)) o (now (s .exit)) (now (r .exit)) ⌝ }
+    ensures { λ o. ⌜ VerdictRead
+        (eitherAlone n (aloneOf true n (now (text .entry)) from) (aloneOf false n (now (text .entry)) from)) o
+        (now (s .exit)) (now (r .exit)) ⌝ }
 {
     let first = read_alone(text, from, n, true, s, r);
     match first {
@@ -274,7 +281,8 @@ fn skip_blanks(text: &[u8]) -> usize
 
 // The text from its index on, which begins with a digit at `at`.
 fn read_index(text: &[u8], at: usize, s: &mut [u32; 3066], r: &mut [u32; 3066]) -> Judged
-    requires { ⌜ BlanksTo (now text) at × (at < length (now text)) × (digitByte (getD (now text) at 0) ≡ true) × (length (now s) ≡ 3066) × (length (now r) ≡ 3066) ⌝ }
+    requires { ⌜ BlanksTo (now text) at × (at < length (now text)) × (digitByte (getD (now text) at 0) ≡ true)
+        × (length (now s) ≡ 3066) × (length (now r) ≡ 3066) ⌝ }
     ensures { λ o. ⌜ VerdictRead (verdictOf (now (text .entry))) o (now (s .exit)) (now (r .exit)) ⌝ }
 {
     let run = digits_at(text, at);
@@ -317,7 +325,8 @@ fn copy_table(t: &[u32], out: &mut [u32])
 // The tables a and b, checked and put at the front of s and r, where these have room.
 fn give(a: &[u32], b: &[u32], s: &mut [u32], r: &mut [u32]) -> Filled
     requires { ⌜ length (now b) ≡ length (now a) ⌝ }
-    ensures { λ f. ⌜ f ≡ tablesAnswer (now (a .entry)) (now (b .entry)) (length (now (s .entry))) (length (now (r .entry))) ⌝ }
+    ensures { λ f. ⌜ f ≡ tablesAnswer (now (a .entry)) (now (b .entry)) (length (now (s .entry)))
+        (length (now (r .entry))) ⌝ }
     ensures { λ f. ⌜ now (s .exit) ≡ columnLeft f (now (a .entry)) (now (s .entry)) ⌝ }
     ensures { λ f. ⌜ now (r .exit) ≡ columnLeft f (now (b .entry)) (now (r .entry)) ⌝ }
 {
@@ -350,7 +359,8 @@ pub fn read_cycles(text: &[u8], s: &mut [u32], r: &mut [u32]) -> Filled
     ensures { λ f. ⌜ f ≡ readCyclesOf (now (text .entry)) (length (now (s .entry))) (length (now (r .entry))) ⌝ }
     ensures { λ f. ⌜ now (s .exit) ≡ columnLeft f (readS (now (text .entry))) (now (s .entry)) ⌝ }
     ensures { λ f. ⌜ now (r .exit) ≡ columnLeft f (readR (now (text .entry))) (now (r .entry)) ⌝ }
-    ensures { λ f. ⌜ ReadCyclesMean (now (text .entry)) (length (now (s .entry))) (length (now (r .entry))) (now (s .exit)) (now (r .exit)) f ⌝ }
+    ensures { λ f. ⌜ ReadCyclesMean (now (text .entry)) (length (now (s .entry))) (length (now (r .entry)))
+        (now (s .exit)) (now (r .exit)) f ⌝ }
 {
     let mut a = [0u32; 3066];
     let mut b = [0u32; 3066];

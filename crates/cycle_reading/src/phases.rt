@@ -8,7 +8,8 @@ use super::START;
 use super::STOP;
 use super::WANTED;
 ghost use mathlib.Core.Path.{_≡_};
-ghost use Rattle.cycle_reading.specs.Inner.Hand.{isQuiet, behindBlank, behindOpening, behindClosing, behindComma, behindSemicolon, takesPoint};
+ghost use Rattle.cycle_reading.specs.Inner.Hand.{isQuiet, behindBlank, behindOpening, behindClosing, behindComma};
+ghost use Rattle.cycle_reading.specs.Inner.Hand.{behindSemicolon, takesPoint};
 
 // Whether a blank may stand here: at the beginning of a permutation, or where it may be over.
 pub(crate) fn quiet(phase: u8) -> bool

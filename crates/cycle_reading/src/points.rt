@@ -12,9 +12,11 @@ use super::phases::takes_point;
 ghost use mathlib.Core.Path.{_≡_};
 ghost use Prim.Native.Nat.{_<_, _≤_};
 ghost use lib.ListN.{length};
-ghost use Rattle.cycle_reading.specs.Inner.Hand.{pieceOf, PartFits, hand, stepHand, canName, firstOr, lastOr, namedHand, inPhase, shutPart, namedOr, Stepped};
+ghost use Rattle.cycle_reading.specs.Inner.Hand.{pieceOf, PartFits, hand, stepHand, canName, firstOr, lastOr};
+ghost use Rattle.cycle_reading.specs.Inner.Hand.{namedHand, inPhase, shutPart, namedOr, Stepped};
 
-// Whether x may be named next, in this phase, with so many points named: a point may come here, x is one, it has no mark, and there is room.
+// Whether x may be named next, in this phase, with so many points named: a point may come here, x is one, it has no
+// mark, and there is room.
 pub(crate) fn can_name(n: u64, x: u64, phase: u8, used: u64, marks: &[u8; 3066]) -> bool
     requires { ⌜ (n ≤ 3066) × (length (now marks) ≡ 3066) ⌝ }
     ensures { λ r. ⌜ r ≡ canName n x phase used (now (marks .entry)) ⌝ }
@@ -55,10 +57,12 @@ pub(crate) fn last_or(part: Part, i: usize) -> usize
     i
 }
 
-// The point i is named: it gets its mark and is linked into its cycle. The point before leads to it, and it to the first point.
+// The point i is named: it gets its mark and is linked into its cycle. The point before leads to it, and it to the
+// first point.
 pub(crate) fn named(i: usize, part: Part, marks: &mut [u8; 3066], table: &mut [u32; 3066]) -> Part
     requires { ⌜ PartFits part (now marks) (now table) × (i < 3066) × (part .used < 3066) ⌝ }
-    ensures { λ r. ⌜ Stepped (namedHand (hand part (now (marks .entry)) (now (table .entry))) i) r (now (marks .exit)) (now (table .exit)) ⌝ }
+    ensures { λ r. ⌜ Stepped (namedHand (hand part (now (marks .entry)) (now (table .entry))) i) r (now (marks .exit))
+        (now (table .exit)) ⌝ }
 {
     let first = first_or(part, i);
     let last = last_or(part, i);
@@ -96,7 +100,8 @@ pub(crate) fn name_point(
     table: &mut [u32; 3066],
 ) -> Part
     requires { ⌜ PartFits part (now marks) (now table) × (n ≤ 3066) ⌝ }
-    ensures { λ r. ⌜ Stepped (namedOr n x (hand part (now (marks .entry)) (now (table .entry)))) r (now (marks .exit)) (now (table .exit)) ⌝ }
+    ensures { λ r. ⌜ Stepped (namedOr n x (hand part (now (marks .entry)) (now (table .entry)))) r (now (marks .exit))
+        (now (table .exit)) ⌝ }
 {
     if can_name(n, x, part.phase, part.used, marks) {
         let i = (x - 1) as usize;
@@ -128,7 +133,8 @@ pub(crate) fn turn(
     table: &mut [u32; 3066],
 ) -> Part
     requires { ⌜ PartFits part (now marks) (now table) × (n ≤ 3066) ⌝ }
-    ensures { λ r. ⌜ Stepped (stepHand semi n (hand part (now (marks .entry)) (now (table .entry))) (pieceOf piece)) r (now (marks .exit)) (now (table .exit)) ⌝ }
+    ensures { λ r. ⌜ Stepped (stepHand semi n (hand part (now (marks .entry)) (now (table .entry))) (pieceOf piece)) r
+        (now (marks .exit)) (now (table .exit)) ⌝ }
 {
     let room = part.used < n;
     let phase = part.phase;

@@ -11,16 +11,16 @@ use lib.Dec.{ltb}
 use lib.ListN.{length, drop}
 use borrow.Author.Tests.{lt-ltb, le-ltb}
 use Rattle.basics.proofs.Choice.{pick-true, pick-false}
-use Rattle.refusal.specs.Refusal.{tooShort, filledBy}
-use Rattle.refusal.specs.declared.Refusal.{Refusal}
-use Rattle.refusal.specs.declared.Checked.{Checked}
-use Rattle.refusal.specs.declared.Checked.the-variants as checked
-use Rattle.refusal.specs.declared.Filled.{Filled}
-use Rattle.refusal.specs.declared.Filled.the-variants.{Made, Refused}
+use Rattle.call.specs.Refusal.{tooShort, filledBy}
+use Rattle.call.specs.declared.refusal.Refusal.{Refusal}
+use Rattle.call.specs.declared.refusal.Checked.{Checked}
+use Rattle.call.specs.declared.refusal.Checked.the-variants as checked
+use Rattle.call.specs.declared.refusal.Filled.{Filled}
+use Rattle.call.specs.declared.refusal.Filled.the-variants.{Made, Refused}
 use Rattle.permutations.specs.Check.{pairCheck, Passport}
 use Rattle.permutations.proofs.Accepted.{accepted as passes}
 use Rattle.text.specs.Writing.{bytesPlaced}
-use Rattle.text_line.specs.Line.{Puts}
+use Rattle.text.specs.Line.{Puts}
 use Rattle.cycle_writing.specs.Bytes.{exportOf}
 use Rattle.cycle_writing.specs.Export.{exportWithin, writeCyclesOf, exportLeft, WriteMeans}
 use Rattle.cycle_writing.proofs.Theorem.{exported, write-means}
@@ -54,7 +54,8 @@ module _ (s r out : List ℕ) where
   pub refused : (f : Refusal) → pairCheck s r ≡ checked.Refused f → Answered (Refused f) out
   refused f e = answer (Refused f) out (sym (ap (λ (c : Checked). filledBy c (exportWithin s r (length out))) e)) refl
 
-  pub accepted : pairCheck s r ≡ checked.Accepted → (a : Filled) (out' : List ℕ) → a ≡ exportWithin s r (length out) → out' ≡ exportLeft a (exportOf s r) out → Answered a out'
+  pub accepted : pairCheck s r ≡ checked.Accepted → (a : Filled) (out' : List ℕ) → a ≡ exportWithin s r (length out) → out' ≡ exportLeft a (exportOf s r) out
+      → Answered a out'
   accepted e a out' p q = answer a out' (p ∙ sym (ap (λ (c : Checked). filledBy c (exportWithin s r (length out))) e)) q
 
 pub enough-room : (s r : List ℕ) (room : ℕ) → Passport s r → 65536 ≤ room → writeCyclesOf s r room ≡ Made (length (exportOf s r))

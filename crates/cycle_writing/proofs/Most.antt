@@ -18,7 +18,7 @@ use Rattle.numbering.specs.Table.{imageAt}
 use Rattle.numbering.proofs.Find.{in-all, once-none, once-last, once-append, once-below}
 use Rattle.figures.specs.Cusps.{cycle}
 use Rattle.text.specs.Decimal.{digits}
-use Rattle.text_line.proofs.Spacing.{digits-most}
+use Rattle.text.proofs.Spacing.{digits-most}
 use Rattle.cycle_notation.specs.Form.{pointsOf, Disjoint, all, next}
 use Rattle.cycle_notation.proofs.Points.{free-range}
 use Rattle.cycle_notation.proofs.Stores.{in-head, fresh}
@@ -68,7 +68,14 @@ module _ (t : List ℕ) (h : ShortTable t) where
       let m = h .most in
       let s = ap (λ (k : List ℕ). length (cycleBytes (pointsFromOne k))) c ∙ three-size (suc x) (suc (imageAt t x)) (suc (imageAt t (imageAt t x))) in
       let k = ap (λ (k : List ℕ). length (pointsFromOne k)) c in
-      omega (arith, few-digits (suc x) (omega arith), few-digits (suc (imageAt t x)) (omega arith), few-digits (suc (imageAt t (imageAt t x))) (omega arith), s, k)
+      omega (
+        arith,
+        few-digits (suc x) (omega arith),
+        few-digits (suc (imageAt t x)) (omega arith),
+        few-digits (suc (imageAt t (imageAt t x))) (omega arith),
+        s,
+        k,
+      )
 
   below-most : (k : ℕ) → k ≤ length t → 2 * length (cyclesBytes (cyclesBelow t k)) ≤ 11 * length (pointsOf (cyclesBelow t k))
   unfolding cyclesBelow cyclesBytes pointsOf
@@ -81,16 +88,27 @@ module _ (t : List ℕ) (h : ShortTable t) where
           let b = begins-above t h k (omega arith) e in
           let c = pointsFromOne (cycle t k) in
           let m = cycle-most k (omega arith) (shape t h k (omega arith) (λ q. omega (arith, b .one))) in
-          let p = ap length (ap cyclesBytes (below-yes t k e) ∙ bytes-last (cyclesBelow t k) c) ∙ length-append (cyclesBytes (cyclesBelow t k)) (cycleBytes c) in
+          let p = ap length (ap cyclesBytes (below-yes t k e) ∙ bytes-last (cyclesBelow t k) c)
+          ∙ length-append (cyclesBytes (cyclesBelow t k)) (cycleBytes c) in
           let q = ap length (ap pointsOf (below-yes t k e) ∙ points-last (cyclesBelow t k) c) ∙ length-append (pointsOf (cyclesBelow t k)) c in
           omega (arith, m, p, q, ih)
       go (inr e) ih =
-          omega (arith, ih, ap (λ (cs : List (List ℕ)). length (cyclesBytes cs)) (below-no t k e), ap (λ (cs : List (List ℕ)). length (pointsOf cs)) (below-no t k e))
+          omega (
+            arith,
+            ih,
+            ap (λ (cs : List (List ℕ)). length (cyclesBytes cs)) (below-no t k e),
+            ap (λ (cs : List (List ℕ)). length (pointsOf cs)) (below-no t k e),
+          )
 
   all-most : length (bytesBelow t (length t)) ≤ 16868
   unfolding bytesBelow
   all-most =
-      omega (arith, below-most (length t) (omega arith), disjoint-few (length t) (pointsOf (cyclesBelow t (length t))) (disjoint-below t h (length t) (omega arith)), h .most)
+      omega (
+        arith,
+        below-most (length t) (omega arith),
+        disjoint-few (length t) (pointsOf (cyclesBelow t (length t))) (disjoint-below t h (length t) (omega arith)),
+        h .most,
+      )
 
   permutation-most : length (permutationBytes (cyclesOf t)) ≤ 16868
   permutation-most = elim (ℕ-discrete (length (bytesBelow t (length t))) 0) [

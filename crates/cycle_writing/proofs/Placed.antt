@@ -11,8 +11,8 @@ use native.Mathlib.Decide.{ℕ-discrete}
 use native.Mathlib.Omega.{arith}
 use lib.ListN.{length}
 use Rattle.text.specs.Decimal.{digits}
-use Rattle.text_line.specs.Line.{Puts}
-use Rattle.text_line.proofs.Placing.{puts-as, puts-then}
+use Rattle.text.specs.Line.{Puts}
+use Rattle.text.proofs.Placing.{puts-as, puts-then}
 use Rattle.cycle_writing.specs.Cycles.{cyclesOf}
 use Rattle.cycle_writing.specs.Bytes.{behindCommas, cycleBytes, permutationBytes, exportOf}
 use Rattle.cycle_writing.specs.Inner.Short.{bytesBelow}
@@ -26,7 +26,8 @@ three-bytes : (a b d : ℕ) → (((40 ∷ digits a) ++ (44 ∷ digits b)) ++ (44
 unfolding cycleBytes behindCommas
 three-bytes a b d = simp append-assoc
 
-module _ (a b : ℕ) {at m n : ℕ} {out out1 out2 : List ℕ} (p : Puts (40 ∷ digits a) at m out out1) (q : Puts (44 ∷ digits b) m n out1 out2) (l : at ≤ length out) where
+module _ (a b : ℕ) {at m n : ℕ} {out out1 out2 : List ℕ} (p : Puts (40 ∷ digits a) at m out out1) (q : Puts (44 ∷ digits b) m n out1 out2)
+    (l : at ≤ length out) where
   pub two-put : {e : ℕ} {out3 : List ℕ} → Puts (41 ∷ []) n e out2 out3 → Puts (cycleBytes (a ∷ b ∷ [])) at e out out3
   two-put c = puts-as (two-bytes a b) (puts-then (puts-then p q l) c l)
 
@@ -39,7 +40,8 @@ nothing [] e = refl
 nothing (x ∷ l) e = absurd (omega arith)
 
 module _ (t : List ℕ) where
-  pub empty-put : {at m e : ℕ} {out out1 out2 : List ℕ} → Puts (bytesBelow t (length t)) at m out out1 → m ≡ at → Puts (40 ∷ 41 ∷ []) m e out1 out2 → at ≤ length out
+  pub empty-put : {at m e : ℕ} {out out1 out2 : List ℕ} → Puts (bytesBelow t (length t)) at m out out1 → m ≡ at → Puts (40 ∷ 41 ∷ []) m e out1 out2
+      → at ≤ length out
       → Puts (permutationBytes (cyclesOf t)) at e out out2
   empty-put p q c l =
       let z : length (bytesBelow t (length t)) ≡ 0 = omega (arith, p .end-is) in

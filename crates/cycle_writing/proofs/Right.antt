@@ -78,7 +78,8 @@ module _ (n : ℕ) (g k : ℕ → ℕ) (h l : ℕ → List ℕ) (xs ys : List �
         (λ (ps : List CyclePiece). Blanks ps (number n ∷ blank ∷ piecesOf false (permutationBytes (these g h xs) ++ (59 ∷ permutationBytes (these k l ys)))))
         (sym (number-first n 32 (permutationBytes (these g h xs) ++ (59 ∷ permutationBytes (these k l ys))) refl)) here;
     S-is = subst
-        (λ (ps : List CyclePiece). Written true (blank ∷ piecesOf false (permutationBytes (these g h xs) ++ (59 ∷ permutationBytes (these k l ys)))) (these g h xs) ps)
+        (λ (ps : List CyclePiece). Written true (blank ∷ piecesOf false (permutationBytes (these g h xs) ++ (59 ∷ permutationBytes (these k l ys))))
+        (these g h xs) ps)
         (mark-first false 59 (permutationBytes (these k l ys)) refl)
         (blank-first (permutation-written g h xs (59 ∷ permutationBytes (these k l ys))));
     R-is = subst (λ (t : List ℕ). Written true (piecesOf false t) (these k l ys) []) (append-nil (permutationBytes (these k l ys)))

@@ -88,7 +88,8 @@ module _ (t : List ℕ) (x : ℕ) (h : StartIn t x) where
   low-again = h .table .low (imageAt t x) low-once
 
   pub two-at : imageAt t (imageAt t x) ≡ x → cycleBytes ((x + 1) ∷ (imageAt t x + 1) ∷ []) ≡ bytesAt t x
-  two-at e = ap (λ (k : ℕ). cycleBytes (k ∷ (imageAt t x + 1) ∷ [])) (add-one x) ∙ ap (λ (k : ℕ). cycleBytes (suc x ∷ k ∷ [])) (add-one (imageAt t x)) ∙ go its-shape
+  two-at e = ap (λ (k : ℕ). cycleBytes (k ∷ (imageAt t x + 1) ∷ [])) (add-one x) ∙ ap (λ (k : ℕ). cycleBytes (suc x ∷ k ∷ [])) (add-one (imageAt t x))
+      ∙ go its-shape
     where
       go : Shape t x → cycleBytes (suc x ∷ suc (imageAt t x) ∷ []) ≡ bytesAt t x
       go (pair q c) = ap (λ (l : List ℕ). cycleBytes (pointsFromOne l)) (sym c) ∙ at-start
@@ -174,7 +175,8 @@ size-grows : (t : List ℕ) (x n : ℕ) → x ≤ n → length (bytesBelow t x) 
 size-grows t x zero h = let e : x ≡ 0 = omega arith in omega (arith, ap (λ (k : ℕ). length (bytesBelow t k)) e)
 size-grows t x (suc n) h = go (decLt n x) (size-grows t x n) (sym (ap length (bytes-next t n)) ∙ length-append (bytesBelow t n) (bytesAt t n))
   where
-    go : Dec (n < x) → (x ≤ n → length (bytesBelow t x) ≤ length (bytesBelow t n)) → length (bytesBelow t (suc n)) ≡ length (bytesBelow t n) + length (bytesAt t n)
+    go : Dec (n < x) → (x ≤ n → length (bytesBelow t x) ≤ length (bytesBelow t n)) → length (bytesBelow t (suc n))
+        ≡ length (bytesBelow t n) + length (bytesAt t n)
         → length (bytesBelow t x) ≤ length (bytesBelow t (suc n))
     go (yes l) ih e = let q : x ≡ suc n = omega arith in omega (arith, ap (λ (k : ℕ). length (bytesBelow t k)) q)
     go (no l) ih e = omega (arith, ih (omega arith), e)

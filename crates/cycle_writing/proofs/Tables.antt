@@ -120,7 +120,8 @@ module _ (t : List ℕ) (h : ShortTable t) where
     where
       at-pair : f (f x) ≡ x → Among x y → imageBy ((suc x ∷ suc (f x) ∷ []) ∷ []) (suc y) ≡ suc (f y)
       at-pair e (first q) = rw q (two-first (suc x) (suc (f x)))
-      at-pair e (second q) = ap (λ (z : ℕ). imageBy ((suc x ∷ suc (f x) ∷ []) ∷ []) (suc z)) q ∙ two-second (suc x) (suc (f x)) (λ z. d (omega arith)) ∙ ap suc (sym (ap f q ∙ e))
+      at-pair e (second q) = ap (λ (z : ℕ). imageBy ((suc x ∷ suc (f x) ∷ []) ∷ []) (suc z)) q ∙ two-second (suc x) (suc (f x)) (λ z. d (omega arith))
+          ∙ ap suc (sym (ap f q ∙ e))
       at-pair e (third q) = let p : y ≡ x = q ∙ e in rw p (two-first (suc x) (suc (f x)))
 
       at-triple : ¬ (f (f x) ≡ x) → f (f (f x)) ≡ x → Among x y → imageBy ((suc x ∷ suc (f x) ∷ suc (f (f x)) ∷ []) ∷ []) (suc y) ≡ suc (f y)

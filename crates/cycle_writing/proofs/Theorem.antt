@@ -15,12 +15,12 @@ use lib.Seq.{take-at}
 use borrow.Author.Tests.{le-leb}
 use Rattle.basics.specs.Choice.{pick}
 use Rattle.basics.specs.Count.{those}
-use Rattle.refusal.specs.Refusal.{tooShort, filledBy}
-use Rattle.refusal.specs.declared.Checked.{Checked}
-use Rattle.refusal.specs.declared.Checked.the-variants as checked
-use Rattle.refusal.specs.declared.Filled.{Filled}
-use Rattle.refusal.specs.declared.Filled.the-variants.{Made, Refused}
-use Rattle.refusal.proofs.Apart.{refused-made}
+use Rattle.call.specs.Refusal.{tooShort, filledBy}
+use Rattle.call.specs.declared.refusal.Checked.{Checked}
+use Rattle.call.specs.declared.refusal.Checked.the-variants as checked
+use Rattle.call.specs.declared.refusal.Filled.{Filled}
+use Rattle.call.specs.declared.refusal.Filled.the-variants.{Made, Refused}
+use Rattle.call.proofs.Apart.{refused-made}
 use Rattle.numbering.specs.Table.{imageAt}
 use Rattle.figures.specs.Cusps.{stepsTo, width, iterates}
 use Rattle.import_rule.specs.Fixed.{image}
@@ -95,7 +95,8 @@ module _ (s r : List ℕ) (p : Passport s r) where
     right = export-right;
     S-table = table-again s short-S;
     R-table = subst (λ (n : ℕ). cycleTable n (cyclesOf r) ≡ r) (p .even) (table-again r short-R);
-    reads-back = sym (verdict-only (exportOf s r) (verdict.reads (record { index = length s; ofS = cyclesOf s; ofR = cyclesOf r })) (verdict.right (record { index = length s; ofS = cyclesOf s; ofR = cyclesOf r }) export-right));
+    reads-back = sym (verdict-only (exportOf s r) (verdict.reads (record { index = length s; ofS = cyclesOf s; ofR = cyclesOf r }))
+        (verdict.right (record { index = length s; ofS = cyclesOf s; ofR = cyclesOf r }) export-right));
   }
 
 -- ---- the answer
@@ -103,7 +104,8 @@ module _ (s r : List ℕ) (p : Passport s r) where
 made-same : {m n : ℕ} → Made m ≡ Made n → m ≡ n
 made-same e = cc
 
-pub write-means : (s r out : List ℕ) (a : Filled) (out' : List ℕ) → a ≡ writeCyclesOf s r (length out) → out' ≡ exportLeft a (exportOf s r) out → WriteMeans s r a out'
+pub write-means : (s r out : List ℕ) (a : Filled) (out' : List ℕ) → a ≡ writeCyclesOf s r (length out) → out' ≡ exportLeft a (exportOf s r) out
+    → WriteMeans s r a out'
 write-means s r out a out' e l n m = go (pairCheck s r) refl (ltb (length out) (length (exportOf s r))) (sym m ∙ e)
   where
     front : n ≡ length (exportOf s r) → take n out' ≡ exportOf s r

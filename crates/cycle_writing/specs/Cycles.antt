@@ -1,9 +1,10 @@
--- The cycles of a permutation in the order of an export. The crate figures has the cycles of a table: `cycle t x` is the cycle of x, from x on, `smallest t x`
--- says whether x is its smallest point, and `isFixed t x` whether t fixes x.
+-- The cycles of a permutation in the order of an export. The crate figures has the cycles of a table: `cycle t x` is
+-- the cycle of x, from x on, `smallest t x` says whether x is its smallest point, and `isFixed t x` whether t fixes x.
 --
 --     beginsCycle t x     t moves x, and x is the smallest point of its cycle
 --     pointsFromOne c     points that count from 0, counted from 1 as in a text
---     cyclesBelow t k     the cycles of more than one point that begin below k, each from its smallest point, ordered by it
+--     cyclesBelow t k     the cycles of more than one point that begin below k, each from its smallest point, ordered
+--                         by it
 --     cyclesOf t          all of these
 -- Assumes nothing.
 use mathlib.Core.Bool.{Bool, not, _&&_}

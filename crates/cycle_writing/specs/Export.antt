@@ -3,29 +3,34 @@
 --     exportWithin s r room     11 with the length of the export where the result space is shorter, or else that length
 --     writeCyclesOf s r room    the refusals 12 to 15, then that
 --     exportLeft a bs out       what the call leaves in the result space: the bytes bs at its front, or all as it was
---     Exported s r t            t is the export of the tables s and r, which are a passport, and has 65,536 bytes at most; it is a right text with their index and
---                               their cycles; these cycles make the tables again; and this is what a reader says of it. So reading an export returns the tables.
+--     Exported s r t            t is the export of the tables s and r, which are a passport, and has 65,536 bytes at
+--                               most; it is a right text with their index and their cycles; these cycles make the
+--                               tables again; and this is what a reader says of it. So reading an export returns the
+--                               tables.
 --     WriteMeans s r a out      an answer that is no refusal means this of the bytes at the front of the result space
 -- Assumes nothing.
 use mathlib.Core.Path.{_≡_}
 use mathlib.Core.List.{List, _++_}
 use Prim.Native.Nat.{ℕ, _≤_}
+use lib.Dec.{ltb}
 use lib.ListN.{length, take, drop}
-use Rattle.refusal.specs.Refusal.{filledBy}
-use Rattle.refusal.specs.declared.Filled.{Filled}
-use Rattle.refusal.specs.declared.Filled.the-variants.{Made, Refused}
+use Rattle.basics.specs.Choice.{pick}
+use Rattle.call.specs.Refusal.{tooShort, filledBy}
+use Rattle.call.specs.declared.refusal.Filled.{Filled}
+use Rattle.call.specs.declared.refusal.Filled.the-variants.{Made, Refused}
 use Rattle.cycle_notation.specs.Piece.{cyclePieces, withoutOffsets}
 use Rattle.cycle_notation.specs.Form.{Right}
 use Rattle.cycle_notation.specs.Table.{cycleTable}
 use Rattle.cycle_notation.specs.Verdict.{reads}
 use Rattle.cycle_notation.specs.Inner.Reader.{verdictOf}
 use Rattle.permutations.specs.Check.{pairCheck, Passport}
-use Rattle.permutations.specs.Import.{byRoom}
 use Rattle.cycle_writing.specs.Cycles.{cyclesOf}
 use Rattle.cycle_writing.specs.Bytes.{exportOf}
 
 abbrev pub exportWithin : (s r : List ℕ) (room : ℕ) → Filled
-exportWithin s r room = byRoom (length (exportOf s r)) room (Made (length (exportOf s r)))
+exportWithin s r room =
+    let n = length (exportOf s r) in
+    pick (ltb room n) (Refused (tooShort n)) (Made n)
 
 abbrev pub writeCyclesOf : (s r : List ℕ) (room : ℕ) → Filled
 writeCyclesOf s r room = filledBy (pairCheck s r) (exportWithin s r room)

@@ -1,14 +1,15 @@
-// The bytes of an export, put into a lent slice one after another: each call says where its bytes end, and the next ones start there.
+// The bytes of an export, put into a lent slice one after another: each call says where its bytes end, and the next
+// ones start there.
 use crate::start::is_start;
 use import_rule::image;
 use text::Written;
-use text_line::put;
+use text::line::put;
 ghost use mathlib.Core.Path.{_≡_};
 ghost use mathlib.Core.List.{[], _∷_, _++_};
 ghost use Prim.Native.Nat.{_+_, _≤_, _<_};
 ghost use lib.ListN.{length};
 ghost use Rattle.text.specs.Decimal.{digits};
-ghost use Rattle.text_line.specs.Line.{Puts};
+ghost use Rattle.text.specs.Line.{Puts};
 ghost use Rattle.cycle_writing.specs.Cycles.{cyclesOf};
 ghost use Rattle.cycle_writing.specs.Bytes.{cycleBytes, permutationBytes, exportOf};
 ghost use Rattle.cycle_writing.specs.Inner.Short.{ShortTable, StartIn, bytesAt, bytesBelow};
@@ -82,7 +83,8 @@ fn put_at(t: &[u32], x: usize, out: &mut [u8], at: usize) -> usize
 // All cycles.
 fn put_cycles(t: &[u32], out: &mut [u8], at: usize) -> usize
     requires { ⌜ ShortTable (now t) × (at + length (bytesBelow (now t) (length (now t))) ≤ length (now out)) ⌝ }
-    ensures { λ e. ⌜ Puts (bytesBelow (now (t .entry)) (length (now (t .entry)))) at e (now (out .entry)) (now (out .exit)) ⌝ }
+    ensures { λ e. ⌜ Puts (bytesBelow (now (t .entry)) (length (now (t .entry)))) at e (now (out .entry))
+        (now (out .exit)) ⌝ }
 {
     let mut end = at;
     let mut x: usize = 0;

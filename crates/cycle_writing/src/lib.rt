@@ -1,11 +1,11 @@
-// Permutation pairs written in cycle notation: specs/Cycles.antt and specs/Bytes.antt say which text an export is, specs/Export.antt what the call
-// answers, and that reading an export returns the tables.
+// Permutation pairs written in cycle notation: specs/Cycles.antt and specs/Bytes.antt say which text an export is,
+// specs/Export.antt what the call answers, and that reading an export returns the tables.
 use bytes::put_export;
+use call::refusal::Checked;
+use call::refusal::Filled;
+use call::refusal::Refusal;
+use call::refusal::TOO_SHORT;
 use length::export_length;
-use refusal::Checked;
-use refusal::Filled;
-use refusal::Refusal;
-use refusal::TOO_SHORT;
 ghost use mathlib.Core.Path.{_≡_};
 ghost use lib.ListN.{length};
 ghost use Rattle.permutations.specs.Check.{Passport};
@@ -33,7 +33,8 @@ fn write_accepted(s: &[u32], r: &[u32], out: &mut [u8]) -> Filled
     Filled::Made(end)
 }
 
-// The tables of S and R as text in cycle notation, at the front of the result space: the length of the text; or 12 to 15, then 11 with that length.
+// The tables of S and R as text in cycle notation, at the front of the result space: the length of the text; or 12 to
+// 15, then 11 with that length.
 pub fn write_cycles(s: &[u32], r: &[u32], out: &mut [u8]) -> Filled
     ensures { λ a. ⌜ a ≡ writeCyclesOf (now (s .entry)) (now (r .entry)) (length (now (out .entry))) ⌝ }
     ensures { λ a. ⌜ now (out .exit) ≡ exportLeft a (exportOf (now (s .entry)) (now (r .entry))) (now (out .entry)) ⌝ }

@@ -13,11 +13,11 @@ use lib.Ieee.{Float}
 use Rattle.basics.specs.Count.{first}
 use Rattle.basics.proofs.Count.{Clear}
 use Rattle.matrix.specs.Matrix.{nth}
-use Rattle.refusal.specs.Refusal.{_orElse_, checkedRefusal, tooShort, tooLargeToDraw}
-use Rattle.refusal.specs.declared.Checked.{Checked}
-use Rattle.refusal.specs.declared.Checked.the-variants.{Accepted, Refused}
-use Rattle.refusal.proofs.Apart.{refused-accepted}
-use Rattle.refusal.proofs.Answers.{both-pass, pass-both}
+use Rattle.call.specs.Refusal.{_orElse_, checkedRefusal, tooShort, tooLargeToDraw}
+use Rattle.call.specs.declared.refusal.Checked.{Checked}
+use Rattle.call.specs.declared.refusal.Checked.the-variants.{Accepted, Refused}
+use Rattle.call.proofs.Apart.{refused-accepted}
+use Rattle.call.proofs.Answers.{both-pass, pass-both}
 use Rattle.call.specs.Call.{Asks, Gives, lengthCheck, atFront}
 use Rattle.call.proofs.Laws.{Run, run-end, run-stop, run-pass, run-put, room-short, room-long, above-room, above-among, accepted-by}
 use Rattle.symbol.specs.Check.{symbolCheck}
@@ -54,7 +54,8 @@ module _ (v : ℕ) (t : List ℤ) (out : List Float) where
   rows = drawnRows v t (v + 1)
 
   pub no-room : length out / 4 < v + 1 → Run (Asks (lengthCheck (v + 1) (length out / 4)) ∷ Gives (atFront rows out) out out ∷ []) (Refused (tooShort (v + 1)))
-  no-room l = run-stop (tooShort (v + 1)) (lengthCheck (v + 1) (length out / 4)) (Gives (atFront rows out) out out ∷ []) (room-short (v + 1) (length out / 4) l) (refl, tt)
+  no-room l = run-stop (tooShort (v + 1)) (lengthCheck (v + 1) (length out / 4)) (Gives (atFront rows out) out out ∷ []) (room-short (v + 1) (length out / 4) l)
+      (refl, tt)
 
   pub in-room : (out' : List Float) → v + 1 ≤ length out / 4 → out' ≡ rows ++ drop (4 * (v + 1)) out
       → Run (Asks (lengthCheck (v + 1) (length out / 4)) ∷ Gives (atFront rows out) out out' ∷ []) Accepted

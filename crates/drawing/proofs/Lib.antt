@@ -5,3 +5,9 @@ pub mod Rows
 pub mod Picture
 pub mod Judged
 pub mod Sample
+-- The laws of floats.
+pub mod Nearest
+pub mod Quotient
+pub mod Order
+pub mod Sum
+pub mod Extreme

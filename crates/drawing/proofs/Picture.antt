@@ -1,5 +1,5 @@
 -- WHAT A DRAWING MEANS: nothing is lost before a division, each side is near the exact one, a line's place is exact, and the box is tight (`picture`).
--- Why: the box's borders are the least and the greatest of finite floats, by the laws of `rounding`; the top isn't a line's 0 where an arc rises above it.
+-- Why: the box's borders are the least and the greatest of finite floats, by the laws of floats; the top isn't a line's 0 where an arc rises above it.
 -- Assumes nothing.
 use mathlib.Core.Path.{_≡_, refl, sym, ap, _∙_}
 use mathlib.Core.List.{List}
@@ -10,10 +10,10 @@ use lib.Dec.{T}
 use lib.IntN.{ℤ}
 use lib.Ieee.{Float, lt, le}
 use Rattle.symbol.specs.Table.{sideAt}
-use Rattle.rounding.proofs.Extreme.{least-one, greatest-one, least-below, greatest-above, least-finite, greatest-finite}
-use Rattle.rounding.specs.Quotient.{floatOf}
-use Rattle.rounding.specs.Extreme.{greatestOf}
-use Rattle.rounding.proofs.Order.{not-back}
+use Rattle.drawing.proofs.Extreme.{least-one, greatest-one, least-below, greatest-above, least-finite, greatest-finite}
+use Rattle.drawing.specs.Quotient.{floatOf}
+use Rattle.drawing.specs.Extreme.{greatestOf}
+use Rattle.drawing.proofs.Order.{not-back}
 use Rattle.drawing.specs.Drawn.{drawnAt, height}
 use Rattle.drawing.specs.Bounding.{lefts, rights, heights, boxTo, Radius, Tight}
 use Rattle.drawing.specs.Answer.{Picture}

@@ -5,8 +5,8 @@ use mathlib.Core.Bool.{false}
 use mathlib.Core.List.{List, [], _∷_}
 use lib.IntN.{ℤ, pos, negsuc}
 use lib.Ieee.{Float, fin, div, ofInt, sub, add, lt}
-use Rattle.rounding.specs.Quotient.{quotient, floatOf}
-use Rattle.rounding.specs.Extreme.{leastOf, greatestOf}
+use Rattle.drawing.specs.Quotient.{quotient, floatOf}
+use Rattle.drawing.specs.Extreme.{leastOf, greatestOf}
 use Rattle.drawing.specs.Bounding.{boxTo}
 use Rattle.drawing.specs.Answer.{drawnRows, boxNumbers}
 

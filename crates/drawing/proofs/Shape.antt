@@ -22,11 +22,11 @@ use Rattle.symbol.specs.Check.{eqZ}
 use Rattle.symbol.specs.Table.{frame}
 use Rattle.symbol.specs.declared.Side.{Side}
 use Rattle.symbol.proofs.Choice.{eqZ-true}
-use Rattle.rounding.specs.Quotient.{quotient, floatOf, Near, Exact}
-use Rattle.rounding.proofs.Nearest.{apart, Within}
-use Rattle.rounding.proofs.Quotient.{isBelow, quotient-is, quotient-within, exact, near, by-one}
-use Rattle.rounding.proofs.Order.{itself}
-use Rattle.rounding.proofs.Sum.{Signed, Bounded, bounded, round-signed, add-finite, sub-finite, ends}
+use Rattle.drawing.specs.Quotient.{quotient, floatOf, Near, Exact}
+use Rattle.drawing.proofs.Nearest.{apart, Within}
+use Rattle.drawing.proofs.Quotient.{isBelow, quotient-is, quotient-within, exact, near, by-one}
+use Rattle.drawing.proofs.Order.{itself}
+use Rattle.drawing.proofs.Sum.{Signed, Bounded, bounded, round-signed, add-finite, sub-finite, ends}
 use Rattle.drawing.specs.Drawn.{crossSum, twiceProduct, arcOf, drawnOf, placeNum, placeDen, NearExact, CarriedOver, leftReach, rightReach, height}
 use Rattle.drawing.specs.Inner.Ready.{Drawable}
 use Rattle.drawing.specs.declared.Drawn.{Drawn}

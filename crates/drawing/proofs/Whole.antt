@@ -28,7 +28,7 @@ use Rattle.symbol.specs.declared.Pairing.the-variants.{Even, Odd, Free, Bad}
 use Rattle.pairing.specs.Generator.{kindOf}
 use Rattle.symbol.proofs.Choice.{eqZ-true, eq-eqZ}
 use Rattle.symbol.proofs.Signed.{bits-positive}
-use Rattle.rounding.specs.Quotient.{floatOf}
+use Rattle.drawing.specs.Quotient.{floatOf}
 use Rattle.drawing.specs.Drawn.{crossSum, twiceProduct}
 use Rattle.drawing.specs.Inner.Ready.{Drawable}
 

@@ -1,12 +1,15 @@
 -- THE BOX of a drawing: it holds every arc's ends and every line's place, and no more.
 --
 --   lefts v t i, rights v t i, heights v t i   how far side i goes to the left, to the right, and up
---   boxTo v t n    the box of the first n sides, n at least 1: the least and the greatest of these numbers, and a bottom of 0
+--   boxTo v t n    the box of the first n sides, n at least 1: the least and the greatest of these numbers, and a
+--                  bottom of 0
 --   Radius v t x   x is the radius of an arc of the drawing
---   Tight v t b    b holds all sides of the symbol, and each border is a number of one of them. The top is at least every radius, each of which is above 0,
---                  and is one of them; without arcs it is 0. All these floats are finite
+--   Tight v t b    b holds all sides of the symbol, and each border is a number of one of them. The top is at least
+--                  every radius, each of which is above 0, and is one of them; without arcs it is 0. All these floats
+--                  are finite
 --
--- proofs/Picture.antt, `tight`: the box of all sides is tight, for every symbol with vertex entries of size at most 33,554,432.
+-- proofs/Picture.antt, `tight`: the box of all sides is tight, for every symbol with vertex entries of size at most
+-- 33,554,432.
 use mathlib.Core.Path.{_≡_}
 use mathlib.Core.List.{List}
 use Prim.Native.Nat.{ℕ, _+_, _≤_}
@@ -14,8 +17,8 @@ use lib.Dec.{T}
 use lib.IntN.{ℤ}
 use lib.Ieee.{Float, lt, le}
 use lib.Ieee.Scale.{finite}
-use Rattle.rounding.specs.Quotient.{floatOf}
-use Rattle.rounding.specs.Extreme.{leastOf, greatestOf, OneOf}
+use Rattle.drawing.specs.Quotient.{floatOf}
+use Rattle.drawing.specs.Extreme.{leastOf, greatestOf, OneOf}
 use Rattle.drawing.specs.Drawn.{drawnAt, leftReach, rightReach, height}
 use Rattle.drawing.specs.declared.Drawn.the-variants.{Arc}
 use Rattle.drawing.specs.declared.BoundingBox.{BoundingBox}
@@ -30,7 +33,12 @@ abbrev pub heights : ℕ → List ℤ → ℕ → Float
 heights v t i = height (drawnAt v t i)
 
 abbrev pub boxTo : ℕ → List ℤ → ℕ → BoundingBox
-boxTo v t n = record { left = leastOf (lefts v t) n; right = greatestOf (rights v t) n; bottom = floatOf 0; top = greatestOf (heights v t) n }
+boxTo v t n = record {
+  left = leastOf (lefts v t) n;
+  right = greatestOf (rights v t) n;
+  bottom = floatOf 0;
+  top = greatestOf (heights v t) n;
+}
 
 pub record Radius (v : ℕ) (t : List ℤ) (x : Float) : Type 0 where
   pub at : ℕ

@@ -1,11 +1,14 @@
-// Drawings of a symbol: `draw_symbol` turns its sides into lines and semicircles, stores their numbers as floats and gives the box around them.
+// Drawings of a symbol: `draw_symbol` turns its sides into lines and semicircles, stores their numbers as floats and
+// gives the box around them.
 //
-// One side is `draw`, and its box `box_of`; `join` gives boxes together. `drawing_check` looks at the symbol first, and `draw_in_room` at the result space.
+// One side is `draw`, and its box `box_of`; `join` gives boxes together. `drawing_check` looks at the symbol first, and
+// `draw_in_room` at the result space. How near one division comes to the exact quotient, and the least and the greatest
+// of some floats, are definitions: specs/Quotient.antt, specs/Extreme.antt.
+use call::refusal::Checked;
+use call::refusal::Refusal;
+use call::refusal::TOO_LARGE_TO_DRAW;
+use call::refusal::TOO_SHORT;
 use pairing::partner::kind_at;
-use refusal::Checked;
-use refusal::Refusal;
-use refusal::TOO_LARGE_TO_DRAW;
-use refusal::TOO_SHORT;
 use symbol::Side;
 use symbol::check;
 ghost use mathlib.Core.Path.{_≡_};
@@ -20,12 +23,13 @@ ghost use Rattle.call.specs.Call.{storesRows};
 ghost use Rattle.call.specs.Inner.Fills.{Fills};
 ghost use Rattle.symbol.specs.Table.{pairingEntries, pairingOf};
 ghost use Rattle.pairing.specs.Generator.{kindOf};
-ghost use Rattle.rounding.specs.Quotient.{quotient, floatOf};
-ghost use Rattle.rounding.specs.Extreme.{lesser, greater};
+ghost use Rattle.drawing.specs.Quotient.{quotient, floatOf};
+ghost use Rattle.drawing.specs.Extreme.{lesser, greater};
 ghost use Rattle.drawing.specs.Drawn.{arcOf, drawnOf};
 ghost use Rattle.drawing.specs.Bounding.{boxTo};
 ghost use Rattle.drawing.specs.Answer.{rowFor, drawnRows, check22, drawingSteps};
-ghost use Rattle.drawing.specs.Inner.Ready.{Drawable, SmallSymbol, sideBox, jointBox, putFour, drawingCheck, drawn};
+ghost use Rattle.drawing.specs.Inner.Ready.{Drawable, SmallSymbol, sideBox, jointBox, putFour, drawingCheck};
+ghost use Rattle.drawing.specs.Inner.Ready.{drawn};
 
 // How a side is drawn in the upper half plane.
 pub enum Drawn {
@@ -165,7 +169,8 @@ fn kind(v: usize, p: &[i64], i: usize) -> f64
     kind_at(v, p, i) as f64
 }
 
-// The rows of all sides go to the front of out, and their boxes are joined. The first box is there from the start: with itself it stays as it is.
+// The rows of all sides go to the front of out, and their boxes are joined. The first box is there from the start: with
+// itself it stays as it is.
 fn draw_sides(v: usize, t: &[i64], p: &[i64], out: &mut [f64]) -> BoundingBox
     requires { ⌜ SmallSymbol v (now t) × (now p ≡ pairingEntries v (now t)) × (4 * (v + 1) ≤ length (now out)) ⌝ }
     ensures { λ r. ⌜ r ≡ boxTo v (now (t .entry)) (v + 1) ⌝ }
@@ -185,7 +190,8 @@ fn draw_sides(v: usize, t: &[i64], p: &[i64], out: &mut [f64]) -> BoundingBox
 // The result space has room for one side in each whole four of its floats.
 fn draw_in_room(v: usize, t: &[i64], out: &mut [f64]) -> Drawing
     requires { ⌜ SmallSymbol v (now t) ⌝ }
-    ensures { λ r. ⌜ Fills (storesRows 4 (v + 1) (drawnRows v (now (t .entry)) (v + 1)) out) (drawn (boxTo v (now (t .entry)) (v + 1))) r ⌝ }
+    ensures { λ r. ⌜ Fills (storesRows 4 (v + 1) (drawnRows v (now (t .entry)) (v + 1)) out)
+        (drawn (boxTo v (now (t .entry)) (v + 1))) r ⌝ }
 {
     let sides = v + 1;
     if out.len() / 4 < sides {
@@ -236,7 +242,8 @@ fn drawing_check(v: usize, t: &[i64]) -> Checked
     }
 }
 
-// Draws the symbol in t: a row of four floats in out for each side, in their order, and the box around them; or the first refusal.
+// Draws the symbol in t: a row of four floats in out for each side, in their order, and the box around them; or the
+// first refusal.
 pub fn draw_symbol(v: usize, t: &[i64], out: &mut [f64]) -> Drawing
     ensures { λ r. ⌜ Fills (drawingSteps v (now (t .entry)) out) (drawn (boxTo v (now (t .entry)) (v + 1))) r ⌝ }
 {

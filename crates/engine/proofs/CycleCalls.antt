@@ -1,13 +1,13 @@
--- Why the numbers of `farey_read_cycles` say what they do (`read-says`), why there is one answer for each text (`one-answer`), and why reading an export returns
--- the tables (`read-back`). Assumes nothing.
+-- Why the numbers of `farey_read_cycles` say what they do (`read-says`), why there is one answer for each text (`one-answer`), and why reading an export
+-- returns the tables (`read-back`). Assumes nothing.
 use mathlib.Core.Path.{_≡_, refl, sym, subst, _∙_}
 use mathlib.Core.List.{List}
 use Prim.Native.Nat.{ℕ, _≤_}
 use native.Mathlib.Nat.{le-refl}
 use native.Mathlib.Omega.{arith}
 use lib.ListN.{length}
-use Rattle.refusal.specs.Refusal.{filledRefusal}
-use Rattle.refusal.specs.declared.Filled.{Filled}
+use Rattle.call.specs.Refusal.{filledRefusal}
+use Rattle.call.specs.declared.refusal.Filled.{Filled}
 use Rattle.permutations.specs.Check.{Passport}
 use Rattle.cycle_notation.specs.Verdict.{Read}
 use Rattle.cycle_reading.specs.Reading as reading

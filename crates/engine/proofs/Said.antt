@@ -1,7 +1,8 @@
 -- WHAT THE NUMBER OF A QUERY TELLS (`query-says`; on a group with a name, `named-says`): 10 that there is no such product, 0 that the word is one and
--- the normal form, 11 the length of that; and with it the sign (`sign-says`, `named-sign-says`).
+-- the normal form, 11 the length of that; and with it the sign (`sign-says`, `named-sign-says`). And so the exported calls (`call-word`) say what they
+-- promise (`query-call`, `signed-call`, `named-call`, `named-signed-call`).
 -- Assumes nothing.
-use mathlib.Core.Path.{_≡_, sym, ap, subst, _∙_}
+use mathlib.Core.Path.{_≡_, refl, sym, ap, subst, _∙_}
 use mathlib.Core.Logic.{inl, inr}
 use mathlib.Core.Bool.{Bool}
 use mathlib.Core.List.{List}
@@ -13,15 +14,22 @@ use Rattle.matrix.specs.Matrix.{Mat, ofList, _⊗_, _≈_}
 use Rattle.coset.specs.Positions.{withSign}
 use Rattle.pairing.specs.Generator.{generators}
 use Rattle.pairing.specs.Subgroup.{IsWord, valueOf}
-use Rattle.refusal.specs.Refusal.{tooShort}
-use Rattle.refusal.specs.declared.Refusal.{Refusal}
+use Rattle.call.specs.Refusal.{tooShort, checkedRefusal}
+use Rattle.call.specs.declared.refusal.Checked.{Checked}
+use Rattle.call.specs.declared.refusal.Checked.the-variants.{Accepted, Refused}
+use Rattle.call.specs.Call.{verdict, ifAccepted, Leaves, Contract, numberOf, placeOf, Call}
+use Rattle.call.proofs.Laws.{call}
+use Rattle.call.specs.declared.refusal.Refusal.{Refusal}
 use Rattle.import_rule.specs.Order.{Order}
+use Rattle.named_groups.specs.Answer.{namedRule, ruledWord, ruledSign}
+use Rattle.named_groups.proofs.Asking.{namedRun, claimed}
 use Rattle.named_groups.specs.Claim.{NamedClaim, NamedQuerySays, NamedSignSays}
-use Rattle.word.specs.Answer.{queryRefusal, foundSign, signNumber, partOf}
+use Rattle.word.specs.Answer.{queryRefusal, foundWord, foundSign, signNumber, partOf, wordIf}
 use Rattle.word.specs.Claim.{NormalWord, Answered, Claim, QuerySays, scaled, SignSays}
 use Rattle.word.specs.declared.Queried.{Queried}
 use Rattle.word.specs.declared.Queried.the-variants as queried
 use Rattle.word.proofs.Claim.{same-number}
+use Rattle.word.proofs.Order.{refusal-if, left-if, queryRun, claim}
 use Rattle.sheets.proofs.Said.{unit-of, with-scaled, ten-none, zero, eleven}
 use Rattle.engine.specs.Exported.{queryPlace, signWritten}
 
@@ -75,7 +83,8 @@ module _ {v : ℕ} {t a b : List ℤ} {w : List ℕ} {out : List ℤ} {start : �
   }
 
 -- the same on a group with a name
-module _ {order : Order} {k n : ℕ} {a b : List ℤ} {w : List ℕ} {out : List ℤ} {start : ℕ} {r : Queried} {out' : List ℤ} (c : NamedClaim order k n a b w out start r out') where
+module _ {order : Order} {k n : ℕ} {a b : List ℤ} {w : List ℕ} {out : List ℤ} {start : ℕ} {r : Queried} {out' : List ℤ}
+    (c : NamedClaim order k n a b w out start r out') where
   pub named-says : (number place : ℕ) → number ≡ queryRefusal r .number → place ≡ queryPlace r → NamedQuerySays order k n a b w start number place out'
   named-says number place e p = record {
     asked = λ z. elim z [ inl y ↦ c .asked (inl (sym e ∙ y)) | inr y ↦ c .asked (inr (sym e ∙ y)) ];
@@ -101,3 +110,88 @@ module _ {order : Order} {k n : ℕ} {a b : List ℤ} {w : List ℕ} {out : List
     unit = λ z. unit-of (foundSign v t (ofList a) (ofList b)) (zero-sign (c .answered (c .asked (inl (sym e ∙ z)) .0) v t g .claim) y f (sym e ∙ z));
     exact = λ z. zero-exact (c .answered (c .asked (inl (sym e ∙ z)) .0) v t g .claim) y p f (sym e ∙ z);
   }
+
+-- ---- the calls
+
+module _ (start n : ℕ) (sign : Bool) where
+  place-if : (c : Checked) → queryPlace (wordIf start n sign c) ≡ ifAccepted c n (checkedRefusal c .place)
+  place-if Accepted = refl
+  place-if (Refused f) = refl
+
+  sign-if : (c : Checked) (y : ℤ) → signWritten (wordIf start n sign c) y ≡ ifAccepted c (signNumber sign) y
+  sign-if Accepted y = refl
+  sign-if (Refused f) y = refl
+
+  number-if : (c : Checked) → checkedRefusal c .number ≡ queryRefusal (wordIf start n sign c) .number
+  number-if c = same-number (sym (refusal-if start n sign c))
+
+-- the exported call, from the answer of the query beneath it
+pub call-word : (p : Contract) (start : ℕ) (sign : Bool) → p .Says (numberOf p) (placeOf p) → Leaves (p .steps) → {r : Queried}
+    → r ≡ wordIf start (p .count) sign (verdict (p .steps)) → {number place : ℕ} → number ≡ queryRefusal r .number → place ≡ queryPlace r → Call p number place
+call-word p start sign says l {r} e n k =
+    let c = verdict (p .steps) in
+    call p says l (n ∙ ap (λ (x : Queried). queryRefusal x .number) e ∙ sym (number-if start (p .count) sign c))
+    (k ∙ ap queryPlace e ∙ place-if start (p .count) sign c)
+
+-- the sign, by the answer
+pub sign-left : (start n : ℕ) (sign : Bool) (c : Checked) {r : Queried} → r ≡ wordIf start n sign c → {x : ℤ} (y : ℤ) → x ≡ signWritten r y
+    → x ≡ ifAccepted c (signNumber sign) y
+sign-left start n sign c e y f = f ∙ ap (λ (q : Queried). signWritten q y) e ∙ sign-if start n sign c y
+
+-- what the calls say, by what their steps leave
+module _ (v : ℕ) (t a b : List ℤ) (w w' : List ℕ) (out out' : List ℤ) (start : ℕ) (l : Leaves (queryRun v t a b w w' out out' start)) where
+  abbrev n : ℕ
+  n = length (foundWord v t (ofList a) (ofList b))
+
+  abbrev q : Bool
+  q = foundSign v t (ofList a) (ofList b)
+
+  abbrev c : Checked
+  c = verdict (queryRun v t a b w w' out out' start)
+
+  abbrev number : ℕ
+  number = checkedRefusal c .number
+
+  abbrev place : ℕ
+  place = ifAccepted c n (checkedRefusal c .place)
+
+  all : Claim v t a b w out start (wordIf start n q c) out'
+  all = claim refl (l .1 .0 ∙ left-if start n q c (foundWord v t (ofList a) (ofList b)) out)
+
+  pub query-call : Claim v t a b w out start (wordIf start n q c) out' × QuerySays v t a b w start number place out'
+  query-call = (all, query-says all number place (number-if start n q c) (sym (place-if start n q c)))
+
+  pub signed-call : (x y : ℤ) → x ≡ ifAccepted c (signNumber q) y
+      → (Claim v t a b w out start (wordIf start n q c) out' × QuerySays v t a b w start number place out') × SignSays v t a b start number place x out'
+  signed-call x y f = (query-call, sign-says all number place x y (number-if start n q c) (sym (place-if start n q c)) (f ∙ sym (sign-if start n q c y)))
+
+-- the same on a group with a name, under each order
+module _ (order : Order) (k m : ℕ) (a b : List ℤ) (w w' : List ℕ) (out out' : List ℤ) (start : ℕ)
+    (l : Leaves (namedRun order k m a b w w' out out' start)) where
+  abbrev n' : ℕ
+  n' = length (ruledWord (namedRule order k m) a b)
+
+  abbrev q' : Bool
+  q' = ruledSign (namedRule order k m) a b
+
+  abbrev c' : Checked
+  c' = verdict (namedRun order k m a b w w' out out' start)
+
+  abbrev number' : ℕ
+  number' = checkedRefusal c' .number
+
+  abbrev place' : ℕ
+  place' = ifAccepted c' n' (checkedRefusal c' .place)
+
+  abbrev Named : Type 0
+  Named = NamedClaim order k m a b w out start (wordIf start n' q' c') out' × NamedQuerySays order k m a b w start number' place' out'
+
+  every : NamedClaim order k m a b w out start (wordIf start n' q' c') out'
+  every = claimed order k m a b w w' out out' start l
+
+  pub named-call : Named
+  named-call = (every, named-says every number' place' (number-if start n' q' c') (sym (place-if start n' q' c')))
+
+  pub named-signed-call : (x y : ℤ) → x ≡ ifAccepted c' (signNumber q') y → Named × NamedSignSays order k m a b start number' place' x out'
+  named-signed-call x y f =
+      (named-call, named-sign-says every number' place' x y (number-if start n' q' c') (sym (place-if start n' q' c')) (f ∙ sym (sign-if start n' q' c' y)))

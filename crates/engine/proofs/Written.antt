@@ -3,9 +3,9 @@ use mathlib.Core.Path.{_≡_, sym, ap, subst, _∙_}
 use mathlib.Core.List.{List}
 use Prim.Native.Nat.{ℕ}
 use lib.ListN.{length, take}
-use Rattle.refusal.specs.Refusal.{filledRefusal}
-use Rattle.refusal.specs.declared.Filled.{Filled}
-use Rattle.refusal.proofs.Numbered.{AboveIn}
+use Rattle.call.specs.Refusal.{filledRefusal}
+use Rattle.call.specs.declared.refusal.Filled.{Filled}
+use Rattle.call.proofs.Numbered.{AboveIn}
 use Rattle.cycle_writing.specs.Bytes.{exportOf}
 use Rattle.cycle_writing.specs.Export.{writeCyclesOf, exportLeft, WriteMeans, Exported}
 use Rattle.engine.specs.Exported.{filledPlace}
@@ -18,7 +18,8 @@ module _ (s r o o' : List ℕ) (a : Filled) (number place : ℕ) where
       → place ≡ filledPlace a
       → (number ≡ filledRefusal (writeCyclesOf s r (length o)) .number)
       × ((place ≡ filledPlace (writeCyclesOf s r (length o)))
-      × ((o' ≡ exportLeft (writeCyclesOf s r (length o)) (exportOf s r) o) × ((number ≡ 0 → Exported s r (take place o')) × (number ≡ 0 → ExportReadBack s r (take place o')))))
+      × ((o' ≡ exportLeft (writeCyclesOf s r (length o)) (exportOf s r) o)
+      × ((number ≡ 0 → Exported s r (take place o')) × (number ≡ 0 → ExportReadBack s r (take place o')))))
   export-says e left means n p =
       let told : number ≡ 0 → Exported s r (take place o') =
       λ z. subst (λ (k : ℕ). Exported s r (take k o')) (sym p)

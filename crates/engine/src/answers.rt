@@ -1,16 +1,17 @@
 // What an exported function says of the answer of its call (specs/Exported.antt).
+use call::Decision;
+use call::refusal::Filled;
+use call::refusal::Refusal;
 use figures::Figure;
 use figures::FigureRecord;
-use refusal::Filled;
-use refusal::Refusal;
-use sameness::Sameness;
 use word::Queried;
 use word::sign_number;
 ghost use mathlib.Core.Path.{_≡_};
-ghost use Rattle.refusal.specs.Refusal.{filledRefusal};
-ghost use Rattle.sameness.specs.Same.{samenessRefusal};
+ghost use Rattle.call.specs.Refusal.{filledRefusal};
 ghost use Rattle.word.specs.Answer.{queryRefusal};
-ghost use Rattle.engine.specs.Exported.{filledPlace, queryPlace, signWritten, samenessPlace, figureNumber, figureValue, figureNumbers};
+ghost use Rattle.call.specs.Inner.Fills.{decisionRefusal, decisionPlace};
+ghost use Rattle.coset.specs.Answer.{figureNumber, figureValue, figureNumbers};
+ghost use Rattle.engine.specs.Exported.{filledPlace, queryPlace, signWritten};
 
 // A refusal's number and place, or 0 and a count.
 pub(crate) struct Said {
@@ -73,13 +74,14 @@ pub(crate) fn sign_written(answer: Queried, before: i64) -> i64
     }
 }
 
-pub(crate) fn of_sameness(answer: Sameness) -> Said
-    ensures { λ r. ⌜ (r .number ≡ samenessRefusal answer .number) × (r .place ≡ samenessPlace answer) ⌝ }
+// Of a call that decides: 1 for yes, 0 for no.
+pub(crate) fn of_decision(answer: Decision) -> Said
+    ensures { λ r. ⌜ (r .number ≡ decisionRefusal answer .number) × (r .place ≡ decisionPlace answer) ⌝ }
 {
     match answer {
-        Sameness::Yes => counted(1),
-        Sameness::No => counted(0),
-        Sameness::Refused(refusal) => refused(refusal),
+        Decision::Yes => counted(1),
+        Decision::No => counted(0),
+        Decision::Refused(refusal) => refused(refusal),
     }
 }
 

@@ -2,15 +2,8 @@
 use crate::answers::of_figures;
 use crate::answers::of_filled;
 use coset::Figured;
-ghost use mathlib.Core.Path.{_≡_};
-ghost use lib.ListN.{length};
-ghost use Rattle.refusal.specs.Refusal.{filledRefusal};
-ghost use Rattle.pairing.specs.Generator.{workAfter};
-ghost use Rattle.coset.specs.Answer.{columnLeft, widthsOf, figuredRefusal};
-ghost use Rattle.partner_exchange.specs.Exchange.{exchanged};
-ghost use Rattle.partner_exchange.specs.Theorem.{Trade};
-ghost use Rattle.partner_exchange.specs.Answer.{exchangeCheck, exchangeOf, symbolLeft, previewOf, previewedWidths, PreviewMeaning};
-ghost use Rattle.engine.specs.Exported.{filledPlace, figuresLeft, GenusGiven, previewPlace};
+ghost use Rattle.call.specs.Call.{Call};
+ghost use Rattle.partner_exchange.specs.Answer.{exchangeCall, previewCall};
 
 // The symbol with the second sides of the labels x and y exchanged, from the front of out.
 #[no_mangle]
@@ -22,10 +15,7 @@ pub extern "C" fn farey_exchange(
     out: &mut [i64],
     place: &mut usize,
 ) -> u64
-    ensures { λ n. ⌜ n ≡ filledRefusal (exchangeOf v (now (t .entry)) x y (length (now (out .entry)))) .number ⌝ }
-    ensures { λ n. ⌜ now (place .exit) ≡ filledPlace (exchangeOf v (now (t .entry)) x y (length (now (out .entry)))) ⌝ }
-    ensures { λ n. ⌜ now (out .exit) ≡ symbolLeft (exchangeOf v (now (t .entry)) x y (length (now (out .entry)))) (exchanged v (now (t .entry)) x y) (now (out .entry)) ⌝ }
-    ensures { λ n. ⌜ (n ≡ 0 → Trade v (now (t .entry)) x y) ⌝ }
+    ensures { λ n. ⌜ Call (exchangeCall v (now (t .entry)) x y out) n (now (place .exit)) ⌝ }
 {
     let said = of_filled(partner_exchange::exchange(v, t, x, y, out));
     *place = said.place;
@@ -44,13 +34,7 @@ pub extern "C" fn farey_preview(
     out: &mut [u64; 8],
     place: &mut usize,
 ) -> u64
-    ensures { λ n. ⌜ n ≡ figuredRefusal (previewOf v (now (t .entry)) x y (length (now (w .entry))) (length (now (widths .entry)))) .number ⌝ }
-    ensures { λ n. ⌜ now (place .exit) ≡ previewPlace (previewOf v (now (t .entry)) x y (length (now (w .entry))) (length (now (widths .entry)))) ⌝ }
-    ensures { λ n. ⌜ now (w .exit) ≡ workAfter (exchangeCheck v (now (t .entry)) x y) (now (w .entry)) ⌝ }
-    ensures { λ n. ⌜ now (widths .exit) ≡ columnLeft (previewedWidths v (now (t .entry)) x y (length (now (w .entry))) (length (now (widths .entry)))) (widthsOf v (exchanged v (now (t .entry)) x y)) (now (widths .entry)) ⌝ }
-    ensures { λ n. ⌜ now (out .exit) ≡ figuresLeft (previewOf v (now (t .entry)) x y (length (now (w .entry))) (length (now (widths .entry)))) (now (out .entry)) ⌝ }
-    ensures { λ n. ⌜ (n ≡ 0 → PreviewMeaning v (now (t .entry)) x y (length (now (w .entry))) (previewOf v (now (t .entry)) x y (length (now (w .entry))) (length (now (widths .entry))))) ⌝ }
-    ensures { λ n. ⌜ (n ≡ 0 → GenusGiven (now (out .exit))) ⌝ }
+    ensures { λ n. ⌜ Call (previewCall v (now (t .entry)) x y w widths out) n (now (place .exit)) ⌝ }
 {
     let answer = partner_exchange::preview(v, t, x, y, w, widths);
     match answer {

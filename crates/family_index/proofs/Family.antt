@@ -8,7 +8,7 @@ use native.Mathlib.Nat.{mul-le-mul}
 use Rattle.congruence.specs.Index.{index0, halfUnits, familyIndex}
 use Rattle.congruence.specs.declared.Family.{Family}
 use Rattle.congruence.specs.declared.Family.the-variants as family
-use Rattle.modular.specs.Inner.Common.{Modulus}
+use Rattle.congruence.specs.Inner.Common.{Modulus}
 
 pub fits1 : {n units index : ℕ} → Modulus n → units ≤ n → index ≤ 65535 → units * index ≤ 65535000
 fits1 {n} {units} {index} m u z =

@@ -63,7 +63,8 @@ unfolding rightFrom
 from-is [] n some t k h = absurd (omega arith)
 from-is (i ∷ is) n some t zero h =
     eqb-true i (indexBy n n) (both-left (eqb i (indexBy n n)) (rightFrom (suc n) is) t) ∙ by-is n n (omega arith) some ∙ ap index0 (omega arith)
-from-is (i ∷ is) n some t (suc k) h = from-is is (suc n) (omega arith) (both-right (eqb i (indexBy n n)) (rightFrom (suc n) is) t) k (omega arith) ∙ ap index0 (omega arith)
+from-is (i ∷ is) n some t (suc k) h = from-is is (suc n) (omega arith) (both-right (eqb i (indexBy n n)) (rightFrom (suc n) is) t) k (omega arith)
+    ∙ ap index0 (omega arith)
 
 -- a table that passes the test from 1 on has the index of Γ0(n) at n - 1
 pub entry-is : (is : List ℕ) → rightFrom 1 is ≡ true → (n : ℕ) → 0 < n → n ≤ length is → getD is (n - 1) 0 ≡ index0 n

@@ -1,13 +1,13 @@
 // The index of each family of congruence groups, for N from 1 to 1,000. That of Γ0(N) is read in a table.
 // The functions have `requires`, for they are called from inside the engine.
 use congruence::Family;
-use modular::half_units;
+use congruence::modular::half_units;
 ghost use mathlib.Core.Path.{_≡_};
 ghost use mathlib.Core.Bool.{true};
 ghost use Prim.Native.Nat.{_≤_, _<_};
 ghost use lib.ListN.{length};
 ghost use Rattle.congruence.specs.Index.{index0, familyIndex};
-ghost use Rattle.modular.specs.Inner.Common.{Modulus};
+ghost use Rattle.congruence.specs.Inner.Common.{Modulus};
 ghost use Rattle.family_index.specs.Entry.{Gamma0Entry};
 ghost use Rattle.family_index.specs.Inner.Test.{rightFrom};
 

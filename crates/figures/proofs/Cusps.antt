@@ -17,7 +17,8 @@ use Rattle.numbering.specs.Find.{find, _∈_, _∉_, Once}
 use Rattle.numbering.specs.Table.{imageAt, Permutes}
 use Rattle.figures.specs.Cusps.{width, cycle, noneBelow, smallest, cuspsTo, cusps, cycles, sum, Lies, Cusps}
 use Rattle.basics.specs.Count.{those}
-use Rattle.numbering.proofs.Find.{none-below, true-false, test, getD-find, getD-in, in-left, in-right, in-append, once-none, once-append, once-below, once-below-all}
+use Rattle.numbering.proofs.Find.{none-below, true-false, test, getD-find, getD-in, in-left, in-right, in-append, once-none, once-append, once-below}
+use Rattle.numbering.proofs.Find.{once-below-all}
 use Rattle.numbering.proofs.Table.{getD-map}
 use Rattle.numbering.proofs.Those.{those-yes, those-no, those-low}
 use Rattle.figures.proofs.Cycle.{cycle-length, cycle-once, cycle-self, cycle-low, cycle-sym, cycle-trans, width-is}

@@ -192,7 +192,8 @@ module _ {t : List ℕ} (p : Permutes t) where
       let j = find (cycle t x) y in
       let l = cycle-length t x in
       let d : j + (width t x - j) ≡ width t x = omega arith in
-      let e = ap (times t (width t x - j)) (sym (cycle-reached h i)) ∙ sym (times-add t j (width t x - j) x) ∙ ap (λ (k : ℕ). times t k x) d ∙ width-is h .back in
+      let e = ap (times t (width t x - j)) (sym (cycle-reached h i)) ∙ sym (times-add t j (width t x - j) x) ∙ ap (λ (k : ℕ). times t k x) d
+      ∙ width-is h .back in
       let g = cycle-low h i in
       rw e at (cycle-times g (width t x - j) y (cycle-self g))
 

@@ -9,7 +9,7 @@ use native.Mathlib.Omega.{arith}
 use Rattle.numbering.specs.Order.{orderOf, Maps}
 use Rattle.numbering.specs.Table.{Injective}
 use Rattle.numbering.specs.Inner.Space.{S-TABLE, WIDTHS, R-TABLE, T-TABLE}
-use Rattle.workspace.specs.Space.{entries}
+use Rattle.call.specs.Space.{entries}
 use Rattle.numbering.specs.Inner.Marks.{TablesOf}
 use Rattle.numbering.proofs.Space.{entries-same}
 use Rattle.numbering.proofs.Table.{permutations}

@@ -1,11 +1,10 @@
--- The figures, run on the tables of the groups of docs/CONVENTIONS.md, 12, and at the borders of the two refusals. Its starred instances are proved in the crate
--- `instances`.
--- Assumes nothing.
+-- The figures, run on the tables of the groups of docs/CONVENTIONS.md, 12, and at the borders of the two refusals. Its starred instances are proved in the
+-- crate `statements`. Assumes nothing.
 use mathlib.Core.Path.{_≡_, refl}
 use mathlib.Core.List.{[], _∷_}
 use Rattle.basics.specs.Count.{those}
 use Rattle.figures.specs.Cusps.{fixedPoints, stepsTo, width, iterates, noneBelow, widths}
-use Rattle.refusal.specs.Refusal.{levelTooLarge, noGenus}
+use Rattle.call.specs.Refusal.{levelTooLarge, noGenus}
 use Rattle.figures.specs.declared.Figure.the-variants.{Value, Refused}
 use Rattle.figures.specs.GenusOf.{genusOf}
 use Rattle.figures.specs.LevelOf.{euclid, lcmFrom, fitting, levelOf}

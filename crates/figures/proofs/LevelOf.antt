@@ -14,8 +14,8 @@ use native.Mathlib.Omega.{arith}
 use lib.ListN.{length, getD}
 use lib.Dec.{ltb}
 use borrow.Author.Tests.{lt-ltb, le-ltb, ltb-true, ltb-false}
-use Rattle.refusal.specs.Refusal.{levelTooLarge}
-use Rattle.refusal.specs.declared.Refusal.{Refusal}
+use Rattle.call.specs.Refusal.{levelTooLarge}
+use Rattle.call.specs.declared.refusal.Refusal.{Refusal}
 use Rattle.figures.specs.declared.Figure.the-variants.{Value, Refused}
 use Rattle.figures.specs.LevelOf.{euclid, gcd, lcm, lcmFrom, lcmOf, TOO-LARGE, fitting, Positive, LeastMultiple}
 use Rattle.numbering.proofs.Find.{none-below, test}
@@ -92,7 +92,8 @@ module _ (a b : ℕ) (ha : 0 < a) (hb : 0 < b) where
   lcm-left =
       let g = gcd a b in
       let d = gcd-divides a b in
-      let e : a / g * b ≡ a * (b / g) = omega (arith, ap (λ (z : ℕ). a / g * z) (mul-div-cancel' g (d .1)), ap (λ (z : ℕ). z * (b / g)) (div-mul-cancel g (d .0))) in
+      let e : a / g * b ≡ a * (b / g) =
+      omega (arith, ap (λ (z : ℕ). a / g * z) (mul-div-cancel' g (d .1)), ap (λ (z : ℕ). z * (b / g)) (div-mul-cancel g (d .0))) in
       rw e (dvd-mul-right a (b / g))
 
   lcm-right : b ∣ lcm a b

@@ -16,7 +16,7 @@ use Rattle.numbering.specs.Find.{find, _∈_, _∉_, isIn}
 use Rattle.numbering.specs.Table.{imageAt}
 use Rattle.figures.specs.Cusps.{isFixed, fixedPoints, times, width, iterates, cycle, smallest, cuspsTo, cusps, widths, cycles}
 use Rattle.basics.specs.Count.{those}
-use Rattle.refusal.specs.declared.Refusal.{Refusal}
+use Rattle.call.specs.declared.refusal.Refusal.{Refusal}
 use Rattle.figures.specs.declared.Figure.{Figure}
 use Rattle.figures.specs.declared.FigureRecord.{FigureRecord}
 use Rattle.figures.specs.GenusOf.{genusOf}
@@ -24,7 +24,7 @@ use Rattle.figures.specs.FiguresOf.{figuresIn}
 use Rattle.figures.specs.declared.Figure.the-variants.{Value, Refused}
 use Rattle.figures.specs.LevelOf.{lcm, lcmFrom, lcmOf, TOO-LARGE, fitting, levelOf, Positive}
 use Rattle.numbering.specs.Inner.Space.{WORK, ROOM, WIDTHS, NUMBER, ORDER, R-TABLE, T-TABLE, ChangedWithin}
-use Rattle.workspace.specs.Space.{entries}
+use Rattle.call.specs.Space.{entries}
 use Rattle.numbering.specs.Inner.Marks.{listed, Sparse, NowListed, Fresh}
 use Rattle.figures.specs.Inner.Scan.{heldT, Permuted, CuspFrame, CyclesListed, NewCycle, CycleDue, CycleTaken, CuspWidths, PositiveTable}
 use Rattle.numbering.proofs.Find.{none-below, test, getD-find, getD-in, find-right}
@@ -109,7 +109,8 @@ module _ {n x c₀ : ℕ} {w₀ : List ℕ} (p : NewCycle n x c₀ w₀) where
           ∙ sym (entries-at T-TABLE n w₀ y (omega (arith, walk-low, t-long))) ∙ ap (imageAt t) (k .point) ∙ sym (times-last t (k .steps) x)
 
       walk-list : listed (c + 1) w' ≡ listed c₀ w₀ ++ iterates t (suc (k .steps)) x
-      walk-list = v .list ∙ (rw (k .list, k .point, run-more t (k .steps) x) (append-assoc (listed c₀ w₀) (iterates t (k .steps) x) (times t (k .steps) x ∷ [])))
+      walk-list = v .list ∙ (rw (k .list, k .point, run-more t (k .steps) x)
+          (append-assoc (listed c₀ w₀) (iterates t (k .steps) x) (times t (k .steps) x ∷ [])))
 
       pub walk-more : z ≢ x → Walk n x c₀ w₀ w' (c + 1) z
       walk-more ne = record {

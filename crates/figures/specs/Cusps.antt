@@ -1,5 +1,6 @@
--- Fixed points and cusps of a table (docs/CONVENTIONS.md, 5). The figures e2 and e3 are the fixed points of the tables of S and
--- of R; the cusps are the cycles of the table of T, listed by smallest point, and a cusp's width is the length of its cycle.
+-- Fixed points and cusps of a table (docs/CONVENTIONS.md, 5). The figures e2 and e3 are the fixed points of the tables
+-- of S and of R; the cusps are the cycles of the table of T, listed by smallest point, and a cusp's width is the length
+-- of its cycle.
 --     isFixed t x        whether t fixes x
 --     fixedPoints t      how many places the table t fixes
 --     times t k x        t, k times, from x
@@ -16,8 +17,8 @@
 --     sum l              the sum of a list
 --     Lies t i x         x lies in the cycle of a cusp below i
 --     Width t x k        THE THEOREM on a width k: t leads from x back to x in k steps, and not in fewer
---     Cusps t            THE THEOREM on the cusps of a permutation t: each point is in the cycle of exactly one cusp, the
---                        smallest of them; the widths are positive and add up to the number of points
+--     Cusps t            THE THEOREM on the cusps of a permutation t: each point is in the cycle of exactly one cusp,
+--                        the smallest of them; the widths are positive and add up to the number of points
 -- `proofs/Cycle.antt` proves `width-is`, and `proofs/Cusps.antt` `cusps-are`, for every t with `Permutes t`.
 use mathlib.Core.Path.{_≡_}
 use mathlib.Core.Logic.{_≢_}

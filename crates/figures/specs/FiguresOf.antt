@@ -1,5 +1,6 @@
 -- ALL FIGURES of tables of S, R and T (docs/CONVENTIONS.md, 5).
---     figuresIn n s r u     those of n points with the tables s, r and u: index, e2, e3, cusps, genus (or 18, which is so for no symbol), level (or 17)
+--     figuresIn n s r u     those of n points with the tables s, r and u: index, e2, e3, cusps, genus (or 18, which is
+--                           so for no symbol), level (or 17)
 use mathlib.Core.List.{List}
 use Prim.Native.Nat.{ℕ}
 use lib.ListN.{length}

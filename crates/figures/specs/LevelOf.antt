@@ -8,14 +8,15 @@
 --     fitting m         m where it is below 2^64, else refusal 17, place 0
 --     levelOf l         lcmOf l where it is below 2^64, else refusal 17, place 0
 --     Positive l        no entry of l is 0
---     LeastMultiple l m THE THEOREM on m = lcmOf l: every entry of l divides m, and m divides whatever all entries divide
+--     LeastMultiple l m THE THEOREM on m = lcmOf l: every entry of l divides m, and m divides whatever all entries
+--       divide
 -- `proofs/LevelOf.antt` proves `lcm-of-is : Positive l → LeastMultiple l (lcmOf l)`.
 use mathlib.Core.List.{List, [], _∷_}
 use Prim.Native.Nat.{ℕ, zero, suc, _*_, _/_, _%_, _<_, _∣_}
 use lib.ListN.{length, getD}
 use lib.Dec.{ltb}
 use Rattle.basics.specs.Choice.{pick}
-use Rattle.refusal.specs.Refusal.{levelTooLarge}
+use Rattle.call.specs.Refusal.{levelTooLarge}
 use Rattle.figures.specs.declared.Figure.{Figure}
 use Rattle.figures.specs.declared.Figure.the-variants.{Value, Refused}
 

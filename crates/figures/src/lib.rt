@@ -1,23 +1,26 @@
-// The figures of docs/CONVENTIONS.md, of tables that the crate `numbering` leaves in the work space: fixed points, cusps and their widths,
-// genus and level. The functions have `requires`, for they are called from inside the engine.
+// The figures of docs/CONVENTIONS.md, of tables that the crate `numbering` leaves in the work space: fixed points,
+// cusps and their widths, genus and level. The functions have `requires`, for they are called from inside the engine.
+// That the genus is a number is mathematics, without code: specs/RiemannHurwitz.antt has the formula for two
+// permutations and their product, and specs/Genus.antt what it says of tables of S and R.
 ghost use mathlib.Core.Path.{_≡_};
 ghost use mathlib.Core.List.{_++_};
 ghost use Prim.Native.Nat.{_<_};
-ghost use Rattle.workspace.specs.Space.{entries};
+ghost use Rattle.call.specs.Space.{entries};
 ghost use Rattle.numbering.specs.Inner.Marks.{listed, NowListed};
 ghost use Rattle.figures.specs.Cusps.{cycle, fixedPoints};
 ghost use Rattle.figures.specs.GenusOf.{genusOf};
 ghost use Rattle.figures.specs.LevelOf.{gcd, lcm, fitting, levelOf};
-ghost use Rattle.figures.specs.Inner.Scan.{HoldsTable, heldT, Permuted, NewCycle, CycleDue, CycleTaken, CuspWidths, FiguresOf, PositiveTable};
+ghost use Rattle.figures.specs.Inner.Scan.{HoldsTable, heldT, Permuted, NewCycle, CycleDue, CycleTaken};
+ghost use Rattle.figures.specs.Inner.Scan.{CuspWidths, FiguresOf, PositiveTable};
+use call::refusal::LEVEL_TOO_LARGE;
+use call::refusal::NO_GENUS;
+use call::refusal::Refusal;
 use numbering::R_TABLE;
 use numbering::S_TABLE;
 use numbering::T_TABLE;
 use numbering::WIDTHS;
 use numbering::has;
 use numbering::push;
-use refusal::LEVEL_TOO_LARGE;
-use refusal::NO_GENUS;
-use refusal::Refusal;
 
 // How many places the table of n entries at `off` fixes.
 fn fixed_points(w: &[u16], off: usize, n: usize) -> usize
@@ -27,7 +30,7 @@ fn fixed_points(w: &[u16], off: usize, n: usize) -> usize
     let mut count: usize = 0;
     let mut i: usize = 0;
     while i < n {
-        let x = workspace::index(w[off + i]);
+        let x = call::workspace::index(w[off + i]);
         if x == i {
             count += 1;
         }
@@ -39,14 +42,15 @@ fn fixed_points(w: &[u16], off: usize, n: usize) -> usize
 // The points of the cycle of x under T are listed behind the c0 that are. How many are listed now.
 fn mark_cycle(w: &mut [u16], n: usize, x: usize, c0: usize) -> usize
     requires { ⌜ NewCycle n x c0 (now w) ⌝ }
-    ensures { λ r. ⌜ NowListed n (now (w .entry)) (now (w .exit)) (listed c0 (now (w .entry)) ++ cycle (heldT n (now (w .entry))) x) r ⌝ }
+    ensures { λ r. ⌜ NowListed n (now (w .entry)) (now (w .exit))
+        (listed c0 (now (w .entry)) ++ cycle (heldT n (now (w .entry))) x) r ⌝ }
 {
     let mut c = c0;
     let mut y = x;
     loop {
         push(w, n, y, c);
         c += 1;
-        y = workspace::index(w[T_TABLE + y]);
+        y = call::workspace::index(w[T_TABLE + y]);
         if y == x {
             return c;
         }
@@ -95,8 +99,8 @@ pub enum Figure {
     Refused(Refusal),
 }
 
-// The genus formula; 18 where it gives no whole number from 0, which tables of S and R never bring about (the crate `genus`): the case stands for any
-// four counts, of which this function asks nothing else.
+// The genus formula; 18 where it gives no whole number from 0, which tables of S and R never bring about (this crate):
+// the case stands for any four counts, of which this function asks nothing else.
 fn genus_of(index: usize, e2: usize, e3: usize, cusps: usize) -> Figure
     requires { ⌜ (index < 4294967296) × (e2 < 4294967296) × (e3 < 4294967296) × (cusps < 4294967296) ⌝ }
     ensures { λ r. ⌜ r ≡ genusOf index e2 e3 cusps ⌝ }
@@ -155,8 +159,8 @@ fn lcm_of(a: u64, b: u64) -> Figure
     Figure::Value(q * b)
 }
 
-// The least common multiple of the table of n positive entries at `off`: of the widths it is the level. A common multiple
-// never falls as entries come to it, so the first one over is the answer.
+// The least common multiple of the table of n positive entries at `off`: of the widths it is the level. A common
+// multiple never falls as entries come to it, so the first one over is the answer.
 fn level_of(w: &[u16], off: usize, n: usize) -> Figure
     requires { ⌜ PositiveTable off n (now w) ⌝ }
     ensures { λ r. ⌜ r ≡ levelOf (entries off n (now (w .entry))) ⌝ }

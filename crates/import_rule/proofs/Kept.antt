@@ -247,7 +247,8 @@ module _ (σ κ : ℕ → ℕ) (n : ℕ) where
 
       pub new-apart : Apart (pts new)
       new-apart = split-apart s (lowerAt σ κ s) (upperAt σ κ s) after before (inv .apart) (not-old t1) (not-old t2)
-          (λ e. let z : _≡_ {A = Turn} t1 t2 = turn-one (s .pt) moved t1 t2 (sym (T .twice _) ∙ ap σ e ∙ T .twice _) in let q : _≡_ {A = ℕ} 0 1 = cc in omega arith)
+          (λ e. let z : _≡_ {A = Turn} t1 t2 = turn-one (s .pt) moved t1 t2 (sym (T .twice _) ∙ ap σ e ∙ T .twice _) in let q : _≡_ {A = ℕ} 0 1 = cc in
+          omega arith)
 
       -- what is said of old sides and of the two parts holds of the new ones
       each : (P : Placed → Type 0) → ((u : Placed) → In u old → ¬ (u .pt ≡ s .pt) → P u) → P (lowerAt σ κ s) → P (upperAt σ κ s) → (u : Placed) → In u new → P u
@@ -295,7 +296,8 @@ module _ (σ κ : ℕ → ℕ) (n : ℕ) where
           was (inl c) = inl (corner-more s c)
           was (inr e) = side-is e (ℕ-discrete (σ x) (s .pt))
 
-          there : (t : Placed) → t ≡ s → (c : Turn) → m ≈ turnM c (framed t) → x ≡ turnX σ κ c (t .pt) → Corner σ κ (s ∷ C) (m ⊗ matS) (σ x) ⊎ Edge new (m ⊗ matS) (σ x)
+          there : (t : Placed) → t ≡ s → (c : Turn) → m ≈ turnM c (framed t) → x ≡ turnX σ κ c (t .pt) → Corner σ κ (s ∷ C) (m ⊗ matS) (σ x)
+              ⊎ Edge new (m ⊗ matS) (σ x)
           there t e t0 f p = inl (corner-more s (corner-pt (ap σ (sym (p ∙ ap (λ (v : Placed). v .pt) e)))
               (corner-≈ (≈-right matS (f ∙≈ inl (ap framed e))) (inv .under s has-s))))
           there t e t1 f p = inr (edge-of (lowerAt σ κ s) (m ⊗ matS) (σ x) has-l
@@ -360,7 +362,8 @@ module _ (σ κ : ℕ → ℕ) (n : ℕ) where
           other v i d k = go (sort k)
             where
               go : Corner σ κ C m (v .pt) ⊎ (v .pt ≡ s .pt) ⊎ (v .pt ≡ κ (s .pt)) ⊎ (v .pt ≡ κ (κ (s .pt))) → In (σ (v .pt)) (pts new)
-              go (inl k) = stays _ (inv .meets v m i k) (λ e. none (inr (let q : v .pt ≡ σ (s .pt) = sym (T .twice (v .pt)) ∙ ap σ e in rw q at (in-pts v old i))))
+              go (inl k) = stays _ (inv .meets v m i k)
+                  (λ e. none (inr (let q : v .pt ≡ σ (s .pt) = sym (T .twice (v .pt)) ∙ ap σ e in rw q at (in-pts v old i))))
               go (inr (inl e)) = absurd (d e)
               go (inr (inr (inl e))) = rw e pt-l
               go (inr (inr (inr e))) = rw e pt-r
@@ -397,7 +400,8 @@ module _ (σ κ : ℕ → ℕ) (n : ℕ) where
         leads = each (λ u. Leads σ κ (framed u) (u .pt)) (λ u h e. inv .leads u h)
             (leads-≈ σ κ n T (≈-sym (back _ _ lower-under)) (leads-step σ κ n T word.S (leads-step σ κ n T word.Q (inv .leads s has-s))))
             (leads-≈ σ κ n T (≈-sym (back _ _ upper-under)) (leads-step σ κ n T word.S (leads-step σ κ n T word.P (inv .leads s has-s))));
-        low = each (λ u. u .pt < n) (λ u h e. inv .low u h) (T .σ-low _ (T .κ-low _ (inv .low s has-s))) (T .σ-low _ (T .κ-low _ (T .κ-low _ (inv .low s has-s))));
+        low = each (λ u. u .pt < n) (λ u h e. inv .low u h) (T .σ-low _ (T .κ-low _ (inv .low s has-s)))
+            (T .σ-low _ (T .κ-low _ (T .κ-low _ (inv .low s has-s))));
         grown = new-grown;
       }
 

@@ -93,7 +93,8 @@ module _ (σ κ : ℕ → ℕ) where
   abbrev pub Fair : List ℕ → List Row → Type 0
   Fair B rs = (r : Row) → In r rs → (isOpen (r .mark) ≡ true) ⊎ (Closed σ κ B (pt σ κ r) × (r .mark ≡ markOf σ κ (pt σ κ r)))
 
-  settle-fair : (B : List ℕ) (r : Row) → (isOpen (r .mark) ≡ true) ⊎ (Closed σ κ B (pt σ κ r) × (r .mark ≡ markOf σ κ (pt σ κ r))) → settle σ κ B r ≡ mk B (r .side)
+  settle-fair : (B : List ℕ) (r : Row) → (isOpen (r .mark) ≡ true) ⊎ (Closed σ κ B (pt σ κ r) × (r .mark ≡ markOf σ κ (pt σ κ r))) → settle σ κ B r
+      ≡ mk B (r .side)
   settle-fair B r (inl e) = pick-true (isOpen (r .mark)) _ r e ∙ go (isClosed σ κ B (pt σ κ r))
     where
       go : (b : Bool) → pick b (row (r .side) (markOf σ κ (pt σ κ r))) r ≡ row (r .side) (pick b (markOf σ κ (pt σ κ r)) unpaired)
@@ -193,7 +194,8 @@ module _ (σ κ : ℕ → ℕ) where
 
     -- A ROUND OF VISITS MARKS EACH SIDE AS ITS POINT SAYS
     pub visits-mark : (C l : List Placed) (rs : List Row) → Fit C l rs → visitAll σ κ rs ≡ marked l
-    visits-mark C l rs f = visits-settle σ κ n T (length rs) (pts l) rs (ready C l rs f) (omega arith) ∙ settles-fair (pts l) rs (f .fair) ∙ ap (mks (pts l)) (f .sides)
+    visits-mark C l rs f = visits-settle σ κ n T (length rs) (pts l) rs (ready C l rs f) (omega arith) ∙ settles-fair (pts l) rs (f .fair)
+        ∙ ap (mks (pts l)) (f .sides)
 
     -- ---- after a split
 
@@ -291,7 +293,8 @@ module _ (σ κ : ℕ → ℕ) where
 
       still : (u : Placed) → Next u → Closed σ κ B (u .pt) → Closed σ κ B' (u .pt)
       still u h (inl o) = inl o
-      still u h (inr i) = inr (stays σ κ n T C before s behind inv none (σ (u .pt)) i (λ e. none (inr (in-is _ _ B (sym (T .twice (u .pt)) ∙ ap σ e) (old-in u h)))))
+      still u h (inr i) = inr
+          (stays σ κ n T C before s behind inv none (σ (u .pt)) i (λ e. none (inr (in-is _ _ B (sym (T .twice (u .pt)) ∙ ap σ e) (old-in u h)))))
 
       new-fair : Fair B' rows
       new-fair = each (λ r. (isOpen (r .mark) ≡ true) ⊎ (Closed σ κ B' (pt σ κ r) × (r .mark ≡ markOf σ κ (pt σ κ r)))) (inl refl) (inl refl)

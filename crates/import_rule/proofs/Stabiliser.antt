@@ -65,7 +65,8 @@ module _ (gens : List Mat) where
     letter-leads : (z : ℤ) → IsLetter (length gens) z → Leads σ κ (letterOf gens z) 0
     letter-leads (pos zero) h = let k = h .0 in absurd (omega arith)
     letter-leads (pos (suc j)) h = fix j (let k = h .1 in omega arith)
-    letter-leads (negsuc j) h = leads-≈ σ κ n T (inl (sym (⊗-idl (adj (getD gens j 𝟙))))) (leads-back σ κ n T (leads-𝟙 σ κ n T) (fix j (let k = h .1 in omega arith)))
+    letter-leads (negsuc j) h =
+        leads-≈ σ κ n T (inl (sym (⊗-idl (adj (getD gens j 𝟙))))) (leads-back σ κ n T (leads-𝟙 σ κ n T) (fix j (let k = h .1 in omega arith)))
 
     word-leads : (w : List ℤ) → IsWord (length gens) w → Leads σ κ (valueOf gens w) 0
     word-leads [] a = leads-𝟙 σ κ n T
@@ -104,5 +105,6 @@ module _ (gens : List Mat) where
               let r = walk u 𝟙 0 one in
               let q : m ≈ r .by ⊗ r .frame = ≈-sym (existence m d .1) ∙≈ inl (sym (⊗-idl (value u))) ∙≈ r .is in
               let p : Leads σ κ m 0 = record { unit = d; is = e } in
-              let z : r .pt ≡ 0 = leads-one σ κ n T (leads-fix σ κ n T (in-leads (r .inH)) (leads (r .frame) (r .pt) (r .known))) (leads-≈ σ κ n T (≈-sym q) p) in
+              let z : r .pt ≡ 0 = leads-one σ κ n T (leads-fix σ κ n T (in-leads (r .inH)) (leads (r .frame) (r .pt) (r .known)))
+              (leads-≈ σ κ n T (≈-sym q) p) in
               in-≈ q (in-mul (r .inH) (only (r .frame) (rw z at (r .known))))

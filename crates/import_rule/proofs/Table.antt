@@ -166,7 +166,8 @@ module _ (σ κ : ℕ → ℕ) where
   vertex-num zero u (s ∷ t ∷ l) ps h e = ap (λ (y : Placed). y .hi .num) (sym h)
   vertex-num (suc i) u (s ∷ t ∷ l) ps h e = ap (nth (verticesOf (rowsOf σ κ (s ∷ t ∷ l)) ++ ps)) (two-more i) ∙ vertex-num i u (t ∷ l) ps h (omega arith)
 
-  vertex-den : (i : ℕ) (u : Placed) (l : List Placed) (ps : List ℤ) → At i u l → suc i < length l → nth (verticesOf (rowsOf σ κ l) ++ ps) (2 * i + 1) ≡ pos (u .hi .den)
+  vertex-den : (i : ℕ) (u : Placed) (l : List Placed) (ps : List ℤ) → At i u l → suc i < length l → nth (verticesOf (rowsOf σ κ l) ++ ps) (2 * i + 1)
+      ≡ pos (u .hi .den)
   vertex-den i u [] ps h e = absurd h
   vertex-den i u (s ∷ []) ps h e = absurd (omega arith)
   vertex-den zero u (s ∷ t ∷ l) ps h e = ap (λ (y : Placed). pos (y .hi .den)) (sym h)
@@ -241,7 +242,8 @@ module _ (σ κ : ℕ → ℕ) where
   mark-even m e = pick-true (eqb (σ m) m) _ _ (eq-eqb (σ m) m e)
 
   pub mark-odd : (m : ℕ) → ¬ (σ m ≡ m) → κ m ≡ m → markOf σ κ m ≡ odd
-  mark-odd m n e = pick-false (eqb (σ m) m) even (pick (eqb (κ m) m) odd (free (least m (σ m)))) (ne-eqb (σ m) m n) ∙ pick-true (eqb (κ m) m) _ _ (eq-eqb (κ m) m e)
+  mark-odd m n e = pick-false (eqb (σ m) m) even (pick (eqb (κ m) m) odd (free (least m (σ m)))) (ne-eqb (σ m) m n)
+      ∙ pick-true (eqb (κ m) m) _ _ (eq-eqb (κ m) m e)
 
   pub mark-free : (m : ℕ) → ¬ (σ m ≡ m) → ¬ (κ m ≡ m) → markOf σ κ m ≡ free (least m (σ m))
   mark-free m n e = pick-false (eqb (σ m) m) even (pick (eqb (κ m) m) odd (free (least m (σ m)))) (ne-eqb (σ m) m n)

@@ -307,7 +307,8 @@ module _ (σ κ : ℕ → ℕ) (n : ℕ) (T : Turning σ κ n) where
     r-in = rw p (a .within r (inl refl))
 
     hit-mark : markOf σ κ (pt σ κ h) ≡ free x
-    hit-mark = mark-free σ κ (pt σ κ h) hit-not-even (λ o. a .odds h (inr h-in) o r-in) ∙ ap free (ap (least (pt σ κ h)) p ∙ least-turn (pt σ κ h) (pt σ κ r) ∙ sym by)
+    hit-mark = mark-free σ κ (pt σ κ h) hit-not-even (λ o. a .odds h (inr h-in) o r-in)
+        ∙ ap free (ap (least (pt σ κ h)) p ∙ least-turn (pt σ κ h) (pt σ κ r) ∙ sym by)
 
     -- the partner is settled the same
     settles-same : settles σ κ B l ≡ settles σ κ B rs
@@ -377,7 +378,8 @@ module _ (σ κ : ℕ → ℕ) (n : ℕ) (T : Turning σ κ n) where
       by-odd e ne true t ih =
           let o = odd-yes (r .side) d t in
           cons (sym (settle-shut B r e (inl o) ∙ ap (row (r .side)) (mark-odd σ κ (pt σ κ r) ne o)))
-          (ih rs (drop-first B r rs a (λ q i b p w. a .odds r (inl refl) o (in-is _ _ B (sym (T .twice (pt σ κ q)) ∙ ap σ p) (a .within q (inr i))))) (omega arith))
+          (ih rs (drop-first B r rs a (λ q i b p w. a .odds r (inl refl) o (in-is _ _ B (sym (T .twice (pt σ κ q)) ∙ ap σ p) (a .within q (inr i)))))
+          (omega arith))
       by-odd e ne false t ih = by-seek e ne (odd-no (r .side) d t) ih (seek σ κ (r .side) rs) (sought (r .side) rs d (λ q i. a .dets q (inr i)))
 
       by-even : isOpen (r .mark) ≡ true → (b : Bool) → evenSide σ κ (r .side) ≡ b

@@ -3,7 +3,8 @@
 --   image l x           the image of the point x in the table l; what is no place of the table stays where it is
 --   byQ σ ρ x           where Q leads from x, S being σ and R being ρ: Q is S R⁻¹ S up to sign, and R⁻¹ is R twice
 --   fixes σ κ m         whether the matrix m fixes point 0, S being σ and Q being κ
---   Permuting σ ρ n     S and R are permutations of the points below n: S twice moves nothing, R three times moves nothing
+--   Permuting σ ρ n     S and R are permutations of the points below n: S twice moves nothing, R three times moves
+--                       nothing
 --   Pair s r            s and r are the tables of such a pair
 use mathlib.Core.Path.{_≡_}
 use mathlib.Core.Bool.{Bool}

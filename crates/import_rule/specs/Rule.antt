@@ -1,5 +1,5 @@
--- THE RULE of docs/CONVENTIONS.md, 6, to the letter, under an order in which open sides are split (specs/Order.antt). S is σ and Q is κ on the
--- points; the group is that of the matrices that fix point 0.
+-- THE RULE of docs/CONVENTIONS.md, 6, to the letter, under an order in which open sides are split (specs/Order.antt). S
+-- is σ and Q is κ on the points; the group is that of the matrices that fix point 0.
 --
 --   Mark                 what a side is paired as so far: `unpaired`, `even`, `odd` or `free` with a label
 --   Row, row s m         a side with its mark
@@ -7,15 +7,18 @@
 --   mates s q            whether it has N S M⁻¹, where M and N are the frames of s and q
 --   label s q            the label of a pair until the symbol is finished: the smaller of the points of its two sides
 --   seek s rows          the nearest open side of the rows that pairs with s, and the rows with their new mark
---   visitSide r rows     an open side is visited, with the rows to its right: even, odd, then the open sides to the right, nearest first
+--   visitSide r rows     an open side is visited, with the rows to its right: even, odd, then the open sides to the
+--                        right, nearest first
 --   visitAll rows        all sides are visited, from the left
 --   opens rows           which sides are open
 --   splitAt i rows       side i is split: its two parts, both open, stand in its place
 --   fitsAt i rows        whether the vertex at which side i is split keeps to the limit
---   cameAfter k i came   as which numbers the sides came, once side i is split: its two parts come as number k and number k + 1
---   goOn                 no side is open and the rows are finished; or the side chosen is split and the rule begins again; or refusal 16, with
---                        the number that the side has before the split
---   rounds order n k came rows    visit, split and begin again, n splits at the most; k sides came so far, and those there came as the numbers came
+--   cameAfter k i came   as which numbers the sides came, once side i is split: its two parts come as number k and
+--                        number k + 1
+--   goOn                 no side is open and the rows are finished; or the side chosen is split and the rule begins
+--                        again; or refusal 16, with the number that the side has before the split
+--   rounds order n k came rows    visit, split and begin again, n splits at the most; k sides came so far, and those
+--                                 there came as the numbers came
 --   sidesFrom x l        the open sides from x through the vertices l to 1/0
 --   startRows            the start: 0/1, 1/1 if Q doesn't fix 0, else -1/1, 0/1
 --   startCame            its sides came as 0, 1 and 2, from the left
@@ -31,7 +34,8 @@ use Rattle.matrix.specs.Action.{at}
 use Rattle.symbol.specs.Table.{carried}
 use Rattle.import_rule.specs.Fixed.{fixes}
 use Rattle.import_rule.specs.Order.{Order, Chosen, none, this, chosenBy}
-use Rattle.import_rule.specs.Side.{Vertex, vertex, minusInfinity, infinity, Interval, interval, intervalFrame, mediant, lower, upper, fits}
+use Rattle.import_rule.specs.Side.{Vertex, vertex, minusInfinity, infinity, Interval, interval, intervalFrame}
+use Rattle.import_rule.specs.Side.{mediant, lower, upper, fits}
 
 pub data Mark : Type 0 where
   unpaired even odd : Mark
@@ -94,7 +98,8 @@ cameAfter k (suc i) (x ∷ came) = x ∷ cameAfter k i came
 
 abbrev pub goOn : (ℕ → List ℕ → List Row → Grown) → ℕ → List ℕ → List Row → Chosen → Grown
 goOn again k came rows none = finished rows
-goOn again k came rows (this i) = pick (fitsAt i rows) (again (suc (suc k)) (cameAfter k i came) (splitAt i rows)) (refused i)
+goOn again k came rows (this i) = pick (fitsAt i rows) (again (suc (suc k)) (cameAfter k i came) (splitAt i rows))
+    (refused i)
 
 abbrev pub least : ℕ → ℕ → ℕ
 least x y = pick (ltb x y) x y
@@ -117,7 +122,8 @@ module _ (σ κ : ℕ → ℕ) where
 
   abbrev pub seek : Interval → List Row → Sought
   seek s [] = nobody
-  seek s (q ∷ rows) = pick (isOpen (q .mark) && mates s (q .side)) (found (label s (q .side)) (row (q .side) (free (label s (q .side))) ∷ rows))
+  seek s (q ∷ rows) = pick (isOpen (q .mark) && mates s (q .side))
+      (found (label s (q .side)) (row (q .side) (free (label s (q .side))) ∷ rows))
       (behind q (seek s rows))
 
   abbrev pub visitBy : Sought → Row → List Row → Visited
@@ -127,7 +133,8 @@ module _ (σ κ : ℕ → ℕ) where
   abbrev pub visitSide : Row → List Row → Visited
   visitSide r rows =
       pick (isOpen (r .mark))
-      (pick (evenSide (r .side)) (visited (row (r .side) even) rows) (pick (oddSide (r .side)) (visited (row (r .side) odd) rows) (visitBy (seek (r .side) rows) r rows)))
+      (pick (evenSide (r .side)) (visited (row (r .side) even) rows)
+      (pick (oddSide (r .side)) (visited (row (r .side) odd) rows) (visitBy (seek (r .side) rows) r rows)))
       (visited r rows)
 
   -- the first n sides are visited
@@ -142,7 +149,8 @@ module _ (σ κ : ℕ → ℕ) where
 module _ (order : Order) (σ κ : ℕ → ℕ) where
   abbrev pub rounds : ℕ → ℕ → List ℕ → List Row → Grown
   rounds zero k came rows = finished (visitAll σ κ rows)
-  rounds (suc n) k came rows = goOn (rounds n) k came (visitAll σ κ rows) (chosenBy order came (opens (visitAll σ κ rows)))
+  rounds (suc n) k came rows =
+      goOn (rounds n) k came (visitAll σ κ rows) (chosenBy order came (opens (visitAll σ κ rows)))
 
 abbrev pub sidesFrom : Vertex → List Vertex → List Row
 sidesFrom x [] = row (interval x infinity) unpaired ∷ []
@@ -151,7 +159,8 @@ sidesFrom x (y ∷ l) = row (interval x y) unpaired ∷ sidesFrom y l
 abbrev pub startRows : (σ κ : ℕ → ℕ) → List Row
 startRows σ κ =
     let zero-one = vertex (pos 0) 1 in
-    pick (fixes σ κ matQ) (sidesFrom minusInfinity (vertex (negsuc 0) 1 ∷ zero-one ∷ [])) (sidesFrom minusInfinity (zero-one ∷ vertex (pos 1) 1 ∷ []))
+    pick (fixes σ κ matQ) (sidesFrom minusInfinity (vertex (negsuc 0) 1 ∷ zero-one ∷ []))
+    (sidesFrom minusInfinity (zero-one ∷ vertex (pos 1) 1 ∷ []))
 
 abbrev pub startCame : List ℕ
 startCame = 0 ∷ 1 ∷ 2 ∷ []

@@ -21,7 +21,8 @@ use Rattle.numbering.specs.Order.{add}
 use Rattle.import_rule.specs.Fixed.{image, byQ, fixes}
 use Rattle.import_rule.specs.Side.{Interval}
 use Rattle.import_rule.specs.Order.{Order}
-use Rattle.import_rule.specs.Rule.{Mark, unpaired, even, odd, free, Row, Grown, finished, refused, rounds, startRows, startCame}
+use Rattle.import_rule.specs.Rule.{Mark, unpaired, even, odd, free, Row, Grown, finished, refused, rounds}
+use Rattle.import_rule.specs.Rule.{startRows, startCame}
 
 abbrev pub noted : List ℕ → Mark → List ℕ
 noted l unpaired = l

@@ -1,5 +1,6 @@
-// From permutations to a symbol: the rule of docs/CONVENTIONS.md in specs/Rule.antt and specs/Symbol.antt, the same by points in specs/Placed.antt,
-// and what it gives in specs/Theorem.antt. The code that follows it is in the crate `import_walk`; here are the images of points.
+// From permutations to a symbol: the rule of docs/CONVENTIONS.md in specs/Rule.antt and specs/Symbol.antt, the same by
+// points in specs/Placed.antt, and what it gives in specs/Theorem.antt. The code that follows it is in the crate
+// `import_symbol`; here are the images of points.
 ghost use mathlib.Core.Path.{_≡_};
 ghost use Rattle.import_rule.specs.Fixed.{image, byQ};
 

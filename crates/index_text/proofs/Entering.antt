@@ -12,8 +12,8 @@ use native.Mathlib.Omega.{arith}
 use lib.ListN.{length}
 use Rattle.text.specs.Decimal.{digits}
 use Rattle.congruence.specs.Index.{index0}
-use Rattle.text_line.specs.Line.{Puts}
-use Rattle.text_line.proofs.Placing.{puts-as, puts-none, puts-then, puts-same}
+use Rattle.text.specs.Line.{Puts}
+use Rattle.text.proofs.Placing.{puts-as, puts-none, puts-then, puts-same}
 use Rattle.index_text.specs.Lines.{constantHead, constantTail, entryLine, entryLines, constantLines}
 
 pub entry-put : (n : ℕ) {x at m k e : ℕ} {out out1 out2 out3 : List ℕ} → x ≡ index0 n → Puts (32 ∷ 32 ∷ 32 ∷ 32 ∷ []) at m out out1

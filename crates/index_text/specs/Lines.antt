@@ -1,4 +1,5 @@
--- WHAT THE PROGRAM `index_table` WRITES, byte for byte: the constant table of the index of Γ0(n), as a source file of the engine.
+-- WHAT THE PROGRAM `index_table` WRITES, byte for byte: the constant table of the index of Γ0(n), as a source file of
+-- the engine.
 --
 --   constantHead      `pub const INDEX: [u16; 1000] = [` and a line feed
 --   constantTail      `];` and a line feed

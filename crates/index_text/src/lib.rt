@@ -1,11 +1,11 @@
 // What the program `index_table` writes: all of it, byte for byte, as specs/Lines.antt says.
-use modular::index_of_gamma0;
-use text_line::put;
-use text_line::put_digits;
+use congruence::modular::index_of_gamma0;
+use text::line::put;
+use text::line::put_digits;
 ghost use Prim.Native.Nat.{_+_, _*_, _≤_};
 ghost use lib.ListN.{length};
-ghost use Rattle.text_line.specs.Line.{Puts};
-ghost use Rattle.modular.specs.Inner.Common.{Modulus};
+ghost use Rattle.text.specs.Line.{Puts};
+ghost use Rattle.congruence.specs.Inner.Common.{Modulus};
 ghost use Rattle.index_text.specs.Lines.{entryLine, entryLines, constantLines};
 
 // The line for n.

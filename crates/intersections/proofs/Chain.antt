@@ -11,13 +11,14 @@ use native.Mathlib.Decide.{decLt, ℕ-discrete}
 use lib.ListN.{length, getD, set, length-set, length-append, List·getD-append}
 use lib.Seq.{getD-set-same, getD-set-other, getD-append-add}
 use borrow.Author.Tests.{eq-eqb, ne-eqb}
-use Rattle.workspace.specs.Space.{workLength}
+use Rattle.call.specs.Space.{workLength}
 use Rattle.numbering.specs.Find.{find}
 use Rattle.numbering.specs.Inner.Space.{S-TABLE, R-TABLE}
 use Rattle.numbering.proofs.Find.{getD-find, once-last, find-last}
 use Rattle.numbering.proofs.Order.{add-old, add-new}
-use Rattle.subgroup_pairs.proofs.Pairs.{first-of, second-of}
-use Rattle.intersections.specs.Inner.Pairs.{FIRST-OF, SECOND-OF, LAST-WITH, PAIR-BEFORE, LatestPair, HoldsPairs, SeekPair, PairFound, withPair, PushPair, EnterPair, PairEntered}
+use Rattle.containment.proofs.Pairs.{first-of, second-of}
+use Rattle.intersections.specs.Inner.Pairs.{FIRST-OF, SECOND-OF, LAST-WITH, PAIR-BEFORE, LatestPair, HoldsPairs, SeekPair, PairFound, withPair, PushPair}
+use Rattle.intersections.specs.Inner.Pairs.{EnterPair, PairEntered}
 
 -- ---- a place is at most the length
 
@@ -50,7 +51,8 @@ module _ {w : List ℕ} {x y count : ℕ} where
   pub search-falls : SeekPair w x y count → (q : ℕ) → Searching w count x y (suc q) → getD w (PAIR-BEFORE + q) 0 ≤ q
   search-falls a q z = latest-of a q z .low
 
-  pub search-next : SeekPair w x y count → (q : ℕ) → Searching w count x y (suc q) → (getD w (SECOND-OF + q) 0 ≡ y → ⊥) → Searching w count x y (getD w (PAIR-BEFORE + q) 0)
+  pub search-next : SeekPair w x y count → (q : ℕ) → Searching w count x y (suc q) → (getD w (SECOND-OF + q) 0 ≡ y → ⊥)
+      → Searching w count x y (getD w (PAIR-BEFORE + q) 0)
   search-next a q z differs =
       let l = latest-of a q z in
       record {
@@ -66,7 +68,8 @@ module _ {w : List ℕ} {x y count : ℕ} where
       }
 
   -- the pair at q, by its two cosets
-  pair-at : (k : ℕ) (l : List ℕ) → HoldsPairs k l w count → (q : ℕ) → q < count → getD w (FIRST-OF + q) 0 ≡ x → getD w (SECOND-OF + q) 0 ≡ y → getD l q 0 ≡ x * k + y
+  pair-at : (k : ℕ) (l : List ℕ) → HoldsPairs k l w count → (q : ℕ) → q < count → getD w (FIRST-OF + q) 0 ≡ x → getD w (SECOND-OF + q) 0 ≡ y → getD l q 0
+      ≡ x * k + y
   pair-at k l h q i e f =
       sym (div-add-mod' (getD l q 0) k) ∙ ap (λ (z : ℕ). z * k + getD l q 0 % k) (sym (h .first q i) ∙ e) ∙ ap (λ (z : ℕ). x * k + z) (sym (h .second q i) ∙ f)
 
@@ -81,7 +84,8 @@ module _ {w : List ℕ} {x y count : ℕ} where
         let q = find l (x * k + y) in
         let j : q < count = omega (arith, h .size) in
         let e = getD-find l (x * k + y) i in
-        absurd (z .none q (omega arith) j (h .first q j ∙ ap (λ (c : ℕ). c / k) e ∙ first-of k x y b) (h .second q j ∙ ap (λ (c : ℕ). c % k) e ∙ second-of k x y b))
+        absurd (z .none q (omega arith) j (h .first q j ∙ ap (λ (c : ℕ). c / k) e ∙ first-of k x y b)
+        (h .second q j ∙ ap (λ (c : ℕ). c % k) e ∙ second-of k x y b))
     | no i ↦ omega (arith, find-le l (x * k + y), h .size)
   ]
 
@@ -96,7 +100,8 @@ module _ {w : List ℕ} {x y count : ℕ} where
   pub seek-falls : SeekPair w x y count → {p : ℕ} → 0 < p → Searching w count x y p → {p' : ℕ} → p' ≡ getD w (PAIR-BEFORE + (p - 1)) 0 → p' < p
   seek-falls a {p} some z e = omega (arith, search-falls a (p - 1) (at-pair some z))
 
-  pub seek-next : SeekPair w x y count → {p : ℕ} → 0 < p → Searching w count x y p → (getD w (SECOND-OF + (p - 1)) 0 ≡ y → ⊥) → {p' : ℕ} → p' ≡ getD w (PAIR-BEFORE + (p - 1)) 0
+  pub seek-next : SeekPair w x y count → {p : ℕ} → 0 < p → Searching w count x y p → (getD w (SECOND-OF + (p - 1)) 0 ≡ y → ⊥) → {p' : ℕ} → p'
+      ≡ getD w (PAIR-BEFORE + (p - 1)) 0
       → Searching w count x y p'
   seek-next a {p} some z differs e = rw e (search-next a (p - 1) (at-pair some z) differs)
 
@@ -145,7 +150,8 @@ module _ (w : List ℕ) (x y i : ℕ) (long : workLength ≤ length w) (low : x 
   new-second : getD (withPair w x y i) (SECOND-OF + i) 0 ≡ y
   new-second =
       at (SECOND-OF + i) ∙ getD-set-other w3 (LAST-WITH + x) (SECOND-OF + i) (i + 1) 0 (λ e. omega arith)
-      ∙ getD-set-other w2 (PAIR-BEFORE + i) (SECOND-OF + i) (getD w2 (LAST-WITH + x) 0) 0 (λ e. omega arith) ∙ getD-set-same w1 (SECOND-OF + i) y 0 (omega (arith, len1))
+      ∙ getD-set-other w2 (PAIR-BEFORE + i) (SECOND-OF + i) (getD w2 (LAST-WITH + x) 0) 0 (λ e. omega arith)
+      ∙ getD-set-same w1 (SECOND-OF + i) y 0 (omega (arith, len1))
 
   new-earlier : getD (withPair w x y i) (PAIR-BEFORE + i) 0 ≡ getD w (LAST-WITH + x) 0
   new-earlier =
@@ -197,7 +203,8 @@ module _ (w : List ℕ) (x y i : ℕ) (long : workLength ≤ length w) (low : x 
     none = λ q l m e. absurd (omega arith);
   }
 
-  pub pushed-holds : (k : ℕ) (l : List ℕ) → y < k → HoldsPairs k l w i → length l ≤ find l (x * k + y) → HoldsPairs k (l ++ ((x * k + y) ∷ [])) (withPair w x y i) (i + 1)
+  pub pushed-holds : (k : ℕ) (l : List ℕ) → y < k → HoldsPairs k l w i → length l ≤ find l (x * k + y)
+      → HoldsPairs k (l ++ ((x * k + y) ∷ [])) (withPair w x y i) (i + 1)
   pushed-holds k l b h new =
       let c = x * k + y in
       let w' = withPair w x y i in
@@ -227,7 +234,8 @@ module _ (w : List ℕ) (x y i : ℕ) (long : workLength ≤ length w) (low : x 
         ];
         lasts = λ z q. elim (ℕ-discrete z x) [
           | yes d ↦ rw (d, new-last) new-latest
-          | no d ↦ rw (pushed-other (LAST-WITH + z) (λ e. omega arith) (λ e. omega arith) (λ e. omega arith) (λ e. d (omega arith))) (other-latest z (getD w (LAST-WITH + z) 0) d (h .lasts z q))
+          | no d ↦ rw (pushed-other (LAST-WITH + z) (λ e. omega arith) (λ e. omega arith) (λ e. omega arith) (λ e. d (omega arith)))
+              (other-latest z (getD w (LAST-WITH + z) 0) d (h .lasts z q))
         ];
         earlier = λ j q. elim (decLt j i) [
           | yes u ↦ rw (old-first j u, old-earlier j u) (keep-latest (getD w (FIRST-OF + j) 0) j (getD w (PAIR-BEFORE + j) 0) (omega arith) (h .earlier j u))
@@ -255,7 +263,8 @@ module _ {w : List ℕ} {x y count : ℕ} (a : EnterPair w x y count) where
     place-is = λ k l b h. let e = f k l b h in rw (add-old l (x * k + y) (omega (arith, h .size))) e;
   }
 
-  pub entered-new : {p z : ℕ} → z ≡ x → PairFound w z y count p → count ≤ p → {w' : List ℕ} → w' ≡ withPair w z y count → PairEntered w x y count w' count (count + 1)
+  pub entered-new : {p z : ℕ} → z ≡ x → PairFound w z y count p → count ≤ p → {w' : List ℕ} → w' ≡ withPair w z y count
+      → PairEntered w x y count w' count (count + 1)
   entered-new {p} {z} is found i pushed =
       let long = a .some .holds .long in
       let f : PairFound w x y count p = rw is at found in

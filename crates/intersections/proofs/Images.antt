@@ -11,14 +11,14 @@ use native.Mathlib.Nat.{mod-lt}
 use native.Mathlib.Decide.{decLt}
 use lib.ListN.{length, getD, set, length-set, length-append, List·getD-append}
 use lib.Seq.{getD-set-same, getD-set-other}
-use Rattle.workspace.specs.Space.{workLength}
+use Rattle.call.specs.Space.{workLength}
 use Rattle.numbering.specs.Find.{find, _∈_, Once}
 use Rattle.numbering.specs.Order.{add, visit, orderTo}
 use Rattle.numbering.specs.Table.{imageAt}
 use Rattle.numbering.specs.Inner.Space.{S-TABLE, R-TABLE}
 use Rattle.numbering.proofs.Find.{getD-find, in-last}
 use Rattle.numbering.proofs.Order.{Grows, visit-grows, add-old, add-new, to-more, to-done}
-use Rattle.subgroup_pairs.specs.Pairs.{both, pairByS, pairByR}
+use Rattle.containment.specs.Pairs.{both, pairByS, pairByR}
 use Rattle.intersections.specs.Inner.Pairs.{FIRST-OF, SECOND-OF, LAST-WITH, PAIR-BEFORE, LatestPair, HoldsPairs, EnterPair, PairEntered}
 use Rattle.intersections.specs.Inner.Pairs.{PairTables, VisitPair, PairVisited}
 
@@ -178,12 +178,14 @@ module _ {w a b c d : List ℕ} {i count x y : ℕ} (v : VisitPair w a b c d i c
 
       at-S : getD w4 (S-TABLE + i) 0 ≡ p
       at-S =
-          getD-set-other w3 (R-TABLE + i) (S-TABLE + i) q 0 (λ e. omega arith) ∙ getD-set-same w2 (S-TABLE + i) p 0 (omega (arith, v .holds .long, same-2, i-few))
+          getD-set-other w3 (R-TABLE + i) (S-TABLE + i) q 0 (λ e. omega arith)
+          ∙ getD-set-same w2 (S-TABLE + i) p 0 (omega (arith, v .holds .long, same-2, i-few))
 
       at-R : getD w4 (R-TABLE + i) 0 ≡ q
       at-R = getD-set-same w3 (R-TABLE + i) q 0 (omega (arith, v .holds .long, same-3, i-few))
 
-      two : (n k : ℕ) (l : List ℕ) → PairTables n k a b c d → HoldsPairs k l w count → HoldsPairs k (visit (pairByS n k a b c d) (pairByR n k a b c d) l i) w2 c2
+      two : (n k : ℕ) (l : List ℕ) → PairTables n k a b c d → HoldsPairs k l w count
+          → HoldsPairs k (visit (pairByS n k a b c d) (pairByR n k a b c d) l i) w2 c2
       two n k l t h =
           rw (image-R n k l t h) at (eR .holds k (add l (pairByS n k a b c d (getD l i 0))) (t .low-d y (y-low n k l t h)) (one n k l t h))
 
@@ -195,7 +197,8 @@ module _ {w a b c d : List ℕ} {i count x y : ℕ} (v : VisitPair w a b c d i c
             upto = omega (arith, eR .upto, eS .upto);
             S-kept = λ j u. at-other (S-TABLE + j) (λ e. omega arith) (λ e. omega arith) ∙ eR .S-kept j (omega arith) ∙ eS .S-kept j (omega arith);
             R-kept = λ j u. at-other (R-TABLE + j) (λ e. omega arith) (λ e. omega arith) ∙ eR .R-kept j (omega arith) ∙ eS .R-kept j (omega arith);
-            holds = λ n k l t h. holds-kept w4 (length-set w3 (R-TABLE + i) q ∙ length-set w2 (S-TABLE + i) p) (two n k l t h) (λ j u f. at-other j (λ e. omega arith) (λ e. omega arith));
+            holds = λ n k l t h. holds-kept w4 (length-set w3 (R-TABLE + i) q ∙ length-set w2 (S-TABLE + i) p) (two n k l t h)
+                (λ j u f. at-other j (λ e. omega arith) (λ e. omega arith));
             S-is = λ n k l t h. at-S ∙ (rw (image-S n k l t h) at (eS .place-is k l (t .low-c y (y-low n k l t h)) h));
             R-is = λ n k l t h.
                 at-R ∙ (rw (image-R n k l t h) at (eR .place-is k (add l (pairByS n k a b c d (getD l i 0))) (t .low-d y (y-low n k l t h)) (one n k l t h)));

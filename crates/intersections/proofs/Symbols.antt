@@ -1,17 +1,23 @@
 -- Two symbols: what was kept of their tables is what the walk asks (`walks`); what it lists are the tables of the intersection (`Common`, `listed-common`), and
--- so is what is given (`gives`, `room-is`, `left-…`).
+-- so is what is given (`gives`, `given-common`).
 -- Why: behind the tables that were kept stand zeros, as past the end of a list; so both are the same maps, and have the same numbering.
 -- Assumes nothing.
-use mathlib.Core.Path.{_≡_, sym, _∙_, ap, fun-ext}
-use mathlib.Core.List.{List, _++_}
+use mathlib.Core.Path.{_≡_, sym, _∙_, ap, subst, fun-ext}
+use mathlib.Core.List.{List, [], _∷_, _++_}
 use Prim.Native.Nat.{ℕ, _+_, _*_, _≤_, _<_}
 use native.Mathlib.Omega.{arith}
 use native.Mathlib.Decide.{decLt}
 use lib.ListN.{length, getD, drop, length-append, length-drop, List·getD-eq-default}
 use lib.Seq.{getD-drop}
 use lib.IntN.{ℤ}
-use Rattle.refusal.specs.declared.Filled.{Filled}
-use Rattle.workspace.specs.Space.{workLength, entries}
+use Rattle.call.specs.Refusal.{_orElse_, largeIntersection}
+use Rattle.call.specs.declared.refusal.Checked.{Checked}
+use Rattle.call.specs.declared.refusal.Filled.{Filled}
+use Rattle.call.specs.declared.refusal.Filled.the-variants as filled
+use Rattle.call.specs.Call.{Step, Asks, Gives, lengthCheck, verdict, LeavesFrom}
+use Rattle.call.specs.Inner.Fills.{Fills, madeIf}
+use Rattle.call.proofs.Laws.{kept, run-stop, fills-as}
+use Rattle.call.specs.Space.{workLength, entries}
 use Rattle.symbol.specs.Symbol.{IsSymbol}
 use Rattle.pairing.specs.Generator.{generators}
 use Rattle.pairing.specs.Subgroup.{InH}
@@ -20,17 +26,16 @@ use Rattle.numbering.specs.Table.{imageAt, renamed, _thenTable_, Permutes}
 use Rattle.numbering.specs.Inner.Space.{S-TABLE, R-TABLE}
 use Rattle.numbering.proofs.Space.{entries-length}
 use Rattle.coset.specs.Tables.{tableS, tableR, indexOf}
-use Rattle.coset.specs.Answer.{columnLeft}
 use Rattle.coset.specs.Inner.Work.{Arranged}
 use Rattle.coset.proofs.Answer.{Made, made}
-use Rattle.congruence.specs.Cosets.{CosetsOf}
-use Rattle.sameness.proofs.Symbols.{symbol-cosets}
-use Rattle.subgroup_pairs.specs.Pairs.{both, pairsReached, pairsS, pairsR}
-use Rattle.subgroup_pairs.specs.Symbols.{commonCosets, commonS, commonR, commonT, CommonSubgroup}
-use Rattle.subgroup_pairs.proofs.Pairs.{S-low, R-low, some-points, maps}
-use Rattle.subgroup_pairs.proofs.Symbols.{common-subgroup}
-use Rattle.inclusion.proofs.Tables.{padded}
-use Rattle.intersections.specs.Answer.{fewRoom, commonRoom}
+use Rattle.right_cosets.specs.Cosets.{CosetsOf}
+use Rattle.containment.proofs.Symbols.{symbol-cosets}
+use Rattle.containment.specs.Pairs.{both, pairsReached, pairsS, pairsR}
+use Rattle.containment.specs.TwoSymbols.{commonCosets, commonS, commonR, commonT, CommonSubgroup}
+use Rattle.containment.proofs.Pairs.{S-low, R-low, some-points, maps}
+use Rattle.containment.proofs.TwoSymbols.{common-subgroup}
+use Rattle.containment.proofs.Tables.{padded}
+use Rattle.intersections.specs.Answer.{tooMany}
 use Rattle.intersections.specs.Inner.Pairs.{PairTables, WalkPairs, PairsListed, GiveTables}
 use Rattle.intersections.proofs.Given.{given-large}
 
@@ -66,7 +71,8 @@ module _ (n k : ℕ) {f g h i f' g' h' i' : ℕ → ℕ} (ef : f ≡ f') (eg : g
   renamed-R-as : renamed (orderOf (both k f h) (both k g i) 0 (n * k)) (both k g i) ≡ renamed (orderOf (both k f' h') (both k g' i') 0 (n * k)) (both k g' i')
   renamed-R-as = rw (ef, eg, eh, ei)
 
-module _ (n k : ℕ) (a b c d s r s' r' : List ℕ) (ea : imageAt a ≡ imageAt s) (eb : imageAt b ≡ imageAt r) (ec : imageAt c ≡ imageAt s') (ed : imageAt d ≡ imageAt r') where
+module _ (n k : ℕ) (a b c d s r s' r' : List ℕ) (ea : imageAt a ≡ imageAt s) (eb : imageAt b ≡ imageAt r) (ec : imageAt c ≡ imageAt s')
+    (ed : imageAt d ≡ imageAt r') where
   reached-as : pairsReached n k a b c d ≡ pairsReached n k s r s' r'
   unfolding pairsReached
   reached-as = order-as n k ea eb ec ed
@@ -91,7 +97,8 @@ pub record Common (v : ℕ) (t : List ℤ) (v' : ℕ) (t' : List ℤ) (w : List 
   pub R-is : count ≤ 3066 → entries R-TABLE count w ≡ commonR v t v' t'
 
 module _ {v : ℕ} {t : List ℤ} {v' : ℕ} {t' : List ℤ} (ok : IsSymbol v t) (ok' : IsSymbol v' t') (a b c d : List ℕ)
-    (ea : imageAt a ≡ imageAt (tableS v t)) (eb : imageAt b ≡ imageAt (tableR v t)) (ec : imageAt c ≡ imageAt (tableS v' t')) (ed : imageAt d ≡ imageAt (tableR v' t')) where
+    (ea : imageAt a ≡ imageAt (tableS v t)) (eb : imageAt b ≡ imageAt (tableR v t)) (ec : imageAt c ≡ imageAt (tableS v' t'))
+    (ed : imageAt d ≡ imageAt (tableR v' t')) where
   abbrev n : ℕ
   n = indexOf v t
 
@@ -141,8 +148,10 @@ module _ {v : ℕ} {t : List ℤ} {v' : ℕ} {t' : List ℤ} (ok : IsSymbol v t)
 
 -- ---- the same from what was arranged and kept
 
-module _ {v : ℕ} {t : List ℤ} {v' : ℕ} {t' : List ℤ} {k m : ℕ} {w w' : List ℕ} (ok : IsSymbol v t) (ok' : IsSymbol v' t') (r : Arranged t v w k) (r' : Arranged t' v' w' m)
-    (empty : List ℕ) (none : (j : ℕ) → getD empty j 0 ≡ 0) {a b c d : List ℕ} (ea : a ≡ entries S-TABLE k w ++ drop k empty) (eb : b ≡ entries R-TABLE k w ++ drop k empty)
+module _ {v : ℕ} {t : List ℤ} {v' : ℕ} {t' : List ℤ} {k m : ℕ} {w w' : List ℕ} (ok : IsSymbol v t) (ok' : IsSymbol v' t') (r : Arranged t v w k)
+    (r' : Arranged t' v' w' m)
+    (empty : List ℕ) (none : (j : ℕ) → getD empty j 0 ≡ 0) {a b c d : List ℕ} (ea : a ≡ entries S-TABLE k w ++ drop k empty)
+    (eb : b ≡ entries R-TABLE k w ++ drop k empty)
     (ec : c ≡ entries S-TABLE m w' ++ drop m empty) (ed : d ≡ entries R-TABLE m w' ++ drop m empty)
     (size : length empty ≡ 4096) where
   arranged : Made t v w k
@@ -193,27 +202,38 @@ module _ {v : ℕ} {t : List ℤ} {v' : ℕ} {t' : List ℤ} (ok : IsSymbol v t)
     low = λ h j i. rw (m .S-is h) (let e = m .points h in omega (arith, S-low (group .cosets) j (omega arith)));
   }
 
-  pub room-is : (x y z : ℕ) → fewRoom count x y z ≡ commonRoom v t v' t' x y z
-  room-is x y z = elim (decLt 3066 count) [
-    | yes h ↦ sym (given-large count x y z h) ∙ given-large (length (commonCosets v t v' t')) x y z (m .large h)
-    | no h ↦ ap (λ (i : ℕ). fewRoom i x y z) (m .points (omega arith))
-  ]
+  -- more pairs than may be given leave all as it was, whatever the tables
+  module _ (s s' r r' u u' : List ℕ) (q : Filled) where
+    abbrev N : ℕ
+    N = length (commonCosets v t v' t')
 
-  -- a refusal leaves all as it was, whatever the table
-  left-as : (q : Filled) (x y z : ℕ) → q ≡ fewRoom count x y z → (l table out : List ℕ) → (count ≤ 3066 → l ≡ table) → columnLeft q l out ≡ columnLeft q table out
-  left-as q x y z e l table out is = elim (decLt 3066 count) [
-    | yes h ↦ let f = e ∙ sym (given-large count x y z h) in rw f
-    | no h ↦ ap (λ (o : List ℕ). columnLeft q o out) (is (omega arith))
-  ]
+    abbrev T : List ℕ
+    T = entries S-TABLE count w thenTable entries R-TABLE count w
 
-  module _ (q : Filled) (x y z : ℕ) (e : q ≡ fewRoom count x y z) (out : List ℕ) where
-    pub left-S : columnLeft q (entries S-TABLE count w) out ≡ columnLeft q (commonS v t v' t') out
-    left-S = left-as q x y z e (entries S-TABLE count w) (commonS v t v' t') out (m .S-is)
+    abbrev spaces : (x y z : List ℕ) → List Step
+    spaces x y z =
+        Asks (lengthCheck (length x) (length s)) ∷ Gives (x ++ drop (length x) s) s s' ∷ Asks (lengthCheck (length y) (length r))
+        ∷ Gives (y ++ drop (length y) r) r r' ∷ Asks (lengthCheck (length z) (length u)) ∷ Gives (z ++ drop (length z) u) u u' ∷ []
 
-    pub left-R : columnLeft q (entries R-TABLE count w) out ≡ columnLeft q (commonR v t v' t') out
-    left-R = left-as q x y z e (entries R-TABLE count w) (commonR v t v' t') out (m .R-is)
+    abbrev Into : (n : ℕ) (x y z : List ℕ) → Type 0
+    Into n x y z = Fills (Asks (tooMany n) ∷ spaces x y z) (madeIf n) q
 
-    pub left-T : columnLeft q (entries S-TABLE count w thenTable entries R-TABLE count w) out ≡ columnLeft q (commonT v t v' t') out
-    left-T =
-        left-as q x y z e (entries S-TABLE count w thenTable entries R-TABLE count w) (commonT v t v' t') out
-        (λ h. ap (λ (l : List ℕ). l thenTable entries R-TABLE count w) (m .S-is h) ∙ ap (λ (l : List ℕ). commonS v t v' t' thenTable l) (m .R-is h) ∙ sym (group .T-is))
+    given-as : {n n' : ℕ} {x x' y y' z z' : List ℕ} → n ≡ n' → x ≡ x' → y ≡ y' → z ≡ z' → Into n x y z → Into n' x' y' z'
+    given-as {n} {n'} {x} {x'} {y} {y'} {z} {z'} d e f g k =
+        subst (λ (i : ℕ). Into i x' y' z') d
+        (subst (λ (l : List ℕ). Into n x' y' l) g (subst (λ (l : List ℕ). Into n x' l z) f (subst (λ (l : List ℕ). Into n l y z) e k)))
+
+    pub given-common : Into count (entries S-TABLE count w) (entries R-TABLE count w) T → Into N (commonS v t v' t') (commonR v t v' t') (commonT v t v' t')
+    given-common k = elim (decLt 3066 count) [
+      | yes h ↦ (let e = given-large count h in
+          let rest = spaces (entries S-TABLE count w) (entries R-TABLE count w) T in
+          let is : q ≡ filled.Refused largeIntersection = k .answer ∙ ap (λ (c : Checked). madeIf count (c orElse verdict rest)) e in
+          let as-it-was = kept largeIntersection rest (subst (λ (c : Checked). LeavesFrom c (c orElse verdict rest) rest) e (k .leaves)) in
+          fills-as {by = madeIf N}
+          (run-stop largeIntersection (tooMany N) (spaces (commonS v t v' t') (commonR v t v' t') (commonT v t v' t')) (given-large N (m .large h)) as-it-was)
+          is)
+      | no h ↦ given-as (m .points (omega arith)) (m .S-is (omega arith)) (m .R-is (omega arith))
+          (ap (λ (l : List ℕ). l thenTable entries R-TABLE count w) (m .S-is (omega arith))
+          ∙ ap (λ (l : List ℕ). commonS v t v' t' thenTable l) (m .R-is (omega arith)) ∙ sym (group .T-is))
+          k
+    ]

@@ -1,7 +1,6 @@
--- The walk over the pairs: what stands after i visits (`Walked`), its start (`walked-start`), a turn (`walked-more`), and the end (`walked-end`, `walked-large`).
--- Why: the list after i visits is that of the numbering, and begins the whole list; so a place in it is the place in the whole list, and if it is longer
--- than 3,066, so is the whole.
--- Assumes nothing.
+-- The walk over the pairs: what stands after i visits (`Walked`), its start (`walked-start`), a turn (`walked-more`), and the end (`walked-end`,
+-- `walked-large`). Why: the list after i visits is that of the numbering, and begins the whole list; so a place in it is the place in the whole list, and if it
+-- is longer than 3,066, so is the whole. Assumes nothing.
 use mathlib.Core.Path.{_≡_, refl, sym, _∙_, ap}
 use mathlib.Core.List.{List, []}
 use Prim.Native.Nat.{ℕ, suc, _+_, _*_, _-_, _≤_, _<_}
@@ -9,7 +8,7 @@ use native.Mathlib.Omega.{arith}
 use native.Mathlib.Decide.{decLt}
 use lib.ListN.{length, getD}
 use native.Mathlib.Numerals.{add-one}
-use Rattle.workspace.specs.Space.{workLength, zeros}
+use Rattle.call.specs.Space.{workLength, zeros}
 use Rattle.numbering.specs.Find.{find, Once}
 use Rattle.numbering.specs.Order.{add, visit, orderTo}
 use Rattle.numbering.specs.Table.{imageAt}
@@ -18,8 +17,8 @@ use Rattle.numbering.proofs.Find.{once-none, none-below, once-le}
 use Rattle.numbering.proofs.Order.{Grows, visit-grows, to-more, to-once, to-in, order-stop, numbering}
 use Rattle.numbering.proofs.Table.{renamed-length, renamed-at}
 use Rattle.numbering.proofs.Space.{entries-ext}
-use Rattle.subgroup_pairs.specs.Pairs.{pairByS, pairByR, pairsReached, pairsS, pairsR}
-use Rattle.workspace.proofs.Zeros.{length-zeros, getD-zeros}
+use Rattle.containment.specs.Pairs.{pairByS, pairByR, pairsReached, pairsS, pairsR}
+use Rattle.call.proofs.Zeros.{length-zeros, getD-zeros}
 use Rattle.intersections.specs.Inner.Pairs.{LAST-WITH, HoldsPairs, withPair, PushPair, PairTables, VisitPair, PairVisited, WalkPairs, PairsListed}
 use Rattle.intersections.proofs.Chain.{pushed-holds}
 use Rattle.intersections.proofs.Images.{add-has, grows-add, grows-trans, grows-place, to-begins}
@@ -233,7 +232,9 @@ module _ {a b c d w : List ℕ} {i count : ℕ} (p : Walked a b c d w i count) w
         large = λ n k t l. absurd (omega (arith, p .few));
         points = λ n k t l. all-of h n k t;
         S-is = λ n k t l.
-            entries-ext S-TABLE count w (pairsS n k a b c d) (omega (arith, p .few, p .holds n k t .long)) (length-S t ∙ sym (all-of h n k t)) (λ j u. p .S-is n k t j (omega arith));
+            entries-ext S-TABLE count w (pairsS n k a b c d) (omega (arith, p .few, p .holds n k t .long)) (length-S t ∙ sym (all-of h n k t))
+            (λ j u. p .S-is n k t j (omega arith));
         R-is = λ n k t l.
-            entries-ext R-TABLE count w (pairsR n k a b c d) (omega (arith, p .few, p .holds n k t .long)) (length-R t ∙ sym (all-of h n k t)) (λ j u. p .R-is n k t j (omega arith));
+            entries-ext R-TABLE count w (pairsR n k a b c d) (omega (arith, p .few, p .holds n k t .long)) (length-R t ∙ sym (all-of h n k t))
+            (λ j u. p .R-is n k t j (omega arith));
       }

@@ -1,31 +1,32 @@
 -- The generators of a symbol, in a table that has room for those of every symbol.
 --     leaders-most, rows-long     how many there are at most, and how long their rows are
---     Gathered v t r              the answer r of `generators`: how many there are, of an accepted symbol, or the refusal of another
---     gathered                    it is one of these
---     gathered-..                 which of them, by the answer
---     rows-filled                 what then stands at the front of the table
+--     Gathered v t k rows         the symbol was accepted, there are k generators, and their rows are `rows`
+--     gathered, ungathered        what the answer of `generators` tells: it made them, or its refusal is that of the checks
 -- Assumes nothing.
 use mathlib.Core.Path.{_≡_, refl, sym, ap, _∙_}
-use mathlib.Core.List.{List, _++_}
+use mathlib.Core.List.{List, [], _∷_, _++_}
 use Prim.Native.Nat.{ℕ, _*_, _≤_}
 use native.Mathlib.Omega.{arith}
 use lib.IntN.{ℤ}
-use lib.Dec.{ltb}
 use lib.ListN.{length, take, drop, length-map}
 use lib.Seq.{take-at}
-use borrow.Author.Tests.{le-ltb}
-use Rattle.workspace.specs.Space.{workLength}
+use Rattle.call.specs.Space.{workLength}
+use Rattle.call.specs.Refusal.{_orElse_}
+use Rattle.call.specs.declared.refusal.Refusal.{Refusal}
+use Rattle.call.specs.declared.refusal.Checked.{Checked}
+use Rattle.call.specs.declared.refusal.Checked.the-variants.{Accepted, Refused}
+use Rattle.call.specs.declared.refusal.Filled.{Filled}
+use Rattle.call.specs.declared.refusal.Filled.the-variants as filled
+use Rattle.call.proofs.Apart.{refused-accepted}
+use Rattle.call.proofs.Answers.{both-pass, pass-both}
+use Rattle.call.specs.Call.{Step, Asks, Clears, Gives, lengthCheck}
+use Rattle.call.specs.Inner.Fills.{Fills, madeIf}
+use Rattle.call.proofs.Laws.{room-long}
+use Rattle.call.proofs.Answered.{run-made, run-refused, made-count}
 use Rattle.symbol.specs.Check.{symbolCheck}
 use Rattle.symbol.specs.Symbol.{IsSymbol}
-use Rattle.pairing.specs.Generator.{leaders, generator, generatorTable, roomOf, byWork, generatedOf, tableLeft}
-use Rattle.refusal.specs.Refusal.{tooShort, filledBy}
-use Rattle.refusal.specs.declared.Refusal.{Refusal}
-use Rattle.refusal.specs.declared.Checked.{Checked}
-use Rattle.refusal.specs.declared.Checked.the-variants.{Accepted, Refused}
-use Rattle.refusal.specs.declared.Filled.{Filled}
-use Rattle.refusal.specs.declared.Filled.the-variants as filled
 use Rattle.symbol.proofs.Accepted.{accepted}
-use Rattle.basics.proofs.Choice.{pick-false}
+use Rattle.pairing.specs.Generator.{leaders, generator, generatorTable}
 use Rattle.pairing.proofs.Rows.{length-rows}
 use Rattle.coset.proofs.Positions.{positions}
 
@@ -35,38 +36,49 @@ leaders-most v t ok = omega (arith, length-map (leaders v t) (generator v t), po
 pub rows-long : (v : ℕ) (t : List ℤ) → length (generatorTable v t) ≡ 5 * length (leaders v t)
 rows-long v t = length-rows v t (leaders v t)
 
-pub data Gathered (v : ℕ) (t : List ℤ) (r : Filled) : Type 0 where
-  all : symbolCheck v t ≡ Accepted → IsSymbol v t → r ≡ filled.Made (length (leaders v t)) → Gathered v t r
-  none : (f : Refusal) → symbolCheck v t ≡ Refused f → r ≡ filled.Refused f → Gathered v t r
+pub record Gathered (v : ℕ) (t : List ℤ) (k : ℕ) (rows : List ℤ) : Type 0 where
+  pub passed : symbolCheck v t ≡ Accepted
+  pub symbol : IsSymbol v t
+  pub count : k ≡ length (leaders v t)
+  pub few : k ≤ 1024
+  pub rows-are : rows ≡ generatorTable v t
 
-pub gathered : (v : ℕ) (t : List ℤ) (work room : ℕ) (r : Filled) → workLength ≤ work → 5120 ≤ room → r ≡ generatedOf v t work room → Gathered v t r
-gathered v t work room r h k e = go (symbolCheck v t) refl
-  where
-    go : (c : Checked) → symbolCheck v t ≡ c → Gathered v t r
-    go (Refused f) q = none f q (e ∙ ap (λ (c : Checked). filledBy c (byWork work (roomOf (length (leaders v t)) room))) q)
-    go Accepted q =
-        let ok = accepted v t .0 q in
-        let n = length (leaders v t) in
-        all q ok (
-        e
-        ∙ ap (λ (c : Checked). filledBy c (byWork work (roomOf n room))) q
-        ∙ pick-false (ltb work workLength) (filled.Refused (tooShort workLength)) (roomOf n room) (le-ltb work workLength h)
-        ∙ pick-false (ltb room (5 * n)) (filled.Refused (tooShort (5 * n))) (filled.Made n) (le-ltb room (5 * n) (omega (arith, leaders-most v t ok)))
-        )
+module _ (v : ℕ) (t : List ℤ) (w : List ℕ) (out : List ℤ) where
+  abbrev room : Checked
+  room = lengthCheck (length (generatorTable v t)) (length out)
 
-module _ {v : ℕ} {t : List ℤ} {r : Filled} where
-  pub gathered-made : Gathered v t r → (k : ℕ) → r ≡ filled.Made k → (symbolCheck v t ≡ Accepted) × IsSymbol v t × (k ≡ length (leaders v t))
-  gathered-made (all q ok e) k m = (q, ok, cc)
-  gathered-made (none f q e) k m = let z : _≡_ {A = ℕ} 0 1 = cc in absurd (omega arith)
+  abbrev long : Checked
+  long = lengthCheck workLength (length w)
 
-  pub gathered-refused : Gathered v t r → (f : Refusal) → r ≡ filled.Refused f → symbolCheck v t ≡ Refused f
-  gathered-refused (all q ok e) f m = let z : _≡_ {A = ℕ} 0 1 = cc in absurd (omega arith)
-  gathered-refused (none g q e) f m = cc
+  abbrev steps : List ℕ → List ℤ → List Step
+  steps w' out' =
+      Asks (symbolCheck v t) ∷ Asks long ∷ Clears w w' ∷ Asks room ∷ Gives (generatorTable v t ++ drop (length (generatorTable v t)) out) out out' ∷ []
 
-pub rows-filled : (v : ℕ) (t : List ℤ) (k : ℕ) (out : List ℤ) {r : Filled} {out' : List ℤ} → k ≡ length (leaders v t) → r ≡ filled.Made k
-    → out' ≡ tableLeft r (generatorTable v t) out
-    → take (5 * k) out' ≡ generatorTable v t
-rows-filled v t k out {r} {out'} n f l =
-    let table = generatorTable v t in
-    let m : out' ≡ table ++ drop (5 * k) out = l ∙ ap (λ (x : Filled). tableLeft x table out) f in
-    ap (take (5 * k)) m ∙ take-at table (drop (5 * k) out) (5 * k) (rows-long v t ∙ ap (λ (j : ℕ). 5 * j) (sym n))
+  pub gathered : {w' : List ℕ} {out' : List ℤ} {r : Filled} → Fills (steps w' out') (madeIf (length (leaders v t))) r → (k : ℕ) → r ≡ filled.Made k
+      → Gathered v t k (take (5 * k) out')
+  gathered g k e =
+      let run = run-made g k e in
+      let n = made-count g k e in
+      let passed = both-pass (symbolCheck v t) (long orElse room orElse Accepted) (run .is) .0 in
+      let ok = accepted v t .0 passed in
+      let table = generatorTable v t in
+      record {
+        passed = passed;
+        symbol = ok;
+        count = n;
+        few = omega (arith, n, leaders-most v t ok);
+        rows-are = ap (take (5 * k)) (run .leaves .1 .0)
+            ∙ take-at table (drop (length table) out) (5 * k) (rows-long v t ∙ ap (λ (j : ℕ). 5 * j) (sym n));
+      }
+
+  pub ungathered : {w' : List ℕ} {out' : List ℤ} {r : Filled} → workLength ≤ length w → 5120 ≤ length out
+      → Fills (steps w' out') (madeIf (length (leaders v t))) r → (f : Refusal) → r ≡ filled.Refused f → symbolCheck v t ≡ Refused f
+  ungathered h k g f e = go (symbolCheck v t) refl (run-refused g f e .is)
+    where
+      go : (c : Checked) → symbolCheck v t ≡ c → (c orElse long orElse room orElse Accepted) ≡ Refused f → c ≡ Refused f
+      go (Refused q) i j = j
+      go Accepted i j =
+          let most = leaders-most v t (accepted v t .0 i) in
+          let fits = room-long (length (generatorTable v t)) (length out) (omega (arith, rows-long v t, most, k)) in
+          let all = pass-both long (room orElse Accepted) (room-long workLength (length w) h) (pass-both room Accepted fits refl) in
+          refused-accepted (sym j ∙ all)

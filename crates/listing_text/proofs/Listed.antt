@@ -4,7 +4,7 @@
 --     lines-more                              one generator more
 --     listed-refused, listed-accepted         what is listed by the answer of the checks
 --     parts-listed                            the parts in the slices of a symbol that was surveyed are its listing
---     listing-by                              what is listed for an answer of `read_input`, and `leaves-by` what is left
+--     listing-by                              what is listed for an answer of `read_input`
 --     listing-means                           what the bytes mean
 -- Assumes nothing.
 use mathlib.Core.Path.{_≡_, refl, sym, ap, _∙_}
@@ -25,25 +25,24 @@ use Rattle.symbol.proofs.Choice.{eqZ-true}
 use Rattle.basics.proofs.Choice.{either}
 use Rattle.symbol.proofs.Signed.{bits-positive}
 use Rattle.text.specs.Decimal.{digits}
-use Rattle.text_line.specs.Line.{line, refusalLine, Puts}
-use Rattle.text_line.proofs.Placing.{puts-as, puts-then}
-use Rattle.workspace.specs.Space.{workLength}
+use Rattle.text.specs.Line.{line, refusalLine, Puts}
+use Rattle.text.proofs.Placing.{puts-as, puts-then}
 use Rattle.text.specs.Piece.{pieces, numbers}
-use Rattle.text.specs.Reading.{symbolFormat, inputOf, leftBy, vertexCount}
+use Rattle.text.specs.Reading.{symbolFormat, inputOf}
 use Rattle.text.specs.declared.Reading.{Reading}
 use Rattle.symbol.specs.Check.{symbolCheck}
 use Rattle.symbol.proofs.Accepted.{accepted}
 use Rattle.pairing.proofs.Meaning.{generates}
 use Rattle.pairing.specs.Generator.{leaders, generatorTable}
-use Rattle.refusal.specs.declared.Refusal.{Refusal}
-use Rattle.refusal.specs.declared.Checked.the-variants.{Accepted, Refused}
-use Rattle.coset.specs.Answer.{figuresOf}
+use Rattle.call.specs.Refusal.{checkedRefusal}
+use Rattle.call.specs.declared.refusal.Refusal.{Refusal}
+use Rattle.call.specs.declared.refusal.Checked.{Checked}
+use Rattle.call.specs.declared.refusal.Checked.the-variants.{Accepted, Refused}
+use Rattle.call.specs.Call.{ifAccepted}
 use Rattle.coset.specs.Inner.Survey.{Surveyed}
 use Rattle.figures.specs.declared.FigureRecord.{FigureRecord}
-use Rattle.coset.specs.declared.Figured.the-variants as figured
-use Rattle.pairing.proofs.Admitted.{admit-refused, admit-both}
-use Rattle.coset.proofs.Answer.{figured-by, meaning}
-use Rattle.listing_text.specs.Listing.{listedBy, listingLines, readBy, listingOf, listingWork, listingTable, ListingLeaves, Listed}
+use Rattle.coset.proofs.Answer.{meaning}
+use Rattle.listing_text.specs.Listing.{listedLines, listingLines, readBy, listingOf}
 use Rattle.listing_text.specs.Listing.{ListingMeans, freeWord, evenWord, oddWord, kindWord, generatorLine, generatorLines}
 use Rattle.listing_text.specs.Inner.Parts.{partsOf}
 
@@ -60,11 +59,13 @@ module _ (z : ℤ) where
   pub third-kind : (ofZ w64 z ≡ 1 → ⊥) → (ofZ w64 z ≡ 2 → ⊥) → kindWord z ≡ oddWord
   third-kind m n = rw (apart 1 m, apart 2 n)
 
-pub lines-more : (n k : ℕ) (table : List ℤ) → k ≡ 5 → generatorLines n table ++ generatorLine (n + 1) (take k (drop (5 * n) table)) ≡ generatorLines (n + 1) table
+pub lines-more : (n k : ℕ) (table : List ℤ) → k ≡ 5
+    → generatorLines n table ++ generatorLine (n + 1) (take k (drop (5 * n) table)) ≡ generatorLines (n + 1) table
 unfolding generatorLines
 lines-more n k table e = rw (e, add-one n) refl
 
-pub row-put : (j : ℕ) (row : List ℤ) {word : List ℕ} {at m e : ℕ} {out out1 out2 : List ℕ} → kindWord (getD row 0 (pos 0)) ≡ word → Puts (digits j) at m out out1
+pub row-put : (j : ℕ) (row : List ℤ) {word : List ℕ} {at m e : ℕ} {out out1 out2 : List ℕ} → kindWord (getD row 0 (pos 0)) ≡ word
+    → Puts (digits j) at m out out1
     → Puts (line word (take (length row - 1) (drop 1 row))) m e out1 out2 → at ≤ length out → Puts (generatorLine j row) at e out out2
 unfolding generatorLine
 row-put j row {word} k f g h =
@@ -76,34 +77,22 @@ row-put j row {word} k f g h =
 module _ (v : ℕ) (t : List ℤ) where
   pub listed-refused : (f : Refusal) → symbolCheck v t ≡ Refused f → refusalLine f ≡ listingLines v t
   unfolding listingLines
-  listed-refused f q = ap (listedBy v t) (figured-by v t workLength (Refused f) (admit-refused v t workLength f q))
+  listed-refused f q = ap (λ (c : Checked). ifAccepted c (listedLines v t) (refusalLine (checkedRefusal c))) (sym q)
 
-  pub listed-accepted : symbolCheck v t ≡ Accepted → listedBy v t (figured.Made (figuresOf v t)) ≡ listingLines v t
+  pub listed-accepted : symbolCheck v t ≡ Accepted → listedLines v t ≡ listingLines v t
   unfolding listingLines
-  listed-accepted q = ap (listedBy v t) (figured-by v t workLength Accepted (admit-both v t workLength q (omega arith)))
+  listed-accepted q = ap (λ (c : Checked). ifAccepted c (listedLines v t) (refusalLine (checkedRefusal c))) (sym q)
 
 -- the parts in the slices are those of the symbol
 pub parts-listed : {v : ℕ} {t : List ℤ} {w w' : List ℕ} {f : FigureRecord} (g : ℕ) (rows : List ℤ) → Surveyed v t w w' f → g ≡ length (leaders v t)
     → rows ≡ generatorTable v t
-    → partsOf f g rows w' ≡ listedBy v t (figured.Made (figuresOf v t))
-parts-listed {v} {t} {w} {w'} {f} g rows s n r =
-    let same : partsOf f g rows w' ≡ listedBy v t (figured.Made f) = cc (s .widths-are, s .S-is, s .R-is, s .T-is, n, r) in
-    same ∙ ap (λ (x : FigureRecord). listedBy v t (figured.Made x)) (s .figures)
+    → partsOf f g rows w' ≡ listedLines v t
+parts-listed g rows s n r = cc (s .figures, s .widths-are, s .S-is, s .R-is, s .T-is, n, r)
 
-pub listing-by : (longer : Bool) (text : List ℕ) (r : Reading) → r ≡ inputOf longer symbolFormat text 3071 → readBy r (numbers (pieces text)) ≡ listingOf longer text
+pub listing-by : (longer : Bool) (text : List ℕ) (r : Reading) → r ≡ inputOf longer symbolFormat text 3071
+    → readBy r (numbers (pieces text)) ≡ listingOf longer text
 unfolding listingOf
 listing-by longer text r e = ap (λ (x : Reading). readBy x (numbers (pieces text))) e
-
--- what is left, by the answer of `read_input`
-pub leaves-by : {longer : Bool} {text : List ℕ} {ns table : List ℤ} {w : List ℕ} {ns' table' : List ℤ} {w' : List ℕ} (r : Reading)
-    → r ≡ inputOf longer symbolFormat text 3071
-    → ns' ≡ leftBy r (numbers (pieces text)) ns → w' ≡ listingWork r (numbers (pieces text)) w → table' ≡ listingTable r (numbers (pieces text)) (length w) table
-    → ListingLeaves longer text ns table w ns' table' w'
-leaves-by {longer} {text} {ns} {table} {w} r e a b d = record {
-  numbers-left = a ∙ ap (λ (x : Reading). leftBy x (numbers (pieces text)) ns) e;
-  work-left = b ∙ ap (λ (x : Reading). listingWork x (numbers (pieces text)) w) e;
-  table-left = d ∙ ap (λ (x : Reading). listingTable x (numbers (pieces text)) (length w) table) e;
-}
 
 pub listing-means : (longer : Bool) (text : List ℕ) {bytes : List ℕ} → bytes ≡ listingOf longer text → ListingMeans longer text bytes
 unfolding listingOf

@@ -10,12 +10,13 @@
 --   figureLines f widths            both, of the figures f
 --   generatorPart v t               how many generators, and their lines
 --   tableLines s r u                the tables of S, R and T
+--   listedLines v t                 the lines of a symbol's figures, generators and tables
 --   listingLines v t                all of it for the symbol in t, or its refusal
---   listingOf longer text           the bytes for a text, or for one with more than the 65,536 bytes that fit into the buffer
---   listingWork, listingTable       what the call leaves in the work space and in the space for generators, by the answer of `read_input`
---   ListingLeaves ..                what it leaves in every lent space but that of the bytes
---   Listed v t bytes                what the bytes mean for a symbol: they are the lines of its figures, generators and tables; the tables are those
---                                   of the cosets of H and the figures are the tables' (`Meaning`), so that the genus is a number in its line; each generator has
+--   listingOf longer text           the bytes for a text, or for one with more than the 65,536 bytes that fit into the
+--                                   buffer
+--   Listed v t bytes                what the bytes mean for a symbol: they are the lines of its figures, generators and
+--                                   tables; the tables are those of the cosets of H and the figures are the tables'
+--                                   (`Meaning`), so that the genus is a number in its line; each generator has
 --                                   determinant 1 (`Generates`)
 --   ListingMeans ..                 that holds for every text whose numbers are a symbol's
 use mathlib.Core.Path.{_≡_}
@@ -26,23 +27,22 @@ use lib.IntN.{ℤ, pos}
 use lib.ListN.{length, take, drop, getD}
 use Rattle.matrix.specs.Matrix.{nth}
 use Rattle.basics.specs.Choice.{pick}
-use Rattle.workspace.specs.Space.{workLength}
 use Rattle.text.specs.Decimal.{digits}
 use Rattle.text.specs.Piece.{pieces, numbers}
-use Rattle.text.specs.Reading.{symbolFormat, inputOf, leftBy, vertexCount}
+use Rattle.text.specs.Reading.{symbolFormat, inputOf, vertexCount}
 use Rattle.text.specs.declared.Reading.{Reading}
 use Rattle.text.specs.declared.Reading.the-variants as reading
-use Rattle.text_line.specs.Line.{natural, line, refusedWord, refusalLine}
+use Rattle.text.specs.Line.{natural, line, refusedWord, refusalLine}
+use Rattle.call.specs.Refusal.{checkedRefusal}
+use Rattle.call.specs.Call.{ifAccepted}
 use Rattle.symbol.specs.Check.{eqZ, symbolCheck}
 use Rattle.symbol.specs.Symbol.{IsSymbol}
-use Rattle.pairing.specs.Generator.{leaders, generatorTable, generatedOf, workAfter, tableLeft, Generates}
+use Rattle.pairing.specs.Generator.{leaders, generatorTable, Generates}
 use Rattle.figures.specs.declared.Figure.{Figure}
 use Rattle.figures.specs.declared.Figure.the-variants as figure
 use Rattle.figures.specs.declared.FigureRecord.{FigureRecord}
 use Rattle.coset.specs.Tables.{tableS, tableR, tableT}
-use Rattle.coset.specs.Answer.{widthsOf, figuresOf, figuredOf, Meaning}
-use Rattle.coset.specs.declared.Figured.{Figured}
-use Rattle.coset.specs.declared.Figured.the-variants as figured
+use Rattle.coset.specs.Answer.{widthsOf, figuresOf, Meaning}
 
 abbrev pub indexWord : List ℕ
 indexWord = 105 ∷ 110 ∷ 100 ∷ 101 ∷ 120 ∷ []
@@ -76,7 +76,8 @@ oddWord = 32 ∷ 111 ∷ 100 ∷ 100 ∷ []
 
 unfoldable pub figureLine : List ℕ → Figure → List ℕ
 figureLine name (figure.Value x) = line name (natural x ∷ [])
-figureLine name (figure.Refused f) = name ++ line (32 ∷ refusedWord) (natural (f .number) ∷ natural (f .place) ∷ [])
+figureLine name (figure.Refused f) =
+    name ++ line (32 ∷ refusedWord) (natural (f .number) ∷ natural (f .place) ∷ [])
 
 abbrev pub kindWord : ℤ → List ℕ
 kindWord z = pick (eqZ z (pos 1)) freeWord (pick (eqZ z (pos 2)) evenWord oddWord)
@@ -89,10 +90,13 @@ generatorLines zero table = []
 generatorLines (suc n) table = generatorLines n table ++ generatorLine (suc n) (take 5 (drop (5 * n) table))
 
 unfoldable pub countLines : (n e2 e3 k : ℕ) → List ℕ
-countLines n e2 e3 k = line indexWord (natural n ∷ []) ++ line ellipticWord (natural e2 ∷ natural e3 ∷ []) ++ line cuspsWord (natural k ∷ [])
+countLines n e2 e3 k =
+    line indexWord (natural n ∷ []) ++ line ellipticWord (natural e2 ∷ natural e3 ∷ [])
+    ++ line cuspsWord (natural k ∷ [])
 
 unfoldable pub cuspLines : (widths : List ℕ) → (genus level : Figure) → List ℕ
-cuspLines widths genus level = line widthsWord (map natural widths) ++ figureLine genusWord genus ++ figureLine levelWord level
+cuspLines widths genus level =
+    line widthsWord (map natural widths) ++ figureLine genusWord genus ++ figureLine levelWord level
 
 unfoldable pub figureLines : FigureRecord → (widths : List ℕ) → List ℕ
 figureLines f widths = countLines (f .index) (f .e2) (f .e3) (f .cusps) ++ cuspLines widths (f .genus) (f .level)
@@ -101,17 +105,19 @@ unfoldable pub generatorPart : ℕ → List ℤ → List ℕ
 generatorPart n table = line generatorsWord (natural n ∷ []) ++ generatorLines n table
 
 unfoldable pub tableLines : (s r u : List ℕ) → List ℕ
-tableLines s r u = line (83 ∷ []) (map natural s) ++ line (82 ∷ []) (map natural r) ++ line (84 ∷ []) (map natural u)
+tableLines s r u =
+    line (83 ∷ []) (map natural s) ++ line (82 ∷ []) (map natural r) ++ line (84 ∷ []) (map natural u)
 
-abbrev pub listedBy : ℕ → List ℤ → Figured → List ℕ
-listedBy v t (figured.Made f) =
-    figureLines f (widthsOf v t)
+abbrev pub listedLines : ℕ → List ℤ → List ℕ
+listedLines v t =
+    figureLines (figuresOf v t) (widthsOf v t)
     ++ generatorPart (length (leaders v t)) (generatorTable v t)
     ++ tableLines (tableS v t) (tableR v t) (tableT v t)
-listedBy v t (figured.Refused f) = refusalLine f
 
 unfoldable pub listingLines : ℕ → List ℤ → List ℕ
-listingLines v t = listedBy v t (figuredOf v t workLength)
+listingLines v t =
+    let c = symbolCheck v t in
+    ifAccepted c (listedLines v t) (refusalLine (checkedRefusal c))
 
 abbrev pub readBy : Reading → List ℤ → List ℕ
 readBy (reading.Numbers k) ns = listingLines (vertexCount (nth ns 0)) (drop 1 (take k ns))
@@ -120,33 +126,16 @@ readBy (reading.Refused f) ns = refusalLine f
 unfoldable pub listingOf : Bool → List ℕ → List ℕ
 listingOf longer text = readBy (inputOf longer symbolFormat text 3071) (numbers (pieces text))
 
--- ---- what it leaves
-
-abbrev pub listingWork : Reading → List ℤ → List ℕ → List ℕ
-listingWork (reading.Numbers k) ns w = workAfter (symbolCheck (vertexCount (nth ns 0)) (drop 1 (take k ns))) w
-listingWork (reading.Refused f) ns w = w
-
-abbrev pub generatorsLeft : ℕ → List ℤ → (work : ℕ) → List ℤ → List ℤ
-generatorsLeft v t work table = tableLeft (generatedOf v t work (length table)) (generatorTable v t) table
-
-abbrev pub listingTable : Reading → List ℤ → (work : ℕ) → List ℤ → List ℤ
-listingTable (reading.Numbers k) ns work table = generatorsLeft (vertexCount (nth ns 0)) (drop 1 (take k ns)) work table
-listingTable (reading.Refused f) ns work table = table
-
-pub record ListingLeaves (longer : Bool) (text : List ℕ) (ns table : List ℤ) (w : List ℕ) (ns' table' : List ℤ) (w' : List ℕ) : Type 0 where
-  pub numbers-left : ns' ≡ leftBy (inputOf longer symbolFormat text 3071) (numbers (pieces text)) ns
-  pub work-left : w' ≡ listingWork (inputOf longer symbolFormat text 3071) (numbers (pieces text)) w
-  pub table-left : table' ≡ listingTable (inputOf longer symbolFormat text 3071) (numbers (pieces text)) (length w) table
-
 -- ---- what it means
 
 pub record Listed (v : ℕ) (t : List ℤ) (bytes : List ℕ) : Type 0 where
-  pub lines : bytes ≡ listedBy v t (figured.Made (figuresOf v t))
+  pub lines : bytes ≡ listedLines v t
   pub meaning : Meaning v t
   pub generates : Generates v t
 
 abbrev pub ListingMeans : (longer : Bool) (text bytes : List ℕ) → Type 0
 ListingMeans longer text bytes =
     let ns = numbers (pieces text) in
-    (k : ℕ) → inputOf longer symbolFormat text 3071 ≡ reading.Numbers k → IsSymbol (vertexCount (nth ns 0)) (drop 1 (take k ns))
+    (k : ℕ) → inputOf longer symbolFormat text 3071 ≡ reading.Numbers k
+    → IsSymbol (vertexCount (nth ns 0)) (drop 1 (take k ns))
     → Listed (vertexCount (nth ns 0)) (drop 1 (take k ns)) bytes

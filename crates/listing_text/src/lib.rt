@@ -1,45 +1,46 @@
-// What the program `listing` writes for a text: all of it, byte for byte, as specs/Listing.antt says (docs/CONVENTIONS.md, 10.5).
+// What the program `listing` writes for a text: all of it, byte for byte, as specs/Listing.antt says
+// (docs/CONVENTIONS.md, 10.5).
+use call::refusal::Filled;
 use coset::survey;
 use figures::FigureRecord;
-use input::Input;
-use input::text_end;
 use lines::figure_lines;
 use lines::generator_part;
 use lines::table_lines;
 use pairing::generator::generators;
-use refusal::Filled;
 use text::Format;
 use text::Reading;
+use text::input::Input;
+use text::input::text_end;
+use text::line::refusal_line;
 use text::read_input;
 use text::vertex_count;
-use text_line::refusal_line;
 ghost use mathlib.Core.Path.{_≡_};
 ghost use Prim.Native.Nat.{_*_, _≤_};
 ghost use lib.ListN.{length, take};
-ghost use Rattle.input.specs.Input.{ForInput};
-ghost use Rattle.workspace.specs.Space.{workLength, zeros};
-ghost use Rattle.text_line.specs.Line.{Puts};
-ghost use Rattle.symbol.specs.Check.{symbolCheck};
+ghost use Rattle.text.specs.Input.{ForInput};
+ghost use Rattle.call.specs.Space.{workLength};
+ghost use Rattle.text.specs.Line.{Puts};
 ghost use Rattle.symbol.specs.Symbol.{IsSymbol};
-ghost use Rattle.pairing.specs.Generator.{leaders, generatorTable, workAfter};
-ghost use Rattle.coset.specs.Answer.{figuresOf};
-ghost use Rattle.coset.specs.declared.Figured.the-variants as figured;
-ghost use Rattle.listing_text.specs.Listing.{listedBy, listingLines, listingOf, generatorsLeft, ListingLeaves, ListingMeans};
+ghost use Rattle.pairing.specs.Generator.{leaders, generatorTable};
+ghost use Rattle.listing_text.specs.Listing.{listedLines, listingLines, listingOf, ListingMeans};
 ghost use Rattle.listing_text.specs.Inner.Parts.{ListingSpaces, partsOf};
 
 mod lines;
 
-// The listing of a symbol with the figures f: its g generators are in the rows, its widths and tables in the work space.
+// The listing of a symbol with the figures f: its g generators are in the rows, its widths and tables in the work
+// space.
 fn list_parts(f: FigureRecord, rows: &[i64], g: usize, w: &[u16], out: &mut [u8]) -> usize
-    requires { ⌜ (f .index ≤ 4096) × (f .cusps ≤ 4096) × (g ≤ 1024) × (5 * g ≤ length (now rows)) × (workLength ≤ length (now w)) × (212992 ≤ length (now out)) ⌝ }
-    ensures { λ e. ⌜ Puts (partsOf f g (now (rows .entry)) (now (w .entry))) 0 e (now (out .entry)) (now (out .exit)) ⌝ }
+    requires { ⌜ (f .index ≤ 4096) × (f .cusps ≤ 4096) × (g ≤ 1024) × (5 * g ≤ length (now rows))
+        × (workLength ≤ length (now w)) × (212992 ≤ length (now out)) ⌝ }
+    ensures { λ e. ⌜ Puts (partsOf f g (now (rows .entry)) (now (w .entry)))
+        0 e (now (out .entry)) (now (out .exit)) ⌝ }
 {
     let first = figure_lines(f, w, out);
     let second = generator_part(rows, g, out, first);
     table_lines(w, f.index, out, second)
 }
 
-// The listing of an accepted symbol, whose g generators are in the rows; the work space is cleared after.
+// The listing of an accepted symbol, whose g generators are in the rows.
 fn list_accepted(
     v: usize,
     t: &[i64],
@@ -48,22 +49,18 @@ fn list_accepted(
     w: &mut [u16],
     out: &mut [u8],
 ) -> usize
-    requires { ⌜ IsSymbol v (now t) × (g ≡ length (leaders v (now t))) × (now rows ≡ generatorTable v (now t)) × (workLength ≤ length (now w)) × (212992 ≤ length (now out)) ⌝ }
-    ensures { λ e. ⌜ Puts (listedBy v (now (t .entry)) (figured.Made (figuresOf v (now (t .entry))))) 0 e (now (out .entry)) (now (out .exit)) ⌝ }
-    ensures { λ e. ⌜ now (w .exit) ≡ zeros (length (now (w .entry))) ⌝ }
+    requires { ⌜ IsSymbol v (now t) × (g ≡ length (leaders v (now t))) × (now rows ≡ generatorTable v (now t))
+        × (workLength ≤ length (now w)) × (212992 ≤ length (now out)) ⌝ }
+    ensures { λ e. ⌜ Puts (listedLines v (now (t .entry))) 0 e (now (out .entry)) (now (out .exit)) ⌝ }
 {
     let f = survey(v, t, w);
-    let end = list_parts(f, rows, g, w, out);
-    workspace::clear(w);
-    end
+    list_parts(f, rows, g, w, out)
 }
 
 // The listing of the symbol in t, or its refusal.
 fn list_symbol(v: usize, t: &[i64], w: &mut [u16], table: &mut [i64], out: &mut [u8]) -> usize
     requires { ⌜ ListingSpaces (now w) (now table) (now out) ⌝ }
     ensures { λ e. ⌜ Puts (listingLines v (now (t .entry))) 0 e (now (out .entry)) (now (out .exit)) ⌝ }
-    ensures { λ e. ⌜ now (w .exit) ≡ workAfter (symbolCheck v (now (t .entry))) (now (w .entry)) ⌝ }
-    ensures { λ e. ⌜ now (table .exit) ≡ generatorsLeft v (now (t .entry)) (length (now (w .entry))) (now (table .entry)) ⌝ }
 {
     let made = generators(v, t, w, table);
     match made {
@@ -86,7 +83,6 @@ fn list_text(
 ) -> usize
     requires { ⌜ (length (now numbers) ≡ 3071) × ListingSpaces (now w) (now table) (now out) ⌝ }
     ensures { λ e. ⌜ Puts (listingOf longer (now (text .entry))) 0 e (now (out .entry)) (now (out .exit)) ⌝ }
-    ensures { λ e. ⌜ ListingLeaves longer (now (text .entry)) (now (numbers .entry)) (now (table .entry)) (now (w .entry)) (now (numbers .exit)) (now (table .exit)) (now (w .exit)) ⌝ }
 {
     let read = read_input(
         text,
@@ -109,29 +105,28 @@ fn list_text(
 }
 
 // What the program writes for an input, whose bytes stand at the front of the buffer, from the front of `out`; where
-// it ends: at 0, with nothing changed, where the input could not be read. The arrays are the program's own, and what
-// stands in them at the start is free.
-pub fn list(
-    buffer: &[u8],
-    input: Input,
-    numbers: &mut [i64; 3071],
-    w: &mut [u16; 32768],
-    table: &mut [i64; 5120],
-    out: &mut [u8; 212992],
-) -> usize
+// it ends: at 0, with nothing changed, where the input could not be read.
+pub fn list(buffer: &[u8], input: Input, out: &mut [u8; 212992]) -> usize
     ensures { λ e. ⌜ e ≤ length (now (out .exit)) ⌝ }
     ensures { λ e. ⌜ ForInput (now (buffer .entry))
         (λ longer text. Puts (listingOf longer text) 0 e (now (out .entry)) (now (out .exit))
-        × ListingLeaves longer text (now (numbers .entry)) (now (table .entry)) (now (w .entry))
-        (now (numbers .exit)) (now (table .exit)) (now (w .exit))
         × ListingMeans longer text (take e (now (out .exit))))
-        ((e ≡ 0) × (now (numbers .exit) ≡ now (numbers .entry)) × (now (w .exit) ≡ now (w .entry))
-        × (now (table .exit) ≡ now (table .entry)) × (now (out .exit) ≡ now (out .entry)))
+        ((e ≡ 0) × (now (out .exit) ≡ now (out .entry)))
         input ⌝ }
 {
     let Input::Read(n, longer) = input else {
         return 0;
     };
     let end = text_end(buffer, n);
-    list_text(&buffer[..end], longer, numbers, w, table, out)
+    let mut numbers = [0i64; 3071];
+    let mut w = [0u16; 32768];
+    let mut table = [0i64; 5120];
+    list_text(
+        &buffer[..end],
+        longer,
+        &mut numbers,
+        &mut w,
+        &mut table,
+        out,
+    )
 }

@@ -1,9 +1,8 @@
 -- Why matrices can be computed with in 64 signed bits: from bounds on the entries to what the code asks.
 --
--- In order: a bounded integer fits (`fits`), and what fits is kept (`kept`); the parts of x y + z w fit where their sizes do (`left-fits`, `right-fits`, `sum-fits`,
--- `difference-fits`); bounds on a product's, an adjugate's and a negative's entries (`small-⊗`, `small-adj`, `small-neg`), and
--- that small entries leave room (`room`, `roomy`, `small-more`).
--- Assumes nothing.
+-- In order: a bounded integer fits (`fits`), and what fits is kept (`kept`); the parts of x y + z w fit where their sizes do (`left-fits`, `right-fits`,
+-- `sum-fits`, `difference-fits`); bounds on a product's, an adjugate's and a negative's entries (`small-⊗`, `small-adj`, `small-neg`), and that small entries
+-- leave room (`room`, `roomy`, `small-more`). Assumes nothing.
 use mathlib.Core.Path.{_≡_, refl, sym, _∙_, ap}
 use Prim.Native.Nat.{ℕ, zero, suc, _+_, _*_, _-_, _^_, _≤_, _<_}
 use native.Mathlib.Omega.{arith}

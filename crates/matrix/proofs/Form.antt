@@ -85,7 +85,8 @@ row zero (suc q) r t h = omega arith
 row (suc p) q r t h = omega arith
 
 pub unimodular-whole : (f : Form) → Unimodular f → Whole f
-unimodular-whole f u = record { top = row (f .p) (f .q) (f .r) (f .t) (some f u); bottom = row (f .r) (f .t) (f .p) (f .q) (some (swap f) (unimodular-swap f u)) }
+unimodular-whole f u =
+    record { top = row (f .p) (f .q) (f .r) (f .t) (some f u); bottom = row (f .r) (f .t) (f .p) (f .q) (some (swap f) (unimodular-swap f u)) }
 
 -- neither the form of the identity nor that of S
 pub record Proper (f : Form) : Type 0 where
@@ -195,7 +196,8 @@ pub tail-stop : (n : ℕ) (f : Form) → f .q + f .r ≡ 0 → tailOf (suc n) f 
 tail-stop n f h = pick-true (eqb (f .q + f .r) 0) _ _ (eq-eqb (f .q + f .r) 0 h)
 
 pub tail-last : (n : ℕ) (f : Form) → 0 < f .q + f .r → f .p + f .t ≡ 0 → tailOf (suc n) f ≡ S ∷ []
-tail-last n f k h = pick-false (eqb (f .q + f .r) 0) _ _ (ne-eqb (f .q + f .r) 0 (λ e. omega arith)) ∙ pick-true (eqb (f .p + f .t) 0) _ _ (eq-eqb (f .p + f .t) 0 h)
+tail-last n f k h = pick-false (eqb (f .q + f .r) 0) _ _ (ne-eqb (f .q + f .r) 0 (λ e. omega arith))
+    ∙ pick-true (eqb (f .p + f .t) 0) _ _ (eq-eqb (f .p + f .t) 0 h)
 
 pub tail-more : (n : ℕ) (f : Form) → Proper f → tailOf (suc n) f ≡ S ∷ turn (tailOf n) (swap f)
 tail-more n f k = pick-false (eqb (f .q + f .r) 0) _ _ (ne-eqb (f .q + f .r) 0 (λ e. omega arith))

@@ -1,4 +1,5 @@
--- The alternating word of a matrix of determinant 1, found by the subtractive Euclidean algorithm on the sizes of its entries.
+-- The alternating word of a matrix of determinant 1, found by the subtractive Euclidean algorithm on the sizes of its
+-- entries.
 --
 --   Form, form p q r t   four naturals, the sizes of a matrix's entries row by row
 --   sizes m              the form of the matrix m
@@ -7,15 +8,16 @@
 --   positive z           whether the integer z is above 0
 --   agree m              whether in some column of m both entries are above 0 or both below
 --   pick b x y           x where b holds, else y
---   turn next f          one power of Q, where the form is that of a word which begins with one: Q where the upper row is the
---                        smaller one, else P; `next` gives the rest of the word from the form that is left
---   tailOf n f           the word of the form f, where it doesn't begin with a power of Q: nothing, S alone, or S and then a power of Q;
---                        n bounds the number of turns, and `total f` is always enough
+--   turn next f          one power of Q, where the form is that of a word which begins with one: Q where the upper row
+--                        is the smaller one, else P; `next` gives the rest of the word from the form that is left
+--   tailOf n f           the word of the form f, where it doesn't begin with a power of Q: nothing, S alone, or S and
+--                        then a power of Q; n bounds the number of turns, and `total f` is always enough
 --   headOf n f           the same where the word begins with a power of Q
 --   spell h f            the word of the form f, which begins with a power of Q where h holds
 --   wordOf m             the word of the matrix m: it begins with a power of Q exactly when the rows agree
 --
--- S exchanges the rows, Q and P take the smaller row from the larger one. The signs need no arithmetic: they are the same all along.
+-- S exchanges the rows, Q and P take the smaller row from the larger one. The signs need no arithmetic: they are the
+-- same all along.
 use mathlib.Core.Bool.{Bool, true, false, _||_}
 use mathlib.Core.List.{List, [], _∷_}
 use Prim.Native.Nat.{ℕ, zero, suc, _+_, _-_}

@@ -31,7 +31,8 @@ mat a b c d = record { a = a; b = b; c = c; d = d }
 
 infixl 7 _⊗_
 unfoldable pub _⊗_ : Mat → Mat → Mat
-m ⊗ n = mat (m .a *ℤ n .a +ℤ m .b *ℤ n .c) (m .a *ℤ n .b +ℤ m .b *ℤ n .d) (m .c *ℤ n .a +ℤ m .d *ℤ n .c) (m .c *ℤ n .b +ℤ m .d *ℤ n .d)
+m ⊗ n = mat (m .a *ℤ n .a +ℤ m .b *ℤ n .c) (m .a *ℤ n .b +ℤ m .b *ℤ n .d) (m .c *ℤ n .a +ℤ m .d *ℤ n .c)
+    (m .c *ℤ n .b +ℤ m .d *ℤ n .d)
 
 unfoldable pub 𝟙 : Mat
 𝟙 = mat (pos 1) (pos 0) (pos 0) (pos 1)

@@ -1,8 +1,11 @@
 -- THE THREE THEOREMS on which a 'none' rests. Each is stated here as a type; the proof is the name in brackets.
 --
---   Existence    [proofs/Existence.antt, existence]     each matrix of determinant 1 is, up to sign, the value of an alternating word
---   Uniqueness   [proofs/Uniqueness.antt, uniqueness]   two alternating words with the same value up to sign are the same word
---   Action       [proofs/Action.antt, action]           a set with an involution and a map of order three carries an action, on the
+--   Existence    [proofs/Existence.antt, existence]     each matrix of determinant 1 is, up to sign, the value of an
+--                alternating word
+--   Uniqueness   [proofs/Uniqueness.antt, uniqueness]   two alternating words with the same value up to sign are the
+--                same word
+--   Action       [proofs/Action.antt, action]           a set with an involution and a map of order three carries an
+--                action, on the
 --                                                       right, of all matrices of determinant 1, which is blind to sign
 use mathlib.Core.Path.{_≡_}
 use mathlib.Core.List.{List}

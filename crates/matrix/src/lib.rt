@@ -1,7 +1,8 @@
 // Two by two integer matrices as arrays of four numbers, row by row.
 //
-// Each function's contract gives its result as a definition over the integers (specs/Matrix.antt). The bounds that they ask for
-// (specs/Bounds.antt) hold for vertices to 10^9 and for query matrices to 10^6: proofs/Bounds.antt has the laws.
+// Each function's contract gives its result as a definition over the integers (specs/Matrix.antt). The bounds that they
+// ask for (specs/Bounds.antt) hold for vertices to 10^9 and for query matrices to 10^6: proofs/Bounds.antt has the
+// laws.
 ghost use mathlib.Core.Path.{_≡_};
 ghost use Prim.Native.Nat.{_+_, _-_, _^_, _≤_};
 ghost use lib.IntN.{_+ℤ_, _-ℤ_, _*ℤ_};
@@ -80,7 +81,8 @@ pub fn product(m: [i64; 4], n: [i64; 4]) -> [i64; 4]
     ]
 }
 
-// The adjugate, which is the inverse of a matrix of determinant 1. No entry is the least i64, whose negative does not fit.
+// The adjugate, which is the inverse of a matrix of determinant 1. No entry is the least i64, whose negative does not
+// fit.
 pub fn inverse(m: [i64; 4]) -> [i64; 4]
     requires { ⌜ Small (2 ^ 63 - 1) (ofList m) ⌝ }
     ensures { λ r. ⌜ r ≡ toList (adj (ofList m)) ⌝ }

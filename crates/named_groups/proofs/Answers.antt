@@ -1,193 +1,51 @@
--- The arms of the calls: one law for each way out.
--- In order: tables; the symbol; the calls that check first.
+-- The arms of the calls: one law for each way out, and what the number 0 says.
+-- In order: the group that passed; tables (`no-room-S`, `no-room-R`, `tables-in-room`, `tables-say`); the symbol (`symbol-made`, `symbol-says`).
 -- Assumes nothing.
 use mathlib.Core.Path.{_≡_, refl, sym, _∙_, ap, subst}
-use mathlib.Core.Bool.{Bool, true, false}
 use mathlib.Core.List.{List, [], _∷_, _++_}
-use Prim.Native.Nat.{ℕ, _+_, _*_, _≤_, _<_}
+use Prim.Native.Nat.{ℕ, _≤_, _<_}
 use native.Mathlib.Omega.{arith}
 use lib.ListN.{length, take, drop}
 use lib.Seq.{take-at}
 use lib.IntN.{ℤ}
-use lib.Dec.{ltb}
-use Rattle.basics.specs.Choice.{pick}
-use borrow.Author.Tests.{lt-ltb, le-ltb}
-use Rattle.refusal.specs.Refusal.{tooShort, filledBy}
-use Rattle.refusal.specs.declared.Refusal.{Refusal}
-use Rattle.refusal.specs.declared.Checked.{Checked}
-use Rattle.refusal.specs.declared.Checked.the-variants as checked
-use Rattle.refusal.specs.declared.Filled.{Filled}
-use Rattle.refusal.specs.declared.Filled.the-variants as filled
-use Rattle.refusal.proofs.Apart.{refused-made}
-use Rattle.workspace.specs.Space.{workLength, zeros}
-use Rattle.pairing.specs.Generator.{byWork, workAfter}
-use Rattle.coset.specs.Answer.{roomTwo, columnLeft}
+use Rattle.call.specs.Refusal.{_orElse_, checkedRefusal, tooShort}
+use Rattle.call.specs.declared.refusal.Checked.{Checked}
+use Rattle.call.specs.declared.refusal.Checked.the-variants as checked
+use Rattle.call.specs.declared.refusal.Filled.{Filled}
+use Rattle.call.specs.declared.refusal.Filled.the-variants as filled
+use Rattle.call.proofs.Answers.{both-pass}
+use Rattle.call.proofs.Numbered.{Among}
+use Rattle.call.specs.Space.{workLength, zeros}
+use Rattle.call.specs.Call.{Step, Asks, Gives, lengthCheck, atFront, ifAccepted}
+use Rattle.call.specs.Inner.Fills.{Fills, madeIf}
+use Rattle.call.proofs.Laws.{run-end, run-write, run-hold, short-write, fills-as, above-room, above-among, made-says}
 use Rattle.congruence.specs.Index.{familyIndex}
 use Rattle.congruence.specs.Cosets.{familyS, familyR}
 use Rattle.congruence.specs.declared.Family.{Family}
 use Rattle.congruence_tables.specs.Inner.Held.{Group}
-use Rattle.named_groups.specs.Group.{familyOf, groupCheck, NamedGroup}
+use Rattle.named_groups.specs.Group.{familyOf, groupCheck}
 use Rattle.import_rule.specs.Order.{Order}
-use Rattle.import_rule.specs.Symbol.{ruledBy}
-use Rattle.import_table.specs.Answer.{ruledLeft}
+use Rattle.import_symbol.specs.Answer.{check16, ruledTable}
 use Rattle.permutations.specs.Check.{pairCheck}
-use Rattle.permutations.specs.Import.{grownWithin, importBy, importWork, importTable}
+use Rattle.permutations.specs.Import.{neededVertices, neededLength}
 use Rattle.permutations.proofs.Accepted.{accepted}
-use Rattle.permutations.proofs.Means.{import-means}
-use Rattle.named_groups.specs.Answer.{namedTablesOf, NamedTables, NamedTablesMean, namedRule, namedSymbolBy, NamedSymbol, NamedSymbolMeans}
-use Rattle.named_groups.proofs.Checked.{check-named, group-of}
+use Rattle.permutations.proofs.Means.{symbolSteps, above16, made-means}
+use Rattle.permutations.proofs.Answering.{admitted, work-back}
+use Rattle.named_groups.specs.Answer.{NamedTables, namedRule, NamedSymbol}
+use Rattle.named_groups.proofs.Checked.{check-named, group-of, group-numbers}
 use Rattle.named_groups.proofs.Tables.{family-cosets, passport}
 use Rattle.named_groups.proofs.Symbols.{symbol-named}
-
--- ---- tables
-
-module _ {k n : ℕ} (a b : ℕ) (e : k ≡ n) where
-  pub room-S : a < k → filled.Refused (tooShort k) ≡ roomTwo n a b
-  room-S h = let z : a < n = omega arith in rw (e, lt-ltb a n z)
-
-  pub room-R : k ≤ a → b < k → filled.Refused (tooShort k) ≡ roomTwo n a b
-  room-R h i = let y : n ≤ a = omega arith in let z : b < n = omega arith in rw (e, le-ltb a n y, lt-ltb b n z)
-
-  pub room-both : k ≤ a → k ≤ b → filled.Made k ≡ roomTwo n a b
-  room-both h i = let y : n ≤ a = omega arith in let z : n ≤ b = omega arith in rw (e, le-ltb a n y, le-ltb b n z)
-
--- ---- the calls that check first, whatever is made then
-
-module _ (k n : ℕ) (w : List ℕ) (made : Filled) where
-  abbrev all : Filled
-  all = filledBy (groupCheck k n) (byWork (length w) made)
-
-  pub by-refusal : {f : Refusal} → groupCheck k n ≡ checked.Refused f → filled.Refused f ≡ all
-  by-refusal e = rw e
-
-  pub work-refused : {f : Refusal} → groupCheck k n ≡ checked.Refused f → w ≡ workAfter (groupCheck k n) w
-  work-refused e = rw e
-
-  module _ (e : groupCheck k n ≡ checked.Accepted) where
-    pub by-short : length w < workLength → filled.Refused (tooShort workLength) ≡ all
-    by-short h = rw (e, lt-ltb (length w) workLength h)
-
-    pub work-short : length w < workLength → w ≡ workAfter (groupCheck k n) w
-    work-short h = rw (e, lt-ltb (length w) workLength h)
-
-    pub by-long : workLength ≤ length w → made ≡ all
-    by-long h = rw (e, le-ltb (length w) workLength h)
-
-    pub work-long : workLength ≤ length w → zeros (length w) ≡ workAfter (groupCheck k n) w
-    work-long h = rw (e, le-ltb (length w) workLength h)
-
--- what tables that were made mean
-made-count : (x y z : Bool) (f g h : Refusal) (n j : ℕ) → pick x (filled.Refused f) (pick y (filled.Refused g) (pick z (filled.Refused h) (filled.Made n))) ≡ filled.Made j → j ≡ n
-made-count true y z f g h n j e = refused-made e
-made-count false true z f g h n j e = refused-made e
-made-count false false true f g h n j e = refused-made e
-made-count false false false f g h n j e = cc
-
-pub made-tables : (k n work a b : ℕ) (r : Filled) → r ≡ namedTablesOf k n work a b → NamedTablesMean k n r
-made-tables k n work a b r e j d = go (groupCheck k n) refl (sym e ∙ d)
-  where
-    go : (c : Checked) → groupCheck k n ≡ c → filledBy c (byWork work (roomTwo (familyIndex (familyOf k) n) a b)) ≡ filled.Made j → NamedTables k n j
-    go (checked.Refused f) q s = refused-made s
-    go checked.Accepted q s = record {
-      count = made-count (ltb work workLength) (ltb a (familyIndex (familyOf k) n)) (ltb b (familyIndex (familyOf k) n))
-          (tooShort workLength) (tooShort (familyIndex (familyOf k) n)) (tooShort (familyIndex (familyOf k) n)) (familyIndex (familyOf k) n) j s;
-      cosets = family-cosets (familyOf k) n (group-of k n (check-named k n q));
-    }
-
-pub drop-by : {k n : ℕ} (t l : List ℕ) → k ≡ n → t ++ drop n l ≡ t ++ drop k l
-drop-by t l e = rw e
 
 -- a family by its number, whose checks were passed
 pub group-by : (k n : ℕ) {f : Family} → f ≡ familyOf k → groupCheck k n ≡ checked.Accepted → Group f n
 group-by k n e d = rw e (group-of k n (check-named k n d))
 
--- ---- `named_tables`
-
-module _ (k n : ℕ) (w s r : List ℕ) where
-  -- the answer a, and the spaces at exit, are those of the definitions
-  pub record Tabled (a : Filled) (w' s' r' : List ℕ) : Type 0 where
-    pub returned : a ≡ namedTablesOf k n (length w) (length s) (length r)
-    pub work : w' ≡ workAfter (groupCheck k n) w
-    pub S-is : s' ≡ columnLeft a (familyS (familyOf k) n) s
-    pub R-is : r' ≡ columnLeft a (familyR (familyOf k) n) r
-    pub means : NamedTablesMean k n a
-
-  abbrev both : Filled
-  both = roomTwo (familyIndex (familyOf k) n) (length s) (length r)
-
-  tabled : {a : Filled} {w' s' r' : List ℕ} → a ≡ namedTablesOf k n (length w) (length s) (length r) → w' ≡ workAfter (groupCheck k n) w
-      → s' ≡ columnLeft a (familyS (familyOf k) n) s → r' ≡ columnLeft a (familyR (familyOf k) n) r → Tabled a w' s' r'
-  tabled {a} p q t u = record { returned = p; work = q; S-is = t; R-is = u; means = made-tables k n (length w) (length s) (length r) a p }
-
-  pub tabled-refused : {f : Refusal} → groupCheck k n ≡ checked.Refused f → Tabled (filled.Refused f) w s r
-  tabled-refused e = tabled (by-refusal k n w both e) (work-refused k n w both e) refl refl
-
-  module _ (e : groupCheck k n ≡ checked.Accepted) where
-    pub tabled-short : length w < workLength → Tabled (filled.Refused (tooShort workLength)) w s r
-    tabled-short h = tabled (by-short k n w both e h) (work-short k n w both e h) refl refl
-
-    pub tabled-long : workLength ≤ length w → {f : Family} → f ≡ familyOf k → (a : Filled) (w' s' r' : List ℕ) → a ≡ roomTwo (familyIndex f n) (length s) (length r)
-        → w' ≡ zeros (length w) → s' ≡ columnLeft a (familyS f n) s → r' ≡ columnLeft a (familyR f n) r → Tabled a w' s' r'
-    tabled-long h d a w' s' r' p q t u = tabled
-        (p ∙ ap (λ (f : Family). roomTwo (familyIndex f n) (length s) (length r)) d ∙ by-long k n w both e h) (q ∙ work-long k n w both e h)
-        (t ∙ ap (λ (f : Family). columnLeft a (familyS f n) s) d) (u ∙ ap (λ (f : Family). columnLeft a (familyR f n) r) d)
-
--- ---- `make_symbol`
-
--- the front of a table that was filled
-pub front : {k n : ℕ} (t l : List ℕ) {s : List ℕ} → k ≡ n → length t ≡ n → s ≡ t ++ drop n l → take k s ≡ t
-front {k} {n} t l e len d = rw d (take-at t (drop n l) k (len ∙ sym e))
-
-module _ (f : Family) (n : ℕ) (g : Group f n) where
-  pub accepted-pair : pairCheck (familyS f n) (familyR f n) ≡ checked.Accepted
-  accepted-pair = accepted (familyS f n) (familyR f n) .1 (passport f n g)
-
-  -- an import of the family's tables answers by the rule, and clears the work space
-  pub import-long : (order : Order) (work room : ℕ) → workLength ≤ work → importBy order (familyS f n) (familyR f n) work room ≡ grownWithin order (familyS f n) (familyR f n) room
-  import-long order work room h = rw (accepted-pair, le-ltb work workLength h)
-
-  pub import-clears : (w : List ℕ) → workLength ≤ length w → importWork (pairCheck (familyS f n) (familyR f n)) w ≡ zeros (length w)
-  import-clears w h = rw (accepted-pair, le-ltb (length w) workLength h)
-
-  -- what a symbol that was made means
-  pub symbol-means : (order : Order) (a : Filled) (out : List ℤ) (room : ℕ) → a ≡ grownWithin order (familyS f n) (familyR f n) room → (v : ℕ) → a ≡ filled.Made v
-      → NamedSymbol f n v (take (3 * v + 1) (ruledLeft (ruledBy order (familyS f n) (familyR f n)) a out))
-  symbol-means order a out room e v d = symbol-named f n g v _ (import-means order (familyS f n) (familyR f n) workLength room a out (e ∙ sym (import-long order workLength room (omega arith))) v d)
-
--- ---- `named_symbol_by`
-
-module _ (order : Order) (k n : ℕ) (w : List ℕ) (out : List ℤ) where
-  pub record Symboled (a : Filled) (w' : List ℕ) (out' : List ℤ) : Type 0 where
-    pub returned : a ≡ namedSymbolBy order k n (length w) (length out)
-    pub work : w' ≡ workAfter (groupCheck k n) w
-    pub result : out' ≡ ruledLeft (namedRule order k n) a out
-    pub means : NamedSymbolMeans k n a out'
-
-  abbrev grown : Filled
-  grown = grownWithin order (familyS (familyOf k) n) (familyR (familyOf k) n) (length out)
-
-  pub symboled-refused : {f : Refusal} → groupCheck k n ≡ checked.Refused f → Symboled (filled.Refused f) w out
-  symboled-refused e = record { returned = by-refusal k n w grown e; work = work-refused k n w grown e; result = refl; means = λ v d. refused-made d }
-
-  module _ (e : groupCheck k n ≡ checked.Accepted) where
-    pub symboled-short : length w < workLength → Symboled (filled.Refused (tooShort workLength)) w out
-    symboled-short h = record { returned = by-short k n w grown e h; work = work-short k n w grown e h; result = refl; means = λ v d. refused-made d }
-
-    pub symboled-long : workLength ≤ length w → {f : Family} → f ≡ familyOf k → (a : Filled) (w' : List ℕ) (out' : List ℤ)
-        → a ≡ grownWithin order (familyS f n) (familyR f n) (length out) → w' ≡ zeros (length w) → out' ≡ ruledLeft (ruledBy order (familyS f n) (familyR f n)) a out
-        → Symboled a w' out'
-    symboled-long h d a w' out' p q t =
-        let p' : a ≡ grown = p ∙ ap (λ (f : Family). grownWithin order (familyS f n) (familyR f n) (length out)) d in
-        let t' : out' ≡ ruledLeft (namedRule order k n) a out = t ∙ ap (λ (f : Family). ruledLeft (ruledBy order (familyS f n) (familyR f n)) a out) d in
-        record {
-          returned = p' ∙ by-long k n w grown e h;
-          work = q ∙ work-long k n w grown e h;
-          result = t';
-          means = λ v z. rw t' (symbol-means (familyOf k) n (group-of k n (check-named k n e)) order a out (length out) p' v z);
-        }
-
-pub front-length : {k n : ℕ} (t l : List ℕ) {s : List ℕ} → k ≡ n → length t ≡ n → s ≡ t ++ drop n l → k ≡ length (take k s)
-front-length t l e len d = e ∙ sym len ∙ ap length (sym (front t l e len d))
+groups-among : (k n : ℕ) → Among 20 21 (groupCheck k n)
+groups-among k n = go (groupCheck k n) refl
+  where
+    go : (c : Checked) → groupCheck k n ≡ c → Among 20 21 c
+    go (checked.Refused f) e = group-numbers k n e
+    go checked.Accepted e = tt
 
 module _ (f : Family) (n : ℕ) (g : Group f n) where
   pub length-S : length (familyS f n) ≡ familyIndex f n
@@ -196,14 +54,135 @@ module _ (f : Family) (n : ℕ) (g : Group f n) where
   pub length-R : length (familyR f n) ≡ familyIndex f n
   length-R = family-cosets f n g .size-R
 
--- an import of the family's tables, wherever they stand
-pub imported : (f : Family) (n : ℕ) → Group f n → (order : Order) (s r w w' : List ℕ) (out : List ℤ) (a : Filled) (w'' : List ℕ) (out' : List ℤ)
-    → s ≡ familyS f n → r ≡ familyR f n → length w' ≡ length w → workLength ≤ length w → a ≡ importBy order s r (length w') (length out)
-    → w'' ≡ importWork (pairCheck s r) w' → out' ≡ importTable (ruledBy order s r) a out
-    → (a ≡ grownWithin order (familyS f n) (familyR f n) (length out)) × ((w'' ≡ zeros (length w)) × (out' ≡ ruledLeft (ruledBy order (familyS f n) (familyR f n)) a out))
-imported f n g order s r w w' out a w'' out' es er ew long p q t =
-    let long' : workLength ≤ length w' = rw ew long in
-    let p' : a ≡ importBy order (familyS f n) (familyR f n) (length w') (length out) = rw (es, er) at p in
-    let q' : w'' ≡ importWork (pairCheck (familyS f n) (familyR f n)) w' = rw (es, er) at q in
-    let t' : out' ≡ importTable (ruledBy order (familyS f n) (familyR f n)) a out = rw (es, er) at t in
-    (p' ∙ import-long f n g order (length w') (length out) long', (q' ∙ import-clears f n g w' long' ∙ ap zeros ew, t'))
+-- ---- tables
+
+abbrev pub tableSteps : (f : Family) (n : ℕ) (s r s' r' : List ℕ) → List Step
+tableSteps f n s r s' r' =
+    Asks (lengthCheck (length (familyS f n)) (length s)) ∷ Gives (atFront (familyS f n) s) s s' ∷ Asks (lengthCheck (length (familyR f n)) (length r))
+    ∷ Gives (atFront (familyR f n) r) r r' ∷ []
+
+module _ (f : Family) (n : ℕ) (g : Group f n) {k : ℕ} (e : k ≡ familyIndex f n) (s r : List ℕ) where
+  long-S : length (familyS f n) ≡ k
+  long-S = length-S f n g ∙ sym e
+
+  long-R : length (familyR f n) ≡ k
+  long-R = length-R f n g ∙ sym e
+
+  abbrev for-R : (r' : List ℕ) → List Step
+  for-R r' = Asks (lengthCheck (length (familyR f n)) (length r)) ∷ Gives (atFront (familyR f n) r) r r' ∷ []
+
+  pub no-room-S : length s < k → Fills (tableSteps f n s r s r) (madeIf (familyIndex f n)) (filled.Refused (tooShort k))
+  no-room-S h = fills-as (short-write (familyS f n) s k long-S (for-R r) h (refl, tt)) refl
+
+  pub no-room-R : k ≤ length s → length r < k → Fills (tableSteps f n s r s r) (madeIf (familyIndex f n)) (filled.Refused (tooShort k))
+  no-room-R h i = fills-as (run-hold (familyS f n) s k long-S (for-R r) (tooShort k) h (short-write (familyR f n) r k long-R [] i tt)) refl
+
+  pub tables-in-room : k ≤ length s → k ≤ length r → {s' r' : List ℕ} → s' ≡ familyS f n ++ drop (familyIndex f n) s
+      → r' ≡ familyR f n ++ drop (familyIndex f n) r → Fills (tableSteps f n s r s' r') (madeIf (familyIndex f n)) (filled.Made k)
+  tables-in-room h i {s'} {r'} p q =
+      fills-as (run-write (familyS f n) s k long-S (for-R r') s' h (p ∙ ap (λ (m : ℕ). familyS f n ++ drop m s) (sym e))
+      (run-write (familyR f n) r k long-R [] r' i (q ∙ ap (λ (m : ℕ). familyR f n ++ drop m r) (sym e)) run-end)) (ap filled.Made e)
+
+-- tables and symbols of a family that was found by its number
+pub tables-by : (k n : ℕ) {f : Family} → f ≡ familyOf k → (s r s' r' : List ℕ) {a : Filled} → Fills (tableSteps f n s r s' r') (madeIf (familyIndex f n)) a
+    → Fills (tableSteps (familyOf k) n s r s' r') (madeIf (familyIndex (familyOf k) n)) a
+tables-by k n d s r s' r' {a} g = subst (λ (f : Family). Fills (tableSteps f n s r s' r') (madeIf (familyIndex f n)) a) d g
+
+pub symbol-by : (order : Order) (k n : ℕ) {f : Family} → f ≡ familyOf k → (o o' : List ℤ) {a : Filled}
+    → Fills (symbolSteps order (familyS f n) (familyR f n) o o') (madeIf (neededVertices (familyR f n))) a
+    → Fills (symbolSteps order (familyS (familyOf k) n) (familyR (familyOf k) n) o o') (madeIf (neededVertices (familyR (familyOf k) n))) a
+symbol-by order k n d o o' {a} g =
+    subst (λ (f : Family). Fills (symbolSteps order (familyS f n) (familyR f n) o o') (madeIf (neededVertices (familyR f n))) a) d g
+
+-- what the number 0 says of tables
+module _ (k n : ℕ) (w s r : List ℕ) where
+  abbrev S : List ℕ
+  S = familyS (familyOf k) n
+
+  abbrev R : List ℕ
+  R = familyR (familyOf k) n
+
+  abbrev pub tablesVerdict : Checked
+  tablesVerdict =
+      groupCheck k n orElse lengthCheck workLength (length w) orElse lengthCheck (length S) (length s) orElse lengthCheck (length R) (length r)
+      orElse checked.Accepted
+
+  pub tables-say : checkedRefusal tablesVerdict .number ≡ 0
+      → NamedTables k n (ifAccepted tablesVerdict (familyIndex (familyOf k) n) (checkedRefusal tablesVerdict .place))
+  tables-say =
+      let behind = lengthCheck workLength (length w) orElse lengthCheck (length S) (length s) orElse lengthCheck (length R) (length r)
+      orElse checked.Accepted in
+      made-says (record {
+        steps = Asks (groupCheck k n) ∷ Asks (lengthCheck workLength (length w)) ∷ Asks (lengthCheck (length S) (length s))
+            ∷ Asks (lengthCheck (length R) (length r)) ∷ [];
+        count = familyIndex (familyOf k) n;
+        Says = λ number place. Unit {0};
+      }) (NamedTables k n) (
+        above-among 20 21 (groupCheck k n) (omega arith) (groups-among k n),
+        (above-room workLength (length w), (above-room (length S) (length s), (above-room (length R) (length r), tt))),
+      ) (λ e. record {
+        count = refl;
+        cosets = family-cosets (familyOf k) n (group-of k n (check-named k n (both-pass (groupCheck k n) behind e .0)));
+      })
+
+-- ---- the symbol
+
+-- the front of a table that was filled
+pub front : {k n : ℕ} (t l : List ℕ) {s : List ℕ} → k ≡ n → length t ≡ n → s ≡ t ++ drop n l → take k s ≡ t
+front {k} {n} t l e len d = rw d (take-at t (drop n l) k (len ∙ sym e))
+
+pub front-length : {k n : ℕ} (t l : List ℕ) {s : List ℕ} → k ≡ n → length t ≡ n → s ≡ t ++ drop n l → k ≡ length (take k s)
+front-length t l e len d = e ∙ sym len ∙ ap length (sym (front t l e len d))
+
+accepted-pair : (f : Family) (n : ℕ) → Group f n → pairCheck (familyS f n) (familyR f n) ≡ checked.Accepted
+accepted-pair f n g = accepted (familyS f n) (familyR f n) .1 (passport f n g)
+
+-- an import of the family's tables, wherever they stand, passes 12 to 15 and the work space
+pub symbol-made : (f : Family) (n : ℕ) → Group f n → (order : Order) (s r w w' : List ℕ) (o : List ℤ) {a : Filled} {w'' : List ℕ} {o' : List ℤ}
+    → s ≡ familyS f n → r ≡ familyR f n → length w' ≡ length w → workLength ≤ length w
+    → Fills (admitted (pairCheck s r) w' (neededVertices r) w'' (symbolSteps order s r o o')) (madeIf (neededVertices r)) a
+    → Fills (symbolSteps order (familyS f n) (familyR f n) o o') (madeIf (neededVertices (familyR f n))) a × (w'' ≡ zeros (length w))
+symbol-made f n g order s r w w' o {a} {w''} {o'} es er ew long k =
+    let S = familyS f n in
+    let R = familyR f n in
+    let m = neededVertices R in
+    let k' = subst (λ (x : List ℕ). Fills (admitted (pairCheck S x) w' (neededVertices x) w'' (symbolSteps order S x o o')) (madeIf (neededVertices x)) a) er
+    (subst (λ (x : List ℕ). Fills (admitted (pairCheck x r) w' (neededVertices r) w'' (symbolSteps order x r o o')) (madeIf (neededVertices r)) a) es k) in
+    let z = work-back (pairCheck S R) w' m (accepted-pair f n g) (symbolSteps order S R o o') (rw ew long) k' in
+    (z .0, z .1 ∙ ap zeros ew)
+
+-- what the number 0 says of a symbol
+module _ (order : Order) (k n : ℕ) (w : List ℕ) (o : List ℤ) where
+  abbrev pub table : List ℤ
+  table = ruledTable (namedRule order k n)
+
+  abbrev pub needed : ℕ
+  needed = neededLength (familyR (familyOf k) n)
+
+  abbrev pub symbolVerdict : Checked
+  symbolVerdict =
+      groupCheck k n orElse lengthCheck workLength (length w) orElse lengthCheck needed (length o) orElse check16 (namedRule order k n) orElse checked.Accepted
+
+  pub symbol-accepted : symbolVerdict ≡ checked.Accepted → NamedSymbol (familyOf k) n (neededVertices (familyR (familyOf k) n)) table
+  symbol-accepted e =
+      let last = check16 (namedRule order k n) orElse checked.Accepted in
+      let a = both-pass (groupCheck k n) (lengthCheck workLength (length w) orElse lengthCheck needed (length o) orElse last) e in
+      let b = both-pass (lengthCheck workLength (length w)) (lengthCheck needed (length o) orElse last) (a .1) in
+      let d = both-pass (lengthCheck needed (length o)) last (b .1) in
+      let g = group-of k n (check-named k n (a .0)) in
+      symbol-named (familyOf k) n g (neededVertices (familyR (familyOf k) n)) table
+      (made-means order (familyS (familyOf k) n) (familyR (familyOf k) n) (passport (familyOf k) n g)
+      (both-pass (check16 (namedRule order k n)) checked.Accepted (d .1) .0))
+
+  pub symbol-says : checkedRefusal symbolVerdict .number ≡ 0
+      → NamedSymbol (familyOf k) n (ifAccepted symbolVerdict (neededVertices (familyR (familyOf k) n)) (checkedRefusal symbolVerdict .place)) table
+  symbol-says =
+      made-says (record {
+        steps = Asks (groupCheck k n) ∷ Asks (lengthCheck workLength (length w)) ∷ Asks (lengthCheck needed (length o))
+            ∷ Asks (check16 (namedRule order k n)) ∷ [];
+        count = neededVertices (familyR (familyOf k) n);
+        Says = λ number place. Unit {0};
+      }) (λ (v : ℕ). NamedSymbol (familyOf k) n v table) (
+        above-among 20 21 (groupCheck k n) (omega arith) (groups-among k n),
+        (above-room workLength (length w), (above-room needed (length o), (above16 (namedRule order k n), tt))),
+      ) symbol-accepted

@@ -1,172 +1,161 @@
--- Laws for the queries on groups with names: what `make_symbol` leaves, the query on it, and the ways out of `named_query_by`.
+-- Laws for the queries on groups with names: what `make_symbol` leaves and the query on it (`query-over`, `query-made`), what `named_query_by` asks for
+-- (`query-ready`, `as-named`), and the claim from the steps (`claimed`).
 -- Assumes nothing.
 use mathlib.Core.Path.{_≡_, refl, sym, _∙_, ap, subst}
-use mathlib.Core.List.{List, _++_}
-use Prim.Native.Nat.{ℕ, _+_, _*_, _-_, _≤_, _<_}
+use mathlib.Core.Bool.{false}
+use mathlib.Core.List.{List, [], _∷_, _++_}
+use Prim.Native.Nat.{ℕ, _+_, _*_, _≤_}
 use native.Mathlib.Omega.{arith}
-use lib.Dec.{ltb}
-use lib.ListN.{length, take, drop, length-take}
+use lib.ListN.{length, take, drop}
 use lib.Seq.{take-at}
 use lib.IntN.{ℤ}
-use borrow.Author.Tests.{le-ltb}
-use Rattle.basics.proofs.Choice.{pick-false}
-use Rattle.basics.specs.Count.{first}
-use Rattle.matrix.specs.Matrix.{ofList}
-use Rattle.refusal.specs.Refusal.{matrixEntry, badDeterminant, tooShort, entryTooLarge, filledRefusal}
-use Rattle.refusal.specs.declared.Refusal.{Refusal}
-use Rattle.refusal.specs.declared.Checked.{Checked}
-use Rattle.refusal.specs.declared.Checked.the-variants as checked
-use Rattle.refusal.specs.declared.Filled.{Filled}
-use Rattle.refusal.specs.declared.Filled.the-variants as filled
-use Rattle.refusal.proofs.Apart.{refused-made}
-use Rattle.workspace.specs.Space.{workLength, zeros}
-use Rattle.symbol.specs.Check.{symbolCheck}
-use Rattle.symbol.proofs.Accepted.{accepted}
+use Rattle.call.specs.Refusal.{_orElse_, entryTooLarge}
+use Rattle.call.specs.declared.refusal.Refusal.{Refusal}
+use Rattle.call.specs.declared.refusal.Checked.{Checked}
+use Rattle.call.specs.declared.refusal.Checked.the-variants.{Accepted, Refused}
+use Rattle.call.specs.declared.refusal.Filled.{Filled}
+use Rattle.call.specs.declared.refusal.Filled.the-variants as filled
+use Rattle.call.proofs.Answers.{both-pass}
+use Rattle.call.specs.Space.{workLength, zeros}
+use Rattle.call.specs.Call.{Step, Asks, Clears, Gives, lengthCheck, atFront, ifAccepted, verdict, Leaves}
+use Rattle.call.specs.Inner.Fills.{Fills, madeIf}
+use Rattle.call.proofs.Laws.{room-long, run-stop, fills-as}
 use Rattle.congruence.specs.Cosets.{familyS, familyR}
 use Rattle.congruence.specs.declared.Family.{Family}
 use Rattle.congruence_tables.specs.Inner.Held.{Group}
 use Rattle.import_rule.specs.Order.{Order}
 use Rattle.import_rule.specs.Symbol.{Ruled, made, over, ruledBy}
-use Rattle.import_table.specs.Answer.{grownOf, ruledTable, ruledLeft}
-use Rattle.permutations.specs.Import.{neededLength, grownWithin}
-use Rattle.word.specs.Answer.{large, unit, foundWord, foundOf, queryOf, queryWork, wordLeft}
-use Rattle.word.specs.Inner.Ready.{judgedOf}
+use Rattle.import_symbol.specs.Answer.{check16, ruledTable}
+use Rattle.permutations.specs.Import.{neededVertices, neededLength}
+use Rattle.permutations.proofs.Means.{symbolSteps}
+use Rattle.permutations.proofs.Told.{told-made, told-refused, rule-made, rule-over}
+use Rattle.permutations.proofs.Answering.{past-check}
+use Rattle.word.specs.Answer.{matricesCheck, foundIf}
+use Rattle.word.specs.Claim.{Asked}
 use Rattle.word.specs.declared.Queried.{Queried}
 use Rattle.word.specs.declared.Queried.the-variants as queried
 use Rattle.word.proofs.Pair.{unit-is}
-use Rattle.word.proofs.Order.{passed-small}
-use Rattle.word.proofs.Refused as refused
+use Rattle.word.proofs.Finding.{walkRun}
+use Rattle.word.proofs.Order.{passed-small, left-if, queryRun, asked-fills}
+use Rattle.word.proofs.Refused.{Passed}
 use Rattle.named_groups.specs.Group.{familyOf, groupCheck}
-use Rattle.named_groups.specs.Answer.{namedRule, NamedSymbol, ruledQuery, ruledWord, namedQueryBy, namedQueryWork}
+use Rattle.named_groups.specs.Answer.{namedRule, NamedSymbol, ruledCloses, ruledWord, ruledSign, ruledIf, namedQueryBy}
 use Rattle.named_groups.specs.Claim.{NamedClaim}
 use Rattle.named_groups.specs.Inner.Ready.{QueryReady}
 use Rattle.named_groups.proofs.Tables.{passport}
 use Rattle.named_groups.proofs.Answers.{group-by}
-use Rattle.named_groups.proofs.Claim.{rule-symbol, pair-passed, named-claim}
+use Rattle.named_groups.proofs.Claim.{rule-symbol, named-claim}
+
+-- the steps from 16 on, from the word space `out` to out'
+abbrev pub ruledRun : Ruled → (a b out out' : List ℤ) (start : ℕ) → List Step
+ruledRun rule a b out out' start = Asks (check16 rule) ∷ walkRun (ruledCloses rule a b) (ruledWord rule a b) out out' start
 
 -- ---- what was made
 
-made-rule : (g : Ruled) (v : ℕ) → grownOf g ≡ filled.Made v → g ≡ made v (ruledTable g)
-made-rule (made v' t) v e = let z : v' ≡ v = cc in ap (λ (x : ℕ). made x t) z
-made-rule (over i) v e = refused-made e
-
-record Over (g : Ruled) (x : Refusal) : Type 0 where
-  side : ℕ
-  is : g ≡ over side
-  refusal : x ≡ entryTooLarge side
-
-over-rule : (g : Ruled) {x : Refusal} → grownOf g ≡ filled.Refused x → Over g x
-over-rule (made v t) e = refused-made (sym e)
-over-rule (over i) {x} e = record { side = i; is = refl; refusal = sym (ap filledRefusal e) }
+only16 : (c : Checked) {x : Refusal} → (c orElse Accepted) ≡ Refused x → c ≡ Refused x
+only16 Accepted e = e
+only16 (Refused f) e = e
 
 module _ (f : Family) (n : ℕ) (g : Group f n) (order : Order) where
   abbrev G : Ruled
   G = ruledBy order (familyS f n) (familyR f n)
 
-  -- each table fits in 3,070 numbers
-  fits : neededLength (familyR f n) ≤ 3070
-  fits = let p = passport f n g in omega (arith, p .most, p .even)
+  -- each table fits in 3,070 numbers, so that 16 alone can be refused
+  module _ {a' : Filled} (zs T : List ℤ) (long : length zs ≡ 3070)
+      (k : Fills (symbolSteps order (familyS f n) (familyR f n) zs T) (madeIf (neededVertices (familyR f n))) a') where
+    behind : Fills (Asks (check16 G) ∷ Gives (atFront (ruledTable G) zs) zs T ∷ []) (madeIf (neededVertices (familyR f n))) a'
+    behind =
+        let p = passport f n g in
+        past-check (room-long (neededLength (familyR f n)) (length zs) (omega (arith, p .most, p .even, long))) k
 
-  within : grownWithin order (familyS f n) (familyR f n) 3070 ≡ grownOf G
-  within = pick-false (ltb 3070 (neededLength (familyR f n))) _ _ (le-ltb 3070 (neededLength (familyR f n)) fits)
+    pub query-over : {x : Refusal} → a' ≡ filled.Refused x → (a b out : List ℤ) (start : ℕ)
+        → Fills (ruledRun G a b out out start) (ruledIf G a b start) (queried.Refused x)
+    query-over {x} d a b out start =
+        let o = rule-over G (only16 (check16 G) (told-refused (neededVertices (familyR f n)) (check16 G orElse Accepted) (behind .answer) d)) in
+        let i = o .side in
+        subst (λ (g : Ruled). Fills (ruledRun g a b out out start) (ruledIf g a b start) (queried.Refused x)) (sym (o .is))
+        (fills-as (run-stop (entryTooLarge i) (Refused (entryTooLarge i)) (walkRun false [] out out start) refl (refl, tt)) (ap queried.Refused (o .refusal)))
 
-  pub query-over : {x : Refusal} {a' : Filled} → a' ≡ grownWithin order (familyS f n) (familyR f n) 3070 → a' ≡ filled.Refused x → (a b : List ℤ) (start room : ℕ)
-      → queried.Refused x ≡ ruledQuery G a b start room
-  query-over e d a b start room =
-      let o = over-rule G (sym within ∙ sym e ∙ d) in
-      ap queried.Refused (o .refusal) ∙ sym (ap (λ (z : Ruled). ruledQuery z a b start room) (o .is))
+    module _ {v : ℕ} (d : a' ≡ filled.Made v) where
+      passed16 : (check16 G orElse Accepted) ≡ Accepted
+      passed16 = told-made (check16 G orElse Accepted) (behind .answer) d .0
 
-  module _ {v : ℕ} {a' : Filled} (e : a' ≡ grownWithin order (familyS f n) (familyR f n) 3070) (d : a' ≡ filled.Made v) where
-    is-made : G ≡ made v (ruledTable G)
-    is-made = made-rule G v (sym within ∙ sym e ∙ d)
+      is-made : G ≡ made v (ruledTable G)
+      is-made =
+          rule-made order (familyS f n) (familyR f n) (passport f n g) (both-pass (check16 G) Accepted passed16 .0)
+          ∙ ap (λ (x : ℕ). made x (ruledTable G)) (sym (told-made (check16 G orElse Accepted) (behind .answer) d .1))
 
-    symbol : NamedSymbol f n v (ruledTable G)
-    symbol = rule-symbol f n g order v (ruledTable G) is-made
+      symbol : NamedSymbol f n v (ruledTable G)
+      symbol = rule-symbol f n g order v (ruledTable G) is-made
 
-    pub most : v ≤ 1023
-    most = symbol .symbol .most
+      pub most : v ≤ 1023
+      most = symbol .symbol .most
 
-    module _ {T : List ℤ} (zs : List ℤ) (t : T ≡ ruledLeft G a' zs) where
       pub front-is : take (3 * v + 1) T ≡ ruledTable G
       front-is =
-          ap (λ (l : List ℤ). take (3 * v + 1) l) (t ∙ ap (λ (x : Filled). ruledLeft G x zs) d)
-          ∙ take-at (ruledTable G) (drop (3 * v + 1) zs) (3 * v + 1) (symbol .symbol .long)
+          ap (λ (l : List ℤ). take (3 * v + 1) l) (behind .leaves .0 ∙ ap (λ (x : Checked). ifAccepted x (atFront (ruledTable G) zs) zs) passed16)
+          ∙ take-at (ruledTable G) (drop (length (ruledTable G)) zs) (3 * v + 1) (symbol .symbol .long)
 
       pub front-long : 3 * v + 1 ≡ length (take (3 * v + 1) T)
       front-long = sym (symbol .symbol .long) ∙ ap length (sym front-is)
 
       -- the query on the symbol that was made
-      pub query-made : (a b : List ℤ) (w w1 w' : List ℕ) (out out' : List ℤ) (start : ℕ) (r : Queried) → QueryReady f n a b w → length w1 ≡ length w
-          → r ≡ queryOf v (take (3 * v + 1) T) a b (length w1) (length out) start → w' ≡ queryWork v (take (3 * v + 1) T) a b w1
-          → out' ≡ wordLeft r (foundWord v (take (3 * v + 1) T) (ofList a) (ofList b)) out
-          → (r ≡ ruledQuery G a b start (length out)) × ((w' ≡ zeros (length w)) × (out' ≡ wordLeft r (ruledWord G a b) out))
-      query-made a b w w1 w' out out' start r q ew er ek eo =
+      pub query-made : (a b : List ℤ) (w w1 w' : List ℕ) (out out' : List ℤ) (start : ℕ) {r : Queried} → QueryReady f n a b w → length w1 ≡ length w
+          → Fills (queryRun v (take (3 * v + 1) T) a b w1 w' out out' start) (foundIf v (take (3 * v + 1) T) a b start) r
+          → Fills (ruledRun G a b out out' start) (ruledIf G a b start) r × (w' ≡ zeros (length w))
+      query-made a b w w1 w' out out' start {r} q ew g =
           let u = ruledTable G in
-          let er' : r ≡ queryOf v u a b (length w1) (length out) start = rw front-is at er in
-          let ek' : w' ≡ queryWork v u a b w1 = rw front-is at ek in
-          let eo' : out' ≡ wordLeft r (foundWord v u (ofList a) (ofList b)) out = rw front-is at eo in
-          let p = pair-passed a b (q .entries-A) (q .entries-B) (q .unit-A) (q .unit-B) in
-          let long : workLength ≤ length w1 = rw ew (q .work) in
-          let z = refused.by-long (symbolCheck v u) (foundOf v u a b start (length out)) a b w1 (accepted v u .1 (symbol .symbol)) (p .entries) (p .A) (p .B) long in (
-            er' ∙ sym (z .0) ∙ sym (ap (λ (x : Ruled). ruledQuery x a b start (length out)) is-made),
-            (
-              ek' ∙ sym (z .1) ∙ ap zeros ew,
-              eo' ∙ sym (ap (λ (x : Ruled). wordLeft r (ruledWord x a b) out) is-made),
-            ),
+          let asked : Asked v u a b w1 =
+          record {
+            symbol = symbol .symbol;
+            work = rw ew (q .work);
+            entries-A = q .entries-A;
+            entries-B = q .entries-B;
+            unit-A = q .unit-A;
+            unit-B = q .unit-B;
+          } in
+          let h = asked-fills v u a b w1 w' out out' start asked
+          (subst (λ (l : List ℤ). Fills (queryRun v l a b w1 w' out out' start) (foundIf v l a b start) r) front-is g) in (
+            subst (λ (x : Ruled). Fills (ruledRun x a b out out' start) (ruledIf x a b start) r) (sym is-made)
+                (record { answer = h .0 .answer; leaves = h .0 .leaves }),
+            h .1 ∙ ap zeros ew,
           )
 
 -- ---- `named_query_by`
 
-module _ (order : Order) (k n : ℕ) (a b : List ℤ) (w : List ℕ) (out : List ℤ) (start : ℕ) where
-  abbrev rule : Ruled
-  rule = namedRule order k n
+-- the group that a number names, in the steps
+pub as-named : (order : Order) (k n : ℕ) (a b out out' : List ℤ) (start : ℕ) {f : Family} {r : Queried} → f ≡ familyOf k
+    → Fills (ruledRun (ruledBy order (familyS f n) (familyR f n)) a b out out' start) (ruledIf (ruledBy order (familyS f n) (familyR f n)) a b start) r
+    → Fills (ruledRun (namedRule order k n) a b out out' start) (ruledIf (namedRule order k n) a b start) r
+as-named order k n a b out out' start {f} {r} d g =
+    subst (λ (h : Family). Fills (ruledRun (ruledBy order (familyS h n) (familyR h n)) a b out out' start)
+    (ruledIf (ruledBy order (familyS h n) (familyR h n)) a b start) r)
+    d g
 
-  abbrev found : Queried
-  found = ruledQuery rule a b start (length out)
+pub query-ready : (k n : ℕ) (a b : List ℤ) (w : List ℕ) {f : Family} → groupCheck k n ≡ Accepted → Passed a b → workLength ≤ length w → f ≡ familyOf k
+    → QueryReady f n a b w
+query-ready k n a b w e p i d =
+    let s = passed-small a b (p .entries) in
+    record {
+      group = group-by k n d e;
+      work = i;
+      entries-A = s .0;
+      entries-B = s .1;
+      unit-A = unit-is a (p .A);
+      unit-B = unit-is b (p .B);
+    }
 
-  pub record NamedLeft (r : Queried) (w' : List ℕ) (out' : List ℤ) : Type 0 where
-    pub returned : r ≡ namedQueryBy order k n a b (length w) (length out) start
-    pub work : w' ≡ namedQueryWork k n a b w
-    pub result : out' ≡ wordLeft r (ruledWord rule a b) out
-    pub claim : NamedClaim order k n a b w out start r out'
+-- ---- what the calls say
 
-  left : {r : Queried} {w' : List ℕ} {out' : List ℤ} → r ≡ namedQueryBy order k n a b (length w) (length out) start → w' ≡ namedQueryWork k n a b w
-      → out' ≡ wordLeft r (ruledWord rule a b) out → NamedLeft r w' out'
-  left {r} {w'} {out'} p q t = record { returned = p; work = q; result = t; claim = named-claim order k n a b w out start r out' p t }
+module _ (order : Order) (k n : ℕ) (a b : List ℤ) (w w' : List ℕ) (out out' : List ℤ) (start : ℕ) where
+  -- the steps of a query, from the spaces w and out to w' and out'
+  abbrev pub namedRun : List Step
+  namedRun =
+      Asks (groupCheck k n) ∷ Asks (matricesCheck a b) ∷ Asks (lengthCheck workLength (length w)) ∷ Clears w w' ∷ ruledRun (namedRule order k n) a b out out'
+      start
 
-  pub left-refused : (f : Refusal) → groupCheck k n ≡ checked.Refused f → NamedLeft (queried.Refused f) w out
-  left-refused f e = let z = refused.by-fault (groupCheck k n) found a b w f e in left (z .0) (z .1) refl
-
-  module _ (e : groupCheck k n ≡ checked.Accepted) (j : ℕ) (judged : j ≡ judgedOf a b) where
-    pub left-entry : j < 8 → NamedLeft (queried.Refused (matrixEntry j)) w out
-    left-entry h = let z = refused.by-large (groupCheck k n) found a b w e j judged h in left (z .0) (z .1) refl
-
-    pub left-determinant : 8 ≤ j → j < 10 → NamedLeft (queried.Refused (badDeterminant (j - 8))) w out
-    left-determinant h i = let z = refused.by-determinant (groupCheck k n) found a b w e j judged h i in left (z .0) (z .1) refl
-
-    module _ (h : 10 ≤ j) where
-      passed : refused.Passed a b
-      passed = refused.passed-by a b j judged h
-
-      pub left-short : length w < workLength → NamedLeft (queried.Refused (tooShort workLength)) w out
-      left-short i = let z = refused.by-short (groupCheck k n) found a b w e (passed .entries) (passed .A) (passed .B) i in left (z .0) (z .1) refl
-
-      module _ (i : workLength ≤ length w) {f : Family} (d : f ≡ familyOf k) where
-        pub query-ready : QueryReady f n a b w
-        query-ready =
-            let s = passed-small a b (passed .entries) in
-            record {
-              group = group-by k n d e;
-              work = i;
-              entries-A = s .0;
-              entries-B = s .1;
-              unit-A = unit-is a (passed .A);
-              unit-B = unit-is b (passed .B);
-            }
-
-        pub left-long : (r : Queried) (w' : List ℕ) (out' : List ℤ) → r ≡ ruledQuery (ruledBy order (familyS f n) (familyR f n)) a b start (length out)
-            → w' ≡ zeros (length w) → out' ≡ wordLeft r (ruledWord (ruledBy order (familyS f n) (familyR f n)) a b) out → NamedLeft r w' out'
-        left-long r w' out' p q t =
-            let z = refused.by-long (groupCheck k n) found a b w e (passed .entries) (passed .A) (passed .B) i in
-            left (p ∙ ap (λ (g : Family). ruledQuery (ruledBy order (familyS g n) (familyR g n)) a b start (length out)) d ∙ z .0) (q ∙ z .1)
-            (t ∙ ap (λ (g : Family). wordLeft r (ruledWord (ruledBy order (familyS g n) (familyR g n)) a b) out) d)
+  pub claimed : Leaves namedRun → NamedClaim order k n a b w out start (namedQueryBy order k n a b (length w) (length out) start) out'
+  claimed l =
+      let G = namedRule order k n in
+      named-claim order k n a b w out start (namedQueryBy order k n a b (length w) (length out) start) out' refl
+      (l .1 .0 ∙ left-if start (length (ruledWord G a b)) (ruledSign G a b) (verdict namedRun) (ruledWord G a b) out)

@@ -8,12 +8,12 @@ use native.Mathlib.Omega.{arith}
 use native.Mathlib.Decide.{decLe}
 use lib.Dec.{leb}
 use borrow.Author.Tests.{le-leb, lt-leb, ne-eqb}
-use Rattle.refusal.specs.declared.Checked.{Checked}
-use Rattle.refusal.specs.declared.Checked.the-variants as checked
-use Rattle.refusal.specs.declared.Refusal.{Refusal}
-use Rattle.refusal.specs.Refusal.{checkedRefusal, badLevel, largeIndex}
-use Rattle.refusal.proofs.Apart.{refused-accepted}
-use Rattle.refusal.proofs.Numbered.{Among}
+use Rattle.call.specs.declared.refusal.Checked.{Checked}
+use Rattle.call.specs.declared.refusal.Checked.the-variants as checked
+use Rattle.call.specs.declared.refusal.Refusal.{Refusal}
+use Rattle.call.specs.Refusal.{checkedRefusal, badLevel, largeIndex}
+use Rattle.call.proofs.Apart.{refused-accepted}
+use Rattle.call.proofs.Numbered.{Among}
 use Rattle.congruence.specs.Index.{familyIndex}
 use Rattle.congruence.specs.declared.Family.{Family}
 use Rattle.congruence.specs.declared.Family.the-variants as family
@@ -94,4 +94,5 @@ group-numbers k n {f} e = elim (decLe k 2) [
 ]
   where
     by-number : {g h : Refusal} → checked.Refused g ≡ checked.Refused h → 20 ≤ g .number → g .number ≤ 21 → (20 ≤ h .number) × (h .number ≤ 21)
-    by-number {g} {h} e p q = let z : checkedRefusal (checked.Refused g) ≡ checkedRefusal (checked.Refused h) = ap checkedRefusal e in let y : g .number ≡ h .number = ap (λ (x : Refusal). x .number) z in (omega arith, omega arith)
+    by-number {g} {h} e p q = let z : checkedRefusal (checked.Refused g) ≡ checkedRefusal (checked.Refused h) = ap checkedRefusal e in
+        let y : g .number ≡ h .number = ap (λ (x : Refusal). x .number) z in (omega arith, omega arith)

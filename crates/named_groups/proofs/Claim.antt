@@ -14,32 +14,32 @@ use Rattle.matrix.specs.Matrix.{Mat, _⊗_, adj, ofList}
 use Rattle.matrix.proofs.Matrix.{det-one, det-adj}
 use Rattle.basics.specs.Count.{first}
 use Rattle.basics.proofs.Count.{first-clear}
-use Rattle.refusal.specs.Refusal.{noWord, tooShort, entryTooLarge}
-use Rattle.refusal.specs.declared.Refusal.{Refusal}
-use Rattle.refusal.specs.declared.Checked.{Checked}
-use Rattle.refusal.specs.declared.Checked.the-variants as checked
-use Rattle.workspace.specs.Space.{workLength}
+use Rattle.call.specs.Refusal.{noWord, tooShort, entryTooLarge}
+use Rattle.call.specs.declared.refusal.Refusal.{Refusal}
+use Rattle.call.specs.declared.refusal.Checked.{Checked}
+use Rattle.call.specs.declared.refusal.Checked.the-variants.{Refused}
+use Rattle.call.proofs.Numbered.{Among}
+use Rattle.call.specs.Space.{workLength}
 use Rattle.pairing.specs.Generator.{generators}
 use Rattle.permutations.proofs.Means.{ruled-means}
 use Rattle.permutations.proofs.Renumbered.{from-coset, to-coset}
-use Rattle.congruence.specs.Condition.{Unit}
+use Rattle.right_cosets.specs.Condition.{Unit}
 use Rattle.congruence.specs.Congruence.{Meets}
 use Rattle.congruence.specs.Cosets.{familyS, familyR}
 use Rattle.congruence.specs.declared.Family.{Family}
 use Rattle.congruence_tables.specs.Inner.Held.{Group}
 use Rattle.import_rule.specs.Order.{Order}
 use Rattle.import_rule.specs.Symbol.{Ruled, made, over, ruledBy}
-use Rattle.word.specs.Answer.{queryRefusal, large, foundWord, foundSign, foundOf, wordLeft}
+use Rattle.call.specs.Call.{verdict}
+use Rattle.word.specs.Answer.{queryRefusal, large, foundWord, foundSign, foundIf, foundChecks, wordLeft}
 use Rattle.word.specs.Claim.{Joined, Found, Answered, ShortWork}
 use Rattle.word.specs.declared.Queried.{Queried}
-use Rattle.word.specs.declared.Queried.the-variants as queried
 use Rattle.word.proofs.Pair.{small-clear, unit-is, is-unit}
 use Rattle.word.proofs.Claim.{same-number, answered}
 use Rattle.word.proofs.Order.{passed-small}
-use Rattle.word.proofs.Refused as refused
-use Rattle.word.proofs.Refused.{Passed, Gets, Short, Stopped, reaches}
+use Rattle.word.proofs.Refused.{Passed, pair-passes, pair-among, inOrder, Gets, Short, Stopped, checked, paired, reached, reaches}
 use Rattle.named_groups.specs.Group.{familyOf, groupCheck, NamedGroup}
-use Rattle.named_groups.specs.Answer.{namedRule, NamedSymbol, ruledQuery, ruledWord, namedQueryBy}
+use Rattle.named_groups.specs.Answer.{namedRule, NamedSymbol, ruledWord, ruledIf, ruledChecks, namedQueryBy}
 use Rattle.named_groups.specs.Claim.{NamedAsked, NamedAnswered, RuleMakes, NamedClaim}
 use Rattle.named_groups.proofs.Checked.{check-named, check-accepts, group-of, group-numbers}
 use Rattle.named_groups.proofs.Symbols.{symbol-named}
@@ -47,12 +47,14 @@ use Rattle.named_groups.proofs.Tables.{passport}
 
 -- ---- the symbol that the rule gives
 
-pub rule-symbol : (f : Family) (n : ℕ) → Group f n → (order : Order) (v : ℕ) (t : List ℤ) → ruledBy order (familyS f n) (familyR f n) ≡ made v t → NamedSymbol f n v t
+pub rule-symbol : (f : Family) (n : ℕ) → Group f n → (order : Order) (v : ℕ) (t : List ℤ) → ruledBy order (familyS f n) (familyR f n) ≡ made v t
+    → NamedSymbol f n v t
 rule-symbol f n g order v t e = symbol-named f n g v t (ruled-means order (familyS f n) (familyR f n) v t (passport f n g) e)
 
 -- ---- the pair
 
-pub pair-passed : (a b : List ℤ) → Rattle.matrix.specs.Bounds.Small 1000000 (ofList a) → Rattle.matrix.specs.Bounds.Small 1000000 (ofList b) → Unit (ofList a) → Unit (ofList b) → Passed a b
+pub pair-passed : (a b : List ℤ) → Rattle.matrix.specs.Bounds.Small 1000000 (ofList a) → Rattle.matrix.specs.Bounds.Small 1000000 (ofList b) → Unit (ofList a)
+    → Unit (ofList b) → Passed a b
 pair-passed a b sa sb ua ub = record {
   entries = omega (arith, first-clear (large a b) 8 (small-clear a b sa sb));
   A = is-unit a ua;
@@ -65,10 +67,13 @@ module _ (order : Order) (k n : ℕ) (a b : List ℤ) (w : List ℕ) (out : List
   abbrev G : Ruled
   G = namedRule order k n
 
-  abbrev found : Queried
-  found = ruledQuery G a b start (length out)
+  abbrev found : Checked
+  found = verdict (ruledChecks G a b start (length out))
 
-  asked-of : Gets (groupCheck k n) found a b w r → NamedAsked k n a b w
+  abbrev all : Checked
+  all = inOrder (groupCheck k n) found a b w
+
+  asked-of : Gets (groupCheck k n) found a b w → NamedAsked k n a b w
   asked-of g =
       let s = passed-small a b (g .passed .entries) in
       record {
@@ -80,54 +85,66 @@ module _ (order : Order) (k n : ℕ) (a b : List ℤ) (w : List ℕ) (out : List
         unit-B = unit-is b (g .passed .B);
       }
 
-  -- what a query that gets past the checks answers
-  found-of : r ≡ namedQueryBy order k n a b (length w) (length out) start → NamedAsked k n a b w → r ≡ found
-  found-of e q =
-      let p = pair-passed a b (q .entries-A) (q .entries-B) (q .unit-A) (q .unit-B) in
-      e ∙ sym (refused.by-long (groupCheck k n) found a b w (check-accepts k n (q .group)) (p .entries) (p .A) (p .B) (q .work) .0)
+  module _ (e : r ≡ namedQueryBy order k n a b (length w) (length out) start) where
+    -- what a query that gets past the checks answers
+    found-of : NamedAsked k n a b w → r ≡ ruledIf G a b start found
+    found-of q =
+        let p = pair-passed a b (q .entries-A) (q .entries-B) (q .unit-A) (q .unit-B) in
+        e ∙ ap (ruledIf G a b start) (reached (groupCheck k n) found a b w (check-accepts k n (q .group)) (sym (pair-passes a b p)) (q .work))
 
-  -- an answer 0 or 10 is no 16
-  makes : (g : Ruled) → G ≡ g → r ≡ ruledQuery g a b start (length out) → (queryRefusal r .number ≡ 0) ⊎ (queryRefusal r .number ≡ noWord .number) → RuleMakes order k n
-  makes (made v t) e q h = record { vertices = v; table = t; is = e }
-  makes (over i) e q h = let z = same-number (ap queryRefusal q) in elim h [ inl y ↦ absurd (omega (arith, z, y)) | inr y ↦ absurd (omega (arith, z, y)) ]
+    by : {c : Checked} → all ≡ c → r ≡ ruledIf G a b start c
+    by z = e ∙ ap (ruledIf G a b start) z
 
-  asked-by : r ≡ namedQueryBy order k n a b (length w) (length out) start → (queryRefusal r .number ≡ 0) ⊎ (queryRefusal r .number ≡ noWord .number)
-      → NamedAsked k n a b w × RuleMakes order k n
-  asked-by e h = go (reaches (groupCheck k n) found a b w r e)
-    where
-      no : {x : Refusal} → r ≡ queried.Refused x → (x .number ≡ 0 → ⊥) → (x .number ≡ 10 → ⊥) → NamedAsked k n a b w × RuleMakes order k n
-      no s y z = let e = same-number (ap queryRefusal s) in elim h [ inl q ↦ absurd (y (sym e ∙ q)) | inr q ↦ absurd (z (sym e ∙ q)) ]
+    -- an answer other than 16 is given where the rule gives a symbol
+    makes : (g : Ruled) → G ≡ g → r ≡ ruledIf g a b start (verdict (ruledChecks g a b start (length out))) → (queryRefusal r .number ≡ 16 → ⊥)
+        → RuleMakes order k n
+    makes (made v t) d q h = record { vertices = v; table = t; is = d }
+    makes (over i) d q h = absurd (h (same-number (ap queryRefusal q)))
 
-      stopped : Stopped (groupCheck k n) r → NamedAsked k n a b w × RuleMakes order k n
-      stopped (refused.checked f q s) = let z = group-numbers k n q in no s (λ y. omega (arith, z .0, y)) (λ y. omega (arith, z .0, y))
-      stopped (refused.entry i s) = no s (λ y. omega arith) (λ y. omega arith)
-      stopped (refused.determinant i s) = no s (λ y. omega arith) (λ y. omega arith)
+    -- a number that the checks before don't give
+    asked-by : (queryRefusal r .number < 8) ⊎ (queryRefusal r .number ≡ 10) ⊎ (queryRefusal r .number ≡ 11)
+        → (queryRefusal r .number ≡ 11 → workLength ≤ length w)
+        → NamedAsked k n a b w × RuleMakes order k n
+    asked-by h long = go (reaches (groupCheck k n) found a b w)
+      where
+        no : {f : Refusal} → all ≡ Refused f → (f .number < 8 → ⊥) → (f .number ≡ 10 → ⊥) → (f .number ≡ 11 → ⊥) → NamedAsked k n a b w × RuleMakes order k n
+        no s x y z =
+            let q = same-number (ap queryRefusal (by s)) in
+            elim h [ inl l ↦ absurd (x (omega (arith, l, q))) | inr (inl l) ↦ absurd (y (sym q ∙ l)) | inr (inr l) ↦ absurd (z (sym q ∙ l)) ]
 
-      go : Gets (groupCheck k n) found a b w r ⊎ Short w r ⊎ Stopped (groupCheck k n) r → NamedAsked k n a b w × RuleMakes order k n
-      go (inl g) = (asked-of g, makes G refl (g .is) h)
-      go (inr (inl s)) = no (s .is) (λ y. omega arith) (λ y. omega arith)
-      go (inr (inr s)) = stopped s
+        stopped : Stopped (groupCheck k n) found a b w → NamedAsked k n a b w × RuleMakes order k n
+        stopped (checked f q s) = let z = group-numbers k n q in no s (λ y. omega (arith, z .0, y)) (λ y. omega (arith, z .0, y)) (λ y. omega (arith, z .0, y))
+        stopped (paired f q s) =
+            let z = subst (Among 8 9) q (pair-among a b) in no s (λ y. omega (arith, z .0, y)) (λ y. omega (arith, z .1, y)) (λ y. omega (arith, z .1, y))
 
-  makes-short : (g : Ruled) → G ≡ g → r ≡ ruledQuery g a b start (length out) → queryRefusal r .number ≡ 11 → RuleMakes order k n
-  makes-short (made v t) e q h = record { vertices = v; table = t; is = e }
-  makes-short (over i) e q h = let z = same-number (ap queryRefusal q) in absurd (omega (arith, z, h))
+        go : Gets (groupCheck k n) found a b w ⊎ Short (groupCheck k n) found a b w ⊎ Stopped (groupCheck k n) found a b w
+            → NamedAsked k n a b w × RuleMakes order k n
+        go (inl g) = (
+          asked-of g,
+          makes G refl (by (g .is)) (λ z. elim h [ inl l ↦ omega (arith, l, z) | inr (inl l) ↦ omega (arith, l, z) | inr (inr l) ↦ omega (arith, l, z) ]),
+        )
+        go (inr (inl s)) = absurd (omega (arith, long (same-number (ap queryRefusal (by (s .is)))), s .low))
+        go (inr (inr s)) = stopped s
 
-  short-by : r ≡ namedQueryBy order k n a b (length w) (length out) start → (m : ℕ) → queryRefusal r .number ≡ tooShort m .number
-      → (NamedAsked k n a b w × RuleMakes order k n) ⊎ ShortWork w r
-  short-by e m h = go (reaches (groupCheck k n) found a b w r e)
-    where
-      no : {x : Refusal} → r ≡ queried.Refused x → (x .number ≡ 11 → ⊥) → (NamedAsked k n a b w × RuleMakes order k n) ⊎ ShortWork w r
-      no s y = let e = same-number (ap queryRefusal s) in absurd (y (sym e ∙ h))
+    zero-ten : (queryRefusal r .number ≡ 0) ⊎ (queryRefusal r .number ≡ noWord .number) → NamedAsked k n a b w × RuleMakes order k n
+    zero-ten h = elim h [
+      | inl z ↦ asked-by (inl (omega (arith, z))) (λ y. absurd (omega (arith, y, z)))
+      | inr z ↦ asked-by (inr (inl z)) (λ y. absurd (omega (arith, y, z)))
+    ]
 
-      stopped : Stopped (groupCheck k n) r → (NamedAsked k n a b w × RuleMakes order k n) ⊎ ShortWork w r
-      stopped (refused.checked f q s) = let z = group-numbers k n q in no s (λ y. omega (arith, z .0, y))
-      stopped (refused.entry i s) = no s (λ y. omega arith)
-      stopped (refused.determinant i s) = no s (λ y. omega arith)
-
-      go : Gets (groupCheck k n) found a b w r ⊎ Short w r ⊎ Stopped (groupCheck k n) r → (NamedAsked k n a b w × RuleMakes order k n) ⊎ ShortWork w r
-      go (inl g) = inl (asked-of g, makes-short G refl (g .is) h)
-      go (inr (inl s)) = inr (s .low, ap queryRefusal (s .is))
-      go (inr (inr s)) = stopped s
+    short-by : (m : ℕ) → queryRefusal r .number ≡ tooShort m .number → (NamedAsked k n a b w × RuleMakes order k n) ⊎ ShortWork w r
+    short-by m h = elim (reaches (groupCheck k n) found a b w) [
+      | inl g ↦ inl (asked-by (inr (inr h)) (λ y. g .work))
+      | inr (inl s) ↦ inr (s .low, ap queryRefusal (by (s .is)))
+      | inr (inr (checked f q s)) ↦ (
+          let z = group-numbers k n q in
+          absurd (omega (arith, z .0, same-number (ap queryRefusal (by s)), h))
+          )
+      | inr (inr (paired f q s)) ↦ (
+          let z = subst (Among 8 9) q (pair-among a b) in
+          absurd (omega (arith, z .1, same-number (ap queryRefusal (by s)), h))
+          )
+    ]
 
   module _ (e : r ≡ namedQueryBy order k n a b (length w) (length out) start) (d : out' ≡ wordLeft r (ruledWord G a b) out) (q : NamedAsked k n a b w) where
     module _ (v : ℕ) (t : List ℤ) (g : G ≡ made v t) where
@@ -142,7 +159,7 @@ module _ (order : Order) (k n : ℕ) (a b : List ℤ) (w : List ℕ) (out : List
 
       walked : Answered v t A B (foundWord v t A B) (foundSign v t A B) out start r out'
       walked =
-          let z : r ≡ foundOf v t a b start (length out) = rw g at (found-of e q) in
+          let z : r ≡ foundIf v t a b start (verdict (foundChecks v t a b start (length out))) = rw g at (found-of e q) in
           let y : out' ≡ wordLeft r (foundWord v t A B) out = rw g at d in
           subst (λ (o : List ℤ). Answered v t A B (foundWord v t A B) (foundSign v t A B) out start r o) (sym y)
           (subst (λ (x : Queried). Answered v t A B (foundWord v t A B) (foundSign v t A B) out start x (wordLeft x (foundWord v t A B) out)) (sym z)
@@ -168,5 +185,6 @@ module _ (order : Order) (k n : ℕ) (a b : List ℤ) (w : List ℕ) (out : List
     answered-over : (i : ℕ) → G ≡ over i → queryRefusal r ≡ entryTooLarge i
     answered-over i g = ap queryRefusal (rw g at (found-of e q))
 
-  pub named-claim : r ≡ namedQueryBy order k n a b (length w) (length out) start → out' ≡ wordLeft r (ruledWord G a b) out → NamedClaim order k n a b w out start r out'
-  named-claim e d = record { asked = asked-by e; short = short-by e; answered = λ q v t g. answered-named e d q v t g; over = λ q i g. answered-over e d q i g }
+  pub named-claim : r ≡ namedQueryBy order k n a b (length w) (length out) start → out' ≡ wordLeft r (ruledWord G a b) out
+      → NamedClaim order k n a b w out start r out'
+  named-claim e d = record { asked = zero-ten e; short = short-by e; answered = λ q v t g. answered-named e d q v t g; over = λ q i g. answered-over e d q i g }

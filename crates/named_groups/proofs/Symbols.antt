@@ -5,15 +5,15 @@ use mathlib.Core.List.{List}
 use Prim.Native.Nat.{ℕ}
 use lib.IntN.{ℤ}
 use Rattle.matrix.specs.Matrix.{Mat}
-use Rattle.congruence.specs.Condition.{Unit}
+use Rattle.right_cosets.specs.Condition.{Unit}
 use Rattle.congruence.specs.Cosets.{familyS, familyR}
 use Rattle.congruence.specs.declared.Family.{Family}
 use Rattle.congruence_tables.specs.Inner.Held.{Group}
-use Rattle.permutations.specs.Import.{Symbolised}
+use Rattle.permutations.specs.Import.{SymbolOfPair}
 use Rattle.named_groups.specs.Answer.{NamedSymbol}
 use Rattle.named_groups.proofs.Tables.{family-cosets, leads-same, numbered-S, numbered-R}
 
-pub symbol-named : (f : Family) (n : ℕ) → Group f n → (v : ℕ) (t : List ℤ) → Symbolised (familyS f n) (familyR f n) v t → NamedSymbol f n v t
+pub symbol-named : (f : Family) (n : ℕ) → Group f n → (v : ℕ) (t : List ℤ) → SymbolOfPair (familyS f n) (familyR f n) v t → NamedSymbol f n v t
 symbol-named f n g v t y =
     let a = family-cosets f n g in
     record {

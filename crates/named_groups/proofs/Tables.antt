@@ -20,13 +20,14 @@ use Rattle.numbering.proofs.Find.{none-below}
 use Rattle.numbering.proofs.Order.{numbering, order-ext}
 use Rattle.numbering.proofs.Table.{renamed-length, renamed-at}
 use Rattle.numbering.proofs.Numbered.{upTo-length, upTo-at}
-use Rattle.coset.specs.Theorem.{byTableQ, leads}
+use Rattle.right_cosets.specs.Leads.{byTableQ, leads}
 use Rattle.congruence.specs.Congruence.{Meets}
 use Rattle.congruence.specs.Index.{familyIndex}
-use Rattle.congruence.specs.Cosets.{familyS, familyR, CosetsOf}
+use Rattle.congruence.specs.Cosets.{familyS, familyR}
+use Rattle.right_cosets.specs.Cosets.{CosetsOf}
 use Rattle.congruence.specs.declared.Family.{Family}
 use Rattle.congruence.proofs.Theorem.{tables}
-use Rattle.congruence.proofs.Walked.{upTo-find}
+use Rattle.right_cosets.proofs.Walked.{upTo-find}
 use Rattle.congruence_tables.specs.Inner.Held.{Group}
 use Rattle.import_rule.specs.Fixed.{image, byQ}
 use Rattle.permutations.specs.Check.{Passport}

@@ -1,34 +1,33 @@
-// The congruence groups Γ0(N), Γ1(N) and Γ(N) by name: their tables, their symbols, and pair queries on them. specs/Group.antt says which groups have a
-// name, specs/Answer.antt what the calls answer and leave, specs/Claim.antt what a query means.
+// The congruence groups Γ0(N), Γ1(N) and Γ(N) by name: their tables, their symbols, and pair queries on them.
+// specs/Group.antt says which groups have a name, specs/Answer.antt what the calls answer and leave, specs/Claim.antt
+// what a query means.
+use call::refusal::BAD_LEVEL;
+use call::refusal::Checked;
+use call::refusal::Filled;
+use call::refusal::LARGE_INDEX;
+use call::refusal::Refusal;
+use call::refusal::TOO_SHORT;
 use congruence::Family;
 use family_index::family_index;
-use refusal::BAD_DETERMINANT;
-use refusal::BAD_LEVEL;
-use refusal::Checked;
-use refusal::Filled;
-use refusal::LARGE_INDEX;
-use refusal::MATRIX_ENTRY;
-use refusal::Refusal;
-use refusal::TOO_SHORT;
 use word::Queried;
-use word::judge;
+use word::pair_check;
 ghost use mathlib.Core.Path.{_≡_};
+ghost use mathlib.Core.List.{_++_};
 ghost use Prim.Native.Nat.{_≤_};
 ghost use lib.ListN.{length};
-ghost use Rattle.workspace.specs.Space.{workLength, zeros};
-ghost use Rattle.pairing.specs.Generator.{workAfter};
-ghost use Rattle.coset.specs.Answer.{roomTwo, columnLeft};
+ghost use Rattle.call.specs.Space.{workLength, zeros};
+ghost use Rattle.call.specs.Call.{stores};
+ghost use Rattle.call.specs.Inner.Fills.{Fills, madeIf};
 ghost use Rattle.congruence.specs.Index.{familyIndex};
 ghost use Rattle.congruence.specs.Cosets.{familyS, familyR};
 ghost use Rattle.congruence_tables.specs.Inner.Held.{Group};
 ghost use Rattle.import_rule.specs.Order.{leftmost, longestOpen};
 ghost use Rattle.import_rule.specs.Symbol.{ruledBy};
-ghost use Rattle.import_table.specs.Answer.{orderBy, ruledLeft};
-ghost use Rattle.permutations.specs.Import.{grownWithin};
-ghost use Rattle.word.specs.Answer.{wordLeft};
-ghost use Rattle.named_groups.specs.Group.{familyOf, groupCheck, GroupVerdict};
-ghost use Rattle.named_groups.specs.Answer.{namedTablesOf, NamedTablesMean, namedRule, namedSymbolBy, NamedSymbolMeans, ruledQuery, ruledWord, namedQueryBy, namedQueryWork};
-ghost use Rattle.named_groups.specs.Claim.{NamedClaim};
+ghost use Rattle.import_symbol.specs.Answer.{orderBy};
+ghost use Rattle.permutations.specs.Import.{neededVertices, symbolInto};
+ghost use Rattle.named_groups.specs.Group.{familyOf, GroupVerdict};
+ghost use Rattle.named_groups.specs.Answer.{namedTablesSteps, namedRule, namedSymbolSteps};
+ghost use Rattle.named_groups.specs.Answer.{ruledSteps, namedQuerySteps, ruledIf};
 ghost use Rattle.named_groups.specs.Inner.Ready.{QueryReady};
 
 // The family with the number k.
@@ -78,9 +77,7 @@ pub fn check(k: u64, n: u64) -> Checked
 // The tables at the front of s and r, where there is room for both.
 fn fill_tables(f: Family, n: u64, w: &mut [u16], s: &mut [u32], r: &mut [u32]) -> Filled
     requires { ⌜ Group f n × (workLength ≤ length (now w)) ⌝ }
-    ensures { λ a. ⌜ a ≡ roomTwo (familyIndex f n) (length (now (s .entry))) (length (now (r .entry))) ⌝ }
-    ensures { λ a. ⌜ now (s .exit) ≡ columnLeft a (familyS f n) (now (s .entry)) ⌝ }
-    ensures { λ a. ⌜ now (r .exit) ≡ columnLeft a (familyR f n) (now (r .entry)) ⌝ }
+    ensures { λ a. ⌜ Fills (stores (familyS f n) s ++ stores (familyR f n) r) (madeIf (familyIndex f n)) a ⌝ }
 {
     let k = family_index(f, n) as usize;
     if s.len() < k {
@@ -102,32 +99,27 @@ fn fill_tables(f: Family, n: u64, w: &mut [u16], s: &mut [u32], r: &mut [u32]) -
 // The same; the work space is cleared after.
 fn make_tables(f: Family, n: u64, w: &mut [u16], s: &mut [u32], r: &mut [u32]) -> Filled
     requires { ⌜ Group f n × (workLength ≤ length (now w)) ⌝ }
-    ensures { λ a. ⌜ a ≡ roomTwo (familyIndex f n) (length (now (s .entry))) (length (now (r .entry))) ⌝ }
+    ensures { λ a. ⌜ Fills (stores (familyS f n) s ++ stores (familyR f n) r) (madeIf (familyIndex f n)) a ⌝ }
     ensures { λ a. ⌜ now (w .exit) ≡ zeros (length (now (w .entry))) ⌝ }
-    ensures { λ a. ⌜ now (s .exit) ≡ columnLeft a (familyS f n) (now (s .entry)) ⌝ }
-    ensures { λ a. ⌜ now (r .exit) ≡ columnLeft a (familyR f n) (now (r .entry)) ⌝ }
 {
     let made = fill_tables(f, n, w, s, r);
-    workspace::clear(w);
+    call::workspace::clear(w);
     made
 }
 
-// The tables of S and R of the group, each at the front of its space: 20, 21, then the work space, then the spaces for S and R.
+// The tables of S and R of the group, each at the front of its space: 20, 21, then the work space, then the spaces for
+// S and R.
 pub fn named_tables(k: u64, n: u64, w: &mut [u16], s: &mut [u32], r: &mut [u32]) -> Filled
-    ensures { λ a. ⌜ a ≡ namedTablesOf k n (length (now (w .entry))) (length (now (s .entry))) (length (now (r .entry))) ⌝ }
-    ensures { λ a. ⌜ now (w .exit) ≡ workAfter (groupCheck k n) (now (w .entry)) ⌝ }
-    ensures { λ a. ⌜ now (s .exit) ≡ columnLeft a (familyS (familyOf k) n) (now (s .entry)) ⌝ }
-    ensures { λ a. ⌜ now (r .exit) ≡ columnLeft a (familyR (familyOf k) n) (now (r .entry)) ⌝ }
-    ensures { λ a. ⌜ NamedTablesMean k n a ⌝ }
+    ensures { λ a. ⌜ Fills (namedTablesSteps k n w s r) (madeIf (familyIndex (familyOf k) n)) a ⌝ }
 {
     let checked = check(k, n);
     match checked {
         Checked::Refused(refusal) => Filled::Refused(refusal),
         Checked::Accepted => {
-            if w.len() < workspace::WORK {
+            if w.len() < call::workspace::WORK {
                 return Filled::Refused(Refusal {
                     number: TOO_SHORT,
-                    place: workspace::WORK,
+                    place: call::workspace::WORK,
                 });
             }
             make_tables(family_of(k), n, w, s, r)
@@ -138,9 +130,9 @@ pub fn named_tables(k: u64, n: u64, w: &mut [u16], s: &mut [u32], r: &mut [u32])
 // The symbol of the group's tables, by the wide rule or by the rule; the work space is cleared after.
 fn make_symbol(f: Family, n: u64, w: &mut [u16], out: &mut [i64], wide: bool) -> Filled
     requires { ⌜ Group f n × (workLength ≤ length (now w)) ⌝ }
-    ensures { λ a. ⌜ a ≡ grownWithin (orderBy wide) (familyS f n) (familyR f n) (length (now (out .entry))) ⌝ }
+    ensures { λ a. ⌜ Fills (symbolInto (orderBy wide) (familyS f n) (familyR f n) out)
+        (madeIf (neededVertices (familyR f n))) a ⌝ }
     ensures { λ a. ⌜ now (w .exit) ≡ zeros (length (now (w .entry))) ⌝ }
-    ensures { λ a. ⌜ now (out .exit) ≡ ruledLeft (ruledBy (orderBy wide) (familyS f n) (familyR f n)) a (now (out .entry)) ⌝ }
 {
     let mut s = [0u32; 3066];
     let mut r = [0u32; 3066];
@@ -150,19 +142,17 @@ fn make_symbol(f: Family, n: u64, w: &mut [u16], out: &mut [i64], wide: bool) ->
 
 // The symbol of the group, by the wide rule or by the rule.
 pub fn named_symbol_by(k: u64, n: u64, w: &mut [u16], out: &mut [i64], wide: bool) -> Filled
-    ensures { λ a. ⌜ a ≡ namedSymbolBy (orderBy wide) k n (length (now (w .entry))) (length (now (out .entry))) ⌝ }
-    ensures { λ a. ⌜ now (w .exit) ≡ workAfter (groupCheck k n) (now (w .entry)) ⌝ }
-    ensures { λ a. ⌜ now (out .exit) ≡ ruledLeft (namedRule (orderBy wide) k n) a (now (out .entry)) ⌝ }
-    ensures { λ a. ⌜ NamedSymbolMeans k n a (now (out .exit)) ⌝ }
+    ensures { λ a. ⌜ Fills (namedSymbolSteps (orderBy wide) k n w out)
+        (madeIf (neededVertices (familyR (familyOf k) n))) a ⌝ }
 {
     let checked = check(k, n);
     match checked {
         Checked::Refused(refusal) => Filled::Refused(refusal),
         Checked::Accepted => {
-            if w.len() < workspace::WORK {
+            if w.len() < call::workspace::WORK {
                 return Filled::Refused(Refusal {
                     number: TOO_SHORT,
-                    place: workspace::WORK,
+                    place: call::workspace::WORK,
                 });
             }
             make_symbol(family_of(k), n, w, out, wide)
@@ -172,20 +162,16 @@ pub fn named_symbol_by(k: u64, n: u64, w: &mut [u16], out: &mut [i64], wide: boo
 
 // The symbol of the group by the rule, its table at the front of out: 20, 21, then the work space, then out, then 16.
 pub fn named_symbol(k: u64, n: u64, w: &mut [u16], out: &mut [i64]) -> Filled
-    ensures { λ a. ⌜ a ≡ namedSymbolBy leftmost k n (length (now (w .entry))) (length (now (out .entry))) ⌝ }
-    ensures { λ a. ⌜ now (w .exit) ≡ workAfter (groupCheck k n) (now (w .entry)) ⌝ }
-    ensures { λ a. ⌜ now (out .exit) ≡ ruledLeft (namedRule leftmost k n) a (now (out .entry)) ⌝ }
-    ensures { λ a. ⌜ NamedSymbolMeans k n a (now (out .exit)) ⌝ }
+    ensures { λ a. ⌜ Fills (namedSymbolSteps leftmost k n w out)
+        (madeIf (neededVertices (familyR (familyOf k) n))) a ⌝ }
 {
     named_symbol_by(k, n, w, out, false)
 }
 
 // The same by the wide rule.
 pub fn named_symbol_wide(k: u64, n: u64, w: &mut [u16], out: &mut [i64]) -> Filled
-    ensures { λ a. ⌜ a ≡ namedSymbolBy longestOpen k n (length (now (w .entry))) (length (now (out .entry))) ⌝ }
-    ensures { λ a. ⌜ now (w .exit) ≡ workAfter (groupCheck k n) (now (w .entry)) ⌝ }
-    ensures { λ a. ⌜ now (out .exit) ≡ ruledLeft (namedRule longestOpen k n) a (now (out .entry)) ⌝ }
-    ensures { λ a. ⌜ NamedSymbolMeans k n a (now (out .exit)) ⌝ }
+    ensures { λ a. ⌜ Fills (namedSymbolSteps longestOpen k n w out)
+        (madeIf (neededVertices (familyR (familyOf k) n))) a ⌝ }
 {
     named_symbol_by(k, n, w, out, true)
 }
@@ -202,9 +188,9 @@ fn answer_query(
     wide: bool,
 ) -> Queried
     requires { ⌜ QueryReady f n a b (now w) ⌝ }
-    ensures { λ r. ⌜ r ≡ ruledQuery (ruledBy (orderBy wide) (familyS f n) (familyR f n)) a b start (length (now (out .entry))) ⌝ }
+    ensures { λ r. ⌜ Fills (ruledSteps (ruledBy (orderBy wide) (familyS f n) (familyR f n)) a b out start)
+        (ruledIf (ruledBy (orderBy wide) (familyS f n) (familyR f n)) a b start) r ⌝ }
     ensures { λ r. ⌜ now (w .exit) ≡ zeros (length (now (w .entry))) ⌝ }
-    ensures { λ r. ⌜ now (out .exit) ≡ wordLeft r (ruledWord (ruledBy (orderBy wide) (familyS f n) (familyR f n)) a b) (now (out .entry)) ⌝ }
 {
     let mut t = [0i64; 3070];
     let made = make_symbol(f, n, w, &mut t, wide);
@@ -225,41 +211,32 @@ pub fn named_query_by(
     start: usize,
     wide: bool,
 ) -> Queried
-    ensures { λ r. ⌜ r ≡ namedQueryBy (orderBy wide) k n a b (length (now (w .entry))) (length (now (out .entry))) start ⌝ }
-    ensures { λ r. ⌜ now (w .exit) ≡ namedQueryWork k n a b (now (w .entry)) ⌝ }
-    ensures { λ r. ⌜ now (out .exit) ≡ wordLeft r (ruledWord (namedRule (orderBy wide) k n) a b) (now (out .entry)) ⌝ }
-    ensures { λ r. ⌜ NamedClaim (orderBy wide) k n a b (now (w .entry)) (now (out .entry)) start r (now (out .exit)) ⌝ }
+    ensures { λ r. ⌜ Fills (namedQuerySteps (orderBy wide) k n a b w out start)
+        (ruledIf (namedRule (orderBy wide) k n) a b start) r ⌝ }
 {
     let checked = check(k, n);
     match checked {
         Checked::Refused(refusal) => Queried::Refused(refusal),
         Checked::Accepted => {
-            let judged = judge(a, b);
-            if judged < 8 {
-                return Queried::Refused(Refusal {
-                    number: MATRIX_ENTRY,
-                    place: judged,
-                });
+            let paired = pair_check(a, b);
+            match paired {
+                Checked::Refused(refusal) => Queried::Refused(refusal),
+                Checked::Accepted => {
+                    if w.len() < call::workspace::WORK {
+                        return Queried::Refused(Refusal {
+                            number: TOO_SHORT,
+                            place: call::workspace::WORK,
+                        });
+                    }
+                    answer_query(family_of(k), n, a, b, w, out, start, wide)
+                }
             }
-            if judged < 10 {
-                return Queried::Refused(Refusal {
-                    number: BAD_DETERMINANT,
-                    place: judged - 8,
-                });
-            }
-            if w.len() < workspace::WORK {
-                return Queried::Refused(Refusal {
-                    number: TOO_SHORT,
-                    place: workspace::WORK,
-                });
-            }
-            answer_query(family_of(k), n, a, b, w, out, start, wide)
         }
     }
 }
 
-// A word in the generators of the group's symbol by the rule that takes A to B up to sign: 20, 21, then 8 and 9, A before B under each, then the
-// work space, then 16, then 10, then the word space.
+// A word in the generators of the group's symbol by the rule that takes A to B up to sign: 20, 21, then 8 and 9, A
+// before B under each, then the work space, then 16, then 10, then the word space.
 pub fn named_query(
     k: u64,
     n: u64,
@@ -269,10 +246,8 @@ pub fn named_query(
     out: &mut [i16],
     start: usize,
 ) -> Queried
-    ensures { λ r. ⌜ r ≡ namedQueryBy leftmost k n a b (length (now (w .entry))) (length (now (out .entry))) start ⌝ }
-    ensures { λ r. ⌜ now (w .exit) ≡ namedQueryWork k n a b (now (w .entry)) ⌝ }
-    ensures { λ r. ⌜ now (out .exit) ≡ wordLeft r (ruledWord (namedRule leftmost k n) a b) (now (out .entry)) ⌝ }
-    ensures { λ r. ⌜ NamedClaim leftmost k n a b (now (w .entry)) (now (out .entry)) start r (now (out .exit)) ⌝ }
+    ensures { λ r. ⌜ Fills (namedQuerySteps leftmost k n a b w out start)
+        (ruledIf (namedRule leftmost k n) a b start) r ⌝ }
 {
     named_query_by(k, n, a, b, w, out, start, false)
 }
@@ -287,10 +262,8 @@ pub fn named_query_wide(
     out: &mut [i16],
     start: usize,
 ) -> Queried
-    ensures { λ r. ⌜ r ≡ namedQueryBy longestOpen k n a b (length (now (w .entry))) (length (now (out .entry))) start ⌝ }
-    ensures { λ r. ⌜ now (w .exit) ≡ namedQueryWork k n a b (now (w .entry)) ⌝ }
-    ensures { λ r. ⌜ now (out .exit) ≡ wordLeft r (ruledWord (namedRule longestOpen k n) a b) (now (out .entry)) ⌝ }
-    ensures { λ r. ⌜ NamedClaim longestOpen k n a b (now (w .entry)) (now (out .entry)) start r (now (out .exit)) ⌝ }
+    ensures { λ r. ⌜ Fills (namedQuerySteps longestOpen k n a b w out start)
+        (ruledIf (namedRule longestOpen k n) a b start) r ⌝ }
 {
     named_query_by(k, n, a, b, w, out, start, true)
 }

@@ -16,7 +16,8 @@ use Rattle.symbol.specs.declared.Pairing.{Pairing}
 use Rattle.symbol.proofs.Choice.{eqZ-true, eq-eqZ}
 use Rattle.normal_forms.specs.Reduced.{letterKind, Inverted, letterAt, Reduced}
 use Rattle.normal_forms.specs.Reduce.{evenKind, oddKind, plain}
-use Rattle.normal_forms.proofs.Put.{Kinds, isPlain, apart, fine, fine-by, fine-plain, fine-meets, fine-rest, plain-even, other-plain, inverse-even, inverse-other, apart-by, apart-inverse, apart-odd, even-is, odd-is}
+use Rattle.normal_forms.proofs.Put.{Kinds, isPlain, apart, fine, fine-by, fine-plain, fine-meets, fine-rest, plain-even, other-plain, inverse-even}
+use Rattle.normal_forms.proofs.Put.{inverse-other, apart-by, apart-inverse, apart-odd, even-is, odd-is}
 use Rattle.normal_forms.proofs.Side.{kinds}
 
 module _ (kind : ℤ → Pairing) where
@@ -70,7 +71,8 @@ module _ (v : ℕ) (t : List ℤ) where
   fine-reduced w f =
       record {
         beside-inverse = λ i h. apart-negative kindOf (kinds v t) (letterAt w i) (letterAt w (suc i)) (each i (omega arith)) (each (suc i) h) (next i h);
-        even-repeated = λ i h e z. apart-inverse kindOf (letterAt w i) (letterAt w (suc i)) (next i h) (z ∙ sym (inverse-even kindOf (letterAt w i) (ap evenKind e)));
+        even-repeated = λ i h e z. apart-inverse kindOf (letterAt w i) (letterAt w (suc i)) (next i h)
+            (z ∙ sym (inverse-even kindOf (letterAt w i) (ap evenKind e)));
         even-inverted = λ i h e. plain-upright kindOf (letterAt w i) (each i h) (ap evenKind e);
         odd-repeated = λ i h o. apart-odd kindOf (letterAt w i) (letterAt w (suc i)) (next i h) (ap oddKind o);
       }

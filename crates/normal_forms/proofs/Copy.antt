@@ -32,7 +32,8 @@ use Rattle.polygon.proofs.Steps.{turn-in, closed}
 use Rattle.polygon.proofs.Promise.{silent-Q, silent-P, written-Q, written-P}
 use Rattle.normal_forms.specs.Reduced.{letterKind}
 use Rattle.normal_forms.specs.Reduce.{oddKind, plain, inverse, put, puts}
-use Rattle.normal_forms.proofs.Put.{both, odd, isPlain, fine, inverse-inverse, inverse-plain, inverse-other, odd-only, odd-plain, put-undo, put-twice, puts-fine}
+use Rattle.normal_forms.proofs.Put.{both, odd, isPlain, fine, inverse-inverse, inverse-plain, inverse-other, odd-only, odd-plain, put-undo, put-twice}
+use Rattle.normal_forms.proofs.Put.{puts-fine}
 use Rattle.normal_forms.proofs.Side.{kinds, kind-of, outward, far, across}
 use Rattle.normal_forms.proofs.Writing.{inside, through, crossing, silent-over, written-out, odd-face}
 
@@ -139,7 +140,8 @@ module _ (v : ℕ) (t : List ℤ) (ok : IsSymbol v t) (C : Cutting v t) where
       → puts (kindOf v t) (puts (kindOf v t) h (written v t Q p)) (written v t Q (turnQ v p)) ≡ puts (kindOf v t) h (written v t P p)
   twice h p f r = elim (place v p) [
     | inner k ↦ rw (silent-Q v t ok C p k, silent-Q v t ok C (turnQ v p) (turn-in v t ok C p k), silent-P v t ok C p k)
-    | outside i e ↦ rw (turn-face v p (omega arith), written-Q v t ok C p i e, written-P v t ok C p i e) (again v t h (pos (generatorNumber v t i)) f (odd-at p i e r))
+    | outside i e ↦ rw (turn-face v p (omega arith), written-Q v t ok C p i e, written-P v t ok C p i e)
+        (again v t h (pos (generatorNumber v t i)) f (odd-at p i e r))
   ]
 
   three-times : (h : List ℤ) (p : ℕ) → fine (kindOf v t) h ≡ true → Real v t p

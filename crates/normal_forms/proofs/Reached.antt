@@ -62,7 +62,8 @@ module _ (v : ℕ) (t : List ℤ) (ok : IsSymbol v t) where
   F s = valueBack v t ok (s .word) ⊗ C .frame (s .place)
 
   unit : (s : InCopy) → sound v t s ≡ true → det (F s) ≡ pos 1
-  unit s g = det-one (valueBack v t ok (s .word)) (C .frame (s .place)) (unit-back v t ok (s .word)) (C .cut .unit (s .place) (real-in v t ok (s .place) (sound-place v t s g)))
+  unit s g = det-one (valueBack v t ok (s .word)) (C .frame (s .place)) (unit-back v t ok (s .word))
+      (C .cut .unit (s .place) (real-in v t ok (s .place) (sound-place v t s g)))
 
   frame-moved : (x : Letter) (s : InCopy) → sound v t s ≡ true → F s ⊗ letter x ≈ F (moved v t x s)
   frame-moved x s g =
@@ -157,7 +158,8 @@ module _ (v : ℕ) (t : List ℤ) (ok : IsSymbol v t) where
   joins-word (z ∷ w) h f b =
       let k = puts kindOf h (z ∷ []) in
       let g = longer (z ∷ []) h f in
-      via (ahead h) (ahead k) (ahead (puts kindOf k w)) (good h f) (good k g) (good (puts kindOf k w) (longer w k g)) (joins-letter h z f (b .0)) (joins-word w k g (b .1))
+      via (ahead h) (ahead k) (ahead (puts kindOf k w)) (good h f) (good k g) (good (puts kindOf k w) (longer w k g)) (joins-letter h z f (b .0))
+      (joins-word w k g (b .1))
 
   -- the frame that leads to a reduced word tells its value
   frame-word : (w : List ℤ) → F (ahead (puts kindOf [] w)) ≈ valueOf gens w ⊗ C .frame start

@@ -153,7 +153,8 @@ module _ (v : ℕ) (t : List ℤ) where
     -- ---- out through a side, and in again
 
     unfoldable pub outward : ℕ → ℤ
-    outward i = pick (evenKind (pairingAt v t i)) (pos (generatorNumber v t i)) (pick (isLeader v t i) (negℤ (pos (generatorNumber v t i))) (pos (generatorNumber v t i)))
+    outward i = pick (evenKind (pairingAt v t i)) (pos (generatorNumber v t i))
+        (pick (isLeader v t i) (negℤ (pos (generatorNumber v t i))) (pos (generatorNumber v t i)))
 
     unfoldable pub far : ℕ → ℕ
     far i = pick (evenKind (pairingAt v t i)) i (partner v t i)
@@ -162,10 +163,12 @@ module _ (v : ℕ) (t : List ℤ) where
     unfolding outward
     outward-even i k = rw k
 
-    pub outward-free : (i l : ℕ) → pairingAt v t i ≡ Free l → outward i ≡ pick (isLeader v t i) (negℤ (pos (generatorNumber v t i))) (pos (generatorNumber v t i))
+    pub outward-free : (i l : ℕ) → pairingAt v t i ≡ Free l → outward i
+        ≡ pick (isLeader v t i) (negℤ (pos (generatorNumber v t i))) (pos (generatorNumber v t i))
     unfolding outward
     outward-free i l k =
-        ap (λ (x : Pairing). pick (evenKind x) (pos (generatorNumber v t i)) (pick (isLeader v t i) (negℤ (pos (generatorNumber v t i))) (pos (generatorNumber v t i)))) k
+        ap (λ (x : Pairing). pick (evenKind x) (pos (generatorNumber v t i))
+        (pick (isLeader v t i) (negℤ (pos (generatorNumber v t i))) (pos (generatorNumber v t i)))) k
 
     pub far-even : (i : ℕ) → pairingAt v t i ≡ Even → far i ≡ i
     unfolding far
@@ -179,7 +182,8 @@ module _ (v : ℕ) (t : List ℤ) where
     unfolding outward
     outward-size i = by (evenKind (pairingAt v t i)) (isLeader v t i)
       where
-        by : (b c : Bool) → natAbs (pick b (pos (generatorNumber v t i)) (pick c (negℤ (pos (generatorNumber v t i))) (pos (generatorNumber v t i)))) ≡ generatorNumber v t i
+        by : (b c : Bool) → natAbs (pick b (pos (generatorNumber v t i)) (pick c (negℤ (pos (generatorNumber v t i))) (pos (generatorNumber v t i))))
+            ≡ generatorNumber v t i
         by true c = refl
         by false true = abs-neg (pos (generatorNumber v t i))
         by false false = refl

@@ -1,9 +1,8 @@
 -- Reducing a word keeps its value up to sign.
 --
--- In order: what is conjugate to S and to Q (`conjugate`, `even-square`, `odd-square`); the generator that a letter stands for (`Standing`, `standing`); the letters
--- of even and of odd generators (`letter-even`, `letter-odd`), and plain letters (`letter-plain`); the value of a word whose letters are listed from
--- the last one (`valueBack`), with a letter put behind it (`put-value`), with a word (`puts-value`).
--- Assumes nothing.
+-- In order: what is conjugate to S and to Q (`conjugate`, `even-square`, `odd-square`); the generator that a letter stands for (`Standing`, `standing`); the
+-- letters of even and of odd generators (`letter-even`, `letter-odd`), and plain letters (`letter-plain`); the value of a word whose letters are listed from
+-- the last one (`valueBack`), with a letter put behind it (`put-value`), with a word (`puts-value`). Assumes nothing.
 use mathlib.Core.Path.{_≡_, refl, sym, _∙_, ap}
 use mathlib.Core.Logic.{inl, inr}
 use mathlib.Core.List.{List, [], _∷_}
@@ -14,7 +13,8 @@ use lib.ListN.{length, getD, length-map, List·getD-eq-default}
 use lib.IntN.{ℤ, pos, negsuc, negℤ, natAbs}
 use Rattle.basics.proofs.Choice.{either, clash}
 use Rattle.matrix.specs.Matrix.{Mat, _⊗_, 𝟙, adj, det, matS, matQ, matP, _≈_}
-use Rattle.matrix.proofs.Matrix.{⊗-assoc, ⊗-idl, ⊗-idr, ⊗-neg, det-𝟙, det-adj, det-one, ⊗-adj, adj-⊗, adj-adj, adj-product, redo, S-S, Q-Q, ≈-refl, ≈-neg, ≈-sym, _∙≈_, ≈-left, ≈-right, ≈-both}
+use Rattle.matrix.proofs.Matrix.{⊗-assoc, ⊗-idl, ⊗-idr, ⊗-neg, det-𝟙, det-adj, det-one, ⊗-adj, adj-⊗, adj-adj, adj-product, redo, S-S, Q-Q, ≈-refl, ≈-neg}
+use Rattle.matrix.proofs.Matrix.{≈-sym, _∙≈_, ≈-left, ≈-right, ≈-both}
 use Rattle.symbol.specs.Table.{carried}
 use Rattle.symbol.specs.Symbol.{IsSymbol}
 use Rattle.symbol.specs.declared.Pairing.{Pairing}
@@ -26,7 +26,8 @@ use Rattle.polygon.proofs.SymbolFacts.{leader, number-leads}
 use Rattle.polygon.proofs.Promise.{units}
 use Rattle.normal_forms.specs.Reduced.{generatorKinds, letterKind}
 use Rattle.normal_forms.specs.Reduce.{evenKind, oddKind, plain, inverse, put, puts}
-use Rattle.normal_forms.proofs.Put.{Meeting, cancels, merges, stays, meeting, put-stays, put-cancels, put-merges, inverse-even, inverse-other, plain-even, plain-other, even-is, odd-is}
+use Rattle.normal_forms.proofs.Put.{Meeting, cancels, merges, stays, meeting, put-stays, put-cancels, put-merges, inverse-even, inverse-other}
+use Rattle.normal_forms.proofs.Put.{plain-even, plain-other, even-is, odd-is}
 use Rattle.normal_forms.proofs.Side.{kinds, kind-negative, kind-of}
 
 -- ---- conjugates of S and of Q
@@ -92,9 +93,11 @@ module _ (v : ℕ) (t : List ℤ) (ok : IsSymbol v t) where
 
   no-kind : (j : ℕ) → length gens ≤ j → kindOf (pos (suc j)) ≡ Bad
   unfolding letterKind
-  no-kind j h = List·getD-eq-default (generatorKinds v t) Bad (omega (arith, length-map (leaders v t) (pairingAt v t), length-map (leaders v t) (generator v t)))
+  no-kind j h = List·getD-eq-default (generatorKinds v t) Bad
+      (omega (arith, length-map (leaders v t) (pairingAt v t), length-map (leaders v t) (generator v t)))
 
-  generator-is : (j : ℕ) (k : Pairing) (s : Standing j) → kindOf (pos (suc j)) ≡ k → at j ≡ generatorBy k (frameAt v t (s .side)) (frameAt v t (partner v t (s .side)))
+  generator-is : (j : ℕ) (k : Pairing) (s : Standing j) → kindOf (pos (suc j)) ≡ k → at j
+      ≡ generatorBy k (frameAt v t (s .side)) (frameAt v t (partner v t (s .side)))
   generator-is j k s e = s .is ∙ ap (λ (x : Pairing). generatorBy x (frameAt v t (s .side)) (frameAt v t (partner v t (s .side)))) (sym (s .kind) ∙ e)
 
   square-even : (j : ℕ) → kindOf (pos (suc j)) ≡ Even → at j ⊗ at j ≈ 𝟙

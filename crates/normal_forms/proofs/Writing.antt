@@ -37,7 +37,8 @@ use Rattle.polygon.proofs.Promise.{silent-Q, silent-P, written-Q, written-P}
 use Rattle.normal_forms.specs.Reduced.{letterKind}
 use Rattle.normal_forms.specs.Reduce.{evenKind, oddKind, inverse}
 use Rattle.normal_forms.proofs.Put.{apart, both, differs, apart-by, inverse-even, inverse-other, isPlain, other-plain}
-use Rattle.normal_forms.proofs.Side.{kind-negative, outward, far, outward-even, outward-free, far-even, far-free, kind-of, odd-once, outward-once, across}
+use Rattle.normal_forms.proofs.Side.{kind-negative, outward, far, outward-even, outward-free, far-even, far-free, kind-of, odd-once, outward-once}
+use Rattle.normal_forms.proofs.Side.{across}
 
 -- a power of Q
 abbrev pub isTurn : Letter → Bool
@@ -114,7 +115,8 @@ module _ (v : ℕ) (t : List ℤ) (ok : IsSymbol v t) (C : Cutting v t) where
   -- ---- what a step writes
 
   pub data Writing (x : Letter) (p : ℕ) (z : ℤ) : Type 0 where
-    out : (i : ℕ) → i ≤ v → oddAt v t i ≡ false → isTurn x ≡ false → flip v t p ≡ outer v i → goes v t x p ≡ flip v t (outer v (far v t ok i)) → z ≡ outward v t ok i
+    out : (i : ℕ) → i ≤ v → oddAt v t i ≡ false → isTurn x ≡ false → flip v t p ≡ outer v i → goes v t x p ≡ flip v t (outer v (far v t ok i)) → z
+        ≡ outward v t ok i
         → Writing x p z
     face : (i : ℕ) → i ≤ v → pairingAt v t i ≡ Odd → isTurn x ≡ true → p ≡ outer v i → goes v t x p ≡ p → natAbs z ≡ generatorNumber v t i → Writing x p z
 

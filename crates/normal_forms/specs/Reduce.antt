@@ -1,5 +1,6 @@
--- A WORD IS REDUCED LETTER BY LETTER. An even generator is its own inverse up to sign, and the square of an odd one is its inverse up to sign; so a
--- letter that is put behind a reduced word cancels with the last letter, or merges with it, or stays beside it.
+-- A WORD IS REDUCED LETTER BY LETTER. An even generator is its own inverse up to sign, and the square of an odd one is
+-- its inverse up to sign; so a letter that is put behind a reduced word cancels with the last letter, or merges with
+-- it, or stays beside it.
 --
 --   evenKind k, oddKind k     whether the pairing k is Even, or Odd
 --   plain kind z          the letter z, and for -j with an even generator j the letter j

@@ -1,12 +1,16 @@
--- REDUCED WORDS in the generators of a symbol and their inverses (request 2026-12). A letter is j for generator j or -j for its inverse.
+-- REDUCED WORDS in the generators of a symbol and their inverses (request 2026-12). A letter is j for generator j or -j
+-- for its inverse.
 --
---   generatorKinds v t   what the sides are paired as that lead the generators, from generator 1 on: Even, Odd, or Free with a label
---   letterKind v t z     that of the generator which the letter z stands for, or whose inverse it stands for; Bad where there is none
+--   generatorKinds v t   what the sides are paired as that lead the generators, from generator 1 on: Even, Odd, or Free
+--                        with a label
+--   letterKind v t z     that of the generator which the letter z stands for, or whose inverse it stands for; Bad where
+--                        there is none
 --   EvenLetter v t z     z is j or -j for an even generator j
 --   OddLetter v t z      z is j or -j for an odd generator j
 --   Inverted z           z stands for the inverse of a generator: it is negative
 --   letterAt w i         letter i of the word w, counted from 0
---   Reduced v t w        THE FOUR CLAUSES of the request, for the letters of w and for neighbours x, y among them, x before y:
+--   Reduced v t w        THE FOUR CLAUSES of the request, for the letters of w and for neighbours x, y among them, x
+--                        before y:
 --     beside-inverse   no generator stands beside its own inverse: y is not -x
 --     even-repeated    an even generator never follows itself
 --     even-inverted    no even generator is inverted

@@ -12,7 +12,7 @@ use Rattle.numbering.specs.Order.{orderOf, Maps, Reached}
 use Rattle.numbering.specs.Table.{imageAt, _then_}
 use Rattle.basics.specs.Count.{those}
 use Rattle.numbering.specs.Inner.Space.{SIGMA, RHO}
-use Rattle.workspace.specs.Space.{entries}
+use Rattle.call.specs.Space.{entries}
 use Rattle.numbering.specs.Inner.Marks.{Images, orderIn, TablesLeft, MapsFilled, TablesOf}
 use Rattle.numbering.proofs.Find.{once-le}
 use Rattle.numbering.proofs.Order.{numbering, order-ext}

@@ -1,4 +1,4 @@
--- The numbering and the tables, run on the tables of the groups of docs/CONVENTIONS.md, 12. Its starred instances are proved in the crate `instances`.
+-- The numbering and the tables, run on the tables of the groups of docs/CONVENTIONS.md, 12. Its starred instances are proved in the crate `statements`.
 -- Assumes nothing.
 use mathlib.Core.Path.{_≡_, refl}
 use mathlib.Core.List.{List, [], _∷_}

@@ -1,5 +1,5 @@
--- Laws of the sparse set that NUMBER and ORDER hold, and of the code that lists points in it: what is listed; `has`; `push` and `enter`; `visit`; the loop of `number`.
--- Assumes nothing.
+-- Laws of the sparse set that NUMBER and ORDER hold, and of the code that lists points in it: what is listed; `has`; `push` and `enter`; `visit`; the loop of
+-- `number`. Assumes nothing.
 use mathlib.Core.Path.{_≡_, refl, sym, ap, _∙_}
 use mathlib.Core.Logic.{_≢_, inl, inr}
 use mathlib.Core.Bool.{false}
@@ -17,7 +17,7 @@ use Rattle.numbering.specs.Find.{find, _∈_, _∉_, isIn, Once}
 use Rattle.numbering.specs.Order.{add, visit, orderTo}
 use Rattle.numbering.specs.Table.{imageAt, _then_}
 use Rattle.numbering.specs.Inner.Space.{WORK, SIGMA, RHO, NUMBER, ORDER, R-TABLE, ChangedWithin}
-use Rattle.workspace.specs.Space.{entries}
+use Rattle.call.specs.Space.{entries}
 use Rattle.numbering.specs.Inner.Marks.{listed, Sparse, NowListed, Fresh, Visit, Images, orderIn}
 use Rattle.numbering.proofs.Find.{none-below, getD-find, getD-in, in-all, once-last, once-below, all-last}
 use Rattle.numbering.proofs.Order.{add-old, add-new, visit-grows, to-more, order-stop}
@@ -94,7 +94,8 @@ module _ {size n x : ℕ} {w : List ℕ} (f : Fresh size n x w) where
       let e = listed-length (f .sparse) in
       omega (
         arith,
-        once-below (l ++ (x ∷ [])) size (once-last l x (listed-once (f .sparse)) (f .new)) (all-last (λ (y : ℕ). y < size) l x (listed-low (f .sparse)) (f .low)),
+        once-below (l ++ (x ∷ [])) size (once-last l x (listed-once (f .sparse)) (f .new))
+            (all-last (λ (y : ℕ). y < size) l x (listed-low (f .sparse)) (f .low)),
         length-append l (x ∷ []),
       )
 
@@ -125,7 +126,8 @@ module _ {size n x : ℕ} {w : List ℕ} (f : Fresh size n x w) where
               (rw new (getD-set-other w1 (ORDER + n) (NUMBER + x) x 0 (λ e. omega arith) ∙ getD-set-same w (NUMBER + x) n 0 (omega arith)));
         };
         frame = within-set (ORDER + n) x (within-set (NUMBER + x) n (within-refl NUMBER R-TABLE w) (omega arith) (omega arith)) (omega arith) (omega arith);
-        list = entries-push ORDER n w1 x (omega arith) ∙ ap (λ (l : List ℕ). l ++ (x ∷ [])) (entries-set ORDER n w (NUMBER + x) n (omega arith) (inr (omega arith)));
+        list = entries-push ORDER n w1 x (omega arith)
+            ∙ ap (λ (l : List ℕ). l ++ (x ∷ [])) (entries-set ORDER n w (NUMBER + x) n (omega arith) (inr (omega arith)));
       }
 
 -- a store below the two tables
@@ -141,7 +143,8 @@ sparse-set {size} {n} {w} i x g h =
     }
 
 -- ---- `visit`: two points in a row; the images are read before the first is entered
-pub marked-then : {size k r : ℕ} {a b c l : List ℕ} (y : ℕ) → NowListed size a b l k → NowListed size b c (add (listed k b) y) r → NowListed size a c (add l y) r
+pub marked-then : {size k r : ℕ} {a b c l : List ℕ} (y : ℕ) → NowListed size a b l k → NowListed size b c (add (listed k b) y) r
+    → NowListed size a c (add l y) r
 marked-then y p q = record { sparse = q .sparse; frame = within-trans (p .frame) (q .frame); list = q .list ∙ ap (λ (l : List ℕ). add l y) (p .list) }
 
 module _ {size n i : ℕ} {w : List ℕ} (v : Visit size n i w) where
@@ -163,7 +166,8 @@ module _ {size n i : ℕ} {w : List ℕ} (v : Visit size n i w) where
 
 -- ---- `number`
 -- the tables of images lie below what the numbering changes
-pub image-kept : (off size : ℕ) {a b : List ℕ} → ChangedWithin NUMBER R-TABLE a b → off + size ≤ NUMBER → WORK ≤ length a → entries off size b ≡ entries off size a
+pub image-kept : (off size : ℕ) {a b : List ℕ} → ChangedWithin NUMBER R-TABLE a b → off + size ≤ NUMBER → WORK ≤ length a → entries off size b
+    ≡ entries off size a
 image-kept off size f h long = within-entries f off size (inl h) (omega arith) (omega arith)
 
 images-kept : {start size : ℕ} {a b : List ℕ} → ChangedWithin NUMBER R-TABLE a b → Images start size a → Images start size b
@@ -199,7 +203,8 @@ module _ {start size n i : ℕ} {w₀ w : List ℕ} (p : Part start size w₀ w 
   part-long = rw (p .marked .list) at (listed-length (p .marked .sparse))
 
   pub part-visit : i < n → Visit size n i w
-  part-visit h = let q = images-kept (p .marked .frame) (p .images) in record { sparse = p .marked .sparse; low = h; σ-low = q .maps .σ-low; ρ-low = q .maps .ρ-low }
+  part-visit h = let q = images-kept (p .marked .frame) (p .images) in
+      record { sparse = p .marked .sparse; low = h; σ-low = q .maps .σ-low; ρ-low = q .maps .ρ-low }
 
   pub part-more : i < n → {w' : List ℕ} {r : ℕ} → NowListed size w w' (visit (imageAt (entries SIGMA size w)) (imageAt (entries RHO size w)) (listed n w) i) r
       → Part start size w₀ w' r (i + 1)

@@ -11,7 +11,7 @@ use lib.Seq.{ext-getD}
 use Rattle.numbering.specs.Find.{find, _∈_}
 use Rattle.numbering.specs.Table.{imageAt, _then_, renamed, _thenTable_}
 use Rattle.numbering.specs.Inner.Space.{WORK, ROOM, S-TABLE, SIGMA, RHO, NUMBER, ORDER, R-TABLE, T-TABLE, putTo, Apart}
-use Rattle.workspace.specs.Space.{entries}
+use Rattle.call.specs.Space.{entries}
 use Rattle.numbering.specs.Inner.Marks.{listed, Sparse, NowListed, Images, orderIn, Renames, Composes, TablesLeft}
 use Rattle.numbering.proofs.Find.{getD-in}
 use Rattle.numbering.proofs.Order.{numbering}
@@ -177,7 +177,8 @@ module _ {from to size n : ℕ} {w₀ : List ℕ} (p : Renames from to size n w�
     pub rename-both : {w' : List ℕ} → w' ≡ putTo w to (entries to n w thenTable entries NUMBER size w) n → w' ≡ putTo w₀ to (renamed points (imageAt table)) n
     rename-both d =
         let kept = put-apart images-put NUMBER size apart-numbers (omega (arith, p .sparse .room, p .sparse .long)) in
-        put-again images-put (renamed points (imageAt table)) (renamed-length points (imageAt table) ∙ points-long) (rw (put-table images-put, kept, numbers) at d)
+        put-again images-put (renamed points (imageAt table)) (renamed-length points (imageAt table) ∙ points-long)
+        (rw (put-table images-put, kept, numbers) at d)
 
 -- ---- `tables`: three tables put one after another
 module _ {start size n : ℕ} {w w1 : List ℕ} (p : Images start size w) (m : NowListed size w w1 (orderIn start size w) n) where
@@ -288,7 +289,8 @@ module _ {start size n : ℕ} {w w1 : List ℕ} (p : Images start size w) (m : N
           tables = record {
             count = tables-count;
             marks = put-sparse put-T marks3 (inl (omega arith)) (inl (omega arith));
-            list = put-apart put-T ORDER n (inl (omega arith)) (omega (arith, w3-long)) ∙ put-apart put-R ORDER n (inl (omega arith)) (omega (arith, w2-long)) ∙ list2;
+            list = put-apart put-T ORDER n (inl (omega arith)) (omega (arith, w3-long)) ∙ put-apart put-R ORDER n (inl (omega arith)) (omega (arith, w2-long))
+                ∙ list2;
             S-is = put-apart put-T S-TABLE n (inl (omega arith)) (omega (arith, w3-long)) ∙ S-is3;
             R-is = put-apart put-T R-TABLE n (inl (omega arith)) (omega (arith, w3-long)) ∙ R-is3;
             T-is = put-table put-T;

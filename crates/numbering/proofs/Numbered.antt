@@ -39,7 +39,8 @@ upTo-at (suc n) j h =
 
 -- ---- one point more, and the images
 -- f is injective on the points, and x and the entries of l are points
-add-map : (points : List ℕ) (f : ℕ → ℕ) → Injective points f → (l : List ℕ) (x : ℕ) → All (λ (y : ℕ). y ∈ points) l → x ∈ points → add (map f l) (f x) ≡ map f (add l x)
+add-map : (points : List ℕ) (f : ℕ → ℕ) → Injective points f → (l : List ℕ) (x : ℕ) → All (λ (y : ℕ). y ∈ points) l → x ∈ points → add (map f l) (f x)
+    ≡ map f (add l x)
 add-map points f i l x all p =
     let same = find-map f l x (λ y h. i .one y x (all .each y h) p) in
     let len = length-map l f in

@@ -23,7 +23,8 @@ module _ (k : ℕ) (f : ℕ → ℕ) (one : (x y : ℕ) → x < k → y < k → 
         | no h ↦ add-new (map f l) (f x) (omega arith) ∙ sym (map-last f l x) ∙ ap (map f) (sym (add-new l x (omega arith)))
       ]
 
-  module _ (s r σ ρ : ℕ → ℕ) (start : ℕ) (maps : Maps s r start k) (by-s : (x : ℕ) → x < k → f (s x) ≡ σ (f x)) (by-r : (x : ℕ) → x < k → f (r x) ≡ ρ (f x)) where
+  module _ (s r σ ρ : ℕ → ℕ) (start : ℕ) (maps : Maps s r start k) (by-s : (x : ℕ) → x < k → f (s x) ≡ σ (f x))
+      (by-r : (x : ℕ) → x < k → f (r x) ≡ ρ (f x)) where
     low : (i : ℕ) → All (λ (y : ℕ). y < k) (orderTo s r start i)
     low i = record { each = λ y h. to-low s r start k maps i y h }
 

@@ -12,7 +12,7 @@ use lib.ListN.{length, getD, set, take, drop, length-set, length-drop, List·get
 use lib.Seq.{paste-zero, paste-suc, length-paste, length-paste-head, getD-append-add, getD-set-other, drop-set-add, take-suc-set, take-suc, drop-cons}
 use lib.Seq.{set-at, getD-take, getD-drop, length-take-le, ext-getD}
 use Rattle.numbering.specs.Inner.Space.{putTo, Apart, ChangedWithin}
-use Rattle.workspace.specs.Space.{entries}
+use Rattle.call.specs.Space.{entries}
 
 -- ---- entries
 pub entries-length : (off n : ℕ) (w : List ℕ) → off + n ≤ length w → length (entries off n w) ≡ n
@@ -40,7 +40,8 @@ entries-push off k w x h =
 
 -- a store elsewhere leaves it as it was
 pub entries-set : (off n : ℕ) (w : List ℕ) (i x : ℕ) → off + n ≤ length w → Apart off n i 1 → entries off n (set w i x) ≡ entries off n w
-entries-set off n w i x h apart = entries-same off n w (set w i x) (length-set w i x) h (λ k lo hi. getD-set-other w i k x 0 (λ e. elim apart [ inl p ↦ omega arith | inr p ↦ omega arith ]))
+entries-set off n w i x h apart =
+    entries-same off n w (set w i x) (length-set w i x) h (λ k lo hi. getD-set-other w i k x 0 (λ e. elim apart [ inl p ↦ omega arith | inr p ↦ omega arith ]))
 
 -- ---- all but a part is as before
 pub within-refl : (a b : ℕ) (w : List ℕ) → ChangedWithin a b w w

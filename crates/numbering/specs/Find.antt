@@ -1,4 +1,5 @@
--- The place of a number in a list. One notion carries all of the numbering: being listed, being new, and having no repeats.
+-- The place of a number in a list. One notion carries all of the numbering: being listed, being new, and having no
+-- repeats.
 --     find l x      the first place of x in l; the length of l where x is not there
 --     x ∈ l         x is in l
 --     x ∉ l         x is not in l, as a fact that `omega` reads

@@ -1,5 +1,6 @@
--- The numbering (docs/CONVENTIONS.md, 4): the start is 0; then, for each point in order, its S image and next its R image
--- take the next free number if new. The points are numbers below `size`, and σ and ρ are S and R as maps of points.
+-- The numbering (docs/CONVENTIONS.md, 4): the start is 0; then, for each point in order, its S image and next its R
+-- image take the next free number if new. The points are numbers below `size`, and σ and ρ are S and R as maps of
+-- points.
 --     add l x                     l with x behind it if x is new
 --     visit σ ρ l i               l after a visit to its entry at i: the S image, and next the R image, are added
 --     orderTo σ ρ start i         the points that have a number when the first i in order have been visited, by number
@@ -7,8 +8,8 @@
 --     upTo n                      0, 1, .., n - 1: the numbering of the points by their numbers (proofs/Numbered.antt)
 --     Maps σ ρ start size         σ and ρ map the points into themselves, and the start is a point
 --     Reached σ ρ start x         σ and ρ lead from the start to x
---     Numbering σ ρ start size l  THE THEOREM on the numbering l = orderOf σ ρ start size: no repeats, the start first, closed
---                                 under σ and ρ, exactly the points that are reached, at most `size` many
+--     Numbering σ ρ start size l  THE THEOREM on the numbering l = orderOf σ ρ start size: no repeats, the start first,
+--                                 closed under σ and ρ, exactly the points that are reached, at most `size` many
 -- `proofs/Order.antt` proves `numbering : Maps σ ρ start size → Numbering σ ρ start size (orderOf σ ρ start size)`.
 use mathlib.Core.Path.{_≡_}
 use mathlib.Core.List.{List, [], _∷_, _++_}

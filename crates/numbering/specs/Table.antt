@@ -6,8 +6,10 @@
 --     s thenTable r              the table s first, and then the table r
 --     Permutes t                 t is a permutation of its places
 --     Injective l f              f is injective on the points of l
---     Natural order f t          the table t is the map f renamed: numbering after a step is the table's step after numbering
---     Renaming σ ρ order s r t   THE THEOREM on the tables of S, R and T: they are the maps renamed; T is S first and then R
+--     Natural order f t          the table t is the map f renamed: numbering after a step is the table's step after
+--                                numbering
+--     Renaming σ ρ order s r t   THE THEOREM on the tables of S, R and T: they are the maps renamed; T is S first and
+--                                then R
 --     Permutations s r t         THE THEOREM on the tables of injective maps: they are permutations
 -- `proofs/Table.antt` proves `renaming` and `permutations` for the numbering of `Order`.
 use mathlib.Core.Path.{_≡_}

@@ -1,6 +1,6 @@
-// A finite set with two maps S and R: the numbering of docs/CONVENTIONS.md, and the tables of S, R and T by number. Nothing here knows of
-// polygons: whoever calls fills two tables of images in the work space. The functions have `requires`, for they are called from
-// inside the engine. The figures of the tables are in the crate `figures`.
+// A finite set with two maps S and R: the numbering of docs/CONVENTIONS.md, and the tables of S, R and T by number.
+// Nothing here knows of polygons: whoever calls fills two tables of images in the work space. The functions have
+// `requires`, for they are called from inside the engine. The figures of the tables are in the crate `figures`.
 ghost use mathlib.Core.Path.{_≡_};
 ghost use mathlib.Core.List.{[], _∷_, _++_};
 ghost use Prim.Native.Nat.{_+_, _<_};
@@ -9,8 +9,9 @@ ghost use Rattle.numbering.specs.Find.{isIn};
 ghost use Rattle.numbering.specs.Order.{add, visit};
 ghost use Rattle.numbering.specs.Table.{imageAt, renamed, _thenTable_};
 ghost use Rattle.numbering.specs.Inner.Space.{SIGMA, RHO, putTo};
-ghost use Rattle.workspace.specs.Space.{entries};
-ghost use Rattle.numbering.specs.Inner.Marks.{listed, Sparse, NowListed, Fresh, Visit, Images, orderIn, Renames, Composes, TablesLeft, Copies};
+ghost use Rattle.call.specs.Space.{entries};
+ghost use Rattle.numbering.specs.Inner.Marks.{listed, Sparse, NowListed, Fresh, Visit, Images, orderIn, Renames};
+ghost use Rattle.numbering.specs.Inner.Marks.{Composes, TablesLeft, Copies};
 
 // The places of the tables in the work space (specs/Space.antt says what each holds).
 pub const S_TABLE: usize = 4096;
@@ -35,11 +36,11 @@ pub fn has(w: &[u16], size: usize, x: usize, n: usize) -> bool
     requires { ⌜ x < size ⌝ }
     ensures { λ r. ⌜ r ≡ isIn (listed n (now (w .entry))) x ⌝ }
 {
-    let k = workspace::index(w[NUMBER + x]);
+    let k = call::workspace::index(w[NUMBER + x]);
     if n <= k {
         return false;
     }
-    let y = workspace::index(w[ORDER + k]);
+    let y = call::workspace::index(w[ORDER + k]);
     y == x
 }
 
@@ -68,11 +69,13 @@ fn enter(w: &mut [u16], size: usize, x: usize, n: usize) -> usize
 // The S image and next the R image of the point with the number i take the next free number if new.
 fn visit_at(w: &mut [u16], size: usize, i: usize, n: usize) -> usize
     requires { ⌜ Visit size n i (now w) ⌝ }
-    ensures { λ r. ⌜ NowListed size (now (w .entry)) (now (w .exit)) (visit (imageAt (entries SIGMA size (now (w .entry)))) (imageAt (entries RHO size (now (w .entry)))) (listed n (now (w .entry))) i) r ⌝ }
+    ensures { λ r. ⌜ NowListed size (now (w .entry)) (now (w .exit))
+        (visit (imageAt (entries SIGMA size (now (w .entry)))) (imageAt (entries RHO size (now (w .entry))))
+        (listed n (now (w .entry))) i) r ⌝ }
 {
-    let x = workspace::index(w[ORDER + i]);
-    let s = workspace::index(w[SIGMA + x]);
-    let r = workspace::index(w[RHO + x]);
+    let x = call::workspace::index(w[ORDER + i]);
+    let s = call::workspace::index(w[SIGMA + x]);
+    let r = call::workspace::index(w[RHO + x]);
     let k = enter(w, size, s, n);
     enter(w, size, r, k)
 }
@@ -92,24 +95,28 @@ fn number(w: &mut [u16], start: usize, size: usize) -> usize
     n
 }
 
-// The table at `to`: the n entries at a first, and then the table of m entries at b. It may take the place of the one at a.
+// The table at `to`: the n entries at a first, and then the table of m entries at b. It may take the place of the one
+// at a.
 pub fn compose(w: &mut [u16], a: usize, b: usize, to: usize, n: usize, m: usize)
     requires { ⌜ Composes a b to n m (now w) ⌝ }
-    ensures { λ _. ⌜ now (w .exit) ≡ putTo (now (w .entry)) to (entries a n (now (w .entry)) thenTable entries b m (now (w .entry))) n ⌝ }
+    ensures { λ _. ⌜ now (w .exit)
+        ≡ putTo (now (w .entry)) to (entries a n (now (w .entry)) thenTable entries b m (now (w .entry))) n ⌝ }
 {
     let mut j: usize = 0;
     while j < n {
-        let x = workspace::index(w[a + j]);
+        let x = call::workspace::index(w[a + j]);
         w[to + j] = w[b + x];
         j += 1;
     }
 }
 
-// The table at `to`: the map in the table at `from`, renamed by the numbers of its n positions. It is made in its place, in two steps: the
-// images of the positions, and then their numbers.
+// The table at `to`: the map in the table at `from`, renamed by the numbers of its n positions. It is made in its
+// place, in two steps: the images of the positions, and then their numbers.
 fn rename(w: &mut [u16], from: usize, to: usize, size: usize, n: usize)
     requires { ⌜ Renames from to size n (now w) ⌝ }
-    ensures { λ _. ⌜ now (w .exit) ≡ putTo (now (w .entry)) to (renamed (listed n (now (w .entry))) (imageAt (entries from size (now (w .entry))))) n ⌝ }
+    ensures { λ _. ⌜ now (w .exit)
+        ≡ putTo (now (w .entry)) to (renamed (listed n (now (w .entry))) (imageAt (entries from size (now (w .entry)))))
+        n ⌝ }
 {
     compose(w, ORDER, from, to, n, size);
     compose(w, to, NUMBER, to, n, size);

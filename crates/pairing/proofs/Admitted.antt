@@ -2,30 +2,37 @@
 --   admitted              where r accepts, the table is a symbol, and the work space is long enough
 --   admit-refused, admit-short, admit-both      what r is: a fault of the table, a short work space, or neither
 --   filled-by, work-by    what is then answered and left is what the promises of the calls say
+--   symbol-passed, symbol-zero     a call that asks for a symbol and for the work space, and then has the steps l: what its number 0 says, and when it is 0
+--   generators-says       what the number of `generators` says
 -- Assumes nothing.
 use mathlib.Core.Path.{_≡_, refl, sym, ap, _∙_}
 use mathlib.Core.Bool.{Bool, true, false}
-use mathlib.Core.List.{List}
+use mathlib.Core.List.{List, [], _∷_}
 use Prim.Native.Nat.{ℕ, _≤_, _<_}
+use native.Mathlib.Omega.{arith}
 use lib.Dec.{ltb}
 use lib.IntN.{ℤ}
 use lib.ListN.{length}
 use borrow.Author.Tests.{lt-ltb, le-ltb, ltb-false}
 use Rattle.basics.specs.Choice.{pick}
-use Rattle.workspace.specs.Space.{workLength, zeros}
-use Rattle.refusal.specs.Refusal.{tooShort, filledBy, _orElse_}
-use Rattle.refusal.specs.declared.Refusal.{Refusal}
-use Rattle.refusal.specs.declared.Checked.{Checked}
-use Rattle.refusal.specs.declared.Checked.the-variants.{Accepted, Refused}
-use Rattle.refusal.specs.declared.Filled.{Filled}
-use Rattle.refusal.specs.declared.Filled.the-variants as filled
-use Rattle.refusal.proofs.Apart.{refused-accepted}
+use Rattle.call.specs.Space.{workLength, zeros}
+use Rattle.call.specs.Refusal.{tooShort, filledBy, _orElse_, checkedRefusal}
+use Rattle.call.specs.declared.refusal.Refusal.{Refusal}
+use Rattle.call.specs.declared.refusal.Checked.{Checked}
+use Rattle.call.specs.declared.refusal.Checked.the-variants.{Accepted, Refused}
+use Rattle.call.specs.declared.refusal.Filled.{Filled}
+use Rattle.call.specs.declared.refusal.Filled.the-variants as filled
+use Rattle.call.proofs.Apart.{refused-accepted}
+use Rattle.call.proofs.Answers.{both-pass, pass-both}
+use Rattle.call.specs.Call.{Lent, Step, Asks, lengthCheck, verdict, numberOf, placeOf}
+use Rattle.call.proofs.Laws.{Numbered, above-among, above-room, accepted-by, room-long}
 use Rattle.symbol.specs.Check.{symbolCheck}
 use Rattle.symbol.specs.Symbol.{IsSymbol}
-use Rattle.symbol.proofs.Accepted.{accepted}
+use Rattle.symbol.proofs.Accepted.{accepted, check-among}
 use Rattle.basics.proofs.Choice.{pick-true, pick-false}
-use Rattle.pairing.specs.Generator.{byWork, workAfter}
+use Rattle.pairing.specs.Generator.{byWork, workAfter, generatorTable, generatorsCall}
 use Rattle.pairing.specs.Inner.Admitted.{workCheck, admittedOf, workLeft}
+use Rattle.pairing.proofs.Meaning.{generates}
 
 work-long : (work : ℕ) → Accepted ≡ workCheck work → workLength ≤ work
 work-long work e = go (ltb work workLength) refl e
@@ -76,3 +83,28 @@ module _ (v : ℕ) (t : List ℤ) (w : List ℕ) (r : Checked) (e : r ≡ admitt
 
   pub work-by : workLeft r w ≡ workAfter (symbolCheck v t) w
   work-by = ap (λ (c : Checked). workLeft c w) e ∙ work-orElse (symbolCheck v t) w
+
+-- ---- the number of a call on a symbol
+
+abbrev pub symbolVerdict : (v : ℕ) (t : List ℤ) (w : List ℕ) (l : List Step) → Checked
+symbolVerdict v t w l = symbolCheck v t orElse lengthCheck workLength (length w) orElse verdict l
+
+module _ (v : ℕ) (t : List ℤ) (w : List ℕ) (l : List Step) where
+  pub symbol-passed : Numbered l → checkedRefusal (symbolVerdict v t w l) .number ≡ 0 → IsSymbol v t × (symbolVerdict v t w l ≡ Accepted)
+  symbol-passed n z =
+      let all = accepted-by (Asks (symbolCheck v t) ∷ Asks (lengthCheck workLength (length w)) ∷ l)
+      (above-among 1 7 (symbolCheck v t) (omega arith) (check-among v t), (above-room workLength (length w), n)) z in
+      (accepted v t .0 (both-pass (symbolCheck v t) (lengthCheck workLength (length w) orElse verdict l) all .0), all)
+
+  pub symbol-zero : IsSymbol v t → workLength ≤ length w → verdict l ≡ Accepted → checkedRefusal (symbolVerdict v t w l) .number ≡ 0
+  symbol-zero ok long h =
+      let rest = pass-both (lengthCheck workLength (length w)) (verdict l) (room-long workLength (length w) long) h in
+      ap (λ (c : Checked). checkedRefusal c .number)
+      (pass-both (symbolCheck v t) (lengthCheck workLength (length w) orElse verdict l) (accepted v t .1 ok) rest)
+
+pub generators-says : (v : ℕ) (t : List ℤ) (w : Lent (List ℕ)) (out : Lent (List ℤ))
+    → generatorsCall v t w out .Says (numberOf (generatorsCall v t w out)) (placeOf (generatorsCall v t w out))
+generators-says v t w out z =
+    let n = length (generatorTable v t) in
+    let room = length (out .entry .now) in
+    generates v t (symbol-passed v t (w .entry .now) (Asks (lengthCheck n room) ∷ []) (above-room n room, tt) z .0)

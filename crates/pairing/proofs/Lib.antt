@@ -4,3 +4,4 @@ pub mod Partners
 pub mod Rows
 pub mod Meaning
 pub mod Admitted
+pub mod Both

@@ -19,8 +19,8 @@ use borrow.Author.Tests.{lt-ltb, le-ltb, eq-eqb, ne-eqb, eqb-true, not-false}
 use lib.IntN.{ℤ, pos, natAbs}
 use Rattle.matrix.specs.Matrix.{nth}
 use Rattle.basics.specs.Choice.{pick}
-use Rattle.workspace.specs.Space.{workLength, zeros}
-use Rattle.workspace.proofs.Zeros.{length-zeros, getD-zeros}
+use Rattle.call.specs.Space.{workLength, zeros}
+use Rattle.call.proofs.Zeros.{length-zeros, getD-zeros}
 use Rattle.basics.specs.Count.{first}
 use Rattle.symbol.specs.Table.{pairingOf}
 use Rattle.symbol.specs.Check.{eqZ, sidesIn, unpairedIn}
@@ -133,7 +133,8 @@ not-labelled p i l m e d = go (either (labelled p l i))
     go (inl t) = absurd (d (ap natAbs (sym (eqZ-true (nth p i) (pos l) t) ∙ e)))
     go (inr f) = f
 
-module _ (v : ℕ) (most : v ≤ 1023) (p : List ℤ) (paired : Clear (unpairedIn v p) (v + 1)) (i : ℕ) (inside : i ≤ v) (w : List ℕ) (so-far : PairedTo v p i w) where
+module _ (v : ℕ) (most : v ≤ 1023) (p : List ℤ) (paired : Clear (unpairedIn v p) (v + 1)) (i : ℕ) (inside : i ≤ v) (w : List ℕ)
+    (so-far : PairedTo v p i w) where
   -- side i is not free: nothing changes
   pub met-other : ((l : ℕ) → pairingOf v (nth p i) ≡ Free l → ⊥) → PairedTo v p (suc i) w
   met-other none = record {

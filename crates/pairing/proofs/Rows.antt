@@ -21,10 +21,11 @@ use Rattle.symbol.specs.Table.{pairingEntries, pairingEntry, pairingOf, sideAt}
 use Rattle.symbol.specs.Check.{unpairedIn, unpairedBy, sidesIn, symbolCheck}
 use Rattle.symbol.specs.Inner.Ready.{SmallSide}
 use Rattle.symbol.specs.Symbol.{IsSymbol, FreeLabel}
-use Rattle.pairing.specs.Generator.{partner, pairingAt, isLeaderIn, kindOf, isLeader, leaders, frameAt, generatorBy, generator, generatorRow, generatorRows, generatorTable}
+use Rattle.pairing.specs.Generator.{partner, pairingAt, isLeaderIn, kindOf, isLeader, leaders, frameAt, generatorBy, generator, generatorRow}
+use Rattle.pairing.specs.Generator.{generatorRows, generatorTable}
 use Rattle.pairing.specs.Inner.Work.{AllPaired, Partnered, PartnersReady, putRow, RowsTo}
 use Rattle.symbol.specs.declared.Pairing.{Pairing}
-use Rattle.refusal.specs.Refusal.{badPairing}
+use Rattle.call.specs.Refusal.{badPairing}
 use Rattle.basics.proofs.Choice.{pick-true, pick-false, either}
 use Rattle.basics.proofs.Count.{length-those, count-yes, count-no}
 use Rattle.symbol.proofs.Accepted.{accepted, range-of, passed-all, passes-at}
@@ -55,7 +56,8 @@ module _ (v : ℕ) (t : List ℤ) where
 
   rows-++ : (l m : List ℕ) → generatorRows v t (l ++ m) ≡ generatorRows v t l ++ generatorRows v t m
   rows-++ [] m = refl
-  rows-++ (i ∷ l) m = ap (λ (r : List ℤ). generatorRow v t i ++ r) (rows-++ l m) ∙ sym (append-assoc (generatorRow v t i) (generatorRows v t l) (generatorRows v t m))
+  rows-++ (i ∷ l) m = ap (λ (r : List ℤ). generatorRow v t i ++ r) (rows-++ l m)
+      ∙ sym (append-assoc (generatorRow v t i) (generatorRows v t l) (generatorRows v t m))
 
   pub rows-none : (out : List ℤ) → RowsTo v t 0 0 out out
   rows-none out = record { number = refl; table = refl }
@@ -84,7 +86,8 @@ module _ (v : ℕ) (t : List ℤ) where
         ∙ drop-drop 5 (5 * n) out
         ∙ ap (λ (k : ℕ). drop k out) count in
         let before : take (5 * n) out' ≡ front = ap (take (5 * n)) is-front ∙ take-at front (drop (5 * n) out) (5 * n) front-length in
-        let those-more : those (isLeader v t) (suc i) ≡ those (isLeader v t) i ++ (i ∷ []) = ap (λ (b : Bool). those (isLeader v t) i ++ pick b (i ∷ []) []) e in
+        let those-more : those (isLeader v t) (suc i) ≡ those (isLeader v t) i ++ (i ∷ []) =
+        ap (λ (b : Bool). those (isLeader v t) i ++ pick b (i ∷ []) []) e in
         let rows-are : generatorRows v t (those (isLeader v t) (suc i)) ≡ front ++ generatorRow v t i = ap (generatorRows v t) those-more
         ∙ rows-++ (those (isLeader v t) i) (i ∷ []) ∙ ap (λ (x : List ℤ). front ++ x) (append-nil (generatorRow v t i)) in
         record {
@@ -131,5 +134,6 @@ module _ (v : ℕ) (t p : List ℤ) (w : List ℕ) (r : PartnersReady v t p w) w
   prepared-row i = ap (λ (l : List ℤ). pos (kindOf (pairingOf v (nth l i))) ∷ toList (generator v t i)) (r .part)
 
 -- the generator of a side by its pairing
-pub generator-by : (v : ℕ) (t : List ℤ) (i : ℕ) (q : Pairing) → pairingAt v t i ≡ q → generator v t i ≡ generatorBy q (frameAt v t i) (frameAt v t (partner v t i))
+pub generator-by : (v : ℕ) (t : List ℤ) (i : ℕ) (q : Pairing) → pairingAt v t i ≡ q → generator v t i
+    ≡ generatorBy q (frameAt v t i) (frameAt v t (partner v t i))
 generator-by v t i q e = ap (λ (x : Pairing). generatorBy x (frameAt v t i) (frameAt v t (partner v t i))) e

@@ -4,33 +4,35 @@
 --   isLeader v t i        whether side i is the leftmost side of its generator
 --   leaders v t           those sides, from the left
 --   generatorNumber v t i  the number, from 1, of the generator that side i belongs to
---   generator v t i       the generator that side i leads: even M S M⁻¹, odd M Q M⁻¹, free N S M⁻¹ with N the partner's frame
+--   generator v t i       the generator that side i leads: even M S M⁻¹, odd M Q M⁻¹, free N S M⁻¹ with N the partner's
+--                         frame
 --   generators v t        the list of generators; number j, counted from 1, belongs to the j-th leading side
 --   kindOf                1 free, 2 even, 3 odd
---   byWork work a         refused with 11 where the work space is too short, or else the answer a
---   generatedOf           the refusals 1 to 7, then the work space, then the result space, or the number of generators
---   workAfter             what a call leaves in the work space: zeros where it got past the length check, else all as it was
---   tableLeft             what the call leaves in the result space: the table at its front, or all as it was
 --   generatorTable v t    for each generator its kind and its four entries, one after another
---   Generates v t         what a list that was made means: the table is a symbol, and each generator has determinant 1, so that its adjugate
---                         is its inverse
+--   Generates v t         what a list that was made means: the table is a symbol, and each generator has determinant 1,
+--                         so that its adjugate is its inverse
+--   generatorsCall        checks 1 to 7, the work space, the generators; it counts them
+-- Calls of other crates that are not yet stated by their steps use
+--   byWork work a         refused with 11 where the work space is too short, or else the answer a
+--   workAfter c w         what is left in the work space: zeros where the checks c accept and w is long enough, else w
 use mathlib.Core.Path.{_≡_}
 use mathlib.Core.Bool.{Bool, true, false, not, _&&_}
 use mathlib.Core.List.{List, [], _∷_, _++_, map}
 use Prim.Native.Nat.{ℕ, suc, _+_, _*_, _<_}
 use lib.Dec.{ltb, eqb}
 use lib.IntN.{ℤ, pos}
-use lib.ListN.{length, drop, getD}
+use lib.ListN.{length, getD}
 use Rattle.matrix.specs.Matrix.{nth, Mat, _⊗_, 𝟙, det, adj, matS, matQ, toList}
 use Rattle.basics.specs.Choice.{pick}
 use Rattle.basics.specs.Count.{first, count, those}
 use Rattle.symbol.specs.Table.{pairingEntries, pairingEntry, sideAt, frame, carried, pairingOf}
-use Rattle.workspace.specs.Space.{workLength, zeros}
-use Rattle.refusal.specs.Refusal.{tooShort, filledBy}
-use Rattle.refusal.specs.declared.Checked.{Checked}
-use Rattle.refusal.specs.declared.Checked.the-variants.{Accepted, Refused}
-use Rattle.refusal.specs.declared.Filled.{Filled}
-use Rattle.refusal.specs.declared.Filled.the-variants as filled
+use Rattle.call.specs.Space.{workLength, zeros}
+use Rattle.call.specs.Refusal.{tooShort}
+use Rattle.call.specs.declared.refusal.Checked.{Checked}
+use Rattle.call.specs.declared.refusal.Checked.the-variants.{Accepted, Refused}
+use Rattle.call.specs.declared.refusal.Filled.{Filled}
+use Rattle.call.specs.declared.refusal.Filled.the-variants as filled
+use Rattle.call.specs.Call.{Lent, asks, work, stores, Contract}
 use Rattle.symbol.specs.Check.{eqZ, symbolCheck}
 use Rattle.symbol.specs.Symbol.{IsSymbol}
 use Rattle.symbol.specs.declared.Pairing.{Pairing}
@@ -95,28 +97,26 @@ generatorRows v t (i ∷ l) = generatorRow v t i ++ generatorRows v t l
 abbrev pub generatorTable : ℕ → List ℤ → List ℤ
 generatorTable v t = generatorRows v t (leaders v t)
 
--- n generators, or 11 with the length that the result space needs for them
-abbrev pub roomOf : ℕ → ℕ → Filled
-roomOf n out = pick (ltb out (5 * n)) (filled.Refused (tooShort (5 * n))) (filled.Made n)
+pub record Generates (v : ℕ) (t : List ℤ) : Type 0 where
+  pub symbol : IsSymbol v t
+  pub unit : (j : ℕ) → j < length (generators v t) → det (getD (generators v t) j 𝟙) ≡ pos 1
+  pub inverse :
+      (j : ℕ) → j < length (generators v t) → adj (getD (generators v t) j 𝟙) ⊗ getD (generators v t) j 𝟙 ≡ 𝟙
+
+-- ---- the call
+
+abbrev pub generatorsCall : (v : ℕ) → List ℤ → Lent (List ℕ) → Lent (List ℤ) → Contract
+generatorsCall v t w out = record {
+  steps = asks (symbolCheck v t) ++ work w ++ stores (generatorTable v t) out;
+  count = length (leaders v t);
+  Says = λ number place. number ≡ 0 → Generates v t;
+}
+
+-- ---- for calls of other crates
 
 abbrev pub byWork : ℕ → Filled → Filled
 byWork work a = pick (ltb work workLength) (filled.Refused (tooShort workLength)) a
 
-abbrev pub generatedOf : ℕ → List ℤ → ℕ → ℕ → Filled
-generatedOf v t work out = filledBy (symbolCheck v t) (byWork work (roomOf (length (leaders v t)) out))
-
 abbrev pub workAfter : Checked → List ℕ → List ℕ
 workAfter (Refused f) w = w
 workAfter Accepted w = pick (ltb (length w) workLength) w (zeros (length w))
-
-abbrev pub tableLeft : Filled → List ℤ → List ℤ → List ℤ
-tableLeft (filled.Made n) table out = table ++ drop (5 * n) out
-tableLeft (filled.Refused f) table out = out
-
-pub record Generates (v : ℕ) (t : List ℤ) : Type 0 where
-  pub symbol : IsSymbol v t
-  pub unit : (j : ℕ) → j < length (generators v t) → det (getD (generators v t) j 𝟙) ≡ pos 1
-  pub inverse : (j : ℕ) → j < length (generators v t) → adj (getD (generators v t) j 𝟙) ⊗ getD (generators v t) j 𝟙 ≡ 𝟙
-
-abbrev pub GeneratorsMean : ℕ → List ℤ → Filled → Type 0
-GeneratorsMean v t r = (n : ℕ) → r ≡ filled.Made n → Generates v t

@@ -3,10 +3,10 @@ use super::admit::admit;
 use super::partner::PARTNER;
 use super::partner::kind_at;
 use super::partner::pair_sides;
-use refusal::Checked;
-use refusal::Filled;
-use refusal::Refusal;
-use refusal::TOO_SHORT;
+use call::refusal::Checked;
+use call::refusal::Filled;
+use call::refusal::Refusal;
+use call::refusal::TOO_SHORT;
 use symbol::Pairing;
 use symbol::Side;
 use symbol::read_pairing;
@@ -16,11 +16,13 @@ ghost use lib.ListN.{length, drop};
 ghost use mathlib.Core.Bool.{true};
 ghost use mathlib.Core.List.{_∷_, _++_};
 ghost use Rattle.matrix.specs.Matrix.{ofList, toList};
-ghost use Rattle.workspace.specs.Space.{workLength, zeros};
+ghost use Rattle.call.specs.Space.{workLength, zeros};
 ghost use Rattle.basics.specs.Count.{count};
-ghost use Rattle.symbol.specs.Check.{symbolCheck};
+ghost use Rattle.call.specs.Call.{stores};
+ghost use Rattle.call.specs.Inner.Fills.{Fills, madeIf};
 ghost use Rattle.symbol.specs.Symbol.{IsSymbol};
-ghost use Rattle.pairing.specs.Generator.{isLeaderIn, isLeader, generator, generatorTable, leaders, roomOf, generatedOf, workAfter, tableLeft, GeneratorsMean};
+ghost use Rattle.pairing.specs.Generator.{isLeaderIn, isLeader, generator, generatorTable, leaders};
+ghost use Rattle.pairing.specs.Generator.{generatorsCall};
 ghost use Rattle.pairing.specs.Inner.Work.{Partnered, PartnersReady, putRow, RowsTo, SideListed};
 
 // Whether side i is the leftmost side of its generator.
@@ -32,7 +34,7 @@ fn leads_at(v: usize, p: &[i64], w: &[u16], i: usize) -> bool
     match pairing {
         Pairing::Even => true,
         Pairing::Odd => true,
-        Pairing::Free(_) => i < workspace::index(w[PARTNER + i]),
+        Pairing::Free(_) => i < call::workspace::index(w[PARTNER + i]),
         Pairing::Bad => false,
     }
 }
@@ -64,7 +66,7 @@ fn generator_at(v: usize, t: &[i64], p: &[i64], w: &[u16], i: usize) -> [i64; 4]
         Pairing::Even => side.even(),
         Pairing::Odd => side.odd(),
         Pairing::Free(_) => {
-            let other = Side::at(v, t, workspace::index(w[PARTNER + i]));
+            let other = Side::at(v, t, call::workspace::index(w[PARTNER + i]));
             side.free(other)
         }
         Pairing::Bad => matrix::identity(),
@@ -94,7 +96,8 @@ fn list_side(
     n: usize,
     out: &mut [i64],
 ) -> usize
-    requires { ⌜ PartnersReady v (now t) (now p) (now w) × (i ≤ v) × (n ≤ i) × (isLeader v (now t) i ≡ true → 5 * n + 5 ≤ length (now out)) ⌝ }
+    requires { ⌜ PartnersReady v (now t) (now p) (now w) × (i ≤ v) × (n ≤ i)
+        × (isLeader v (now t) i ≡ true → 5 * n + 5 ≤ length (now out)) ⌝ }
     ensures { λ r. ⌜ SideListed v (now (t .entry)) i n r (now (out .entry)) (now (out .exit)) ⌝ }
 {
     if leads_at(v, p, w, i) {
@@ -106,8 +109,10 @@ fn list_side(
 
 // Lists all generators from the front of out, which has room for them.
 fn list_all(v: usize, t: &[i64], p: &[i64], w: &[u16], out: &mut [i64])
-    requires { ⌜ PartnersReady v (now t) (now p) (now w) × (5 * count (isLeader v (now t)) (v + 1) ≤ length (now out)) ⌝ }
-    ensures { λ r. ⌜ now (out .exit) ≡ generatorTable v (now (t .entry)) ++ drop (5 * count (isLeader v (now (t .entry))) (v + 1)) (now (out .entry)) ⌝ }
+    requires { ⌜ PartnersReady v (now t) (now p) (now w)
+        × (5 * count (isLeader v (now t)) (v + 1) ≤ length (now out)) ⌝ }
+    ensures { λ r. ⌜ now (out .exit) ≡ generatorTable v (now (t .entry))
+        ++ drop (5 * count (isLeader v (now (t .entry))) (v + 1)) (now (out .entry)) ⌝ }
 {
     let mut n = 0;
     let mut i = 0;
@@ -120,8 +125,8 @@ fn list_all(v: usize, t: &[i64], p: &[i64], w: &[u16], out: &mut [i64])
 // Lists the generators where out has room for them.
 fn list_if_room(v: usize, t: &[i64], p: &[i64], w: &[u16], out: &mut [i64]) -> Filled
     requires { ⌜ PartnersReady v (now t) (now p) (now w) ⌝ }
-    ensures { λ r. ⌜ r ≡ roomOf (length (leaders v (now (t .entry)))) (length (now (out .entry))) ⌝ }
-    ensures { λ r. ⌜ now (out .exit) ≡ tableLeft r (generatorTable v (now (t .entry))) (now (out .entry)) ⌝ }
+    ensures { λ r. ⌜ Fills (stores (generatorTable v (now (t .entry))) out)
+        (madeIf (length (leaders v (now (t .entry))))) r ⌝ }
 {
     let n = count_leaders(v, p, w);
     let needed = 5 * n;
@@ -138,24 +143,23 @@ fn list_if_room(v: usize, t: &[i64], p: &[i64], w: &[u16], out: &mut [i64]) -> F
 // The same for an accepted symbol; the work space is cleared before and after.
 fn list_accepted(v: usize, t: &[i64], w: &mut [u16], out: &mut [i64]) -> Filled
     requires { ⌜ IsSymbol v (now t) × (workLength ≤ length (now w)) ⌝ }
-    ensures { λ r. ⌜ r ≡ roomOf (length (leaders v (now (t .entry)))) (length (now (out .entry))) ⌝ }
+    ensures { λ r. ⌜ Fills (stores (generatorTable v (now (t .entry))) out)
+        (madeIf (length (leaders v (now (t .entry))))) r ⌝ }
     ensures { λ r. ⌜ now (w .exit) ≡ zeros (length (now (w .entry))) ⌝ }
-    ensures { λ r. ⌜ now (out .exit) ≡ tableLeft r (generatorTable v (now (t .entry))) (now (out .entry)) ⌝ }
 {
     let p = &t[2 * v..];
-    workspace::clear(w);
+    call::workspace::clear(w);
     pair_sides(v, p, w);
     let made = list_if_room(v, t, p, w, out);
-    workspace::clear(w);
+    call::workspace::clear(w);
     made
 }
 
-// The generators of the symbol in t with their kinds, from the front of out: checks 1 to 7, then the work space, then the result space.
+// The generators of the symbol in t with their kinds, from the front of out: checks 1 to 7, then the work space, then
+// the result space.
 pub fn generators(v: usize, t: &[i64], w: &mut [u16], out: &mut [i64]) -> Filled
-    ensures { λ r. ⌜ r ≡ generatedOf v (now (t .entry)) (length (now (w .entry))) (length (now (out .entry))) ⌝ }
-    ensures { λ r. ⌜ now (w .exit) ≡ workAfter (symbolCheck v (now (t .entry))) (now (w .entry)) ⌝ }
-    ensures { λ r. ⌜ now (out .exit) ≡ tableLeft r (generatorTable v (now (t .entry))) (now (out .entry)) ⌝ }
-    ensures { λ r. ⌜ GeneratorsMean v (now (t .entry)) r ⌝ }
+    ensures { λ r. ⌜ Fills (generatorsCall v (now (t .entry)) w out .steps)
+        (madeIf (length (leaders v (now (t .entry))))) r ⌝ }
 {
     let admitted = admit(v, t, w.len());
     match admitted {

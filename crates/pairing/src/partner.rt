@@ -6,7 +6,7 @@ ghost use Prim.Native.Nat.{_+_, _≤_, _<_};
 ghost use lib.ListN.{length, getD};
 ghost use lib.IntN.{pos};
 ghost use Rattle.matrix.specs.Matrix.{nth};
-ghost use Rattle.workspace.specs.Space.{workLength};
+ghost use Rattle.call.specs.Space.{workLength};
 ghost use Rattle.symbol.specs.Table.{pairingOf};
 ghost use Rattle.pairing.specs.Generator.{kindOf};
 ghost use Rattle.pairing.specs.Inner.Work.{FIRST, met, metBy, AllPaired, PairedTo, FirstsBounded, Partnered};
@@ -21,7 +21,7 @@ fn meet(l: usize, i: usize, w: &mut [u16])
     requires { ⌜ (l ≤ 1024) × (i ≤ 1023) × (workLength ≤ length (now w)) × (getD (now w) (FIRST + l) 0 ≤ 1024) ⌝ }
     ensures { λ r. ⌜ now (w .exit) ≡ met l i (now (w .entry)) ⌝ }
 {
-    let seen = workspace::index(w[FIRST + l]);
+    let seen = call::workspace::index(w[FIRST + l]);
     if seen == 0 {
         w[FIRST + l] = (i + 1) as u16;
         return;
@@ -48,7 +48,8 @@ fn pair_side(v: usize, x: i64, i: usize, w: &mut [u16])
 // Finds the partners of all free sides; the work space is zero before.
 pub fn pair_sides(v: usize, p: &[i64], w: &mut [u16])
     requires { ⌜ (v ≤ 1023) × AllPaired v (now p) × PairedTo v (now p) 0 (now w) ⌝ }
-    ensures { λ r. ⌜ Partnered v (now (p .entry)) (now (w .exit)) × (length (now (w .exit)) ≡ length (now (w .entry))) ⌝ }
+    ensures { λ r. ⌜ Partnered v (now (p .entry)) (now (w .exit))
+        × (length (now (w .exit)) ≡ length (now (w .entry))) ⌝ }
 {
     let mut i = 0;
     while i <= v {

@@ -57,9 +57,25 @@ module _ (v : ℕ) (t : List ℤ) (x y : ℤ) (a b c d : ℕ) (p : Pair v t x y 
       elim (decLt a d) [
         | yes h ↦ elim (decLt c b) [
           | yes m ↦ record { a = a; b = d; c = c; d = b; pair = both h m; x-first = omega arith; y-first = omega arith }
-          | no m ↦ record { a = a; b = d; c = b; d = c; pair = y-turned (omega (arith, b-c v t x y a b c d p)); x-first = omega (arith, b-c v t x y a b c d p); y-first = omega arith }
+          | no m ↦ record {
+            a = a;
+            b = d;
+            c = b;
+            d = c;
+            pair = y-turned (omega (arith, b-c v t x y a b c d p));
+            x-first = omega (arith, b-c v t x y a b c d p);
+            y-first = omega arith;
+          }
         ]
-        | no h ↦ record { a = d; b = a; c = c; d = b; pair = x-turned (omega (arith, a-d v t x y a b c d p)); x-first = omega arith; y-first = omega (arith, a-d v t x y a b c d p) }
+        | no h ↦ record {
+          a = d;
+          b = a;
+          c = c;
+          d = b;
+          pair = x-turned (omega (arith, a-d v t x y a b c d p));
+          x-first = omega arith;
+          y-first = omega (arith, a-d v t x y a b c d p);
+        }
       ]
 
   pub back : a < d → c < b → exchanged v (exchanged v t x y) x y ≡ t
@@ -84,7 +100,8 @@ module _ (v : ℕ) (t : List ℤ) (x y : ℤ) (a b c d : ℕ) (p : Pair v t x y 
           | no h ↦
               let q : d < a = omega (arith, a-d v t x y a b c d p) in
               let s = sym (exchanged-is (x-turned q)) ∙ twice in
-              absurd (p .apart (sym (sym (at-first v u a b x y (λ z. omega arith) (omega (arith, long))) ∙ ap (λ (r : List ℤ). pairingEntry v r a) s ∙ p .sides-x .first)))
+              absurd (p .apart (sym
+              (sym (at-first v u a b x y (λ z. omega arith) (omega (arith, long))) ∙ ap (λ (r : List ℤ). pairingEntry v r a) s ∙ p .sides-x .first)))
         ],
         elim (decLt c b) [
           | yes h ↦ h

@@ -1,41 +1,35 @@
--- THE ANSWERS: what passed the checks can be exchanged (`exchangeable`); room for the symbol (`room-short`, `room-made`); what is asked of a symbol, by the
--- work space (`Asked`, `asked-short`, `asked-long`) and by the widths (`counted`); what an answer means (`exchange-refused`, `preview-means`).
+-- THE ANSWERS: what passed the checks can be exchanged (`exchangeable`); the front of an array that a table fills (`front`), and what is asked of it
+-- (`asked-of`); the numbers of the checks (`exchange-numbered`), and what the numbers of the calls say (`exchange-says`, `preview-says`).
 -- Assumes nothing.
-use mathlib.Core.Path.{_≡_, refl, sym, _∙_, ap}
-use mathlib.Core.Bool.{Bool, true, false, not}
-use mathlib.Core.List.{List, _++_}
-use Prim.Native.Nat.{ℕ, _+_, _*_, _<_, _≤_}
+use mathlib.Core.Path.{_≡_, refl, _∙_, ap, subst}
+use mathlib.Core.Bool.{not}
+use mathlib.Core.List.{List, [], _∷_, _++_}
+use Prim.Native.Nat.{ℕ, _+_, _*_, _≤_}
 use native.Mathlib.Omega.{arith}
-use lib.Dec.{ltb}
-use lib.ListN.{length, take, drop}
+use lib.ListN.{length, take, drop, getD}
 use lib.Seq.{take-at}
 use lib.IntN.{ℤ}
-use borrow.Author.Tests.{lt-ltb, le-ltb, not-false}
-use Rattle.workspace.specs.Space.{workLength, zeros}
-use Rattle.basics.specs.Choice.{pick}
+use borrow.Author.Tests.{not-false}
 use Rattle.basics.proofs.Choice.{clash}
-use Rattle.refusal.specs.Refusal.{tooShort, notFreeLabel, _orElse_, filledBy}
-use Rattle.refusal.specs.declared.Refusal.{Refusal}
-use Rattle.refusal.specs.declared.Checked.{Checked}
-use Rattle.refusal.specs.declared.Checked.the-variants.{Accepted, Refused}
-use Rattle.refusal.specs.declared.Filled.{Filled}
-use Rattle.refusal.specs.declared.Filled.the-variants as filled
-use Rattle.refusal.proofs.Apart.{refused-made}
-use Rattle.refusal.proofs.Answers.{both-pass}
+use Rattle.call.specs.Space.{workLength}
+use Rattle.call.specs.Refusal.{notFreeLabel, _orElse_}
+use Rattle.call.specs.declared.refusal.Checked.{Checked}
+use Rattle.call.specs.declared.refusal.Checked.the-variants.{Accepted, Refused}
+use Rattle.call.proofs.Answers.{both-pass}
+use Rattle.call.proofs.Numbered.{Among, among-first}
+use Rattle.call.specs.Call.{Lent, Asks, Gives, lengthCheck, ifAccepted, Leaves, numberOf, placeOf}
+use Rattle.call.specs.Inner.Fills.{Fills}
+use Rattle.call.proofs.Laws.{Above, above-among, above-room, accepted-by}
 use Rattle.symbol.specs.Table.{pairingEntries}
 use Rattle.symbol.specs.Check.{eqZ, refuse, symbolCheck}
-use Rattle.symbol.specs.Symbol.{IsSymbol}
 use Rattle.symbol.proofs.Choice.{eq-eqZ}
-use Rattle.symbol.proofs.Accepted.{accepted, passes}
-use Rattle.pairing.specs.Generator.{workAfter}
-use Rattle.figures.specs.declared.FigureRecord.{FigureRecord}
-use Rattle.coset.specs.Answer.{roomOne, widthsOf, widthedOf, figuresOf, figuredOf, columnLeft}
+use Rattle.symbol.proofs.Accepted.{accepted, passes, among-refuse, check-among}
+use Rattle.coset.specs.Answer.{widthsOf, figuresOf, figureNumber, figureNumbers}
+use Rattle.coset.specs.Inner.Survey.{figuredIf}
 use Rattle.coset.specs.declared.Figured.{Figured}
-use Rattle.coset.specs.declared.Figured.the-variants as figured
 use Rattle.coset.proofs.Answer.{meaning}
 use Rattle.partner_exchange.specs.Exchange.{exchanged, isFreeLabel, check23}
-use Rattle.partner_exchange.specs.Theorem.{Trade}
-use Rattle.partner_exchange.specs.Answer.{exchangeCheck, symbolRoom, exchangeOf, ExchangeMeans, figuresAfter, askedOf, PreviewMeaning, PreviewMeans}
+use Rattle.partner_exchange.specs.Answer.{exchangeCheck, exchangeCall, previewCall}
 use Rattle.partner_exchange.specs.Inner.Ready.{Exchangeable}
 use Rattle.partner_exchange.proofs.Theorem.{trades}
 
@@ -57,86 +51,62 @@ exchangeable v t x y e =
       apart = λ z. clash (eq-eqZ x y z) (passes (eqZ x y) (notFreeLabel 1) (three .1));
     }
 
--- ---- room for a symbol
-
-pub room-short : (v n : ℕ) → n < 3 * v + 1 → filled.Refused (tooShort (3 * v + 1)) ≡ symbolRoom v n
-room-short v n h = rw (lt-ltb n (3 * v + 1) h)
-
-pub room-made : (v n : ℕ) → 3 * v + 1 ≤ n → filled.Made v ≡ symbolRoom v n
-room-made v n h = rw (le-ltb n (3 * v + 1) h)
-
--- a symbol that was made has as many vertices, and its labels have passed
-pub made-vertices : (v : ℕ) (t : List ℤ) (x y : ℤ) (n k : ℕ) → exchangeOf v t x y n ≡ filled.Made k → (exchangeCheck v t x y ≡ Accepted) × (k ≡ v)
-made-vertices v t x y n k e = go (exchangeCheck v t x y) (ltb n (3 * v + 1)) e
-  where
-    go : (c : Checked) (b : Bool) → filledBy c (pick b (filled.Refused (tooShort (3 * v + 1))) (filled.Made v)) ≡ filled.Made k → (c ≡ Accepted) × (k ≡ v)
-    go (Refused f) b d = refused-made d
-    go Accepted true d = refused-made d
-    go Accepted false d = (refl, let z : v ≡ k = cc in sym z)
-
 -- the part of an array that a table fills
 pub front : (v : ℕ) (u rest a : List ℤ) → length u ≡ 3 * v + 1 → a ≡ u ++ rest → take (3 * v + 1) a ≡ u
 front v u rest a long e = ap (take (3 * v + 1)) e ∙ take-at u rest (3 * v + 1) long
 
--- ---- what is asked of an accepted symbol
-
-pub record Asked (v : ℕ) (u : List ℤ) (w : List ℕ) (n : ℕ) (widths : Filled) (figures : Figured) (left : List ℕ) : Type 0 where
-  pub widths-is : widths ≡ widthedOf v u (length w) n
-  pub figures-is : figures ≡ askedOf v u (length w) n
-  pub left-is : left ≡ workAfter Accepted w
-
-module _ (v : ℕ) (u : List ℤ) (ok : IsSymbol v u) (w : List ℕ) (n : ℕ) where
-  pub asked-short : length w < workLength → Asked v u w n (filled.Refused (tooShort workLength)) (figured.Refused (tooShort workLength)) w
-  asked-short h =
-      let a = accepted v u .1 ok in
-      let l = lt-ltb (length w) workLength h in
-      record { widths-is = rw (a, l); figures-is = rw (a, l); left-is = rw l }
-
-  pub asked-long : workLength ≤ length w
-      → Asked v u w n (roomOne (length (widthsOf v u)) n) (figuresAfter (roomOne (length (widthsOf v u)) n) (figured.Made (figuresOf v u))) (zeros (length w))
-  asked-long h =
-      let a = accepted v u .1 ok in
-      let l = le-ltb (length w) workLength h in
-      record { widths-is = rw (a, l); figures-is = rw (a, l); left-is = rw l }
-
 -- what is asked of a table is asked of another that it is
-pub asked-of : (v : ℕ) (u u' : List ℤ) (ok : IsSymbol v u) (w w' : List ℕ) (out out' : List ℕ) (r : Figured) → u' ≡ u → workLength ≤ length w
-    → r ≡ figuresAfter (roomOne (length (widthsOf v u')) (length out)) (figured.Made (figuresOf v u')) → w' ≡ zeros (length w)
-    → out' ≡ columnLeft (roomOne (length (widthsOf v u')) (length out)) (widthsOf v u') out
-    → (r ≡ askedOf v u (length w) (length out)) × (w' ≡ workAfter Accepted w) × (out' ≡ columnLeft (widthedOf v u (length w) (length out)) (widthsOf v u) out)
-asked-of v u u' ok w w' out out' r same h e f g =
-    let n = length out in
-    let a = asked-long v u ok w n h in (
-      e ∙ ap (λ (l : List ℤ). figuresAfter (roomOne (length (widthsOf v l)) n) (figured.Made (figuresOf v l))) same ∙ a .figures-is,
-      f ∙ a .left-is,
-      g ∙ ap (λ (l : List ℤ). columnLeft (roomOne (length (widthsOf v l)) n) (widthsOf v l) out) same
-          ∙ ap (λ (k : Filled). columnLeft k (widthsOf v u) out) (a .widths-is),
-    )
+pub asked-of : (v : ℕ) (l u : List ℤ) (out : List ℕ) {out' : List ℕ} {a : Figured}
+    → Fills (Asks (lengthCheck (length (widthsOf v l)) (length out)) ∷ Gives (widthsOf v l ++ drop (length (widthsOf v l)) out) out out' ∷ [])
+    (figuredIf (figuresOf v l)) a → l ≡ u
+    → Fills (Asks (lengthCheck (length (widthsOf v u)) (length out)) ∷ Gives (widthsOf v u ++ drop (length (widthsOf v u)) out) out out' ∷ [])
+    (figuredIf (figuresOf v u)) a
+asked-of v l u out {out'} {a} g e =
+    subst (λ (m : List ℤ). Fills
+    (Asks (lengthCheck (length (widthsOf v m)) (length out)) ∷ Gives (widthsOf v m ++ drop (length (widthsOf v m)) out) out out' ∷ [])
+    (figuredIf (figuresOf v m)) a) e g
 
--- the widths are counted by the cusps
-pub counted : (v : ℕ) (u : List ℤ) (f : FigureRecord) (n : ℕ) (r : Filled) → f ≡ figuresOf v u → r ≡ roomOne (f .cusps) n → r ≡ roomOne (length (widthsOf v u)) n
-counted v u f n r e h = h ∙ ap (λ (g : FigureRecord). roomOne (g .cusps) n) e
+-- ---- what the numbers say
 
--- ---- what an answer means
+-- the range of the numbers may be larger
+wider : (low high low' high' : ℕ) (c : Checked) → low' ≤ low → high ≤ high' → Among low high c → Among low' high' c
+wider low high low' high' Accepted l m h = tt
+wider low high low' high' (Refused f) l m h = (omega (arith, l, h .0), omega (arith, m, h .1))
 
-pub exchange-refused : (v : ℕ) (t : List ℤ) (x y : ℤ) (f : Refusal) → ExchangeMeans v t x y (filled.Refused f)
-exchange-refused v t x y f n e = refused-made e
+module _ (v : ℕ) (t : List ℤ) (x y : ℤ) where
+  labels-among : Among 1 23 (check23 v (pairingEntries v t) x y)
+  labels-among =
+      let p = pairingEntries v t in
+      let same = refuse (eqZ x y) (notFreeLabel 1) in
+      let second = refuse (not (isFreeLabel v p y)) (notFreeLabel 1) in
+      let repeat = among-refuse 1 23 (eqZ x y) (notFreeLabel 1) (omega arith) (omega arith) in
+      among-first 1 23 (refuse (not (isFreeLabel v p x)) (notFreeLabel 0)) (second orElse same)
+      (among-refuse 1 23 (not (isFreeLabel v p x)) (notFreeLabel 0) (omega arith) (omega arith))
+      (among-first 1 23 second same (among-refuse 1 23 (not (isFreeLabel v p y)) (notFreeLabel 1) (omega arith) (omega arith)) repeat)
 
-pub preview-refused : (v : ℕ) (t : List ℤ) (x y : ℤ) (work : ℕ) (f : Refusal) → PreviewMeans v t x y work (figured.Refused f)
-preview-refused v t x y work f g e = let z : _≡_ {A = ℕ} 0 1 = cc in absurd (omega arith)
+  exchange-numbered : Above (exchangeCheck v t x y)
+  exchange-numbered = above-among 1 23 (exchangeCheck v t x y) (omega arith)
+      (among-first 1 23 (symbolCheck v t) (check23 v (pairingEntries v t) x y)
+      (wider 1 7 1 23 (symbolCheck v t) (omega arith) (omega arith) (check-among v t)) labels-among)
 
--- figures that were made are those of `figures`
-after-made : (a : Filled) (r g : Figured) (f : FigureRecord) → r ≡ figuresAfter a g → r ≡ figured.Made f → r ≡ g
-after-made (filled.Made n) r g f e h = e
-after-made (filled.Refused q) r g f e h = let k = sym e ∙ h in let z : _≡_ {A = ℕ} 0 1 = cc in absurd (omega arith)
+  pub exchange-says : (out : Lent (List ℤ)) → exchangeCall v t x y out .Says (numberOf (exchangeCall v t x y out)) (placeOf (exchangeCall v t x y out))
+  exchange-says out z =
+      let n = length (exchanged v t x y) in
+      let room = lengthCheck n (length (out .entry .now)) in
+      let all = accepted-by (Asks (exchangeCheck v t x y) ∷ Asks room ∷ []) (exchange-numbered, (above-room n (length (out .entry .now)), tt)) z in
+      trades (exchangeable v t x y (both-pass (exchangeCheck v t x y) (room orElse Accepted) all .0))
 
-pub preview-means : (v : ℕ) (t : List ℤ) (x y : ℤ) (work n : ℕ) (r : Figured) → Exchangeable v t x y → r ≡ askedOf v (exchanged v t x y) work n
-    → PreviewMeans v t x y work r
-preview-means v t x y work n r ex e f h =
-    let u = exchanged v t x y in
-    let k = trades ex in
-    record {
-      trade = k;
-      as-asked = after-made (widthedOf v u work n) r (figuredOf v u work) f e h;
-      means = meaning (k .accepted);
-    }
+  -- from what it leaves, too: the genus stands there
+  pub preview-says : (w widths out : Lent (List ℕ)) → Leaves (previewCall v t x y w widths out .steps)
+      → previewCall v t x y w widths out .Says (numberOf (previewCall v t x y w widths out)) (placeOf (previewCall v t x y w widths out))
+  preview-says w widths out left z =
+      let u = exchanged v t x y in
+      let n = length (widthsOf v u) in
+      let long = lengthCheck workLength (length (w .entry .now)) in
+      let room = lengthCheck n (length (widths .entry .now)) in
+      let all = accepted-by (Asks (exchangeCheck v t x y) ∷ Asks long ∷ Asks room ∷ [])
+      (exchange-numbered, (above-room workLength (length (w .entry .now)), (above-room n (length (widths .entry .now)), tt))) z in
+      let trade = trades (exchangeable v t x y (both-pass (exchangeCheck v t x y) (long orElse room orElse Accepted) all .0)) in
+      let m = meaning (trade .accepted) in
+      let there = left .1 .1 .0 ∙ ap (λ (c : Checked). ifAccepted c (figureNumbers (figuresOf v u)) (out .entry .now)) all in
+      (record { trade = trade; means = m }, ap (λ (l : List ℕ). getD l 4 18) there ∙ ap figureNumber (m .genus .is))

@@ -24,8 +24,8 @@ use Rattle.matrix.specs.Matrix.{nth}
 use Rattle.basics.specs.Choice.{pick}
 use Rattle.basics.specs.Count.{first}
 use Rattle.basics.proofs.Choice.{either, clash}
-use Rattle.refusal.specs.Refusal.{notFreeLabel}
-use Rattle.refusal.specs.declared.Checked.the-variants.{Accepted, Refused}
+use Rattle.call.specs.Refusal.{notFreeLabel}
+use Rattle.call.specs.declared.refusal.Checked.the-variants.{Accepted, Refused}
 use Rattle.symbol.specs.Table.{pairingEntries}
 use Rattle.symbol.specs.Check.{eqZ}
 use Rattle.symbol.specs.Symbol.{IsSymbol}
@@ -43,7 +43,8 @@ copied-more t out j x h k e =
     (sym (append-assoc (take j t) (nth t j ∷ []) (drop (suc j) out)))
 
 pub copied-all : (t out out' : List ℤ) (j : ℕ) → length t ≤ j → j ≤ length t → out' ≡ take j t ++ drop j out → out' ≡ t ++ drop (length t) out
-copied-all t out out' j h k e = let z : j ≡ length t = omega arith in e ∙ ap (λ (n : ℕ). take n t ++ drop n out) z ∙ ap (λ (l : List ℤ). l ++ drop (length t) out) (take-all (length t) t (omega arith))
+copied-all t out out' j h k e = let z : j ≡ length t = omega arith in
+    e ∙ ap (λ (n : ℕ). take n t ++ drop n out) z ∙ ap (λ (l : List ℤ). l ++ drop (length t) out) (take-all (length t) t (omega arith))
 
 -- ---- what a side has
 

@@ -3,8 +3,8 @@
 use mathlib.Core.Path.{_≡_, refl}
 use mathlib.Core.List.{List, [], _∷_}
 use lib.IntN.{ℤ, pos, negsuc}
-use Rattle.refusal.specs.Refusal.{notFreeLabel}
-use Rattle.refusal.specs.declared.Checked.the-variants.{Accepted, Refused}
+use Rattle.call.specs.Refusal.{notFreeLabel}
+use Rattle.call.specs.declared.refusal.Checked.the-variants.{Accepted, Refused}
 use Rattle.partner_exchange.specs.Exchange.{exchanged}
 use Rattle.partner_exchange.specs.Answer.{exchangeCheck}
 

@@ -132,7 +132,8 @@ module _ (v : ℕ) (t : List ℤ) (x y : ℤ) (a b c d : ℕ) (p : Pair v t x y 
         ]
       ]
 
-  pub count-after : (z : ℤ) → (z ≡ x → ⊥) → (z ≡ y → ⊥) → count (λ (i : ℕ). eqZ (pairingEntry v u i) z) (v + 1) ≡ count (λ (i : ℕ). eqZ (pairingEntry v t i) z) (v + 1)
+  pub count-after : (z : ℤ) → (z ≡ x → ⊥) → (z ≡ y → ⊥) → count (λ (i : ℕ). eqZ (pairingEntry v u i) z) (v + 1)
+      ≡ count (λ (i : ℕ). eqZ (pairingEntry v t i) z) (v + 1)
   count-after z nx ny = count-eq (λ (i : ℕ). eqZ (pairingEntry v u i) z) (λ (i : ℕ). eqZ (pairingEntry v t i) z) (v + 1) (λ i h. same-test z nx ny i)
 
   two-x : sides v u x ≡ 2

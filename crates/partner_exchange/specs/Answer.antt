@@ -1,33 +1,24 @@
--- THE CALLS `exchange` AND `preview`: their refusals, what they return and what they leave (docs/CONVENTIONS.md, 16).
+-- THE CALLS `exchange` AND `preview`: their steps, and what they mean (docs/CONVENTIONS.md, 16).
 --
---   exchangeCheck v t x y       the checks 1 to 7, then 23
---   symbolRoom v n              the number of vertices, or 11 with the length of the symbol's table where n is less
---   exchangeOf v t x y n        the answer of `exchange` for a result space of length n
---   symbolLeft r u out          what it leaves there: the symbol's table u at the front, or all as it was
---   figuresAfter r a            the answer a of `figures`, but where `widths` answers with a refusal, that one
---   askedOf v u work n          what `widths` and `figures` answer of one symbol u, for a work space and a result space of these lengths
---   previewOf v t x y work n    the answer of `preview`: those refusals, and then what both calls answer of the exchanged symbol, 17 and 18 each for its figure
---   previewedWidths             the answer of `widths` in it, by which the result space is filled
---   ExchangeMeans, PreviewMeans what an answer means that is no refusal: the exchange is a trade, and the figures of a preview are those of the exchanged
---                               symbol, of which `figures` gives this same answer
+--   exchangeCheck v t x y       checks 1 to 7, then 23
+--   exchangeCall v t x y out    checks 1 to 7, then 23, then the symbol in which x and y have exchanged partners; it
+--                               counts its vertices, and it means a trade
+--   previewSteps                checks 1 to 7, then 23, then the work space, then the widths of the exchanged symbol
+--   previewCall                 those, and the eight numbers of its figures, 17 and 18 each for its figure; it counts
+--                               its cusps. No symbol is written
+--   PreviewMeaning v t x y      the exchange is a trade, and the exchanged symbol means what the tables of a symbol
+--                               mean: its figures and widths are those that `farey_figures` and `farey_widths` give
 use mathlib.Core.Path.{_≡_}
 use mathlib.Core.List.{List, _++_}
-use Prim.Native.Nat.{ℕ, _+_, _*_}
-use lib.Dec.{ltb}
-use lib.ListN.{drop}
+use Prim.Native.Nat.{ℕ}
+use lib.ListN.{length}
 use lib.IntN.{ℤ}
-use Rattle.basics.specs.Choice.{pick}
-use Rattle.refusal.specs.Refusal.{_orElse_, tooShort, filledBy}
-use Rattle.refusal.specs.declared.Checked.{Checked}
-use Rattle.refusal.specs.declared.Checked.the-variants.{Accepted, Refused}
-use Rattle.refusal.specs.declared.Filled.{Filled}
-use Rattle.refusal.specs.declared.Filled.the-variants as filled
+use Rattle.call.specs.Refusal.{_orElse_}
+use Rattle.call.specs.declared.refusal.Checked.{Checked}
+use Rattle.call.specs.Call.{Lent, Step, asks, work, stores, resultIn, Contract}
 use Rattle.symbol.specs.Table.{pairingEntries}
 use Rattle.symbol.specs.Check.{symbolCheck}
-use Rattle.figures.specs.declared.FigureRecord.{FigureRecord}
-use Rattle.coset.specs.Answer.{widthedOf, figuredOf, Meaning}
-use Rattle.coset.specs.declared.Figured.{Figured}
-use Rattle.coset.specs.declared.Figured.the-variants as figured
+use Rattle.coset.specs.Answer.{widthsOf, figuresOf, figureNumbers, GenusGiven, Meaning}
 use Rattle.partner_exchange.specs.Exchange.{exchanged, check23}
 use Rattle.partner_exchange.specs.Theorem.{Trade}
 
@@ -36,42 +27,26 @@ exchangeCheck v t x y = symbolCheck v t orElse check23 v (pairingEntries v t) x 
 
 -- ---- exchange
 
-abbrev pub symbolRoom : (v n : ℕ) → Filled
-symbolRoom v n = pick (ltb n (3 * v + 1)) (filled.Refused (tooShort (3 * v + 1))) (filled.Made v)
-
-abbrev pub exchangeOf : ℕ → List ℤ → (x y : ℤ) → (n : ℕ) → Filled
-exchangeOf v t x y n = filledBy (exchangeCheck v t x y) (symbolRoom v n)
-
-abbrev pub symbolLeft : Filled → (u out : List ℤ) → List ℤ
-symbolLeft (filled.Made v) u out = u ++ drop (3 * v + 1) out
-symbolLeft (filled.Refused f) u out = out
-
-abbrev pub ExchangeMeans : ℕ → List ℤ → (x y : ℤ) → Filled → Type 0
-ExchangeMeans v t x y r = (n : ℕ) → r ≡ filled.Made n → Trade v t x y
+abbrev pub exchangeCall : (v : ℕ) → List ℤ → (x y : ℤ) → Lent (List ℤ) → Contract
+exchangeCall v t x y out = record {
+  steps = asks (exchangeCheck v t x y) ++ stores (exchanged v t x y) out;
+  count = v;
+  Says = λ number place. number ≡ 0 → Trade v t x y;
+}
 
 -- ---- preview
 
-abbrev pub figuresAfter : Filled → Figured → Figured
-figuresAfter (filled.Refused f) a = figured.Refused f
-figuresAfter (filled.Made n) a = a
-
-abbrev pub askedOf : ℕ → List ℤ → (work n : ℕ) → Figured
-askedOf v u work n = figuresAfter (widthedOf v u work n) (figuredOf v u work)
-
-abbrev pub previewBy : Checked → Figured → Figured
-previewBy (Refused f) a = figured.Refused f
-previewBy Accepted a = a
-
-abbrev pub previewOf : ℕ → List ℤ → (x y : ℤ) → (work n : ℕ) → Figured
-previewOf v t x y work n = previewBy (exchangeCheck v t x y) (askedOf v (exchanged v t x y) work n)
-
-abbrev pub previewedWidths : ℕ → List ℤ → (x y : ℤ) → (work n : ℕ) → Filled
-previewedWidths v t x y work n = filledBy (exchangeCheck v t x y) (widthedOf v (exchanged v t x y) work n)
-
-pub record PreviewMeaning (v : ℕ) (t : List ℤ) (x y : ℤ) (work : ℕ) (r : Figured) : Type 0 where
+pub record PreviewMeaning (v : ℕ) (t : List ℤ) (x y : ℤ) : Type 0 where
   pub trade : Trade v t x y
-  pub as-asked : r ≡ figuredOf v (exchanged v t x y) work
   pub means : Meaning v (exchanged v t x y)
 
-abbrev pub PreviewMeans : ℕ → List ℤ → (x y : ℤ) → (work : ℕ) → Figured → Type 0
-PreviewMeans v t x y work r = (f : FigureRecord) → r ≡ figured.Made f → PreviewMeaning v t x y work r
+abbrev pub previewSteps : (v : ℕ) → List ℤ → (x y : ℤ) → (w widths : Lent (List ℕ)) → List Step
+previewSteps v t x y w widths =
+    asks (exchangeCheck v t x y) ++ work w ++ stores (widthsOf v (exchanged v t x y)) widths
+
+abbrev pub previewCall : (v : ℕ) → List ℤ → (x y : ℤ) → (w widths out : Lent (List ℕ)) → Contract
+previewCall v t x y w widths out = record {
+  steps = previewSteps v t x y w widths ++ resultIn (figureNumbers (figuresOf v (exchanged v t x y))) out;
+  count = length (widthsOf v (exchanged v t x y));
+  Says = λ number place. number ≡ 0 → PreviewMeaning v t x y × GenusGiven (out .exit .now);
+}

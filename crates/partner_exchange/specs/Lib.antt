@@ -1,4 +1,5 @@
--- Partners exchanged: the altered symbol, what stays of the old one and when a second exchange brings it back, the calls. What is in Inner need not be read.
+-- Partners exchanged: the altered symbol, what stays of the old one and when a second exchange brings it back, the
+-- calls. What is in Inner need not be read.
 pub mod Exchange
 pub mod Theorem
 pub mod Answer

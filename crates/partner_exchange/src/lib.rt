@@ -1,29 +1,30 @@
-// Two free labels of a symbol exchange partners: specs/Exchange.antt says what the altered symbol is, specs/Theorem.antt what holds of it and of
-// further exchanges, specs/Answer.antt what the calls answer and leave.
+// Two free labels of a symbol exchange partners: specs/Exchange.antt says what the altered symbol is,
+// specs/Theorem.antt what holds of it and of further exchanges, specs/Answer.antt what the calls answer and leave.
+use call::refusal::Checked;
+use call::refusal::Filled;
+use call::refusal::NOT_FREE_LABEL;
+use call::refusal::Refusal;
+use call::refusal::TOO_SHORT;
 use coset::Figured;
 use coset::copy_widths;
 use coset::survey;
-use refusal::Checked;
-use refusal::Filled;
-use refusal::NOT_FREE_LABEL;
-use refusal::Refusal;
-use refusal::TOO_SHORT;
 use symbol::check;
 ghost use mathlib.Core.Path.{_≡_};
 ghost use mathlib.Core.Bool.{true};
 ghost use mathlib.Core.List.{_++_};
 ghost use Prim.Native.Nat.{_+_, _*_, _≤_, _<_};
 ghost use lib.ListN.{length, drop};
-ghost use Rattle.workspace.specs.Space.{workLength, zeros};
+ghost use Rattle.call.specs.Space.{workLength, zeros};
 ghost use Rattle.basics.specs.Count.{first};
+ghost use Rattle.call.specs.Call.{work, stores};
+ghost use Rattle.call.specs.Inner.Fills.{Fills, madeIf};
 ghost use Rattle.symbol.specs.Table.{pairingEntries};
-ghost use Rattle.symbol.specs.Check.{eqZ, symbolCheck};
+ghost use Rattle.symbol.specs.Check.{eqZ};
 ghost use Rattle.symbol.specs.Symbol.{IsSymbol};
-ghost use Rattle.pairing.specs.Generator.{workAfter};
-ghost use Rattle.coset.specs.Answer.{columnLeft, roomOne, widthsOf, widthedOf, figuresOf};
-ghost use Rattle.coset.specs.declared.Figured.the-variants as figured;
+ghost use Rattle.coset.specs.Answer.{widthsOf, figuresOf};
+ghost use Rattle.coset.specs.Inner.Survey.{figuredIf};
 ghost use Rattle.partner_exchange.specs.Exchange.{firstSide, secondSide, exchanged, isFreeLabel, check23};
-ghost use Rattle.partner_exchange.specs.Answer.{exchangeCheck, symbolRoom, exchangeOf, symbolLeft, ExchangeMeans, figuresAfter, askedOf, previewOf, previewedWidths, PreviewMeans};
+ghost use Rattle.partner_exchange.specs.Answer.{exchangeCheck, exchangeCall, previewSteps};
 ghost use Rattle.partner_exchange.specs.Inner.Ready.{labelTest, Exchangeable};
 
 // Whether two numbers are the same.
@@ -143,8 +144,7 @@ fn put_exchanged(v: usize, t: &[i64], x: i64, y: i64, out: &mut [i64])
 // The same where there is room for it.
 fn exchange_in_room(v: usize, t: &[i64], x: i64, y: i64, out: &mut [i64]) -> Filled
     requires { ⌜ Exchangeable v (now t) x y ⌝ }
-    ensures { λ r. ⌜ r ≡ symbolRoom v (length (now (out .entry))) ⌝ }
-    ensures { λ r. ⌜ now (out .exit) ≡ symbolLeft r (exchanged v (now (t .entry)) x y) (now (out .entry)) ⌝ }
+    ensures { λ r. ⌜ Fills (stores (exchanged v (now (t .entry)) x y) out) (madeIf v) r ⌝ }
 {
     let n = 3 * v + 1;
     if out.len() < n {
@@ -157,11 +157,10 @@ fn exchange_in_room(v: usize, t: &[i64], x: i64, y: i64, out: &mut [i64]) -> Fil
     Filled::Made(v)
 }
 
-// The symbol in t, with the second sides of the labels x and y exchanged, goes to the front of out: checks 1 to 7, then 23, then out.
+// The symbol in t, with the second sides of the labels x and y exchanged, goes to the front of out: checks 1 to 7, then
+// 23, then out.
 pub fn exchange(v: usize, t: &[i64], x: i64, y: i64, out: &mut [i64]) -> Filled
-    ensures { λ r. ⌜ r ≡ exchangeOf v (now (t .entry)) x y (length (now (out .entry))) ⌝ }
-    ensures { λ r. ⌜ now (out .exit) ≡ symbolLeft r (exchanged v (now (t .entry)) x y) (now (out .entry)) ⌝ }
-    ensures { λ r. ⌜ ExchangeMeans v (now (t .entry)) x y r ⌝ }
+    ensures { λ r. ⌜ Fills (exchangeCall v (now (t .entry)) x y out .steps) (madeIf v) r ⌝ }
 {
     let checked = exchange_check(v, t, x, y);
     match checked {
@@ -173,13 +172,12 @@ pub fn exchange(v: usize, t: &[i64], x: i64, y: i64, out: &mut [i64]) -> Filled
 // The figures of an accepted symbol, with its widths at the front of out; the work space is cleared after.
 fn ask(v: usize, u: &[i64], w: &mut [u16], out: &mut [u32]) -> Figured
     requires { ⌜ IsSymbol v (now u) × (workLength ≤ length (now w)) ⌝ }
-    ensures { λ a. ⌜ a ≡ figuresAfter (roomOne (length (widthsOf v (now (u .entry)))) (length (now (out .entry)))) (figured.Made (figuresOf v (now (u .entry)))) ⌝ }
+    ensures { λ a. ⌜ Fills (stores (widthsOf v (now (u .entry))) out) (figuredIf (figuresOf v (now (u .entry)))) a ⌝ }
     ensures { λ a. ⌜ now (w .exit) ≡ zeros (length (now (w .entry))) ⌝ }
-    ensures { λ a. ⌜ now (out .exit) ≡ columnLeft (roomOne (length (widthsOf v (now (u .entry)))) (length (now (out .entry)))) (widthsOf v (now (u .entry))) (now (out .entry)) ⌝ }
 {
     let f = survey(v, u, w);
     let made = copy_widths(w, f.cusps, out);
-    workspace::clear(w);
+    call::workspace::clear(w);
     match made {
         Filled::Refused(refusal) => Figured::Refused(refusal),
         Filled::Made(_) => Figured::Made(f),
@@ -189,14 +187,13 @@ fn ask(v: usize, u: &[i64], w: &mut [u16], out: &mut [u32]) -> Figured
 // The same of the exchanged symbol, which is made in an array and is gone after.
 fn preview_exchanged(v: usize, t: &[i64], x: i64, y: i64, w: &mut [u16], out: &mut [u32]) -> Figured
     requires { ⌜ Exchangeable v (now t) x y ⌝ }
-    ensures { λ a. ⌜ a ≡ askedOf v (exchanged v (now (t .entry)) x y) (length (now (w .entry))) (length (now (out .entry))) ⌝ }
-    ensures { λ a. ⌜ now (w .exit) ≡ workAfter Checked.Accepted (now (w .entry)) ⌝ }
-    ensures { λ a. ⌜ now (out .exit) ≡ columnLeft (widthedOf v (exchanged v (now (t .entry)) x y) (length (now (w .entry))) (length (now (out .entry)))) (widthsOf v (exchanged v (now (t .entry)) x y)) (now (out .entry)) ⌝ }
+    ensures { λ a. ⌜ Fills (work w ++ stores (widthsOf v (exchanged v (now (t .entry)) x y)) out)
+        (figuredIf (figuresOf v (exchanged v (now (t .entry)) x y))) a ⌝ }
 {
-    if w.len() < workspace::WORK {
+    if w.len() < call::workspace::WORK {
         return Figured::Refused(Refusal {
             number: TOO_SHORT,
-            place: workspace::WORK,
+            place: call::workspace::WORK,
         });
     }
     let mut u = [0i64; 3070];
@@ -204,13 +201,11 @@ fn preview_exchanged(v: usize, t: &[i64], x: i64, y: i64, w: &mut [u16], out: &m
     ask(v, &u[..3 * v + 1], w, out)
 }
 
-// The figures of the symbol that `exchange` would make, and the widths of its cusps at the front of out: checks 1 to 7, then 23, then the work
-// space, then out. No symbol is written.
+// The figures of the symbol that `exchange` would make, and the widths of its cusps at the front of out: checks 1 to 7,
+// then 23, then the work space, then out. No symbol is written.
 pub fn preview(v: usize, t: &[i64], x: i64, y: i64, w: &mut [u16], out: &mut [u32]) -> Figured
-    ensures { λ r. ⌜ r ≡ previewOf v (now (t .entry)) x y (length (now (w .entry))) (length (now (out .entry))) ⌝ }
-    ensures { λ r. ⌜ now (w .exit) ≡ workAfter (exchangeCheck v (now (t .entry)) x y) (now (w .entry)) ⌝ }
-    ensures { λ r. ⌜ now (out .exit) ≡ columnLeft (previewedWidths v (now (t .entry)) x y (length (now (w .entry))) (length (now (out .entry)))) (widthsOf v (exchanged v (now (t .entry)) x y)) (now (out .entry)) ⌝ }
-    ensures { λ r. ⌜ PreviewMeans v (now (t .entry)) x y (length (now (w .entry))) r ⌝ }
+    ensures { λ r. ⌜ Fills (previewSteps v (now (t .entry)) x y w out)
+        (figuredIf (figuresOf v (exchanged v (now (t .entry)) x y))) r ⌝ }
 {
     let checked = exchange_check(v, t, x, y);
     match checked {

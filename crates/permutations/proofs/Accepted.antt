@@ -13,10 +13,10 @@ use native.Mathlib.Decide.{decLt}
 use lib.Dec.{leb, ltb, eqb}
 use lib.ListN.{length, getD, List·getD-eq-default}
 use borrow.Author.Tests.{leb-true, eqb-true, ltb-true, lt-ltb, le-ltb, le-leb, eq-eqb, ne-eqb, not-false}
-use Rattle.refusal.specs.Refusal.{_orElse_, pointCount, tableEntry, wrongOrder, unreached}
-use Rattle.refusal.specs.declared.Checked.{Checked}
-use Rattle.refusal.specs.declared.Checked.the-variants.{Accepted}
-use Rattle.refusal.proofs.Answers.{both-pass, pass-both}
+use Rattle.call.specs.Refusal.{_orElse_, pointCount, tableEntry, wrongOrder, unreached}
+use Rattle.call.specs.declared.refusal.Checked.{Checked}
+use Rattle.call.specs.declared.refusal.Checked.the-variants.{Accepted}
+use Rattle.call.proofs.Answers.{both-pass, pass-both}
 use Rattle.basics.specs.Count.{first}
 use Rattle.basics.proofs.Choice.{and-left, and-right}
 use Rattle.basics.proofs.Count.{Clear, first-clear}
@@ -24,7 +24,8 @@ use Rattle.numbering.specs.Find.{find, isIn, _∈_}
 use Rattle.numbering.specs.Order.{orderOf, Numbering}
 use Rattle.numbering.proofs.Order.{numbering}
 use Rattle.import_rule.specs.Fixed.{image, Permuting}
-use Rattle.permutations.specs.Check.{check12, earlier, badEntry, check13, twiceMoved, thriceMoved, check14, notReached, check15, pairCheck, Passport, PairVerdict}
+use Rattle.permutations.specs.Check.{check12, earlier, badEntry, check13, twiceMoved, thriceMoved, check14, notReached, check15, pairCheck, Passport}
+use Rattle.permutations.specs.Check.{PairVerdict}
 use Rattle.symbol.proofs.Accepted.{passes, pass, passes-at, pass-at}
 
 -- ---- the checks one by one
@@ -182,7 +183,10 @@ module _ (s r : List ℕ) (p : Passport s r) where
     entries-R = entries-clear r (p .points-R) (p .one-R);
     twice = record { none = λ x h. ap not (eq-eqb (image s (image s x)) x (p .twice x h)) };
     thrice = record { none = λ x h. ap not (eq-eqb (image r (image r (image r x))) x (p .thrice x h)) };
-    all = record { none = λ x h. ap not (lt-ltb (find (orderOf (image s) (image r) 0 (length s)) x) (length (orderOf (image s) (image r) 0 (length s))) (found x h)) };
+    all = record {
+      none = λ x h. ap not
+          (lt-ltb (find (orderOf (image s) (image r) 0 (length s)) x) (length (orderOf (image s) (image r) 0 (length s))) (found x h));
+    };
   }
 
 -- ---- THE CHECKS ACCEPT EXACTLY THE PASSPORTS

@@ -1,32 +1,29 @@
--- The answers of the calls from what their parts answer.
+-- The answers of the calls from what their parts answer: check 12; a check and then the work space (`check-refused`, `work-short`, `work-long`), and back from
+-- the answer to that of the steps behind them (`work-back`); the length alone (`length-refused`, `length-made`).
 -- Assumes nothing.
-use mathlib.Core.Path.{_≡_, refl, sym, _∙_, ap}
+use mathlib.Core.Path.{_≡_, refl, sym, _∙_, ap, subst}
 use mathlib.Core.Bool.{Bool, true, false, not, _&&_}
-use mathlib.Core.List.{List}
+use mathlib.Core.List.{List, [], _∷_}
 use Prim.Native.Nat.{ℕ, _≤_, _<_}
-use lib.Dec.{leb, ltb, eqb}
+use lib.Dec.{leb, eqb}
 use lib.ListN.{length}
-use lib.IntN.{ℤ}
-use borrow.Author.Tests.{lt-ltb, le-ltb, le-leb, lt-leb, eq-eqb, ne-eqb}
-use Rattle.refusal.specs.Refusal.{_orElse_, pointCount, tooShort, filledBy}
-use Rattle.refusal.specs.declared.Refusal.{Refusal}
-use Rattle.refusal.specs.declared.Checked.{Checked}
-use Rattle.refusal.specs.declared.Checked.the-variants as checked
-use Rattle.refusal.specs.declared.Filled.{Filled}
-use Rattle.refusal.specs.declared.Filled.the-variants.{Made, Refused}
-use Rattle.refusal.proofs.Answers.{first-refuses, then-next}
-use Rattle.refusal.proofs.Apart.{refused-made}
-use Rattle.basics.specs.Choice.{pick}
-use Rattle.workspace.specs.Space.{workLength, zeros}
+use borrow.Author.Tests.{le-leb, lt-leb, eq-eqb, ne-eqb}
+use Rattle.call.specs.Refusal.{_orElse_, pointCount, tooShort}
+use Rattle.call.specs.declared.refusal.Refusal.{Refusal}
+use Rattle.call.specs.declared.refusal.Checked.{Checked}
+use Rattle.call.specs.declared.refusal.Checked.the-variants as checked
+use Rattle.call.specs.declared.refusal.Filled.{Filled}
+use Rattle.call.specs.declared.refusal.Filled.the-variants.{Made, Refused}
+use Rattle.call.proofs.Answers.{first-refuses, then-next}
+use Rattle.call.specs.Space.{workLength, zeros}
+use Rattle.call.specs.Call.{Step, Asks, Clears, lengthCheck}
+use Rattle.call.specs.Inner.Fills.{Fills, madeIf}
+use Rattle.call.proofs.Laws.{Untouched, run-end, run-stop, run-pass, run-work, short-work, room-long, fills-as, ran}
 use Rattle.basics.proofs.Choice.{pick-true, pick-false}
 use Rattle.import_rule.specs.Fixed.{Pair}
-use Rattle.import_rule.specs.Order.{Order}
-use Rattle.import_rule.specs.Symbol.{ruledBy}
-use Rattle.import_table.specs.Answer.{grownOf}
 use Rattle.permutations.specs.Check.{check12, check13, check14, check15, twiceMoved, thriceMoved, pairCheck, Passport}
-use Rattle.permutations.specs.Import.{neededLength, grownWithin, importBy, importTable, importWork, ImportMeans, importLengthOf, LengthMeans}
+use Rattle.permutations.specs.Import.{neededLength}
 use Rattle.permutations.proofs.Accepted.{accepted, permuting-of}
-use Rattle.permutations.proofs.Means.{import-means, booked}
 
 -- ---- check 12
 
@@ -58,51 +55,7 @@ module _ (s r : List ℕ) where
       let t : test ≡ true = rw (le-leb 1 (length s) a, le-leb (length s) 3066 b, eq-eqb (length r) (length s) c) in
       then-next (check12 s r) rest (pick-false (not test) (checked.Refused pointCount) checked.Accepted (ap not t))
 
--- ---- import
-
-module _ (order : Order) (s r w : List ℕ) (o : List ℤ) where
-  -- the answer a, the work space w' and the result space o' are those of the definitions
-  pub record Answered (a : Filled) (w' : List ℕ) (o' : List ℤ) : Type 0 where
-    pub returned : a ≡ importBy order s r (length w) (length o)
-    pub work : w' ≡ importWork (pairCheck s r) w
-    pub result : o' ≡ importTable (ruledBy order s r) a o
-    pub means : ImportMeans s r a o'
-
-  answer : (a : Filled) (w' : List ℕ) (o' : List ℤ) → a ≡ importBy order s r (length w) (length o) → w' ≡ importWork (pairCheck s r) w
-      → o' ≡ importTable (ruledBy order s r) a o → Answered a w' o'
-  answer a w' o' p q t = record { returned = p; work = q; result = t; means = rw t (import-means order s r (length w) (length o) a o p) }
-
-  -- what follows the work space, and what follows the checks
-  abbrev within : Filled
-  within = grownWithin order s r (length o)
-
-  abbrev after : Filled
-  after = pick (ltb (length w) workLength) (Refused (tooShort workLength)) within
-
-  pub refused : (f : Refusal) → pairCheck s r ≡ checked.Refused f → Answered (Refused f) w o
-  refused f e = answer (Refused f) w o (sym (ap (λ (x : Checked). filledBy x after) e)) (sym (ap (λ (x : Checked). importWork x w) e)) refl
-
-  module _ (e : pairCheck s r ≡ checked.Accepted) where
-    by-room : after ≡ importBy order s r (length w) (length o)
-    by-room = sym (ap (λ (x : Checked). filledBy x after) e)
-
-    by-work : pick (ltb (length w) workLength) w (zeros (length w)) ≡ importWork (pairCheck s r) w
-    by-work = sym (ap (λ (x : Checked). importWork x w) e)
-
-    pub short : length w < workLength → Answered (Refused (tooShort workLength)) w o
-    short h =
-        let t = lt-ltb (length w) workLength h in
-        answer (Refused (tooShort workLength)) w o
-        (sym (pick-true (ltb (length w) workLength) (Refused (tooShort workLength)) within t) ∙ by-room)
-        (sym (pick-true (ltb (length w) workLength) w (zeros (length w)) t) ∙ by-work) refl
-
-    pub long : workLength ≤ length w → (a : Filled) (w' : List ℕ) (o' : List ℤ) → a ≡ within → w' ≡ zeros (length w)
-        → o' ≡ importTable (ruledBy order s r) a o → Answered a w' o'
-    long h a w' o' p q t =
-        let f = le-ltb (length w) workLength h in
-        answer a w' o'
-        (p ∙ sym (pick-false (ltb (length w) workLength) (Refused (tooShort workLength)) within f) ∙ by-room)
-        (q ∙ sym (pick-false (ltb (length w) workLength) w (zeros (length w)) f) ∙ by-work) t
+-- ---- what was accepted
 
 pub passport-of : (s r : List ℕ) → pairCheck s r ≡ checked.Accepted → Passport s r
 passport-of s r e = accepted s r .0 e
@@ -110,23 +63,40 @@ passport-of s r e = accepted s r .0 e
 pub pair-of : (s r : List ℕ) → Passport s r → Pair s r
 pair-of s r p = record { permuting = permuting-of s r p; even = p .even; most = p .most }
 
--- ---- the result space
+-- ---- a check, then the work space, then the steps l
 
-module _ (order : Order) (s r : List ℕ) (n : ℕ) (o : List ℤ) (e : n ≡ neededLength r) where
-  pub too-short : length o < n → Refused (tooShort n) ≡ grownWithin order s r (length o)
-  too-short h = rw e (sym (pick-true (ltb (length o) (neededLength r)) _ _ (lt-ltb (length o) (neededLength r) (rw e at h))))
+-- a check that passes says nothing of the steps behind it
+pub past-check : {A : Type 0} {by : Checked → A} {a : A} {c : Checked} {l : List Step} → c ≡ checked.Accepted → Fills (Asks c ∷ l) by a → Fills l by a
+past-check {by} {a} {l} e g =
+    let h = subst (λ (x : Checked). Fills (Asks x ∷ l) by a) e g in
+    record { answer = h .answer; leaves = h .leaves }
 
-  pub long-enough : n ≤ length o → {a : Filled} → a ≡ grownOf (ruledBy order s r) → a ≡ grownWithin order s r (length o)
-  long-enough h q = q ∙ sym (pick-false (ltb (length o) (neededLength r)) _ _ (le-ltb (length o) (neededLength r) (rw e at h)))
+module _ (c : Checked) (w : List ℕ) (m : ℕ) where
+  abbrev pub admitted : (w' : List ℕ) → List Step → List Step
+  admitted w' l = Asks c ∷ Asks (lengthCheck workLength (length w)) ∷ Clears w w' ∷ l
+
+  pub check-refused : (f : Refusal) (l : List Step) → c ≡ checked.Refused f → Untouched l → Fills (admitted w l) (madeIf m) (Refused f)
+  check-refused f l e u = fills-as (run-stop f c (Asks (lengthCheck workLength (length w)) ∷ Clears w w ∷ l) e (refl, u)) refl
+
+  module _ (e : c ≡ checked.Accepted) where
+    pub work-short : (l : List Step) → length w < workLength → Untouched l → Fills (admitted w l) (madeIf m) (Refused (tooShort workLength))
+    work-short l h u = fills-as (run-pass c (Asks (lengthCheck workLength (length w)) ∷ Clears w w ∷ l) e (short-work w l h u)) refl
+
+    pub work-long : (l : List Step) → workLength ≤ length w → {a : Filled} {w' : List ℕ} → w' ≡ zeros (length w) → Fills l (madeIf m) a
+        → Fills (admitted w' l) (madeIf m) a
+    work-long l h {a} {w'} z g = fills-as (run-pass c (Asks (lengthCheck workLength (length w)) ∷ Clears w w' ∷ l) e (run-work w l w' h z (ran g))) (g .answer)
+
+    pub work-back : (l : List Step) → workLength ≤ length w → {a : Filled} {w' : List ℕ} → Fills (admitted w' l) (madeIf m) a
+        → Fills l (madeIf m) a × (w' ≡ zeros (length w))
+    work-back l h g =
+        let k = past-check (room-long workLength (length w) h) (past-check e g) in
+        (record { answer = k .answer; leaves = k .leaves .1 }, k .leaves .0)
 
 -- ---- the length alone
 
 module _ (s r : List ℕ) where
-  pub length-refused : (f : Refusal) → pairCheck s r ≡ checked.Refused f → (Refused f ≡ importLengthOf s r) × LengthMeans s r (Refused f)
-  length-refused f e = (sym (ap (λ (c : Checked). filledBy c (Made (neededLength r))) e), λ n q. refused-made q)
+  pub length-refused : (f : Refusal) → pairCheck s r ≡ checked.Refused f → Fills (Asks (pairCheck s r) ∷ []) (madeIf (neededLength r)) (Refused f)
+  length-refused f e = fills-as (run-stop f (pairCheck s r) [] e tt) refl
 
-  pub length-made : (n : ℕ) → pairCheck s r ≡ checked.Accepted → n ≡ neededLength r → (Made n ≡ importLengthOf s r) × LengthMeans s r (Made n)
-  length-made n e q = (
-    ap Made q ∙ sym (ap (λ (c : Checked). filledBy c (Made (neededLength r))) e),
-    (λ k z. let a : n ≡ k = cc in rw (sym a ∙ q) (booked s r (passport-of s r e))),
-  )
+  pub length-made : (n : ℕ) → pairCheck s r ≡ checked.Accepted → n ≡ neededLength r → Fills (Asks (pairCheck s r) ∷ []) (madeIf (neededLength r)) (Made n)
+  length-made n e q = fills-as (run-pass (pairCheck s r) [] e run-end) (ap Made q)

@@ -11,11 +11,11 @@ use lib.Dec.{ltb, eqb}
 use lib.ListN.{length, getD, set, replicate, length-set}
 use lib.Seq.{getD-set-same, getD-set-other}
 use borrow.Author.Tests.{lt-ltb, le-ltb, eq-eqb, ne-eqb, eqb-true, ltb-true}
-use Rattle.refusal.specs.Refusal.{_orElse_}
-use Rattle.refusal.specs.declared.Refusal.{Refusal}
-use Rattle.refusal.specs.declared.Checked.{Checked}
-use Rattle.refusal.specs.declared.Checked.the-variants.{Accepted, Refused}
-use Rattle.refusal.proofs.Answers.{first-refuses, then-next}
+use Rattle.call.specs.Refusal.{_orElse_}
+use Rattle.call.specs.declared.refusal.Refusal.{Refusal}
+use Rattle.call.specs.declared.refusal.Checked.{Checked}
+use Rattle.call.specs.declared.refusal.Checked.the-variants.{Accepted, Refused}
+use Rattle.call.proofs.Answers.{first-refuses, then-next}
 use Rattle.basics.specs.Choice.{pick}
 use Rattle.basics.specs.Count.{first}
 use Rattle.basics.proofs.Choice.{pick-true, pick-false, either, clash}
@@ -134,7 +134,8 @@ module _ (test : ℕ → Bool) (n : ℕ) (f : ℕ → Refusal) (i : ℕ) (e : i 
   accept-last h = sym (pick-false (ltb (first test n) n) (Refused (f (first test n))) Accepted (le-ltb (first test n) n (omega arith)))
 
   pub refuse-last : i < n → Refused (f i) ≡ refuseAt (first test n) n f
-  refuse-last h = ap (λ (k : ℕ). Refused (f k)) e ∙ sym (pick-true (ltb (first test n) n) (Refused (f (first test n))) Accepted (lt-ltb (first test n) n (omega arith)))
+  refuse-last h = ap (λ (k : ℕ). Refused (f k)) e
+      ∙ sym (pick-true (ltb (first test n) n) (Refused (f (first test n))) Accepted (lt-ltb (first test n) n (omega arith)))
 
   module _ (rest : Checked) where
     pub accept-at : n ≤ i → rest ≡ (refuseAt (first test n) n f orElse rest)

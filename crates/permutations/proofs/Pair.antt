@@ -10,9 +10,9 @@ use Rattle.numbering.specs.Order.{Reached, here, by-σ, by-ρ}
 use Rattle.numbering.specs.Table.{imageAt, Permutes}
 use Rattle.numbering.proofs.Those.{those-few}
 use Rattle.figures.specs.Cusps.{isFixed, fixedPoints}
-use Rattle.genus.specs.RiemannHurwitz.{cycleNumber}
-use Rattle.genus.specs.Genus.{CosetPair}
-use Rattle.genus.proofs.Orders.{order-three}
+use Rattle.figures.specs.RiemannHurwitz.{cycleNumber}
+use Rattle.figures.specs.Genus.{CosetPair}
+use Rattle.figures.proofs.Orders.{order-three}
 use Rattle.import_rule.specs.Fixed.{image}
 use Rattle.permutations.specs.Check.{Passport}
 use Rattle.permutations.specs.Import.{neededVertices}

@@ -65,12 +65,15 @@ module _ (n size x : ℕ) (seen queue : List ℕ) (t : QueueHolds n size seen qu
 
   pub enter-old : (getD seen x 0 ≡ 0 → ⊥) → Entered x n size queue seen queue n
   enter-old h =
-      let inside : x ∈ take n queue = elim (decLt (find (take n queue) x) (length (take n queue))) [ yes k ↦ k | no k ↦ absurd (h (t .marks x small ∙ mark-out (take n queue) x (omega arith))) ] in
+      let inside : x ∈ take n queue =
+      elim (decLt (find (take n queue) x) (length (take n queue)))
+      [ yes k ↦ k | no k ↦ absurd (h (t .marks x small ∙ mark-out (take n queue) x (omega arith))) ] in
       record { listed = t; is = sym (add-old (take n queue) x inside) }
 
   module _ (h : getD seen x 0 ≡ 0) where
     outside : x ∉ take n queue
-    outside = elim (decLt (find (take n queue) x) (length (take n queue))) [ yes k ↦ (let z = mark-in (take n queue) x k in absurd (omega (arith, t .marks x small))) | no k ↦ omega arith ]
+    outside = elim (decLt (find (take n queue) x) (length (take n queue)))
+        [ yes k ↦ (let z = mark-in (take n queue) x k in absurd (omega (arith, t .marks x small))) | no k ↦ omega arith ]
 
     longer : Once (take n queue ++ (x ∷ []))
     longer = places.once-last (take n queue) x (t .once) outside

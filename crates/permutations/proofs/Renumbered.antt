@@ -25,12 +25,12 @@ use Rattle.numbering.specs.Order.{orderOf, Maps, Reached, here, by-σ, by-ρ}
 use Rattle.numbering.specs.Table.{renamed}
 use Rattle.coset.specs.Tables.{indexOf}
 use Rattle.coset.specs.Theorem.{Cosets}
-use Rattle.congruence.specs.Cosets.{CosetsOf}
-use Rattle.congruence.proofs.Place.{det-R, Places}
-use Rattle.congruence.proofs.Points.{places-cosets}
-use Rattle.congruence.proofs.Unique.{cosets-index, cosets-count, cosets-unique}
-use Rattle.sameness.proofs.Generated.{generated}
-use Rattle.sameness.proofs.Symbols as symbols
+use Rattle.right_cosets.specs.Cosets.{CosetsOf}
+use Rattle.right_cosets.proofs.Place.{det-R, Places}
+use Rattle.right_cosets.proofs.Points.{places-cosets}
+use Rattle.right_cosets.proofs.Unique.{cosets-index, cosets-count, cosets-unique}
+use Rattle.containment.proofs.Generated.{generated}
+use Rattle.containment.proofs.Symbols as symbols
 
 -- ---- one coset, one element of H
 

@@ -1,7 +1,6 @@
--- How many vertices a symbol for two permutations has, from the permutations alone: `thirds-are`, `vertices-are`.
--- Why: the symbol's index is 3(v - 1) plus the number of its odd sides; it is the number of points; the odd sides are the points that R fixes in the symbol's own tables
--- (coset/proofs/OddSides.antt); and these are the given ones, renumbered, so that R fixes as many there (`fixed-renumbered`).
--- Assumes nothing.
+-- How many vertices a symbol for two permutations has, from the permutations alone: `thirds-are`, `vertices-are`. Why: the symbol's index is 3(v - 1) plus the
+-- number of its odd sides; it is the number of points; the odd sides are the points that R fixes in the symbol's own tables (coset/proofs/OddSides.antt); and
+-- these are the given ones, renumbered, so that R fixes as many there (`fixed-renumbered`). Assumes nothing.
 use mathlib.Core.Path.{_≡_, sym, _∙_, ap}
 use mathlib.Core.Bool.{true}
 use mathlib.Core.List.{List}

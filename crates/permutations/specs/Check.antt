@@ -2,9 +2,11 @@
 --
 --   check12 .. check15   the four checks; 13 and 14 look at S before R
 --   pairCheck s r        all of them, in order: the first fault counts
---   Passport s r         what a pair of permutations is: from 1 to 3,066 points, as many in R as in S; in each table every entry is a point, and
---                        no two entries are the same; S twice and R three times move nothing; every point is reached from 0
---   PairVerdict s r c    c is the answer of the checks, and it is that the pair is accepted exactly when it is such a pair
+--   Passport s r         what a pair of permutations is: from 1 to 3,066 points, as many in R as in S; in each table
+--                        every entry is a point, and no two entries are the same; S twice and R three times move
+--                        nothing; every point is reached from 0
+--   PairVerdict s r c    c is the answer of the checks, and it is that the pair is accepted exactly when it is such a
+--                        pair
 --
 -- proofs/Accepted.antt, `accepted`: the checks accept exactly the passports.
 use mathlib.Core.Path.{_≡_}
@@ -14,9 +16,9 @@ use mathlib.Core.List.{List}
 use Prim.Native.Nat.{ℕ, _≤_, _<_}
 use lib.Dec.{leb, ltb, eqb}
 use lib.ListN.{length, getD}
-use Rattle.refusal.specs.Refusal.{_orElse_, pointCount, tableEntry, wrongOrder, unreached}
-use Rattle.refusal.specs.declared.Checked.{Checked}
-use Rattle.refusal.specs.declared.Checked.the-variants.{Accepted}
+use Rattle.call.specs.Refusal.{_orElse_, pointCount, tableEntry, wrongOrder, unreached}
+use Rattle.call.specs.declared.refusal.Checked.{Checked}
+use Rattle.call.specs.declared.refusal.Checked.the-variants.{Accepted}
 use Rattle.basics.specs.Choice.{pick}
 use Rattle.basics.specs.Count.{first}
 use Rattle.symbol.specs.Check.{refuse, refuseAt}
@@ -59,7 +61,8 @@ abbrev pub check15 : (s r : List ℕ) → Checked
 check15 s r = refuseAt (first (notReached s r) (length s)) (length s) unreached
 
 abbrev pub pairCheck : (s r : List ℕ) → Checked
-pairCheck s r = check12 s r orElse check13 s orElse check13 r orElse check14 twiceMoved s orElse check14 thriceMoved r orElse check15 s r
+pairCheck s r = check12 s r orElse check13 s orElse check13 r orElse check14 twiceMoved s orElse check14 thriceMoved r
+    orElse check15 s r
 
 pub record Passport (s r : List ℕ) : Type 0 where
   pub some : 1 ≤ length s

@@ -1,27 +1,31 @@
-// A pair of permutations in two lent tables, the passport of a subgroup: the checks 12 to 15, and the symbol of the subgroup of the
-// matrices that fix point 0. specs/Check.antt and specs/Import.antt say what the calls answer and leave.
+// A pair of permutations in two lent tables, the passport of a subgroup: the checks 12 to 15, and the symbol of the
+// subgroup of the matrices that fix point 0. specs/Check.antt and specs/Import.antt say what the calls answer and
+// leave.
+use call::refusal::Checked;
+use call::refusal::Filled;
+use call::refusal::POINT_COUNT;
+use call::refusal::Refusal;
+use call::refusal::TABLE_ENTRY;
+use call::refusal::TOO_SHORT;
+use call::refusal::UNREACHED;
+use call::refusal::WRONG_ORDER;
 use entries::first_bad;
 use entries::first_moved;
 use length::needed_length;
 use reach::first_unreached;
-use refusal::Checked;
-use refusal::Filled;
-use refusal::POINT_COUNT;
-use refusal::Refusal;
-use refusal::TABLE_ENTRY;
-use refusal::TOO_SHORT;
-use refusal::UNREACHED;
-use refusal::WRONG_ORDER;
 ghost use mathlib.Core.Path.{_≡_};
 ghost use Prim.Native.Nat.{_≤_, _<_};
 ghost use lib.ListN.{length};
-ghost use Rattle.workspace.specs.Space.{zeros};
-ghost use Rattle.refusal.specs.Refusal.{_orElse_};
-ghost use Rattle.import_rule.specs.Symbol.{ruledBy};
-ghost use Rattle.import_table.specs.Answer.{orderBy};
-ghost use Rattle.permutations.specs.Check.{check13, check14, check15, twiceMoved, thriceMoved, pairCheck, Passport, PairVerdict};
+ghost use Rattle.call.specs.Space.{zeros};
+ghost use Rattle.call.specs.Refusal.{_orElse_};
+ghost use Rattle.call.specs.Inner.Fills.{Fills, madeIf};
+ghost use Rattle.import_rule.specs.Order.{leftmost, longestOpen};
+ghost use Rattle.import_symbol.specs.Answer.{orderBy};
+ghost use Rattle.permutations.specs.Check.{check13, check14, check15};
+ghost use Rattle.permutations.specs.Check.{twiceMoved, thriceMoved, Passport, PairVerdict};
 ghost use Rattle.permutations.specs.Inner.Reach.{Two};
-ghost use Rattle.permutations.specs.Import.{grownWithin, importBy, ruleFor, wideRuleFor, importOf, importWideOf, importTable, importWork, ImportMeans, importLengthOf, LengthMeans};
+ghost use Rattle.permutations.specs.Import.{neededVertices, neededLength};
+ghost use Rattle.permutations.specs.Import.{symbolInto, importSteps, importLengthCall};
 
 mod entries;
 mod length;
@@ -30,7 +34,8 @@ mod reach;
 // The checks 14 and 15, on tables of points.
 fn check_moves(s: &[u32], r: &[u32]) -> Checked
     requires { ⌜ Two (now s) (now r) ⌝ }
-    ensures { λ c. ⌜ c ≡ (check14 twiceMoved (now (s .entry)) orElse check14 thriceMoved (now (r .entry)) orElse check15 (now (s .entry)) (now (r .entry))) ⌝ }
+    ensures { λ c. ⌜ c ≡ (check14 twiceMoved (now (s .entry)) orElse check14 thriceMoved (now (r .entry))
+        orElse check15 (now (s .entry)) (now (r .entry))) ⌝ }
 {
     let a = first_moved(s, false);
     if a < s.len() {
@@ -59,7 +64,9 @@ fn check_moves(s: &[u32], r: &[u32]) -> Checked
 // The checks 13 to 15, on tables of one length in range.
 fn check_entries(s: &[u32], r: &[u32]) -> Checked
     requires { ⌜ (1 ≤ length (now s)) × (length (now s) ≤ 3066) × (length (now r) ≡ length (now s)) ⌝ }
-    ensures { λ c. ⌜ c ≡ (check13 (now (s .entry)) orElse check13 (now (r .entry)) orElse check14 twiceMoved (now (s .entry)) orElse check14 thriceMoved (now (r .entry)) orElse check15 (now (s .entry)) (now (r .entry))) ⌝ }
+    ensures { λ c. ⌜ c ≡ (check13 (now (s .entry)) orElse check13 (now (r .entry))
+        orElse check14 twiceMoved (now (s .entry)) orElse check14 thriceMoved (now (r .entry))
+        orElse check15 (now (s .entry)) (now (r .entry))) ⌝ }
 {
     let a = first_bad(s);
     if a < s.len() {
@@ -78,8 +85,8 @@ fn check_entries(s: &[u32], r: &[u32]) -> Checked
     check_moves(s, r)
 }
 
-// Whether two tables are permutations that generate a transitive group, S of order two and R of order three: the checks 12 to 15, in memory
-// of their own.
+// Whether two tables are permutations that generate a transitive group, S of order two and R of order three: the checks
+// 12 to 15, in memory of their own.
 pub fn check(s: &[u32], r: &[u32]) -> Checked
     ensures { λ c. ⌜ PairVerdict (now (s .entry)) (now (r .entry)) c ⌝ }
 {
@@ -107,8 +114,8 @@ pub fn check(s: &[u32], r: &[u32]) -> Checked
 // The symbol of an accepted pair, by the wide rule or by the rule, where the result space has room for its table.
 fn grow_within(s: &[u32], r: &[u32], w: &mut [u16], out: &mut [i64], wide: bool) -> Filled
     requires { ⌜ Passport (now s) (now r) × (32768 ≤ length (now w)) ⌝ }
-    ensures { λ a. ⌜ a ≡ grownWithin (orderBy wide) (now (s .entry)) (now (r .entry)) (length (now (out .entry))) ⌝ }
-    ensures { λ a. ⌜ now (out .exit) ≡ importTable (ruledBy (orderBy wide) (now (s .entry)) (now (r .entry))) a (now (out .entry)) ⌝ }
+    ensures { λ a. ⌜ Fills (symbolInto (orderBy wide) (now (s .entry)) (now (r .entry)) out)
+        (madeIf (neededVertices (now (r .entry)))) a ⌝ }
 {
     let n = needed_length(r);
     if out.len() < n {
@@ -117,36 +124,34 @@ fn grow_within(s: &[u32], r: &[u32], w: &mut [u16], out: &mut [i64], wide: bool)
             place: n,
         });
     }
-    import_table::grow(s, r, w, out, wide)
+    import_symbol::grow(s, r, w, out, wide)
 }
 
 // The same; the work space is cleared after.
 fn import_accepted(s: &[u32], r: &[u32], w: &mut [u16], out: &mut [i64], wide: bool) -> Filled
     requires { ⌜ Passport (now s) (now r) × (32768 ≤ length (now w)) ⌝ }
-    ensures { λ a. ⌜ a ≡ grownWithin (orderBy wide) (now (s .entry)) (now (r .entry)) (length (now (out .entry))) ⌝ }
+    ensures { λ a. ⌜ Fills (symbolInto (orderBy wide) (now (s .entry)) (now (r .entry)) out)
+        (madeIf (neededVertices (now (r .entry)))) a ⌝ }
     ensures { λ a. ⌜ now (w .exit) ≡ zeros (length (now (w .entry))) ⌝ }
-    ensures { λ a. ⌜ now (out .exit) ≡ importTable (ruledBy (orderBy wide) (now (s .entry)) (now (r .entry))) a (now (out .entry)) ⌝ }
 {
     let grown = grow_within(s, r, w, out, wide);
-    workspace::clear(w);
+    call::workspace::clear(w);
     grown
 }
 
 // The import by the wide rule, or by the rule.
 pub fn import_by(s: &[u32], r: &[u32], w: &mut [u16], out: &mut [i64], wide: bool) -> Filled
-    ensures { λ a. ⌜ a ≡ importBy (orderBy wide) (now (s .entry)) (now (r .entry)) (length (now (w .entry))) (length (now (out .entry))) ⌝ }
-    ensures { λ a. ⌜ now (w .exit) ≡ importWork (pairCheck (now (s .entry)) (now (r .entry))) (now (w .entry)) ⌝ }
-    ensures { λ a. ⌜ now (out .exit) ≡ importTable (ruledBy (orderBy wide) (now (s .entry)) (now (r .entry))) a (now (out .entry)) ⌝ }
-    ensures { λ a. ⌜ ImportMeans (now (s .entry)) (now (r .entry)) a (now (out .exit)) ⌝ }
+    ensures { λ a. ⌜ Fills (importSteps (orderBy wide) (now (s .entry)) (now (r .entry)) w out)
+        (madeIf (neededVertices (now (r .entry)))) a ⌝ }
 {
     let checked = check(s, r);
     match checked {
         Checked::Refused(refusal) => Filled::Refused(refusal),
         Checked::Accepted => {
-            if w.len() < workspace::WORK {
+            if w.len() < call::workspace::WORK {
                 return Filled::Refused(Refusal {
                     number: TOO_SHORT,
-                    place: workspace::WORK,
+                    place: call::workspace::WORK,
                 });
             }
             import_accepted(s, r, w, out, wide)
@@ -154,32 +159,28 @@ pub fn import_by(s: &[u32], r: &[u32], w: &mut [u16], out: &mut [i64], wide: boo
     }
 }
 
-// The symbol of the matrices that fix point 0, from the tables of S and R: the number of its vertices, its table at the front of the result
-// space; or 12 to 15, then the work space, then the result space, then 16.
+// The symbol of the matrices that fix point 0, from the tables of S and R: the number of its vertices, its table at
+// the front of the result space; or 12 to 15, then the work space, then the result space, then 16.
 pub fn import(s: &[u32], r: &[u32], w: &mut [u16], out: &mut [i64]) -> Filled
-    ensures { λ a. ⌜ a ≡ importOf (now (s .entry)) (now (r .entry)) (length (now (w .entry))) (length (now (out .entry))) ⌝ }
-    ensures { λ a. ⌜ now (w .exit) ≡ importWork (pairCheck (now (s .entry)) (now (r .entry))) (now (w .entry)) ⌝ }
-    ensures { λ a. ⌜ now (out .exit) ≡ importTable (ruleFor (now (s .entry)) (now (r .entry))) a (now (out .entry)) ⌝ }
-    ensures { λ a. ⌜ ImportMeans (now (s .entry)) (now (r .entry)) a (now (out .exit)) ⌝ }
+    ensures { λ a. ⌜ Fills (importSteps leftmost (now (s .entry)) (now (r .entry)) w out)
+        (madeIf (neededVertices (now (r .entry)))) a ⌝ }
 {
     import_by(s, r, w, out, false)
 }
 
 // The same by the wide rule: it splits the side that has been open longest.
 pub fn import_wide(s: &[u32], r: &[u32], w: &mut [u16], out: &mut [i64]) -> Filled
-    ensures { λ a. ⌜ a ≡ importWideOf (now (s .entry)) (now (r .entry)) (length (now (w .entry))) (length (now (out .entry))) ⌝ }
-    ensures { λ a. ⌜ now (w .exit) ≡ importWork (pairCheck (now (s .entry)) (now (r .entry))) (now (w .entry)) ⌝ }
-    ensures { λ a. ⌜ now (out .exit) ≡ importTable (wideRuleFor (now (s .entry)) (now (r .entry))) a (now (out .entry)) ⌝ }
-    ensures { λ a. ⌜ ImportMeans (now (s .entry)) (now (r .entry)) a (now (out .exit)) ⌝ }
+    ensures { λ a. ⌜ Fills (importSteps longestOpen (now (s .entry)) (now (r .entry)) w out)
+        (madeIf (neededVertices (now (r .entry)))) a ⌝ }
 {
     import_by(s, r, w, out, true)
 }
 
-// The length of the table of the symbol that an import would make, 3v + 1, for a caller who books the result space: 12 to 15, or the length. No symbol is
-// made, and no work space is needed.
+// The length of the table of the symbol that an import would make, 3v + 1, for a caller who books the result space:
+// 12 to 15, or the length. No symbol is made, and no work space is needed.
 pub fn import_length(s: &[u32], r: &[u32]) -> Filled
-    ensures { λ a. ⌜ a ≡ importLengthOf (now (s .entry)) (now (r .entry)) ⌝ }
-    ensures { λ a. ⌜ LengthMeans (now (s .entry)) (now (r .entry)) a ⌝ }
+    ensures { λ a. ⌜ Fills (importLengthCall (now (s .entry)) (now (r .entry)) .steps)
+        (madeIf (neededLength (now (r .entry)))) a ⌝ }
 {
     let checked = check(s, r);
     match checked {

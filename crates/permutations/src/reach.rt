@@ -31,9 +31,10 @@ fn visit(
     n: usize,
 ) -> usize
     requires { ⌜ Two (now s) (now r) × QueueHolds n (length (now s)) (now seen) (now queue) × (i < n) ⌝ }
-    ensures { λ k. ⌜ VisitedAt (image (now (s .entry))) (image (now (r .entry))) i n (length (now (s .entry))) (now (queue .entry)) (now (seen .exit)) (now (queue .exit)) k ⌝ }
+    ensures { λ k. ⌜ VisitedAt (image (now (s .entry))) (image (now (r .entry))) i n (length (now (s .entry)))
+        (now (queue .entry)) (now (seen .exit)) (now (queue .exit)) k ⌝ }
 {
-    let x = workspace::index(queue[i]);
+    let x = call::workspace::index(queue[i]);
     let a = image(s, x);
     let b = image(r, x);
     let k = enter(seen, queue, s.len(), a, n);

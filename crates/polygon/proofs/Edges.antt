@@ -104,7 +104,8 @@ frame-corner v side top m c h k =
     rw (lt-ltb (3 * m + c) (corners v) k, e, f)
 
 -- what is known keeps its frame
-pub frame-same : (v : ℕ) (side top : ℕ → Mat) (m o : ℕ) (x : Mat) (p : ℕ) → 3 * m ≤ corners v → Known v m o p → frames v side (put m x top) p ≡ frames v side top p
+pub frame-same : (v : ℕ) (side top : ℕ → Mat) (m o : ℕ) (x : Mat) (p : ℕ) → 3 * m ≤ corners v → Known v m o p → frames v side (put m x top) p
+    ≡ frames v side top p
 frame-same v side top m o x p h (corner a) = rw (lt-ltb p (corners v) (omega arith), ne-eqb (p / 3) m (omega arith))
 frame-same v side top m o x p h (face a b) = rw (le-ltb p (corners v) a)
 
@@ -166,7 +167,8 @@ module _ (v : ℕ) (side : ℕ → Mat) where
 
   -- ---- a triangle comes in, over the open positions h and hl
 
-  pub open-triangle : (a : List ℕ) (m o h hl : ℕ) (opens : List ℕ) (top : ℕ → Mat) (x : Mat) → Fits a m o (h ∷ hl ∷ opens) top → 3 * (m + 1) ≤ corners v → det x ≡ pos 1
+  pub open-triangle : (a : List ℕ) (m o h hl : ℕ) (opens : List ℕ) (top : ℕ → Mat) (x : Mat) → Fits a m o (h ∷ hl ∷ opens) top → 3 * (m + 1) ≤ corners v → det x
+      ≡ pos 1
       → Fits a (m + 1) o ((3 * m + 1) ∷ hl ∷ (3 * m + 2) ∷ h ∷ (3 * m) ∷ opens) (put m x top)
   open-triangle a m o h hl opens top x f r d = record {
     size = f .size;

@@ -45,11 +45,13 @@ module _ {X : Type 0} (σ κ : X → X) (F : X → Mat) where
 
 module _ {X : Type 0} (σ κ : X → X) (F : X → Mat) (σσ : Involution σ) (κκκ : OrderThree κ) where
   -- F(x)⁻¹ F(y) followed by F(y)⁻¹ m is F(x)⁻¹ m
-  pub at-chain : (x y : X) (m : Mat) → det (F x) ≡ pos 1 → det (F y) ≡ pos 1 → det m ≡ pos 1 → Near σ κ F x y → at σ κ x (adj (F x) ⊗ m) ≡ at σ κ y (adj (F y) ⊗ m)
+  pub at-chain : (x y : X) (m : Mat) → det (F x) ≡ pos 1 → det (F y) ≡ pos 1 → det m ≡ pos 1 → Near σ κ F x y → at σ κ x (adj (F x) ⊗ m)
+      ≡ at σ κ y (adj (F y) ⊗ m)
   at-chain x y m dx dy dm h =
       let ax = det-adj (F x) ∙ dx in
       let ay = det-adj (F y) ∙ dy in
-      let e : adj (F x) ⊗ m ≡ adj (F x) ⊗ F y ⊗ (adj (F y) ⊗ m) = sym (⊗-assoc (adj (F x)) (F y) (adj (F y) ⊗ m) ∙ ap (λ (n : Mat). adj (F x) ⊗ n) (undo (F y) m dy)) in
+      let e : adj (F x) ⊗ m ≡ adj (F x) ⊗ F y ⊗ (adj (F y) ⊗ m) =
+      sym (⊗-assoc (adj (F x)) (F y) (adj (F y) ⊗ m) ∙ ap (λ (n : Mat). adj (F x) ⊗ n) (undo (F y) m dy)) in
       ap (at σ κ x) e
       ∙ at-⊗ σ κ σσ κκκ x (adj (F x) ⊗ F y) (adj (F y) ⊗ m) (det-one (adj (F x)) (F y) ax dy) (det-one (adj (F y)) m ay dm)
       ∙ ap (λ (z : X). at σ κ z (adj (F y) ⊗ m)) h

@@ -79,7 +79,8 @@ module _ (v : ℕ) (t : List ℤ) (ok : IsSymbol v t) (C : Cutting v t) (J : ℕ
       let low = real-in v t ok p rp in
       let q = flip v t p in
       elim (inside-at p i e low) [
-        | inl h ↦ A .via last q p r (real-corner v t q h) rp (near-corner (corners v) q r h (omega arith)) (A .over q p (real-corner v t q h) rp (C .cut .flips p))
+        | inl h ↦ A .via last q p r (real-corner v t q h) rp (near-corner (corners v) q r h (omega arith))
+            (A .over q p (real-corner v t q h) rp (C .cut .flips p))
         | inr one ↦ elim (ℕ-discrete p (outer v v)) [
           | yes z ↦ A .over last p r rp (C .cut .flips (outer v v) ∙ sym z)
           | no z ↦ (let y : last ≡ p = other p low one z in rw y (A .self p rp))

@@ -77,12 +77,14 @@ module _ (t : List ℤ) (v : ℕ) (ok : IsSymbol v t) where
               p .partnered .partners i l h k,
             )
 
-    pub numbered-follows : (k : ℕ) → isLeader v t i ≡ false → k ≡ getD w (PARTNER + i) 0 → NumberedTo t v (set w (GENERATOR + i) (getD w (GENERATOR + k) 0)) (i + 1) n
+    pub numbered-follows : (k : ℕ) → isLeader v t i ≡ false → k ≡ getD w (PARTNER + i) 0
+        → NumberedTo t v (set w (GENERATOR + i) (getD w (GENERATOR + k) 0)) (i + 1) n
     numbered-follows k e f =
         let g = follows e in
         let z : k ≡ partner v t i = f ∙ g .2 in
         numbered-more (getD w (GENERATOR + k) 0) n (ap (λ (x : ℕ). getD w (GENERATOR + x) 0) z ∙ p .numbers (partner v t i) (g .0) ∙ sym (g .1))
-        (p .count ∙ let y : count (isLeader v t) i ≡ count (isLeader v t) i + 0 = omega arith in y ∙ ap (λ (b : Bool). count (isLeader v t) i + pick b 1 0) (sym e))
+        (p .count ∙ let y : count (isLeader v t) i ≡ count (isLeader v t) i + 0 = omega arith in
+        y ∙ ap (λ (b : Bool). count (isLeader v t) i + pick b 1 0) (sym e))
 
   pub numbered-all : (w : List ℕ) (i n : ℕ) → NumberedTo t v w i n → v < i → Numbered t v w
   numbered-all w i n p h = record { numbers = λ j b. p .numbers j (omega arith) }

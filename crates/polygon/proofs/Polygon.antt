@@ -89,12 +89,14 @@ module _ (v : ℕ) (t : List ℤ) (ok : IsSymbol v t) where
   followed-is : (m : Mat) → adj (C .frame start) ⊗ (m ⊗ C .frame start) ≈ followed v t m
   unfolding followed
   followed-is m = elim (begin v t ok C) [
-    | upright a b c ↦ rw a (≈-both (≈-adj (start-frame v t ok C ∙≈ inl b) ∙≈ inl adj-𝟙) (≈-left m (start-frame v t ok C ∙≈ inl b)) ∙≈ inl (⊗-idl (m ⊗ 𝟙) ∙ ⊗-idr m))
+    | upright a b c ↦ rw a
+        (≈-both (≈-adj (start-frame v t ok C ∙≈ inl b) ∙≈ inl adj-𝟙) (≈-left m (start-frame v t ok C ∙≈ inl b)) ∙≈ inl (⊗-idl (m ⊗ 𝟙) ∙ ⊗-idr m))
     | round a b c ↦ rw a (≈-both (≈-adj (start-frame v t ok C ∙≈ inl b)) (≈-left m (start-frame v t ok C ∙≈ inl b)))
   ]
 
   same-walk : (m : Mat) → at (stepS v t) (turnQ v) start (adj (C .frame start) ⊗ (m ⊗ C .frame start)) ≡ arrives v t start (followed v t m)
-  same-walk m = at-≈ (stepS v t) (turnQ v) (involution v t ok C) (order-three v) start (adj (C .frame start) ⊗ (m ⊗ C .frame start)) (followed v t m) (followed-is m)
+  same-walk m = at-≈ (stepS v t) (turnQ v) (involution v t ok C) (order-three v) start (adj (C .frame start) ⊗ (m ⊗ C .frame start)) (followed v t m)
+      (followed-is m)
 
   -- from the start with F₀⁻¹ m, and from the coset H with m
   origin-is : (m : Mat) → det m ≡ pos 1 → at (stepS v t) (turnQ v) start (adj (C .frame start) ⊗ m) ≡ arrives v t (originOf v t) m

@@ -203,7 +203,8 @@ module _ (v : ℕ) (t : List ℤ) where
             (let o = odd-face p i e r in
             let g = generator v t i in
             let f = C .frame p in
-            let back : g ⊗ (f ⊗ matP) ≡ f = sym (⊗-assoc g f matP) ∙ ap (λ (m : Mat). m ⊗ matP) (o .1) ∙ ⊗-assoc f matQ matP ∙ ap (λ (m : Mat). f ⊗ m) Q-P ∙ ⊗-idr f in
+            let back : g ⊗ (f ⊗ matP) ≡ f = sym (⊗-assoc g f matP) ∙ ap (λ (m : Mat). m ⊗ matP) (o .1) ∙ ⊗-assoc f matQ matP ∙ ap (λ (m : Mat). f ⊗ m) Q-P
+            ∙ ⊗-idr f in
             rw (written-P p i e, back-is i i (number-face p i e r), turn-face v p (omega arith), turn-face v p (omega arith))
             (carry-back g (f ⊗ matP) f (o .0) (inl back)))
       ]

@@ -44,7 +44,8 @@ use Rattle.polygon.proofs.Edges.{Way, Fits, open-side, open-triangle, j
 abbrev pub chord : List ℤ → ℕ → ℕ → Mat
 chord t x y = mat (leftNum t y) (leftNum t x) (pos (den t y)) (pos (den t x))
 
-triangle-at : (t : List ℤ) (x m y : ℕ) → leftNum t m ≡ leftNum t x +ℤ leftNum t y → den t m ≡ den t x + den t y → Triangle (chord t x m) (chord t m y) (chord t x y)
+triangle-at : (t : List ℤ) (x m y : ℕ) → leftNum t m ≡ leftNum t x +ℤ leftNum t y → den t m ≡ den t x + den t y
+    → Triangle (chord t x m) (chord t m y) (chord t x y)
 triangle-at t x m y n d = rw (n, d) (triangle (leftNum t x) (pos (den t x)) (leftNum t y) (pos (den t y)))
 
 -- x is the frame of a chord between vertices, with their mediant between them
@@ -109,7 +110,8 @@ module _ (v : ℕ) (t : List ℤ) where
     top-is : framed (put m x top) (3 * m) ≡ x
     top-is =
         let e : 3 * m ≡ 3 * m + 0 = omega arith in
-        ap (framed (put m x top)) e ∙ frame-corner v (frameAt v t) (put m x top) m 0 (omega arith) (omega arith) ∙ ap (λ (b : Bool). pick b x (top m)) (eq-eqb m m refl)
+        ap (framed (put m x top)) e ∙ frame-corner v (frameAt v t) (put m x top) m 0 (omega arith) (omega arith)
+        ∙ ap (λ (b : Bool). pick b x (top m)) (eq-eqb m m refl)
 
     corner-is : (c : ℕ) → c < 3 → framed (put m x top) (3 * m + c) ≡ spun x c
     corner-is c k = frame-corner v (frameAt v t) (put m x top) m c k (omega arith) ∙ ap (λ (b : Bool). spun (pick b x (top m)) c) (eq-eqb m m refl)
@@ -215,7 +217,17 @@ module _ (v : ℕ) (t : List ℤ) where
         | inr b ↦
             (let up = rises (below l) (c .vertex) y ch p (eqb-false (den t (c .vertex)) (den t (below l) + den t y) b) in
             pick-false (Pushed m o y top) test _ _ b
-            (record { tops = top; fits = f; stacked = (e, up, s); count = n; on-top = refl; cuts = omega arith; same = λ q z. refl; rising = (b', ri); overs = ov }))
+            (record {
+              tops = top;
+              fits = f;
+              stacked = (e, up, s);
+              count = n;
+              on-top = refl;
+              cuts = omega arith;
+              same = λ q z. refl;
+              rising = (b', ri);
+              overs = ov;
+            }))
       ]
 
 -- ---- the sides are chords
@@ -236,7 +248,8 @@ module _ (v : ℕ) (t : List ℤ) (ok : IsSymbol v t) where
   pub side-chord : (i : ℕ) → i < v → frameAt v t i ≡ chord t i (suc i)
   side-chord i h =
       let b = lt-ltb i v h in
-      mat-eq (ap (λ (x : Bool). pick x (numer t i) (pos 1)) b) refl (ap (λ (x : Bool). pick x (denom t i) (pos 0)) b ∙ ok .denoms i h .2) (left-den i (omega arith))
+      mat-eq (ap (λ (x : Bool). pick x (numer t i) (pos 1)) b) refl (ap (λ (x : Bool). pick x (denom t i) (pos 0)) b ∙ ok .denoms i h .2)
+      (left-den i (omega arith))
 
   pub last-side : frameAt v t v ≡ mat (pos 1) (leftNum t v) (pos 0) (pos (den t v))
   last-side =

@@ -24,7 +24,7 @@ use Rattle.symbol.specs.Check.{isZero}
 use Rattle.symbol.specs.Symbol.{IsSymbol}
 use Rattle.polygon.specs.Cut.{outer, places, den, Cell, cell, below, handle, Scan, scan, attach, push, pushed, scanned, flipOf, underZero}
 use Rattle.polygon.specs.Inner.Space.{FLIP, STACK, HANDLE, joined, CutFrame}
-use Rattle.workspace.specs.Space.{entries}
+use Rattle.call.specs.Space.{entries}
 use Rattle.polygon.specs.Inner.Scanning.{cellsIn, scanIn, readyOf, Cells, ScanRoom, Settled, Cleared, Scanned, CutLeft}
 use Rattle.polygon.proofs.Space.{table-set, table-above, table-at, table-length, cells-below, cells-push, cells-pop, cells-none, frame-refl}
 use Rattle.polygon.proofs.Space.{frame-trans, frame-flip, frame-stack, still}
@@ -123,7 +123,8 @@ cells-less : (v : ℕ) (w : List ℕ) (n k : ℕ) → Cells v w n → k ≤ n �
 cells-less v w n k c h = record { vertices = λ j l. c .vertices j (omega arith); handles = λ j l. c .handles j (omega arith) }
 
 -- two positions joined, seen in the table and on the stack
-table-joined : (v : ℕ) (w : List ℕ) (p q : ℕ) → p < places v → q < places v → entries FLIP (places v) (joined w p q) ≡ set (set (entries FLIP (places v) w) p q) q p
+table-joined : (v : ℕ) (w : List ℕ) (p q : ℕ) → p < places v → q < places v → entries FLIP (places v) (joined w p q)
+    ≡ set (set (entries FLIP (places v) w) p q) q p
 table-joined v w p q h k = table-set 4096 (places v) (set w (FLIP + p) q) q p k ∙ ap (λ (l : List ℕ). set l q p) (table-set 4096 (places v) w p q h)
 
 cells-joined : (w : List ℕ) (n p q : ℕ) → p < 4096 → q < 4096 → cellsIn (joined w p q) n ≡ cellsIn w n
@@ -265,14 +266,16 @@ pub record Part (t : List ℤ) (v z : ℕ) (w₀ w : List ℕ) (n m under i : �
   pub is : scanIn v w n m ≡ scanned v t i
   pub noted : z < i → under ≡ handle (scanned v t (suc z) .stack)
 
-zeros-are : (v : ℕ) (w : List ℕ) → 32768 ≤ length w → v ≤ 1023 → ((k : ℕ) → k < places v → getD w (FLIP + k) 0 ≡ 0) → entries FLIP (places v) w ≡ replicate (places v) 0
+zeros-are : (v : ℕ) (w : List ℕ) → 32768 ≤ length w → v ≤ 1023 → ((k : ℕ) → k < places v → getD w (FLIP + k) 0 ≡ 0) → entries FLIP (places v) w
+    ≡ replicate (places v) 0
 zeros-are v w long most h =
     let l = table-length 4096 (places v) w (omega arith) in
     let r = length-replicate {A = ℕ} (places v) 0 in
     ext-getD 0 (entries FLIP (places v) w) (replicate (places v) 0) (l ∙ sym r)
     (λ i b. table-at 4096 (places v) w i 0 (omega arith) ∙ h i (omega arith) ∙ sym (getD-replicate {A = ℕ} (places v) i 0 0 (omega arith)))
 
-pub part-none : (t : List ℤ) (v z : ℕ) (w : List ℕ) (u : ℕ) → 32768 ≤ length w → v ≤ 1023 → ((k : ℕ) → k < places v → getD w (FLIP + k) 0 ≡ 0) → Part t v z w w 0 0 u 0
+pub part-none : (t : List ℤ) (v z : ℕ) (w : List ℕ) (u : ℕ) → 32768 ≤ length w → v ≤ 1023 → ((k : ℕ) → k < places v → getD w (FLIP + k) 0 ≡ 0)
+    → Part t v z w w 0 0 u 0
 part-none t v z w u long most h = record {
   frame = frame-refl w;
   long = long;

@@ -12,7 +12,7 @@ use lib.ListN.{length, getD, set, take, drop, length-set, length-take, length-dr
 use lib.Seq.{getD-set-same, getD-set-other, drop-set-add, drop-set-lt, take-set-lt, take-set-le, getD-take, getD-drop}
 use Rattle.polygon.specs.Cut.{cell}
 use Rattle.polygon.specs.Inner.Space.{FLIP, STACK, HANDLE, CutFrame}
-use Rattle.workspace.specs.Space.{entries}
+use Rattle.call.specs.Space.{entries}
 use Rattle.polygon.specs.Inner.Scanning.{cellsIn}
 
 -- ---- a table

@@ -65,7 +65,8 @@ module _ (t : List ℤ) (v : ℕ) (w : List ℕ) (T : PolygonTables t v w) where
     face-is : corners v ≤ q → flip v t p ≡ outer v (q - corners v)
     face-is h = flip-is ∙ omega arith
 
-    step-is : corners v ≤ q → stepS v t p ≡ crossBy (pairingAt v t (q - corners v)) p (outer v (q - corners v)) (flip v t (outer v (partner v t (q - corners v))))
+    step-is : corners v ≤ q → stepS v t p
+        ≡ crossBy (pairingAt v t (q - corners v)) p (outer v (q - corners v)) (flip v t (outer v (partner v t (q - corners v))))
     step-is h = step-face v t p (q - corners v) r (face-is h)
 
     pub even-is : corners v ≤ q → pairingAt v t (q - corners v) ≡ Even → p ≡ stepS v t p

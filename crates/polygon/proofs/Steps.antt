@@ -27,7 +27,8 @@ use Rattle.polygon.specs.Step.{oddAt, real, Real, crossBy, across, stepS
 use Rattle.polygon.specs.Walk.{goes}
 use Rattle.basics.proofs.Choice.{either, clash}
 use Rattle.polygon.proofs.SymbolFacts.{Mate, Kind, even, odd, free, kind}
-use Rattle.polygon.proofs.Flip.{inner, outside, place, Cutting, real-corner, real-face, real-odd, real-in, turn-face, turn-last, turn-next, which, c0, c1, c2}
+use Rattle.polygon.proofs.Flip.{inner, outside, place, Cutting, real-corner, real-face, real-odd, real-in, turn-face, turn-last, turn-next, which, c0}
+use Rattle.polygon.proofs.Flip.{c1, c2}
 
 -- ---- what S does by what lies beyond the edge
 

@@ -112,7 +112,8 @@ module _ (v : ℕ) (t : List ℤ) (ok : IsSymbol v t) where
     | inl e ↦ even (ap (pairingOf v) e) (ap (λ (x : ℤ). eqZ x (negsuc 2)) e)
     | inr a ↦ elim a [
       | inl e ↦ odd (ap (pairingOf v) e) (ap (λ (x : ℤ). eqZ x (negsuc 2)) e)
-      | inr f ↦ free (f .label) (ap (pairingOf v) (f .is) ∙ pairing-free v (f .label) (f .low) (f .high)) (ap (λ (x : ℤ). eqZ x (negsuc 2)) (f .is)) (mate i h f)
+      | inr f ↦ free (f .label) (ap (pairingOf v) (f .is) ∙ pairing-free v (f .label) (f .low) (f .high)) (ap (λ (x : ℤ). eqZ x (negsuc 2)) (f .is))
+          (mate i h f)
     ]
   ]
 
@@ -130,7 +131,8 @@ module _ (v : ℕ) (t : List ℤ) (ok : IsSymbol v t) where
 
   -- past the last side nothing is paired
   no-side : (i : ℕ) → v < i → oddAt v t i ≡ false
-  no-side i h = ap (λ (x : ℤ). eqZ x (negsuc 2)) (List·getD-eq-default (pairingEntries v t) (pos 0) {n = i} (let l = ok .long in omega (arith, length-drop (2 * v) t)))
+  no-side i h = ap (λ (x : ℤ). eqZ x (negsuc 2))
+      (List·getD-eq-default (pairingEntries v t) (pos 0) {n = i} (let l = ok .long in omega (arith, length-drop (2 * v) t)))
 
   pub odd-in : (i : ℕ) → oddAt v t i ≡ true → i ≤ v
   odd-in i e = elim (decLt v i) [ yes l ↦ clash e (no-side i l) | no l ↦ omega arith ]
@@ -208,7 +210,8 @@ module _ (v : ℕ) (t : List ℤ) where
       )
 
   pub number-second : (i l : ℕ) → pairingAt v t i ≡ Free l → Mate v t i → partner v t i < i → Number v t i (partner v t i)
-  number-second i l e m b = let s = second-leads i l e m b in number-of i (partner v t i) (m .within) (s .1) (ap (λ (x : Bool). pick x i (partner v t i)) (s .0))
+  number-second i l e m b = let s = second-leads i l e m b in
+      number-of i (partner v t i) (m .within) (s .1) (ap (λ (x : Bool). pick x i (partner v t i)) (s .0))
 
   -- both sides of a free pair have one number
   pub number-mate : (i l : ℕ) → pairingAt v t i ≡ Free l → Mate v t i → partner v t i < i → generatorNumber v t i ≡ generatorNumber v t (partner v t i)

@@ -3,19 +3,24 @@
 --   corners v          how many corners the v - 1 triangles have: 3 (v - 1)
 --   outer v i          the position that is the outer face of side i; corner c of triangle m is the position 3 m + c
 --   places v           how many positions there are: the corners, and then an outer face for each of the v + 1 sides
---   den t y            the denominator of vertex y, where the vertices are counted from 0 for -1/0: 0, and then those of the table
---   Cell, cell y h     a vertex y on the stack of the scan, and the position h just under the chord that ends there (its handle)
+--   den t y            the denominator of vertex y, where the vertices are counted from 0 for -1/0: 0, and then those
+--                      of the table
+--   Cell, cell y h     a vertex y on the stack of the scan, and the position h just under the chord that ends there
+--                      (its handle)
 --   below l, handle l  the vertex on top of the stack l, which is -1/0 where l is empty; the handle there
---   Scan, scan a m l   the state of the scan: what is known of the array of other sides, the triangles cut so far, the stack
+--   Scan, scan a m l   the state of the scan: what is known of the array of other sides, the triangles cut so far, the
+--                      stack
 --   link a p q         p and q noted as the two sides of one edge
---   push t l a m h y   the vertex y pushed, where h lies under the chord from the top of the stack to y: as long as the top is the
---                      mediant of the vertex below it and y, the three are a triangle, which is cut off
+--   push t l a m h y   the vertex y pushed, where h lies under the chord from the top of the stack to y: as long as the
+--                      top is the mediant of the vertex below it and y, the three are a triangle, which is cut off
 --   scanned v t n      the scan after its first n vertices
---   flipOf v t         the array of other sides: beyond the edge at position p lies the position at place p of the array
+--   flipOf v t         the array of other sides: beyond the edge at position p lies the position at place p of the
+--                      array
 --   flip v t p         that position, and p itself past the array's end
 --   underZero v t      the position under the chord from -1/0 to the first vertex that is 0/1
 --
--- A chord that a triangle hangs under is cut off later, or it is the last side, whose outer face is joined with it at the end.
+-- A chord that a triangle hangs under is cut off later, or it is the last side, whose outer face is joined with it at
+-- the end.
 use mathlib.Core.List.{List, [], _∷_}
 use Prim.Native.Nat.{ℕ, zero, suc, _+_, _*_, _-_}
 use lib.Dec.{eqb}

@@ -3,14 +3,16 @@
 --   oddAt v t i        whether side i is odd
 --   real v t p         whether p is a position of docs/CONVENTIONS.md: a corner, or the outer face of an odd side
 --   Real v t p         that it is. The outer faces of the other sides are counted as positions, and no walk gets there
---   stepS v t p        where S leads from p. Beyond the edge lies flip p: a corner, or the outer face of some side i. S goes there where
---                      that is real; through an even side it stays, and through a free one it lands under the partner of i
+--   stepS v t p        where S leads from p. Beyond the edge lies flip p: a corner, or the outer face of some side i. S
+--                      goes there where that is real; through an even side it stays, and through a free one it lands
+--                      under the partner of i
 --   turnQ v p          where Q leads from p: to the next corner of the triangle; an outer face stays
---   written v t x p    the letters that x writes at p, one at most, with j the number of the generator of the side that is met:
---                      S out through an even side j, through the first side of a free pair -j, through the second j;
---                      Q at the outer face of an odd side j, and Q⁻¹ there -j
+--   written v t x p    the letters that x writes at p, one at most, with j the number of the generator of the side that
+--                      is met: S out through an even side j, through the first side of a free pair -j, through the
+--                      second j; Q at the outer face of an odd side j, and Q⁻¹ there -j
 --   turned v t         whether the last side starts at 0/1 and is not odd
---   startOf v t        where the walk starts: on the edge from 0 to infinity, or where `turned` holds on the edge from infinity to 0
+--   startOf v t        where the walk starts: on the edge from 0 to infinity, or where `turned` holds on the edge from
+--                      infinity to 0
 --   startFrame v t     the matrix of that edge, up to sign: the identity, or S
 --   originOf v t       the position that stands for the coset H, whose frame lies in H: the start, or its image under S
 use mathlib.Core.Path.{_≡_}

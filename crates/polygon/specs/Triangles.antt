@@ -1,23 +1,28 @@
--- THE CUT INTO FAREY TRIANGLES (docs/CONVENTIONS.md, 7), said of a function `frame` from positions to matrices. A position is an edge with its
--- triangle on the right, or a side from left to right; its frame is a matrix that sends 0 and infinity to the two ends of the edge; S turns the
--- edge round, and Q goes to the next edge of the triangle. Nothing here speaks of the scan that finds the triangles.
+-- THE CUT INTO FAREY TRIANGLES (docs/CONVENTIONS.md, 7), said of a function `frame` from positions to matrices. A
+-- position is an edge with its triangle on the right, or a side from left to right; its frame is a matrix that sends 0
+-- and infinity to the two ends of the edge; S turns the edge round, and Q goes to the next edge of the triangle.
+-- Nothing here speaks of the scan that finds the triangles.
 --
 --   Fraction, fraction n d   the fraction n/d, which is infinity where d is 0
 --   opposite x               -n/-d, the same point of the line
 --   x ≃ y                    one point of the line: x is y, or its opposite
 --   mediant x y              (n + n')/(d + d')
---   vertexAt v t y           the vertices of the polygon from left to right: 0 is -1/0, 1 to v are those of the table, and v + 1 is 1/0
+--   vertexAt v t y           the vertices of the polygon from left to right: 0 is -1/0, 1 to v are those of the table,
+--                            and v + 1 is 1/0
 --   atZero m, atInfinity m   where the matrix m sends 0 and infinity: its second column, and its first
 --   Edge v t m x y           m is a matrix of the edge from vertex x to vertex y: it sends 0 to x and infinity to y
---   Farey v t frame k        triangle k is a Farey triangle: its vertices are left, middle and right in this order, and the middle one is
---                            the mediant of the others. Its corners 3 k, 3 k + 1, 3 k + 2 are its edges with the triangle on their right:
---                            from left to right, from middle to left, from right to middle
+--   Farey v t frame k        triangle k is a Farey triangle: its vertices are left, middle and right in this order, and
+--                            the middle one is the mediant of the others. Its corners 3 k, 3 k + 1, 3 k + 2 are its
+--                            edges with the triangle on their right: from left to right, from middle to left, from
+--                            right to middle
 --   Triangles v t frame      the cut, in these parts:
---     sides            the outer face of side i has the frame of that side: it is the edge from vertex i to vertex i + 1
+--     sides            the outer face of side i has the frame of that side: it is the edge from vertex i to vertex i +
+--                      1
 --     triangles        the v - 1 triangles are Farey triangles; frames have determinant 1; Q turns within the triangle
 --     edge to edge     beyond each edge lies exactly one other position, which is the same edge turned round by S
---     one piece        beyond a side lies a triangle, unless v = 1 and there is none; beyond the edge from left to right of a triangle lies a
---                      triangle of a higher number, or the last side. It follows that they hang together as a tree, and fill the polygon
+--     one piece        beyond a side lies a triangle, unless v = 1 and there is none; beyond the edge from left to
+--                      right of a triangle lies a triangle of a higher number, or the last side. It follows that they
+--                      hang together as a tree, and fill the polygon
 use mathlib.Core.Path.{_≡_}
 use mathlib.Core.Logic.{_⊎_}
 use mathlib.Core.List.{List}
@@ -91,4 +96,5 @@ pub record Triangles (v : ℕ) (t : List ℤ) (frame : ℕ → Mat) : Type 0 whe
   pub turn-S : (p : ℕ) → p < places v → frame p ⊗ matS ≈ frame (flip v t p)
   -- one piece
   pub inside : (i : ℕ) → i ≤ v → (flip v t (outer v i) < corners v) ⊎ (v ≡ 1)
-  pub above : (k : ℕ) → k < v - 1 → (3 * k + 2 < flip v t (3 * k)) × ((flip v t (3 * k) < corners v) ⊎ (flip v t (3 * k) ≡ outer v v))
+  pub above : (k : ℕ) → k < v - 1 → (3 * k + 2 < flip v t (3 * k))
+      × ((flip v t (3 * k) < corners v) ⊎ (flip v t (3 * k) ≡ outer v v))

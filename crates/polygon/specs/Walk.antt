@@ -5,7 +5,8 @@
 --   ends v t p l        where the word l leads from p, its letters read from left to right
 --   writes v t p l      what it writes on the way
 --   arrives v t p m     where the matrix m leads from p: its alternating word, walked
---   followed v t m      the matrix that the walk for m follows from the start: m itself, or S⁻¹ m S from the edge turned round
+--   followed v t m      the matrix that the walk for m follows from the start: m itself, or S⁻¹ m S from the edge
+--                       turned round
 --   walkEnds v t m      where that walk ends
 --   walkWrites v t m    what it writes
 use mathlib.Core.List.{List, [], _∷_, _++_}

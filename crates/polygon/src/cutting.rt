@@ -14,7 +14,8 @@ ghost use Rattle.symbol.specs.Check.{isZero};
 ghost use Rattle.symbol.specs.Symbol.{IsSymbol};
 ghost use Rattle.polygon.specs.Cut.{places, below, handle};
 ghost use Rattle.polygon.specs.Inner.Space.{FLIP, joined};
-ghost use Rattle.polygon.specs.Inner.Scanning.{cellsIn, readyOf, Cells, ScanRoom, Settled, Cleared, Scanned, CutLeft};
+ghost use Rattle.polygon.specs.Inner.Scanning.{cellsIn, readyOf, Cells, ScanRoom, Settled, Cleared, Scanned};
+ghost use Rattle.polygon.specs.Inner.Scanning.{CutLeft};
 
 // How many cells the scan has on its stack, and how many triangles it has cut.
 pub struct Progress {
@@ -37,7 +38,7 @@ fn top_vertex(w: &[u16], n: usize) -> usize
         return 0;
     }
     let top = n - 1;
-    workspace::index(w[STACK + top])
+    call::workspace::index(w[STACK + top])
 }
 
 // Its handle.
@@ -49,7 +50,7 @@ fn top_handle(w: &[u16], n: usize) -> usize
         return 0;
     }
     let top = n - 1;
-    workspace::index(w[HANDLE + top])
+    call::workspace::index(w[HANDLE + top])
 }
 
 // Whether the vertex on top of the stack makes a triangle with the one below it and y.
@@ -88,7 +89,7 @@ fn settle(t: &[i64], v: usize, w: &mut [u16], i: usize, n0: usize, m0: usize) ->
     let y = i + 1;
     while ready(t, v, w, y, n) {
         let top = n - 1;
-        let hl = workspace::index(w[HANDLE + top]);
+        let hl = call::workspace::index(w[HANDLE + top]);
         link(w, 3 * m + 1, hl);
         link(w, 3 * m + 2, h);
         h = 3 * m;
@@ -141,7 +142,8 @@ fn noted(w: &[u16], n: usize, i: usize, z: usize, under: usize) -> usize
 
 // The scan over all vertices, with a note of the handle of vertex z + 1 when it has been pushed.
 fn scan_vertices(t: &[i64], v: usize, z: usize, w: &mut [u16]) -> Notes
-    requires { ⌜ IsSymbol v (now t) × (32768 ≤ length (now w)) × ((k : ℕ) → k < places v → getD (now w) (FLIP + k) 0 ≡ 0) ⌝ }
+    requires { ⌜ IsSymbol v (now t) × (32768 ≤ length (now w))
+        × ((k : ℕ) → k < places v → getD (now w) (FLIP + k) 0 ≡ 0) ⌝ }
     ensures { λ r. ⌜ Scanned (now (t .entry)) v z (now (w .entry)) (now (w .exit)) (r .n) (r .under) ⌝ }
 {
     let mut n: usize = 0;
@@ -158,7 +160,8 @@ fn scan_vertices(t: &[i64], v: usize, z: usize, w: &mut [u16]) -> Notes
     Notes { n, under }
 }
 
-// The cut of the polygon: the table of other sides is filled, and the position under the chord from -1/0 to 0/1 is returned.
+// The cut of the polygon: the table of other sides is filled, and the position under the chord from -1/0 to 0/1 is
+// returned.
 pub(crate) fn cut(t: &[i64], v: usize, w: &mut [u16]) -> usize
     requires { ⌜ IsSymbol v (now t) × (32768 ≤ length (now w)) ⌝ }
     ensures { λ r. ⌜ CutLeft (now (t .entry)) v (now (w .entry)) (now (w .exit)) r ⌝ }

@@ -31,7 +31,8 @@ fn is_leading(t: &[i64], v: usize, w: &[u16], i: usize) -> bool
 // Side i gets the number of its generator, where n generators are numbered; returns how many are then.
 fn number_side(t: &[i64], v: usize, w: &mut [u16], i: usize, n: usize) -> usize
     requires { ⌜ IsSymbol v (now t) × NumberedTo (now t) v (now w) i n × (i ≤ v) ⌝ }
-    ensures { λ r. ⌜ Above (now (w .entry)) (now (w .exit)) × NumberedTo (now (t .entry)) v (now (w .exit)) (i + 1) r ⌝ }
+    ensures { λ r. ⌜ Above (now (w .entry)) (now (w .exit))
+        × NumberedTo (now (t .entry)) v (now (w .exit)) (i + 1) r ⌝ }
 {
     let leading = is_leading(t, v, w, i);
     if leading {
@@ -47,7 +48,8 @@ fn number_side(t: &[i64], v: usize, w: &mut [u16], i: usize, n: usize) -> usize
 // Every side gets the number of its generator.
 pub(crate) fn number_sides(t: &[i64], v: usize, w: &mut [u16])
     requires { ⌜ IsSymbol v (now t) × PartnersHeld (now t) v (now w) × (32768 ≤ length (now w)) ⌝ }
-    ensures { λ _. ⌜ Above (now (w .entry)) (now (w .exit)) × PartnersHeld (now (t .entry)) v (now (w .exit)) × Numbered (now (t .entry)) v (now (w .exit)) ⌝ }
+    ensures { λ _. ⌜ Above (now (w .entry)) (now (w .exit)) × PartnersHeld (now (t .entry)) v (now (w .exit))
+        × Numbered (now (t .entry)) v (now (w .exit)) ⌝ }
 {
     let mut n: usize = 0;
     let mut i: usize = 0;

@@ -50,7 +50,7 @@ pub(crate) fn beyond(w: &[u16], p: usize) -> usize
     requires { ⌜ (p < 4096) × (32768 ≤ length (now w)) ⌝ }
     ensures { λ r. ⌜ r ≡ getD (now (w .entry)) (FLIP + p) 0 ⌝ }
 {
-    workspace::index(w[FLIP + p])
+    call::workspace::index(w[FLIP + p])
 }
 
 // The partner of side i, by the table.
@@ -58,7 +58,7 @@ pub(crate) fn partner_of(w: &[u16], i: usize) -> usize
     requires { ⌜ (i ≤ 1023) × (32768 ≤ length (now w)) ⌝ }
     ensures { λ r. ⌜ r ≡ getD (now (w .entry)) (PARTNER + i) 0 ⌝ }
 {
-    workspace::index(w[PARTNER + i])
+    call::workspace::index(w[PARTNER + i])
 }
 
 // The number of the generator of side i, by the table.
@@ -66,5 +66,5 @@ pub(crate) fn number_of(w: &[u16], i: usize) -> usize
     requires { ⌜ (i ≤ 1023) × (32768 ≤ length (now w)) ⌝ }
     ensures { λ r. ⌜ r ≡ getD (now (w .entry)) (GENERATOR + i) 0 ⌝ }
 {
-    workspace::index(w[GENERATOR + i])
+    call::workspace::index(w[GENERATOR + i])
 }

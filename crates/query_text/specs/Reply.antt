@@ -1,23 +1,27 @@
--- WHAT THE PROGRAM `query` WRITES, byte for byte (docs/CONVENTIONS.md, 10.6), and what the call leaves in the lent spaces.
+-- WHAT THE PROGRAM `query` WRITES, byte for byte (docs/CONVENTIONS.md, 10.6).
 --
 --   signByte s                      the byte of a sign: + or -
 --   wordHead s                      `word`, a blank and the sign s, as bytes
 --   lettersLent                     the letters that the program lends
---   said r l                        the line for an answer r of a query whose walk writes the letters l: `word`, the sign and the letters, or
---                                   `refused`, the number and the place
---   replied v t a b                 the line for the symbol in t and the pair A, B; the word starts at the place 0 of the lent space
---   countIn, symbolIn, firstIn, secondIn    v, the symbol's table, A and B in the numbers ns of a text, of which A and B are the last eight
---   repliedTo ns                    the line for the numbers ns of a text. Where v is out of range a text hands on v alone (refusal 1);
---                                   else there are 3v + 10 numbers
---   workTo ns w, lettersTo ns l     what the call then leaves in the work space w and in the word space l
---   queryFormat                     the form of the text: v from 1 to 1,023, and then 3v + 1 numbers and two matrices of four
---   replyBy, replyWork, lettersBy   the same by the answer of `read_input`, where the text's numbers are ns
---   replyOf longer text             the bytes for a text, or for one with more than the 65,536 bytes that fit into the buffer
---   ReplyLeaves ..                  what the call leaves in every lent space but that of the bytes
---   Replied ns bytes ..             what the bytes mean where the numbers of the text are ns: they are the line of the query's answer, and of that
---                                   answer the claim holds, so that `refused 10 0` means that there is no such product, and the letters are one, the
---                                   only reduced one and the shortest, with that sign
---   ReplyMeans ..                   that holds for every text whose numbers are a symbol's and a pair's
+--   said r l                        the line for an answer r of a query whose walk writes the letters l: `word`, the
+--                                   sign and the letters, or `refused`, the number and the place
+--   replied v t a b                 the line for the symbol in t and the pair A, B; the word starts at the place 0
+--   countIn, symbolIn, firstIn, secondIn    v, the symbol's table, A and B in the numbers ns of a text, of which A and
+--                                           B
+--                                   are the last eight
+--   repliedTo ns                    the line for the numbers ns of a text. Where v is out of range a text hands on v
+--                                   alone (refusal 1); else there are 3v + 10 numbers
+--   queryAnswer ns, answerWord ns   the answer of the query, and the word that its walk writes
+--   queryFormat                     the form of the text: v from 1 to 1,023, and then 3v + 1 numbers and two matrices
+--                                   of four
+--   replyBy                         the line by the answer of `read_input`, where the text's numbers are ns
+--   replyOf longer text             the bytes for a text, or for one with more than the 65,536 bytes that fit into the
+--                                   buffer
+--   Replied ns bytes                what the bytes mean where the numbers of the text are ns: they are the line of the
+--                                   query's answer, and of that answer the claim holds in all spaces of the program's
+--                                   lengths, so that `refused 10 0` means that there is no such product, and the
+--                                   letters are one, the only reduced one and the shortest, with that sign
+--   ReplyMeans longer text bytes    that holds for every text whose numbers are a symbol's and a pair's
 use mathlib.Core.Path.{_≡_}
 use mathlib.Core.Bool.{Bool, true, false}
 use mathlib.Core.List.{List, [], _∷_}
@@ -27,16 +31,16 @@ use lib.IntN.{ℤ}
 use lib.ListN.{length, take, drop}
 use Rattle.matrix.specs.Matrix.{nth, ofList}
 use Rattle.basics.specs.Choice.{pick}
-use Rattle.refusal.specs.Refusal.{badVertexCount}
-use Rattle.workspace.specs.Space.{workLength}
+use Rattle.call.specs.Refusal.{badVertexCount}
+use Rattle.call.specs.Space.{workLength}
 use Rattle.text.specs.Piece.{pieces, numbers}
 use Rattle.text.specs.Reading as reading
-use Rattle.text.specs.Reading.{inputOf, leftBy}
+use Rattle.text.specs.Reading.{inputOf}
 use Rattle.text.specs.declared.Format.{Format}
 use Rattle.text.specs.declared.Reading.{Reading}
 use Rattle.text.specs.declared.Reading.the-variants.{Numbers, Refused}
-use Rattle.text_line.specs.Line.{line, refusalLine}
-use Rattle.word.specs.Answer.{four, foundWord, queryOf, queryWork, wordLeft}
+use Rattle.text.specs.Line.{line, refusalLine}
+use Rattle.word.specs.Answer.{four, foundWord, queryOf, wordLeft}
 use Rattle.word.specs.Claim.{Claim}
 use Rattle.word.specs.declared.Queried.{Queried}
 use Rattle.word.specs.declared.Queried.the-variants as queried
@@ -58,9 +62,6 @@ said (queried.Refused f) l = refusalLine f
 unfoldable pub replied : (v : ℕ) (t a b : List ℤ) → List ℕ
 replied v t a b = said (queryOf v t a b workLength lettersLent 0) (foundWord v t (ofList a) (ofList b))
 
-abbrev pub lettersLeft : (v : ℕ) (t a b : List ℤ) → List ℤ → List ℤ
-lettersLeft v t a b letters = wordLeft (queryOf v t a b workLength lettersLent 0) (foundWord v t (ofList a) (ofList b)) letters
-
 -- ---- the numbers of a text
 
 abbrev pub countIn : List ℤ → ℕ
@@ -80,13 +81,8 @@ abbrev pub byCount : {X : Type 0} → List ℤ → X → X → X
 byCount ns x y = pick (ltb (length ns) 10) x y
 
 unfoldable pub repliedTo : List ℤ → List ℕ
-repliedTo ns = byCount ns (refusalLine badVertexCount) (replied (countIn ns) (symbolIn ns) (firstIn ns) (secondIn ns))
-
-unfoldable pub workTo : List ℤ → List ℕ → List ℕ
-workTo ns w = byCount ns w (queryWork (countIn ns) (symbolIn ns) (firstIn ns) (secondIn ns) w)
-
-unfoldable pub lettersTo : (ns letters : List ℤ) → List ℤ
-lettersTo ns letters = byCount ns letters (lettersLeft (countIn ns) (symbolIn ns) (firstIn ns) (secondIn ns) letters)
+repliedTo ns =
+    byCount ns (refusalLine badVertexCount) (replied (countIn ns) (symbolIn ns) (firstIn ns) (secondIn ns))
 
 -- ---- the text
 
@@ -97,31 +93,23 @@ abbrev pub replyBy : Reading → List ℤ → List ℕ
 replyBy (Numbers k) ns = repliedTo (take k ns)
 replyBy (Refused f) ns = refusalLine f
 
-abbrev pub replyWork : Reading → List ℤ → List ℕ → List ℕ
-replyWork (Numbers k) ns w = workTo (take k ns) w
-replyWork (Refused f) ns w = w
-
-abbrev pub lettersBy : Reading → (ns letters : List ℤ) → List ℤ
-lettersBy (Numbers k) ns letters = lettersTo (take k ns) letters
-lettersBy (Refused f) ns letters = letters
-
 unfoldable pub replyOf : Bool → List ℕ → List ℕ
 replyOf longer text = replyBy (inputOf longer queryFormat text 3079) (numbers (pieces text))
-
-pub record ReplyLeaves (longer : Bool) (text : List ℕ) (ns letters : List ℤ) (w : List ℕ) (ns' letters' : List ℤ) (w' : List ℕ) : Type 0 where
-  pub numbers-left : ns' ≡ leftBy (inputOf longer queryFormat text 3079) (numbers (pieces text)) ns
-  pub work-left : w' ≡ replyWork (inputOf longer queryFormat text 3079) (numbers (pieces text)) w
-  pub letters-left : letters' ≡ lettersBy (inputOf longer queryFormat text 3079) (numbers (pieces text)) letters
 
 -- ---- what it means
 
 abbrev pub queryAnswer : List ℤ → Queried
 queryAnswer ns = queryOf (countIn ns) (symbolIn ns) (firstIn ns) (secondIn ns) workLength lettersLent 0
 
-pub record Replied (ns : List ℤ) (bytes : List ℕ) (letters : List ℤ) (w : List ℕ) (letters' : List ℤ) : Type 0 where
-  pub line : bytes ≡ said (queryAnswer ns) (foundWord (countIn ns) (symbolIn ns) (ofList (firstIn ns)) (ofList (secondIn ns)))
-  pub claim : Claim (countIn ns) (symbolIn ns) (firstIn ns) (secondIn ns) w letters 0 (queryAnswer ns) letters'
+abbrev pub answerWord : List ℤ → List ℤ
+answerWord ns = foundWord (countIn ns) (symbolIn ns) (ofList (firstIn ns)) (ofList (secondIn ns))
 
-abbrev pub ReplyMeans : (longer : Bool) (text bytes : List ℕ) (letters : List ℤ) (w : List ℕ) (letters' : List ℤ) → Type 0
-ReplyMeans longer text bytes letters w letters' =
-    (k : ℕ) → 10 ≤ k → inputOf longer queryFormat text 3079 ≡ Numbers k → Replied (take k (numbers (pieces text))) bytes letters w letters'
+pub record Replied (ns : List ℤ) (bytes : List ℕ) : Type 0 where
+  pub line : bytes ≡ said (queryAnswer ns) (answerWord ns)
+  pub claim : (w : List ℕ) (letters : List ℤ) → length w ≡ workLength → length letters ≡ lettersLent
+      → Claim (countIn ns) (symbolIn ns) (firstIn ns) (secondIn ns) w letters 0 (queryAnswer ns)
+      (wordLeft (queryAnswer ns) (answerWord ns) letters)
+
+abbrev pub ReplyMeans : (longer : Bool) (text bytes : List ℕ) → Type 0
+ReplyMeans longer text bytes =
+    (k : ℕ) → 10 ≤ k → inputOf longer queryFormat text 3079 ≡ Numbers k → Replied (take k (numbers (pieces text))) bytes

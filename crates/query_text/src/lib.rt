@@ -1,14 +1,16 @@
-// What the program `query` writes for a text: all of it, byte for byte, as specs/Reply.antt says (docs/CONVENTIONS.md, 10.6).
-use input::Input;
-use input::text_end;
-use refusal::BAD_VERTEX_COUNT;
-use refusal::Refusal;
+// What the program `query` writes for a text: all of it, byte for byte, as specs/Reply.antt says (docs/CONVENTIONS.md,
+// 10.6).
+// A sheet of pairs is read and answered in `sheet_text`.
+use call::refusal::BAD_VERTEX_COUNT;
+use call::refusal::Refusal;
 use text::Format;
 use text::Reading;
+use text::input::Input;
+use text::input::text_end;
+use text::line::line_of_letters;
+use text::line::refusal_line;
 use text::read_input;
 use text::vertex_count;
-use text_line::line_of_letters;
-use text_line::refusal_line;
 use word::Queried;
 use word::four_at;
 use word::query;
@@ -17,16 +19,18 @@ use word::word_part;
 ghost use mathlib.Core.Path.{_≡_};
 ghost use Prim.Native.Nat.{_+_, _*_, _≤_};
 ghost use lib.ListN.{length, take};
-ghost use Rattle.input.specs.Input.{ForInput};
-ghost use Rattle.text_line.specs.Line.{line, Puts};
-ghost use Rattle.word.specs.Answer.{queryWork};
-ghost use Rattle.query_text.specs.Reply.{wordHead, lettersLent, replied, lettersLeft, repliedTo, workTo, lettersTo, replyOf, ReplyLeaves, ReplyMeans};
+ghost use Rattle.text.specs.Input.{ForInput};
+ghost use Rattle.text.specs.Line.{line, Puts};
+ghost use Rattle.query_text.specs.Reply.{wordHead, replied, repliedTo, replyOf, ReplyMeans};
 ghost use Rattle.query_text.specs.Inner.Spaces.{ReplySpaces};
+
+pub mod sheet_text;
 
 // The line of a word with its sign, from `at` on.
 pub fn word_line(sign: bool, word: &[i16], out: &mut [u8], at: usize) -> usize
     requires { ⌜ at + (7 * length (now word) + 27) ≤ length (now out) ⌝ }
-    ensures { λ e. ⌜ Puts (line (wordHead sign) (now (word .entry))) at e (now (out .entry)) (now (out .exit)) × (e ≤ at + (7 * length (now (word .entry)) + 7)) ⌝ }
+    ensures { λ e. ⌜ Puts (line (wordHead sign) (now (word .entry))) at e (now (out .entry)) (now (out .exit))
+        × (e ≤ at + (7 * length (now (word .entry)) + 7)) ⌝ }
 {
     if sign {
         return line_of_letters(b"word +", word, out, at);
@@ -46,8 +50,6 @@ fn reply_pair(
 ) -> usize
     requires { ⌜ ReplySpaces (now w) (now letters) (now out) ⌝ }
     ensures { λ e. ⌜ Puts (replied v (now (t .entry)) a b) 0 e (now (out .entry)) (now (out .exit)) ⌝ }
-    ensures { λ e. ⌜ now (w .exit) ≡ queryWork v (now (t .entry)) a b (now (w .entry)) ⌝ }
-    ensures { λ e. ⌜ now (letters .exit) ≡ lettersLeft v (now (t .entry)) a b (now (letters .entry)) ⌝ }
 {
     let answer = query(v, t, a, b, w, letters, 0);
     let Queried::Word(start, n, sign) = answer else {
@@ -62,8 +64,6 @@ fn reply_pair(
 fn reply_numbers(ns: &[i64], w: &mut [u16], letters: &mut [i16], out: &mut [u8]) -> usize
     requires { ⌜ ReplySpaces (now w) (now letters) (now out) ⌝ }
     ensures { λ e. ⌜ Puts (repliedTo (now (ns .entry))) 0 e (now (out .entry)) (now (out .exit)) ⌝ }
-    ensures { λ e. ⌜ now (w .exit) ≡ workTo (now (ns .entry)) (now (w .entry)) ⌝ }
-    ensures { λ e. ⌜ now (letters .exit) ≡ lettersTo (now (ns .entry)) (now (letters .entry)) ⌝ }
 {
     let k = ns.len();
     if k < 10 {
@@ -93,7 +93,6 @@ fn reply_text(
 ) -> usize
     requires { ⌜ (length (now numbers) ≡ 3079) × ReplySpaces (now w) (now letters) (now out) ⌝ }
     ensures { λ e. ⌜ Puts (replyOf longer (now (text .entry))) 0 e (now (out .entry)) (now (out .exit)) ⌝ }
-    ensures { λ e. ⌜ ReplyLeaves longer (now (text .entry)) (now (numbers .entry)) (now (letters .entry)) (now (w .entry)) (now (numbers .exit)) (now (letters .exit)) (now (w .exit)) ⌝ }
 {
     let read = read_input(
         text,
@@ -113,30 +112,28 @@ fn reply_text(
 }
 
 // What the program writes for an input, whose bytes stand at the front of the buffer, from the front of `out`; where
-// it ends: at 0, with nothing changed, where the input could not be read. The arrays are the program's own, and what
-// stands in them at the start is free.
-pub fn reply(
-    buffer: &[u8],
-    input: Input,
-    numbers: &mut [i64; 3079],
-    w: &mut [u16; 32768],
-    letters: &mut [i16; 16384],
-    out: &mut [u8; 131072],
-) -> usize
+// it ends: at 0, with nothing changed, where the input could not be read.
+pub fn reply(buffer: &[u8], input: Input, out: &mut [u8; 131072]) -> usize
     ensures { λ e. ⌜ e ≤ length (now (out .exit)) ⌝ }
     ensures { λ e. ⌜ ForInput (now (buffer .entry))
         (λ longer text. Puts (replyOf longer text) 0 e (now (out .entry)) (now (out .exit))
-        × ReplyLeaves longer text (now (numbers .entry)) (now (letters .entry)) (now (w .entry))
-        (now (numbers .exit)) (now (letters .exit)) (now (w .exit))
-        × ReplyMeans longer text (take e (now (out .exit))) (now (letters .entry)) (now (w .entry))
-        (now (letters .exit)))
-        ((e ≡ 0) × (now (numbers .exit) ≡ now (numbers .entry)) × (now (w .exit) ≡ now (w .entry))
-        × (now (letters .exit) ≡ now (letters .entry)) × (now (out .exit) ≡ now (out .entry)))
+        × ReplyMeans longer text (take e (now (out .exit))))
+        ((e ≡ 0) × (now (out .exit) ≡ now (out .entry)))
         input ⌝ }
 {
     let Input::Read(n, longer) = input else {
         return 0;
     };
     let end = text_end(buffer, n);
-    reply_text(&buffer[..end], longer, numbers, w, letters, out)
+    let mut numbers = [0i64; 3079];
+    let mut w = [0u16; 32768];
+    let mut letters = [0i16; 16384];
+    reply_text(
+        &buffer[..end],
+        longer,
+        &mut numbers,
+        &mut w,
+        &mut letters,
+        out,
+    )
 }

@@ -2,3 +2,12 @@
 pub mod Single
 pub mod Lines
 pub mod Whole
+-- Why the runs of T lead where the matrix does: powers of T, division to the nearest multiple, the rows that remain of a matrix, signed numbers, runs in their
+-- cusps, the invariant, the tables by place, the coset tables of a symbol.
+pub mod Powers
+pub mod Nearest
+pub mod Rows
+pub mod Signed
+pub mod Places
+pub mod Runs
+pub mod ByPlace

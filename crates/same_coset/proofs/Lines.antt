@@ -1,5 +1,5 @@
--- The lines of many pairs, one after another: two stores are a line (`two-stores`); the lines of the first i pairs, with one more (`pairs-more`); the line of each
--- answer (`line-…`). And one pair of many: its answer is the single call's (`single`). Assumes nothing.
+-- The lines of many pairs, one after another: two stores are a line (`two-stores`); the lines of the first i pairs, with one more (`pairs-more`); the line of
+-- each answer (`line-…`). And one pair of many: its answer is the single call's (`single`). Assumes nothing.
 use mathlib.Core.Path.{_≡_, refl, sym, _∙_, ap, subst}
 use mathlib.Core.Bool.{Bool, true, false}
 use mathlib.Core.List.{List, [], _∷_, _++_}
@@ -8,18 +8,29 @@ use native.Mathlib.Omega.{arith}
 use lib.ListN.{length, set, take, drop, length-append}
 use lib.Seq.{sets-eq, take-at, drop-at, drop-drop}
 use lib.IntN.{ℤ, pos}
-use Rattle.workspace.specs.Space.{workLength}
-use Rattle.refusal.specs.declared.Refusal.{Refusal}
+use Rattle.call.specs.Space.{workLength}
+use Rattle.call.specs.declared.refusal.Refusal.{Refusal}
+use Rattle.call.specs.Refusal.{_orElse_}
+use Rattle.call.specs.declared.refusal.Checked.{Checked}
+use Rattle.call.specs.declared.refusal.Checked.the-variants.{Accepted, Refused}
+use Rattle.call.proofs.Answers.{then-next}
+use Rattle.call.specs.Call.{lengthCheck}
+use Rattle.call.specs.Inner.Fills.{decided}
+use Rattle.call.specs.declared.Decision.{Decision}
+use Rattle.call.specs.declared.Decision.the-variants as decision
+use Rattle.call.proofs.Laws.{room-long}
+use Rattle.matrix.specs.Matrix.{ofList}
+use Rattle.symbol.specs.Check.{symbolCheck}
 use Rattle.symbol.specs.Symbol.{IsSymbol}
-use Rattle.t_runs.specs.Inner.Places.{SymbolPlaces}
-use Rattle.word.specs.Answer.{four}
+use Rattle.symbol.proofs.Accepted.{accepted}
+use Rattle.same_coset.specs.Inner.Places.{SymbolPlaces}
+use Rattle.word.specs.Answer.{four, matricesCheck, closes}
 use Rattle.sheets.specs.Sheet.{matrixA, matrixB}
 use Rattle.sheets.proofs.Single as sheet
-use Rattle.same_coset.specs.Answer.{sharedBy, enough, sameCosetOf}
+use Rattle.sheets.proofs.Single.{SmallRefusal}
+use Rattle.same_coset.specs.Answer.{sameCosetOf}
 use Rattle.same_coset.specs.Pairs.{cosetLine, cosetAt, cosetLines}
 use Rattle.same_coset.specs.Inner.Ready.{yesNo, pairShared, PairShared, LineFits, pairLineAt, PairsShared}
-use Rattle.same_coset.specs.declared.Shared.{Shared}
-use Rattle.same_coset.specs.declared.Shared.the-variants as shared
 use Rattle.same_coset.proofs.Single.{refused-not-yes, refused-not-no}
 
 -- ---- one line
@@ -27,19 +38,19 @@ use Rattle.same_coset.proofs.Single.{refused-not-yes, refused-not-no}
 pub two-stores : (lines : List ℤ) (i : ℕ) (a b : ℤ) → 2 * i + 2 ≤ length lines → set (set lines (2 * i) a) (2 * i + 1) b ≡ pairLineAt i (a ∷ b ∷ []) lines
 two-stores lines i a b h = let next : 2 * i + 1 ≡ suc (2 * i) = omega arith in rw next (sets-eq (a ∷ b ∷ []) lines (2 * i) h)
 
-length-line : (r : Shared) → length (cosetLine r) ≡ 2
-length-line shared.Yes = refl
-length-line shared.No = refl
-length-line (shared.Refused f) = refl
+length-line : (r : Decision) → length (cosetLine r) ≡ 2
+length-line decision.Yes = refl
+length-line decision.No = refl
+length-line (decision.Refused f) = refl
 
-pub line-is : (i : ℕ) (lines : List ℤ) (r s : Shared) → r ≡ s → pairLineAt i (cosetLine s) lines ≡ pairLineAt i (cosetLine r) lines
-line-is i lines r s e = ap (λ (x : Shared). pairLineAt i (cosetLine x) lines) (sym e)
+pub line-is : (i : ℕ) (lines : List ℤ) (r s : Decision) → r ≡ s → pairLineAt i (cosetLine s) lines ≡ pairLineAt i (cosetLine r) lines
+line-is i lines r s e = ap (λ (x : Decision). pairLineAt i (cosetLine x) lines) (sym e)
 
-pub line-refused : (i : ℕ) (lines : List ℤ) (r : Shared) (f : Refusal) → r ≡ shared.Refused f → (x y : ℤ) → x ≡ pos (f .number) → y ≡ pos (f .place)
+pub line-refused : (i : ℕ) (lines : List ℤ) (r : Decision) (f : Refusal) → r ≡ decision.Refused f → (x y : ℤ) → x ≡ pos (f .number) → y ≡ pos (f .place)
     → pairLineAt i (x ∷ y ∷ []) lines ≡ pairLineAt i (cosetLine r) lines
 line-refused i lines r f e x y g h =
-    let line : (x ∷ y ∷ []) ≡ cosetLine (shared.Refused f) = cc (g, h) in
-    ap (λ (l : List ℤ). pairLineAt i l lines) line ∙ line-is i lines r (shared.Refused f) e
+    let line : (x ∷ y ∷ []) ≡ cosetLine (decision.Refused f) = cc (g, h) in
+    ap (λ (l : List ℤ). pairLineAt i l lines) line ∙ line-is i lines r (decision.Refused f) e
 
 -- ---- its numbers fit
 
@@ -47,13 +58,17 @@ pub fits-yes-no : (k : Bool) → LineFits (yesNo k)
 fits-yes-no true = record { refused = λ f e. absurd (refused-not-yes f (sym e)) }
 fits-yes-no false = record { refused = λ f e. absurd (refused-not-no f (sym e)) }
 
-pub fits-refused : (f : Refusal) → f .number < 2 ^ 63 → f .place < 2 ^ 63 → LineFits (shared.Refused f)
-fits-refused f h k = record { refused = λ g e. let z : f ≡ g = cc in (rw (← z) h, rw (← z) k) }
+pub fits-refused : (f : Refusal) → SmallRefusal (Refused f) → LineFits (decision.Refused f)
+fits-refused f h = record { refused = λ g e. let z : f ≡ g = cc in (rw (← z) (h .0), rw (← z) (h .1)) }
 
 -- ---- one pair of many
 
 pub single : {v : ℕ} {t : List ℤ} → IsSymbol v t → (work : ℕ) → workLength ≤ work → (a b : List ℤ) → pairShared v t a b ≡ sameCosetOf v t a b work
-single {v} {t} ok work h a b = ap sharedBy (sheet.single ok work h a b (enough v t a b) 0)
+single {v} {t} ok work h a b =
+    let space = lengthCheck workLength work in
+    ap (decided (closes v t (ofList a) (ofList b)))
+    (ap (λ (c : Checked). matricesCheck a b orElse c) (then-next space Accepted (room-long workLength work h))
+    ∙ then-next (symbolCheck v t) (matricesCheck a b orElse space orElse Accepted) (accepted v t .1 ok))
 
 -- ---- one line after another
 
@@ -61,7 +76,7 @@ module _ (v : ℕ) (t p : List ℤ) (work : ℕ) where
   abbrev front : ℕ → List ℤ
   front i = cosetLines v t p work i
 
-  front-length : (i : ℕ) → length (front i) ≡ 2 * i
+  pub front-length : (i : ℕ) → length (front i) ≡ 2 * i
   unfolding cosetLines
   front-length zero = refl
   front-length (suc i) =
@@ -85,8 +100,9 @@ pub pairs-none : (n : ℕ) (w : List ℕ) (p lines : List ℤ) → PairsShared n
 unfolding cosetLines
 pairs-none n w p lines v t w₀ ok g = refl
 
-pub pairs-more : (n : ℕ) (w : List ℕ) (p lines : List ℤ) {lines' : List ℤ} (i : ℕ) → PairsShared n w p i lines lines' → {part : List ℤ} → part ≡ take 8 (drop (8 * i) p)
-    → {r : Shared} → PairShared n w (four part 0) (four part 4) r → {lines₁ : List ℤ} → lines₁ ≡ pairLineAt i (cosetLine r) lines'
+pub pairs-more : (n : ℕ) (w : List ℕ) (p lines : List ℤ) {lines' : List ℤ} (i : ℕ) → PairsShared n w p i lines lines'
+    → {part : List ℤ} → part ≡ take 8 (drop (8 * i) p)
+    → {r : Decision} → PairShared n w (four part 0) (four part 4) r → {lines₁ : List ℤ} → lines₁ ≡ pairLineAt i (cosetLine r) lines'
     → PairsShared n w p (i + 1) lines lines₁
 pairs-more n w p lines {lines'} i f {part} cut {r} a {lines₁} e v t w₀ ok g =
     let is-A : four part 0 ≡ matrixA p i = ap (λ (l : List ℤ). four l 0) cut ∙ sheet.part-A p (8 * i) in
@@ -96,5 +112,5 @@ pairs-more n w p lines {lines'} i f {part} cut {r} a {lines₁} e v t w₀ ok g 
     a v t w₀ ok g ∙ ap (λ (x : List ℤ). pairShared v t x (four part 4)) is-A ∙ ap (pairShared v t (matrixA p i)) is-B
     ∙ single ok (length w) long (matrixA p i) (matrixB p i) in
     let more : suc i ≡ i + 1 = omega arith in
-    e ∙ ap (λ (x : Shared). pairLineAt i (cosetLine x) lines') is ∙ lines-more v t p (length w) i lines lines' (f v t w₀ ok g)
+    e ∙ ap (λ (x : Decision). pairLineAt i (cosetLine x) lines') is ∙ lines-more v t p (length w) i lines lines' (f v t w₀ ok g)
     ∙ ap (λ (k : ℕ). cosetLines v t p (length w) k ++ drop (2 * k) lines) more

@@ -1,11 +1,12 @@
--- One pair: whether its places are one is whether the query finds a word (`shares`, `found-is`), and what the answer means (`means`).
--- Why: matrices lead to one point exactly where a product of generators takes one to the other (the claim's `points`), and points stand at places of their own.
--- In order: answers by the query's refusal; the walk; the places; the meaning; the numbers of an export (`says`).
+-- One pair: whether its places are one is whether the walk of the query comes home (`shares`, `found-is`), what the answer means (`means`), and what its
+-- numbers say (`says`).
+-- Why: matrices lead to one point exactly where a product of generators takes one to the other, and points stand at places of their own.
+-- In order: answers; the walk; the places; the meaning; the numbers of an export.
 -- Assumes nothing.
 use mathlib.Core.Path.{_≡_, refl, sym, _∙_, ap, subst}
 use mathlib.Core.Logic.{_⊎_, inl, inr, _↔_}
 use mathlib.Core.Bool.{Bool, true, false}
-use mathlib.Core.List.{List}
+use mathlib.Core.List.{List, [], _∷_}
 use Prim.Native.Nat.{ℕ, _+_, _^_, _≤_, _<_}
 use native.Mathlib.Omega.{arith}
 use native.Mathlib.Decide.{ℕ-discrete}
@@ -14,65 +15,73 @@ use lib.ListN.{length}
 use lib.IntN.{ℤ}
 use borrow.Author.Tests.{eqb-true, eq-eqb, ne-eqb}
 use Rattle.basics.specs.Choice.{pick}
-use Rattle.basics.proofs.Choice.{either, clash, pick-true, pick-false}
+use Rattle.basics.proofs.Choice.{clash}
 use Rattle.matrix.specs.Matrix.{Mat, ofList}
-use Rattle.refusal.specs.Refusal.{noRefusal, noWord, tooShort}
-use Rattle.refusal.specs.declared.Refusal.{Refusal}
+use Rattle.call.specs.Space.{workLength}
+use Rattle.call.specs.Refusal.{_orElse_, checkedRefusal, noRefusal, noWord}
+use Rattle.call.specs.declared.refusal.Refusal.{Refusal}
+use Rattle.call.specs.declared.refusal.Checked.{Checked}
+use Rattle.call.specs.declared.refusal.Checked.the-variants.{Accepted, Refused}
+use Rattle.call.proofs.Apart.{refused-accepted}
+use Rattle.call.specs.Call.{Step, Asks, Clears, lengthCheck, ifAccepted, bit}
+use Rattle.call.specs.Inner.Fills.{decided}
+use Rattle.call.specs.declared.Decision.{Decision}
+use Rattle.call.specs.declared.Decision.the-variants as decision
+use Rattle.call.proofs.Laws.{above-room, above-among, accepted-by}
+use Rattle.symbol.specs.Check.{symbolCheck}
 use Rattle.symbol.specs.Symbol.{IsSymbol}
+use Rattle.symbol.proofs.Accepted.{accepted, check-among}
 use Rattle.coset.specs.Tables.{tableS, tableR, tableT}
-use Rattle.coset.specs.Theorem.{leads}
+use Rattle.right_cosets.specs.Leads.{leads}
 use Rattle.coset.proofs.Answer.{meaning}
 use Rattle.cusp_record.specs.Record.{cuspPlace}
 use Rattle.cusp_record.specs.Inner.Fill.{cuspEntry}
 use Rattle.cusp_record.proofs.Record.{in-order}
 use Rattle.figures.specs.Inner.Scan.{heldT}
-use Rattle.t_runs.specs.Runs.{Arrived}
-use Rattle.t_runs.specs.Inner.Places.{heldTurns, SymbolPlaces}
-use Rattle.t_runs.proofs.ByPlace.{guided}
-use Rattle.word.specs.Answer.{foundWord, foundSign, foundOf, queryOf, queryRefusal, wordLeft}
-use Rattle.word.specs.Claim.{Asked, Joined, Fits, Found, Answered}
-use Rattle.word.specs.declared.Queried.{Queried}
-use Rattle.word.specs.declared.Queried.the-variants as queried
-use Rattle.word.proofs.Claim.{same-number, answered}
-use Rattle.word.proofs.Order.{gets, asked-found}
-use Rattle.same_coset.specs.Answer.{sharedBy, enough, sameCosetOf, sharedRefusal, sharedPlace, CosetMeans, SharedSays}
+use Rattle.same_coset.specs.Runs.{Arrived}
+use Rattle.same_coset.specs.Inner.Places.{heldTurns, SymbolPlaces}
+use Rattle.same_coset.specs.Inner.Rows.{OneMatrix}
+use Rattle.same_coset.proofs.ByPlace.{guided}
+use Rattle.word.specs.Answer.{matricesCheck, closes, foundWord, foundSign, foundIf, foundChecks, queryOf, queryRefusal, wordLeft}
+use Rattle.word.specs.Claim.{Asked, Joined, Fits, Answered, Claim}
+use Rattle.word.proofs.Claim.{same-number, joined-home, home-joined, joined-same, same-joined}
+use Rattle.word.proofs.Order.{asked, asked-passed, claim}
+use Rattle.word.proofs.Refused.{pair-passes, pair-among, inOrder, reached, reaches, checked, paired}
+use Rattle.same_coset.specs.Answer.{sameCosetOf, CosetMeans, SharedSays}
 use Rattle.same_coset.specs.Inner.Ready.{yesNo, Shares}
-use Rattle.t_runs.specs.Inner.Rows.{OneMatrix}
-use Rattle.same_coset.specs.declared.Shared.{Shared}
-use Rattle.same_coset.specs.declared.Shared.the-variants as shared
 
--- ---- answers by the query's refusal
+-- ---- answers
 
-yes-not-no : shared.Yes ≡ shared.No → ⊥
+yes-not-no : decision.Yes ≡ decision.No → ⊥
 yes-not-no e = let z : _≡_ {A = ℕ} 0 1 = cc in omega arith
 
-pub refused-not-yes : (f : Refusal) → shared.Refused f ≡ shared.Yes → ⊥
+pub refused-not-yes : (f : Refusal) → decision.Refused f ≡ decision.Yes → ⊥
 refused-not-yes f e = let z : _≡_ {A = ℕ} 0 1 = cc in omega arith
 
-pub refused-not-no : (f : Refusal) → shared.Refused f ≡ shared.No → ⊥
+pub refused-not-no : (f : Refusal) → decision.Refused f ≡ decision.No → ⊥
 refused-not-no f e = let z : _≡_ {A = ℕ} 0 1 = cc in omega arith
 
--- a refusal that isn't 10 is the answer's
-pub other : (f : Refusal) → (f .number ≡ noWord .number → ⊥) → sharedBy (queried.Refused f) ≡ shared.Refused f
-other f h = pick-false (eqb (f .number) (noWord .number)) shared.No (shared.Refused f) (ne-eqb (f .number) (noWord .number) h)
+yes-by : (k : Bool) (c : Checked) → decided k c ≡ decision.Yes → (c ≡ Accepted) × (k ≡ true)
+yes-by true Accepted e = (refl, refl)
+yes-by false Accepted e = absurd (yes-not-no (sym e))
+yes-by k (Refused f) e = absurd (refused-not-yes f e)
 
-none-no : (r : Queried) → queryRefusal r .number ≡ noWord .number → sharedBy r ≡ shared.No
-none-no (queried.Word start n sign) e = absurd (omega (arith, e))
-none-no (queried.Refused f) e = pick-true (eqb (f .number) (noWord .number)) shared.No (shared.Refused f) (eq-eqb (f .number) (noWord .number) e)
+no-by : (k : Bool) (c : Checked) → decided k c ≡ decision.No → (c ≡ Accepted) × (k ≡ false)
+no-by true Accepted e = absurd (yes-not-no e)
+no-by false Accepted e = (refl, refl)
+no-by k (Refused f) e = absurd (refused-not-no f e)
 
-yes-word : (r : Queried) → sharedBy r ≡ shared.Yes → queryRefusal r ≡ noRefusal
-yes-word (queried.Word start n sign) e = refl
-yes-word (queried.Refused f) e = elim (ℕ-discrete (f .number) (noWord .number)) [
-  | yes k ↦ absurd (yes-not-no (sym e ∙ none-no (queried.Refused f) k))
-  | no k ↦ absurd (refused-not-yes f (sym (other f k) ∙ e))
-]
+bit-one : (k : Bool) → bit k ≡ 1 → k ≡ true
+bit-one true e = refl
+bit-one false e = absurd (omega (arith, e))
 
-no-none : (r : Queried) → sharedBy r ≡ shared.No → queryRefusal r .number ≡ noWord .number
-no-none (queried.Word start n sign) e = absurd (yes-not-no e)
-no-none (queried.Refused f) e = elim (ℕ-discrete (f .number) (noWord .number)) [
-  | yes k ↦ k
-  | no k ↦ absurd (refused-not-no f (sym (other f k) ∙ e))
-]
+bit-zero : (k : Bool) → bit k ≡ 0 → k ≡ false
+bit-zero true e = absurd (omega (arith, e))
+bit-zero false e = refl
+
+off : (k : Bool) → (k ≡ true → ⊥) → k ≡ false
+off true h = absurd (h refl)
+off false h = refl
 
 -- ---- the walk
 
@@ -83,50 +92,31 @@ module _ {v : ℕ} {t a b : List ℤ} {w : List ℕ} (q : Asked v t a b w) where
   abbrev B : Mat
   B = ofList b
 
-  abbrev l : List ℤ
-  l = foundWord v t A B
-
-  abbrev found : Queried
-  found = foundOf v t a b 0 (enough v t a b)
-
-  -- the claim in a word space that is just long enough: the word's own
-  just : Answered v t A B l (foundSign v t A B) l 0 found (wordLeft found l l)
-  just = answered (q .symbol) a b (q .unit-A) (q .unit-B) l 0
-
-  roomy : Fits 0 (length l) (length l)
-  roomy = record { inside = omega arith; enough = omega arith }
-
-  joined-yes : Joined v t A B → sharedBy found ≡ shared.Yes
-  joined-yes j = ap sharedBy (just .names (just .returned .1 (j, roomy)))
-
-  not-no : (Joined v t A B → ⊥) → sharedBy found ≡ shared.No
-  not-no n = none-no found (same-number (just .none .1 n))
-
-  yes-joined : sharedBy found ≡ shared.Yes → Joined v t A B
-  yes-joined e = just .returned .0 (yes-word found e) .0
-
   abbrev x : ℕ
   x = leads (tableS v t) (tableR v t) A
 
   abbrev y : ℕ
   y = leads (tableS v t) (tableR v t) B
 
-  yes-points : sharedBy found ≡ shared.Yes → x ≡ y
-  yes-points e = just .points .0 (inl (yes-word found e))
+  home : closes v t A B ≡ true → Joined v t A B
+  home h = home-joined (q .symbol) A B (q .unit-A) (q .unit-B) h
 
-  points-yes : x ≡ y → sharedBy found ≡ shared.Yes
-  points-yes e = joined-yes (just .found .0 (just .points .1 e))
+  joined : Joined v t A B → closes v t A B ≡ true
+  joined j = joined-home (q .symbol) A B (q .unit-A) (q .unit-B) j
 
-  apart-no : (x ≡ y → ⊥) → sharedBy found ≡ shared.No
-  apart-no n = not-no (λ j. n (yes-points (joined-yes j)))
+  away : (Joined v t A B → ⊥) → closes v t A B ≡ false
+  away n = off (closes v t A B) (λ h. n (home h))
+
+  points-home : x ≡ y → closes v t A B ≡ true
+  points-home e = joined (same-joined (q .symbol) A B (q .unit-A) (q .unit-B) e)
+
+  home-points : closes v t A B ≡ true → x ≡ y
+  home-points h = joined-same (q .symbol) A B (q .unit-A) (q .unit-B) (home h)
 
   -- the answer by the points
-  pub found-is : (k : Bool) → k ≡ eqb x y → yesNo k ≡ sharedBy found
-  found-is true e = sym (points-yes (eqb-true x y (sym e)))
-  found-is false e = sym (apart-no (λ d. clash (eq-eqb x y d) (sym e)))
-
-  no-joined : sharedBy found ≡ shared.No → Joined v t A B → ⊥
-  no-joined e j = yes-not-no (sym (joined-yes j) ∙ e)
+  pub found-is : (k : Bool) → k ≡ eqb x y → k ≡ closes v t A B
+  found-is true e = sym (points-home (eqb-true x y (sym e)))
+  found-is false e = sym (off (closes v t A B) (λ h. clash (eq-eqb x y (home-points h)) (sym e)))
 
 -- ---- the places
 
@@ -158,100 +148,97 @@ module _ (v : ℕ) (t a b : List ℤ) (w : List ℕ) where
   abbrev N : Mat
   N = ofList b
 
-  abbrev r : Shared
+  abbrev found : Bool
+  found = closes v t M N
+
+  abbrev all : Checked
+  all = inOrder (symbolCheck v t) Accepted a b w
+
+  abbrev r : Decision
   r = sameCosetOf v t a b (length w)
 
-  -- a query that gets to its walk, or stops before
-  is-found : Asked v t a b w → r ≡ sharedBy (foundOf v t a b 0 (enough v t a b))
-  is-found q = ap sharedBy (sym (asked-found v t a b w (enough v t a b) 0 q))
-
-  -- yes and no are answered only where the query gets to its walk
-  asked-by : (room start : ℕ) → (queryRefusal (queryOf v t a b (length w) room start) .number ≡ 0)
-      ⊎ (queryRefusal (queryOf v t a b (length w) room start) .number ≡ noWord .number) → Asked v t a b w
-  asked-by room start h = elim (gets v t a b w room start (queryOf v t a b (length w) room start) refl) [
-    | inl q ↦ q
-    | inr (inl s) ↦ elim h [ inl z ↦ absurd (omega (arith, same-number (s .1), z)) | inr z ↦ absurd (omega (arith, same-number (s .1), z)) ]
-    | inr (inr s) ↦ elim h [ inl z ↦ absurd (omega (arith, s .0, z)) | inr z ↦ absurd (omega (arith, s .1, z)) ]
+  -- all checks pass exactly where the query gets to its walk
+  pub accepted-asked : all ≡ Accepted → Asked v t a b w
+  accepted-asked e = elim (reaches (symbolCheck v t) Accepted a b w) [
+    | inl g ↦ asked a b (accepted v t .0 (g .accepted)) (g .work) (g .passed)
+    | inr (inl s) ↦ refused-accepted (sym (s .is) ∙ e)
+    | inr (inr (checked f g s)) ↦ refused-accepted (sym s ∙ e)
+    | inr (inr (paired f g s)) ↦ refused-accepted (sym s ∙ e)
   ]
 
-  yes-asked : r ≡ shared.Yes → Asked v t a b w
-  yes-asked e = asked-by (enough v t a b) 0 (inl (same-number (yes-word (queryOf v t a b (length w) (enough v t a b) 0) e)))
+  asked-accepted : Asked v t a b w → all ≡ Accepted
+  asked-accepted q = reached (symbolCheck v t) Accepted a b w (accepted v t .1 (q .symbol)) (sym (pair-passes a b (asked-passed a b q))) (q .work)
 
-  no-asked : r ≡ shared.No → Asked v t a b w
-  no-asked e = asked-by (enough v t a b) 0 (inr (no-none (queryOf v t a b (length w) (enough v t a b) 0) e))
+  is-found : Asked v t a b w → r ≡ yesNo found
+  is-found q = ap (decided found) (asked-accepted q)
 
-  yes-is : r ≡ shared.Yes → Joined v t M N
-  yes-is e = let q = yes-asked e in yes-joined q (sym (is-found q) ∙ e)
+  by-found : Asked v t a b w → (k : Bool) → found ≡ k → r ≡ yesNo k
+  by-found q k e = is-found q ∙ ap yesNo e
 
-  is-yes : Asked v t a b w → Joined v t M N → r ≡ shared.Yes
-  is-yes q j = is-found q ∙ joined-yes q j
+  yes-asked : r ≡ decision.Yes → Asked v t a b w
+  yes-asked e = accepted-asked (yes-by found all e .0)
 
-  no-is : r ≡ shared.No → Joined v t M N → ⊥
-  no-is e = let q = no-asked e in no-joined q (sym (is-found q) ∙ e)
+  no-asked : r ≡ decision.No → Asked v t a b w
+  no-asked e = accepted-asked (no-by found all e .0)
 
-  is-no : Asked v t a b w → (Joined v t M N → ⊥) → r ≡ shared.No
-  is-no q n = is-found q ∙ not-no q n
+  yes-is : r ≡ decision.Yes → Joined v t M N
+  yes-is e = home (yes-asked e) (yes-by found all e .1)
 
+  is-yes : Asked v t a b w → Joined v t M N → r ≡ decision.Yes
+  is-yes q j = by-found q true (joined q j)
+
+  no-is : r ≡ decision.No → Joined v t M N → ⊥
+  no-is e j = clash (joined (no-asked e) j) (no-by found all e .1)
+
+  is-no : Asked v t a b w → (Joined v t M N → ⊥) → r ≡ decision.No
+  is-no q n = by-found q false (away q n)
+
+  -- the claim of the query in a word space
   module _ (out : List ℤ) (start : ℕ) where
-    abbrev asks : Queried
-    asks = queryOf v t a b (length w) (length out) start
-
-    -- the claim of the query in this word space
-    says-found : (q : Asked v t a b w) → Answered v t M N (foundWord v t M N) (foundSign v t M N) out start asks (wordLeft asks (foundWord v t M N) out)
-    says-found q =
-        subst (λ (x : Queried). Answered v t M N (foundWord v t M N) (foundSign v t M N) out start x (wordLeft x (foundWord v t M N) out))
-        (asked-found v t a b w (length out) start q) (answered (q .symbol) a b (q .unit-A) (q .unit-B) out start)
+    says-all : Claim v t a b w out start (queryOf v t a b (length w) (length out) start)
+        (wordLeft (queryOf v t a b (length w) (length out) start) (foundWord v t M N) out)
+    says-all = claim refl refl
 
   pub means : CosetMeans v t a b w r
   means = record {
     yes = ((λ e. (yes-asked e, yes-is e)), (λ z. is-yes (z .0) (z .1)));
     no = ((λ e. (no-asked e, no-is e)), (λ z. is-no (z .0) (z .1)));
-    points = λ q. ((λ e. yes-points q (sym (is-found q) ∙ e)), (λ e. is-found q ∙ points-yes q e));
+    points = λ q. ((λ e. home-points q (yes-by found all e .1)), (λ e. by-found q true (points-home q e)));
     word = λ out start f. (
-      (λ e. says-found out start (yes-asked e) .returned .1 (yes-is e, f)),
-      (λ z. let q = asked-by (length out) start (inl (same-number z)) in is-yes q (says-found out start q .returned .0 z .0)),
+      (λ e. says-all out start .answered (yes-asked e) .returned .1 (yes-is e, f)),
+      (λ z. let q = says-all out start .asked (inl (same-number z)) in is-yes q (says-all out start .answered q .returned .0 z .0)),
     );
     none = λ out start. (
-      (λ e. says-found out start (no-asked e) .none .1 (no-is e)),
-      (λ z. let q = asked-by (length out) start (inr (same-number z)) in is-no q (says-found out start q .none .0 z)),
+      (λ e. says-all out start .answered (no-asked e) .none .1 (no-is e)),
+      (λ z. let q = says-all out start .asked (inr (same-number z)) in is-no q (says-all out start .answered q .none .0 z)),
     );
   }
 
--- ---- the numbers of an export
+  -- ---- the numbers of an export
 
-refusal-of : (q : Queried) → (queryRefusal q .number ≡ noWord .number → ⊥) → sharedRefusal (sharedBy q) .number ≡ queryRefusal q .number
-refusal-of (queried.Word start n sign) h = refl
-refusal-of (queried.Refused f) h = ap (λ (r : Shared). sharedRefusal r .number) (other f h)
+  -- 0 says that all checks pass
+  zero-accepted : checkedRefusal all .number ≡ 0 → all ≡ Accepted
+  zero-accepted z =
+      accepted-by (Asks (symbolCheck v t) ∷ Asks (matricesCheck a b) ∷ Asks (lengthCheck workLength (length w)) ∷ []) (
+        above-among 1 7 (symbolCheck v t) (omega arith) (check-among v t),
+        (above-among 8 9 (matricesCheck a b) (omega arith) (pair-among a b), (above-room workLength (length w), tt)),
+      ) z
 
-module _ (v : ℕ) (t a b : List ℤ) (w : List ℕ) where
-  abbrev said : Shared
-  said = sameCosetOf v t a b (length w)
+  abbrev told : ℕ
+  told = ifAccepted all (bit found) (checkedRefusal all .place)
 
-  abbrev asking : Queried
-  asking = queryOf v t a b (length w) (enough v t a b) 0
+  told-is : all ≡ Accepted → told ≡ bit found
+  told-is e = ap (λ (c : Checked). ifAccepted c (bit found) (checkedRefusal c .place)) e
 
-  -- 0 stands for yes or no alone
-  zero-is : sharedRefusal said .number ≡ 0 → (said ≡ shared.Yes) ⊎ (said ≡ shared.No)
-  zero-is e = elim (gets v t a b w (enough v t a b) 0 asking refl) [
-    | inl q ↦ elim (ℕ-discrete (x q) (y q)) [
-      | yes d ↦ inl (is-found v t a b w q ∙ points-yes q d)
-      | no d ↦ inr (is-found v t a b w q ∙ apart-no q d)
-    ]
-    | inr (inl s) ↦ let k = same-number (s .1) in absurd (omega (arith, e, k, refusal-of asking (λ z. omega (arith, z, k))))
-    | inr (inr s) ↦ let k = s .1 in absurd (omega (arith, e, s .0, refusal-of asking (λ z. omega (arith, z, k))))
-  ]
-
-  pub says : SharedSays v t a b w (sharedRefusal said .number) (sharedPlace said)
-  says =
-      let m = means v t a b w in
-      record {
-        asked = λ e. elim (zero-is e) [ inl k ↦ m .yes .0 k .0 | inr k ↦ m .no .0 k .0 ];
-        yes = λ e. elim (zero-is e) [
-          | inl k ↦ ((λ p. m .yes .0 k .1), (λ j. ap sharedPlace k))
-          | inr k ↦ ((λ p. absurd (omega (arith, p, ap sharedPlace k))), (λ j. absurd (m .no .0 k .1 j)))
-        ];
-        no = λ e. elim (zero-is e) [
-          | inl k ↦ ((λ p. absurd (omega (arith, p, ap sharedPlace k))), (λ j. absurd (j (m .yes .0 k .1))))
-          | inr k ↦ ((λ p. m .no .0 k .1), (λ j. ap sharedPlace k))
-        ];
-      }
+  pub says : SharedSays v t a b w (checkedRefusal all .number) told
+  says = record {
+    asked = λ z. accepted-asked (zero-accepted z);
+    yes = λ z.
+        let e = zero-accepted z in
+        let q = accepted-asked e in
+        ((λ p. home q (bit-one found (sym (told-is e) ∙ p))), (λ j. told-is e ∙ ap bit (joined q j)));
+    no = λ z.
+        let e = zero-accepted z in
+        let q = accepted-asked e in
+        ((λ p j. clash (joined q j) (bit-zero found (sym (told-is e) ∙ p))), (λ n. told-is e ∙ ap bit (away q n)));
+  }

@@ -1,29 +1,26 @@
 // Many pairs against one symbol: its tables are built once, and line by line the answers are those of the single call.
-use crate::Shared;
 use crate::share;
+use crate::t_runs::prepare;
 use crate::yes_or_no;
-use refusal::BAD_DETERMINANT;
-use refusal::Checked;
-use refusal::Filled;
-use refusal::MATRIX_ENTRY;
-use refusal::Refusal;
-use refusal::TOO_SHORT;
+use call::Decision;
+use call::refusal::Checked;
+use call::refusal::Filled;
+use call::refusal::Refusal;
+use call::refusal::TOO_SHORT;
 use sheets::signed;
 use symbol::check;
-use t_runs::prepare;
 use word::four_at;
-use word::judge;
+use word::pair_check;
 ghost use mathlib.Core.Path.{_≡_};
-ghost use mathlib.Core.List.{[], _∷_, _++_};
-ghost use Prim.Native.Nat.{_+_, _*_, _/_, _≤_};
-ghost use lib.ListN.{length, drop};
-ghost use Rattle.workspace.specs.Space.{zeros};
-ghost use Rattle.pairing.specs.Generator.{workAfter};
-ghost use Rattle.coset.specs.Answer.{roomOne};
+ghost use mathlib.Core.List.{[], _∷_};
+ghost use Prim.Native.Nat.{_+_, _*_, _≤_};
+ghost use lib.ListN.{length};
+ghost use Rattle.call.specs.Space.{zeros};
+ghost use Rattle.call.specs.Inner.Fills.{Fills, madeIf};
 ghost use Rattle.word.specs.Answer.{four};
 ghost use Rattle.sheets.specs.Sheet.{pairsIn};
-ghost use Rattle.t_runs.specs.Inner.Places.{Prepared};
-ghost use Rattle.same_coset.specs.Pairs.{ragged, cosetsCheck, cosetLine, cosetLines, sameCosetsOf, cosetsLeft, CosetsMean};
+ghost use Rattle.same_coset.specs.Inner.Places.{Prepared};
+ghost use Rattle.same_coset.specs.Pairs.{ragged, cosetLine, linesInto, sameCosetsSteps};
 ghost use Rattle.same_coset.specs.Inner.Ready.{PairShared, LineFits, pairLineAt, PairsShared, PairsReady};
 
 // Whether n entries are no number of whole pairs.
@@ -43,14 +40,14 @@ fn put_two(lines: &mut [i64], i: usize, a: i64, b: i64)
 }
 
 // The line of an answer at the place i of the table.
-fn write_line(lines: &mut [i64], i: usize, answer: Shared)
+fn write_line(lines: &mut [i64], i: usize, answer: Decision)
     requires { ⌜ (2 * i + 2 ≤ length (now lines)) × LineFits answer ⌝ }
     ensures { λ _. ⌜ now (lines .exit) ≡ pairLineAt i (cosetLine answer) (now (lines .entry)) ⌝ }
 {
     match answer {
-        Shared::Yes => put_two(lines, i, 0, 1),
-        Shared::No => put_two(lines, i, 0, 0),
-        Shared::Refused(refusal) => {
+        Decision::Yes => put_two(lines, i, 0, 1),
+        Decision::No => put_two(lines, i, 0, 0),
+        Decision::Refused(refusal) => {
             put_two(
                 lines,
                 i,
@@ -62,33 +59,25 @@ fn write_line(lines: &mut [i64], i: usize, answer: Shared)
 }
 
 // The answer for the pair in eight entries, by the tables in the work space.
-fn answer_pair(w: &[u16], n: usize, pair: &[i64]) -> Shared
+fn answer_pair(w: &[u16], n: usize, pair: &[i64]) -> Decision
     requires { ⌜ Prepared n (now w) × (length (now pair) ≡ 8) ⌝ }
     ensures { λ r. ⌜ PairShared n (now (w .entry)) (four (now (pair .entry)) 0) (four (now (pair .entry)) 4) r ⌝ }
     ensures { λ r. ⌜ LineFits r ⌝ }
 {
     let a = four_at(pair, 0);
     let b = four_at(pair, 4);
-    let judged = judge(a, b);
-    if judged < 8 {
-        return Shared::Refused(Refusal {
-            number: MATRIX_ENTRY,
-            place: judged,
-        });
+    let paired = pair_check(a, b);
+    match paired {
+        Checked::Refused(refusal) => Decision::Refused(refusal),
+        Checked::Accepted => yes_or_no(share(w, n, a, b)),
     }
-    if judged < 10 {
-        return Shared::Refused(Refusal {
-            number: BAD_DETERMINANT,
-            place: judged - 8,
-        });
-    }
-    yes_or_no(share(w, n, a, b))
 }
 
 // The answers for all pairs, each in its own line.
 fn answer_pairs(w: &[u16], n: usize, p: &[i64], lines: &mut [i64])
     requires { ⌜ Prepared n (now w) × (2 * pairsIn (now p) ≤ length (now lines)) ⌝ }
-    ensures { λ _. ⌜ PairsShared n (now (w .entry)) (now (p .entry)) (pairsIn (now (p .entry))) (now (lines .entry)) (now (lines .exit)) ⌝ }
+    ensures { λ _. ⌜ PairsShared n (now (w .entry)) (now (p .entry)) (pairsIn (now (p .entry)))
+        (now (lines .entry)) (now (lines .exit)) ⌝ }
 {
     let k = p.len() / 8;
     let mut i: usize = 0;
@@ -102,13 +91,13 @@ fn answer_pairs(w: &[u16], n: usize, p: &[i64], lines: &mut [i64])
 // The answer where the call passes its checks and the work space is long enough, which is cleared after.
 fn fill(v: usize, t: &[i64], p: &[i64], w: &mut [u16], lines: &mut [i64]) -> Filled
     requires { ⌜ PairsReady v (now t) (now p) (now w) ⌝ }
-    ensures { λ r. ⌜ r ≡ roomOne (pairsIn (now (p .entry))) (length (now (lines .entry)) / 2) ⌝ }
+    ensures { λ r. ⌜ Fills (linesInto v (now (t .entry)) (now (p .entry)) (length (now (w .entry))) lines)
+        (madeIf (pairsIn (now (p .entry)))) r ⌝ }
     ensures { λ r. ⌜ now (w .exit) ≡ zeros (length (now (w .entry))) ⌝ }
-    ensures { λ r. ⌜ now (lines .exit) ≡ cosetsLeft r (cosetLines v (now (t .entry)) (now (p .entry)) (length (now (w .entry))) (pairsIn (now (p .entry)))) (now (lines .entry)) ⌝ }
 {
     let k = p.len() / 8;
     if lines.len() / 2 < k {
-        workspace::clear(w);
+        call::workspace::clear(w);
         return Filled::Refused(Refusal {
             number: TOO_SHORT,
             place: k,
@@ -116,17 +105,15 @@ fn fill(v: usize, t: &[i64], p: &[i64], w: &mut [u16], lines: &mut [i64]) -> Fil
     }
     let n = prepare(v, t, w);
     answer_pairs(w, n, p, lines);
-    workspace::clear(w);
+    call::workspace::clear(w);
     Filled::Made(k)
 }
 
-// For each pair in p whether A and B share a right coset, in its line: 11 for entries that are no number of whole pairs, then checks 1 to 7, then the work
-// space, then the line table, counted in whole lines.
+// For each pair in p whether A and B share a right coset, in its line: 11 for entries that are no number of whole
+// pairs, then checks 1 to 7, then the work space, then the line table, counted in whole lines.
 pub fn same_cosets(v: usize, t: &[i64], p: &[i64], w: &mut [u16], lines: &mut [i64]) -> Filled
-    ensures { λ r. ⌜ r ≡ sameCosetsOf v (now (t .entry)) (length (now (p .entry))) (length (now (w .entry))) (length (now (lines .entry))) ⌝ }
-    ensures { λ r. ⌜ now (w .exit) ≡ workAfter (cosetsCheck v (now (t .entry)) (length (now (p .entry)))) (now (w .entry)) ⌝ }
-    ensures { λ r. ⌜ now (lines .exit) ≡ cosetsLeft r (cosetLines v (now (t .entry)) (now (p .entry)) (length (now (w .entry))) (pairsIn (now (p .entry)))) (now (lines .entry)) ⌝ }
-    ensures { λ r. ⌜ CosetsMean v (now (t .entry)) (now (p .entry)) (now (w .entry)) r ⌝ }
+    ensures { λ r. ⌜ Fills (sameCosetsSteps v (now (t .entry)) (now (p .entry)) w lines)
+        (madeIf (pairsIn (now (p .entry)))) r ⌝ }
 {
     if is_ragged(p.len()) {
         return Filled::Refused(Refusal {
@@ -138,10 +125,10 @@ pub fn same_cosets(v: usize, t: &[i64], p: &[i64], w: &mut [u16], lines: &mut [i
     match checked {
         Checked::Refused(refusal) => Filled::Refused(refusal),
         Checked::Accepted => {
-            if w.len() < workspace::WORK {
+            if w.len() < call::workspace::WORK {
                 return Filled::Refused(Refusal {
                     number: TOO_SHORT,
-                    place: workspace::WORK,
+                    place: call::workspace::WORK,
                 });
             }
             fill(v, t, p, w, lines)

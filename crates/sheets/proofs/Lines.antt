@@ -11,15 +11,16 @@ use lib.ListN.{length, set, take, drop, length-append}
 use lib.Seq.{sets-eq, take-at, drop-at, drop-drop}
 use lib.IntN.{ℤ, pos}
 use Rattle.matrix.specs.Matrix.{ofList}
-use Rattle.workspace.specs.Space.{workLength}
+use Rattle.call.specs.Space.{workLength}
 use Rattle.symbol.specs.Symbol.{IsSymbol}
-use Rattle.refusal.specs.declared.Refusal.{Refusal}
-use Rattle.word.specs.Answer.{four, foundWord, signNumber, queryOf, wordLeft}
+use Rattle.call.specs.declared.refusal.Refusal.{Refusal}
+use Rattle.call.specs.Inner.Fills.{Fills}
+use Rattle.word.specs.Answer.{four, foundWord, signNumber, foundIf, queryOf, wordLeft}
 use Rattle.word.specs.declared.Queried.{Queried}
 use Rattle.word.specs.declared.Queried.the-variants as queried
 use Rattle.sheets.specs.Sheet.{matrixA, matrixB, wordEnd, WordSpace, spaceAt, answerAt, lineOf, linesTo, lineIn}
 use Rattle.sheets.specs.Inner.Pairs.{pairOf, lineAt}
-use Rattle.sheets.proofs.Single.{single, part-A, part-B}
+use Rattle.sheets.proofs.Single.{single, pairRun, pair-as, pair-left, part-A, part-B}
 
 pub four-stores : (lines : List ℤ) (i : ℕ) (a b c d : ℤ) → 4 * i + 4 ≤ length lines
     → set (set (set (set lines (4 * i) a) (4 * i + 1) b) (4 * i + 2) c) (4 * i + 3) d ≡ lineAt i (a ∷ b ∷ c ∷ d ∷ []) lines
@@ -114,27 +115,25 @@ module _ {v : ℕ} {t p : List ℤ} {w : List ℕ} {lines out : List ℤ} {i : �
   is-B : four part 4 ≡ b
   is-B = ap (λ (l : List ℤ). four l 4) cut ∙ part-B p (8 * i)
 
-  answer-is : (r : Queried) → r ≡ pairOf v t (four part 0) (four part 4) (length out') next → r ≡ answer
+  answer-is : (r : Queried) → r ≡ pairOf v t a b (length out') next → r ≡ answer
   answer-is r e =
       e
-      ∙ ap (λ (x : List ℤ). pairOf v t x (four part 4) (length out') next) is-A
-      ∙ ap (λ (y : List ℤ). pairOf v t a y (length out') next) is-B
       ∙ single ok (length w) h a b (length out') next
       ∙ ap (λ (o : List ℤ). queryOf v t a b (length w) (length o) next) (g .space)
       ∙ ap (λ (n : ℕ). queryOf v t a b (length w) (length (at .letters)) n) (g .place)
 
-  pub going-more : (r : Queried) (lines₁ out₁ : List ℤ) (next₁ : ℕ) → r ≡ pairOf v t (four part 0) (four part 4) (length out') next
-      → out₁ ≡ wordLeft r (foundWord v t (ofList (four part 0)) (ofList (four part 4))) out' → lines₁ ≡ lineAt i (lineOf r) lines' → next₁ ≡ wordEnd r next
+  pub going-more : (r : Queried) (lines₁ out₁ : List ℤ) (next₁ : ℕ)
+      → Fills (pairRun v t (four part 0) (four part 4) out' out₁ next) (foundIf v t (four part 0) (four part 4) next) r
+      → lines₁ ≡ lineAt i (lineOf r) lines' → next₁ ≡ wordEnd r next
       → (j : ℕ) → j ≡ suc i → Going v t p w lines out j lines₁ out₁ next₁
   unfolding spaceAt
-  going-more r lines₁ out₁ next₁ e f q n j m =
-      let z = answer-is r e in
+  going-more r lines₁ out₁ next₁ e q n j m =
+      let f = pair-as v t is-A is-B {out = out'} {out' = out₁} e in
+      let z = answer-is r (f .answer) in
       subst (λ (k : ℕ). Going v t p w lines out k lines₁ out₁ next₁) (sym m) (record {
         table = q ∙ ap (λ (x : Queried). lineAt i (lineOf x) lines') z ∙ lines-more v t p (length w) out i lines lines' (g .table);
         space =
-            f
-            ∙ ap (λ (x : List ℤ). wordLeft r (foundWord v t (ofList x) (ofList (four part 4))) out') is-A
-            ∙ ap (λ (y : List ℤ). wordLeft r (foundWord v t (ofList a) (ofList y)) out') is-B
+            pair-left v t a b out' out₁ next f
             ∙ ap (λ (x : Queried). wordLeft x (foundWord v t (ofList a) (ofList b)) out') z
             ∙ ap (wordLeft answer (foundWord v t (ofList a) (ofList b))) (g .space);
         place = n ∙ ap (λ (x : Queried). wordEnd x next) z ∙ ap (wordEnd answer) (g .place);
@@ -142,7 +141,8 @@ module _ {v : ℕ} {t p : List ℤ} {w : List ℕ} {lines out : List ℤ} {i : �
 
 -- ---- the line of either answer
 
-pub line-word : (i : ℕ) (lines : List ℤ) (r : Queried) (s n : ℕ) (sign : Bool) → r ≡ queried.Word s n sign → (x y z : ℤ) → x ≡ pos s → y ≡ pos n → z ≡ signNumber sign
+pub line-word : (i : ℕ) (lines : List ℤ) (r : Queried) (s n : ℕ) (sign : Bool) → r ≡ queried.Word s n sign → (x y z : ℤ) → x ≡ pos s → y ≡ pos n
+    → z ≡ signNumber sign
     → lineAt i (pos 0 ∷ x ∷ y ∷ z ∷ []) lines ≡ lineAt i (lineOf r) lines
 line-word i lines r s n sign e x y z f g h =
     let line : (pos 0 ∷ x ∷ y ∷ z ∷ []) ≡ lineOf (queried.Word s n sign) = cc (f, g, h) in

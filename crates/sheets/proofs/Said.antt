@@ -15,9 +15,9 @@ use Rattle.matrix.proofs.Integer.{one-*}
 use Rattle.matrix.proofs.Ring.{con, var, _⊙_, ⊖_, ring}
 use Rattle.coset.specs.Positions.{withSign}
 use Rattle.coset.specs.Tables.{tableS, tableR}
-use Rattle.coset.specs.Theorem.{leads}
-use Rattle.refusal.specs.Refusal.{noRefusal, noWord, tooShort}
-use Rattle.refusal.specs.declared.Refusal.{Refusal}
+use Rattle.right_cosets.specs.Leads.{leads}
+use Rattle.call.specs.Refusal.{noRefusal, noWord, tooShort}
+use Rattle.call.specs.declared.refusal.Refusal.{Refusal}
 use Rattle.word.specs.Answer.{queryRefusal, signNumber}
 use Rattle.word.specs.Claim.{Answered, Joined, Claim, scaled}
 use Rattle.word.specs.declared.Queried.{Queried}

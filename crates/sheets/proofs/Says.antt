@@ -15,8 +15,8 @@ use Rattle.matrix.specs.Matrix.{ofList, _⊗_, _≈_}
 use Rattle.coset.specs.Positions.{withSign}
 use Rattle.pairing.specs.Generator.{generators}
 use Rattle.pairing.specs.Subgroup.{IsWord, valueOf}
-use Rattle.refusal.specs.Refusal.{noRefusal, noWord, tooShort}
-use Rattle.refusal.specs.declared.Refusal.{Refusal}
+use Rattle.call.specs.Refusal.{noRefusal, noWord, tooShort}
+use Rattle.call.specs.declared.refusal.Refusal.{Refusal}
 use Rattle.word.specs.Answer.{queryRefusal, foundWord, foundSign, signNumber, partOf}
 use Rattle.word.specs.Claim.{Asked, NormalWord, Answered, Claim, QuerySays, SignSays, scaled}
 use Rattle.word.specs.declared.Queried.{Queried}
@@ -63,7 +63,8 @@ module _ {v : ℕ} {t a b : List ℤ} {w : List ℕ} {out : List ℤ} {start : �
     word-sign = record {
       unit = λ z. unit-of sign refl;
       exact = λ z.
-          subst (λ (x : List ℤ). valueOf (generators v t) x ⊗ ofList a ≡ withSign (foundSign v t (ofList a) (ofList b)) (ofList b)) there (answered .exact (inl none-refused))
+          subst (λ (x : List ℤ). valueOf (generators v t) x ⊗ ofList a ≡ withSign (foundSign v t (ofList a) (ofList b)) (ofList b)) there
+          (answered .exact (inl none-refused))
           ∙ ap (λ (x : Bool). withSign x (ofList b)) same-sign
           ∙ with-scaled sign (ofList b);
     }
@@ -78,7 +79,8 @@ module _ {v : ℕ} {t a b : List ℤ} {w : List ℕ} {out : List ℤ} {start : �
     place-is : (s : ℕ) → placeIn (f .number) (f .place) s ≡ f .place
     place-is s = pick-false (eqb (f .number) 0) s (f .place) (ne-eqb (f .number) 0 never)
 
-    told : (s : ℕ) → f .number ≡ tooShort 0 .number → Asked v t a b w → (length word ≡ placeIn (f .number) (f .place) s) × NormalWord v t (ofList a) (ofList b) word
+    told : (s : ℕ) → f .number ≡ tooShort 0 .number → Asked v t a b w → (length word ≡ placeIn (f .number) (f .place) s)
+        × NormalWord v t (ofList a) (ofList b) word
     told s z q =
         let y = eleven (c .answered q) (same-number is-f ∙ z) in
         let at : f .place ≡ length word = ap (λ (x : Refusal). x .place) (sym is-f ∙ y) in

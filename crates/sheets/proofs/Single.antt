@@ -1,63 +1,70 @@
--- One pair of a sheet: where the symbol is accepted and the work space long enough, its answer is the single query's (`single`), by one of three ways
--- (`by-large`, `by-determinant`, `by-walk`); its entries are those of its part of the slice (`part-A`, `part-B`); and its line fits (`pair-fits`).
+-- One pair of a sheet: where the symbol is accepted and the work space long enough, its answer is the single query's (`single`), and what it leaves is
+-- what that leaves (`pair-left`); its entries are those of its part of the slice (`part-A`, `part-B`); and its line fits (`pair-fits`), since the numbers
+-- and places of refusals are small (`SmallRefusal`, `pair-small`).
 -- Assumes nothing.
-use mathlib.Core.Path.{_≡_, refl, sym, _∙_, ap}
-use mathlib.Core.Bool.{Bool, true, false}
-use mathlib.Core.List.{List}
+use mathlib.Core.Path.{_≡_, refl, sym, _∙_, ap, subst}
+use mathlib.Core.Bool.{Bool, true, false, not}
+use mathlib.Core.List.{List, [], _∷_}
 use Prim.Native.Nat.{ℕ, _+_, _-_, _^_, _≤_, _<_}
 use native.Mathlib.Omega.{arith}
 use lib.Dec.{leb, ltb}
 use lib.ListN.{length, take, drop}
 use lib.Seq.{getD-take, getD-drop}
 use lib.IntN.{ℤ, pos}
-use borrow.Author.Tests.{le-ltb, ltb-false, leb-true}
+use borrow.Author.Tests.{leb-true, not-false}
 use Rattle.matrix.specs.Matrix.{nth, ofList}
-use Rattle.basics.specs.Choice.{pick}
 use Rattle.basics.specs.Count.{first}
-use Rattle.basics.proofs.Choice.{pick-false, and-left, and-right}
+use Rattle.basics.proofs.Choice.{and-left, and-right}
 use Rattle.basics.proofs.Count.{first-le}
-use Rattle.workspace.specs.Space.{workLength}
-use Rattle.refusal.specs.Refusal.{matrixEntry, badDeterminant, noWord, tooShort}
-use Rattle.refusal.specs.declared.Refusal.{Refusal}
-use Rattle.refusal.specs.declared.Checked.{Checked}
-use Rattle.refusal.specs.declared.Checked.the-variants.{Accepted}
+use Rattle.call.specs.Space.{workLength}
+use Rattle.call.specs.Refusal.{_orElse_, matrixEntry, badDeterminant, noWord, tooShort}
+use Rattle.call.specs.declared.refusal.Refusal.{Refusal}
+use Rattle.call.specs.declared.refusal.Checked.{Checked}
+use Rattle.call.specs.declared.refusal.Checked.the-variants.{Accepted, Refused}
+use Rattle.call.proofs.Answers.{both-pass, then-next}
+use Rattle.call.specs.Call.{Step, Asks, Gives, verdict, lengthCheck}
+use Rattle.call.specs.Inner.Fills.{Fills}
+use Rattle.call.proofs.Laws.{room-long}
+use Rattle.symbol.specs.Check.{refuse, refuseAt, symbolCheck}
 use Rattle.symbol.specs.Symbol.{IsSymbol}
-use Rattle.symbol.proofs.Accepted.{accepted}
-use Rattle.word.specs.Answer.{four, large, unit, closes, foundWord, foundSign, wordFits, wordOrShort, foundOf, queryByWork, byDeterminants, byEntries, byCheck, queryOf}
-use Rattle.word.specs.Inner.Ready.{judgedOf}
+use Rattle.symbol.proofs.Accepted.{accepted, passes}
+use Rattle.word.specs.Answer.{four, large, unit, matricesCheck, closes, foundWord, foundSign, wordFits, placed, wordIf, foundIf, foundChecks, queryOf, wordLeft}
 use Rattle.word.specs.declared.Queried.{Queried}
 use Rattle.word.specs.declared.Queried.the-variants as queried
-use Rattle.word.proofs.Refused as refused
-use Rattle.word.proofs.Refused.{Passed}
+use Rattle.word.proofs.Finding.{walkRun}
+use Rattle.word.proofs.Refused.{Passed, passed-by}
+use Rattle.word.proofs.Order.{left-if}
 use Rattle.sheets.specs.Inner.Pairs.{pairOf, Fitting}
 use Rattle.sheets.proofs.Long.{letters-most}
 
 -- ---- the answer
 
--- the work space is no matter where it is long enough
-past-work : (a b : List ℤ) (work : ℕ) (found : Queried) → workLength ≤ work
-    → byEntries a b (byDeterminants a b found) ≡ byEntries a b (byDeterminants a b (queryByWork work found))
-past-work a b work found h =
-    ap (λ (r : Queried). byEntries a b (byDeterminants a b r))
-    (sym (pick-false (ltb work workLength) (queried.Refused (tooShort workLength)) found (le-ltb work workLength h)))
-
 pub single : {v : ℕ} {t : List ℤ} → IsSymbol v t → (work : ℕ) → workLength ≤ work → (a b : List ℤ) (room start : ℕ)
     → pairOf v t a b room start ≡ queryOf v t a b work room start
 single {v} {t} ok work h a b room start =
-    past-work a b work (foundOf v t a b start room) h
-    ∙ sym (ap (λ (c : Checked). byCheck c (byEntries a b (byDeterminants a b (queryByWork work (foundOf v t a b start room))))) (accepted v t .1 ok))
+    let found = verdict (foundChecks v t a b start room) in
+    let space = lengthCheck workLength work in
+    ap (foundIf v t a b start)
+    (ap (λ (c : Checked). matricesCheck a b orElse c) (then-next space found (room-long workLength work h))
+    ∙ then-next (symbolCheck v t) (matricesCheck a b orElse space orElse found) (accepted v t .1 ok))
 
-module _ (a b : List ℤ) (w : List ℕ) (found : Queried) (h : workLength ≤ length w) (k : ℕ) (j : k ≡ judgedOf a b) where
-  pub by-large : k < 8 → queried.Refused (matrixEntry k) ≡ byEntries a b (byDeterminants a b found)
-  by-large l = refused.by-large Accepted found a b w refl k j l .0 ∙ sym (past-work a b (length w) found h)
+-- the steps of a pair, from the word space `out` to out'
+abbrev pub pairRun : (v : ℕ) (t a b out out' : List ℤ) (start : ℕ) → List Step
+pairRun v t a b out out' start = Asks (matricesCheck a b) ∷ walkRun (closes v t (ofList a) (ofList b)) (foundWord v t (ofList a) (ofList b)) out out' start
 
-  pub by-determinant : 8 ≤ k → k < 10 → queried.Refused (badDeterminant (k - 8)) ≡ byEntries a b (byDeterminants a b found)
-  by-determinant l m = refused.by-determinant Accepted found a b w refl k j l m .0 ∙ sym (past-work a b (length w) found h)
+-- by other names of the matrices
+pub pair-as : (v : ℕ) (t : List ℤ) {a b a' b' : List ℤ} → a ≡ a' → b ≡ b' → {out out' : List ℤ} {start : ℕ} {r : Queried}
+    → Fills (pairRun v t a b out out' start) (foundIf v t a b start) r → Fills (pairRun v t a' b' out out' start) (foundIf v t a' b' start) r
+pair-as v t {a} {b} {a'} {b'} e f {out} {out'} {start} {r} g =
+    subst (λ (y : List ℤ). Fills (pairRun v t a' y out out' start) (foundIf v t a' y start) r) f
+    (subst (λ (x : List ℤ). Fills (pairRun v t x b out out' start) (foundIf v t x b start) r) e g)
 
-  pub by-walk : 10 ≤ k → found ≡ byEntries a b (byDeterminants a b found)
-  by-walk l =
-      let p = refused.passed-by a b k j l in
-      refused.by-long Accepted found a b w refl (p .entries) (p .A) (p .B) h .0 ∙ sym (past-work a b (length w) found h)
+pub pair-left : (v : ℕ) (t a b out out' : List ℤ) (start : ℕ) {r : Queried} → Fills (pairRun v t a b out out' start) (foundIf v t a b start) r
+    → out' ≡ wordLeft r (foundWord v t (ofList a) (ofList b)) out
+pair-left v t a b out out' start g =
+    let l = foundWord v t (ofList a) (ofList b) in
+    g .leaves .0 ∙ left-if start (length l) (foundSign v t (ofList a) (ofList b)) (verdict (pairRun v t a b out out' start)) l out
+    ∙ ap (λ (x : Queried). wordLeft x l out) (sym (g .answer))
 
 -- ---- the entries
 
@@ -85,51 +92,71 @@ part-B p k = part-four p k 4 (omega arith)
 
 -- ---- the line fits
 
-refused-fits : (f : Refusal) → f .number < 2 ^ 63 → f .place < 2 ^ 63 → Fitting (queried.Refused f)
-refused-fits f h k = record {
-  word = λ start n sign e. let z : _≡_ {A = ℕ} 0 1 = cc in absurd (omega arith);
-  refused = λ g e. let z : f ≡ g = cc in (rw (← z) h, rw (← z) k);
-}
+abbrev pub SmallRefusal : Checked → Type 0
+SmallRefusal Accepted = Unit {0}
+SmallRefusal (Refused f) = (f .number < 2 ^ 63) × (f .place < 2 ^ 63)
 
-word-fits : (start n : ℕ) (sign : Bool) → start + n < 2 ^ 63 → Fitting (queried.Word start n sign)
-word-fits start n sign h = record {
-  word = λ start' n' sign' e. let y : start ≡ start' = cc in let z : n ≡ n' = cc in omega arith;
-  refused = λ f e. let z : _≡_ {A = ℕ} 0 1 = cc in absurd (omega arith);
-}
+small-refuse : (b : Bool) (f : Refusal) → f .number < 2 ^ 63 → f .place < 2 ^ 63 → SmallRefusal (refuse b f)
+small-refuse true f h k = (h, k)
+small-refuse false f h k = tt
 
-fits-pick : (b : Bool) (x y : Queried) → (b ≡ true → Fitting x) → (b ≡ false → Fitting y) → Fitting (pick b x y)
-fits-pick true x y f g = f refl
-fits-pick false x y f g = g refl
+small-first : (c d : Checked) → SmallRefusal c → (c ≡ Accepted → SmallRefusal d) → SmallRefusal (c orElse d)
+small-first Accepted d h k = k refl
+small-first (Refused f) d h k = h
 
-module _ {v : ℕ} {t : List ℤ} (ok : IsSymbol v t) (a b : List ℤ) (room start : ℕ) (h : room < 2 ^ 63) where
+module _ (a b : List ℤ) where
   abbrev i : ℕ
   i = first (large a b) 8
 
+  abbrev nine-A : Checked
+  nine-A = refuse (not (unit a)) (badDeterminant 0)
+
+  abbrev nine-B : Checked
+  nine-B = refuse (not (unit b)) (badDeterminant 1)
+
+  pub pair-small : SmallRefusal (matricesCheck a b)
+  pair-small =
+      small-first (refuseAt i 8 matrixEntry) (nine-A orElse nine-B)
+      (small-refuse (ltb i 8) (matrixEntry i) (omega arith) (omega (arith, first-le (large a b) 8)))
+      (λ e. small-first nine-A nine-B (small-refuse (not (unit a)) (badDeterminant 0) (omega arith) (omega arith))
+      (λ f. small-refuse (not (unit b)) (badDeterminant 1) (omega arith) (omega arith)))
+
+fitting-if : (start n : ℕ) (sign : Bool) (c : Checked) → SmallRefusal c → (c ≡ Accepted → start + n < 2 ^ 63) → Fitting (wordIf start n sign c)
+fitting-if start n sign Accepted h k = record {
+  word = λ start' n' sign' e. let y : start ≡ start' = cc in let z : n ≡ n' = cc in omega (arith, k refl);
+  refused = λ f e. let z : _≡_ {A = ℕ} 0 1 = cc in absurd (omega arith);
+}
+fitting-if start n sign (Refused f) h k = record {
+  word = λ start n sign e. let z : _≡_ {A = ℕ} 0 1 = cc in absurd (omega arith);
+  refused = λ g e. let z : f ≡ g = cc in (rw (← z) (h .0), rw (← z) (h .1));
+}
+
+module _ {v : ℕ} {t : List ℤ} (ok : IsSymbol v t) (a b : List ℤ) (room start : ℕ) (h : room < 2 ^ 63) where
   abbrev n : ℕ
   n = length (foundWord v t (ofList a) (ofList b))
 
-  abbrev sign : Bool
-  sign = foundSign v t (ofList a) (ofList b)
+  abbrev none : Checked
+  none = refuse (not (closes v t (ofList a) (ofList b))) noWord
 
-  found-fits : Passed a b → Fitting (foundOf v t a b start room)
-  found-fits p =
-      fits-pick (closes v t (ofList a) (ofList b)) (wordOrShort n sign start room) (queried.Refused noWord)
-      (λ c. fits-pick (wordFits start n room) (queried.Word start n sign) (queried.Refused (tooShort n))
-      (λ e. word-fits start n sign (omega (
+  abbrev space : Checked
+  space = refuse (not (wordFits start n room)) (tooShort n)
+
+  in-room : (matricesCheck a b orElse none orElse space orElse Accepted) ≡ Accepted → start + n < 2 ^ 63
+  in-room e =
+      let p = both-pass (matricesCheck a b) (none orElse space orElse Accepted) e in
+      let q = both-pass none (space orElse Accepted) (p .1) in
+      let f = not-false (wordFits start n room) (passes (not (wordFits start n room)) (tooShort n) (both-pass space Accepted (q .1) .0)) in
+      omega (
         arith,
-        leb-true start room (and-left (leb start room) (leb n (room - start)) e),
-        leb-true n (room - start) (and-right (leb start room) (leb n (room - start)) e),
-      )))
-      (λ e. refused-fits (tooShort n) (omega arith) (omega (arith, letters-most ok a b p))))
-      (λ c. refused-fits noWord (omega arith) (omega arith))
+        leb-true start room (and-left (leb start room) (leb n (room - start)) f),
+        leb-true n (room - start) (and-right (leb start room) (leb n (room - start)) f),
+      )
 
   pub pair-fits : Fitting (pairOf v t a b room start)
   pair-fits =
-      let found = foundOf v t a b start room in
-      fits-pick (ltb i 8) (queried.Refused (matrixEntry i)) (byDeterminants a b found)
-      (λ e. refused-fits (matrixEntry i) (omega arith) (omega (arith, first-le (large a b) 8)))
-      (λ e. fits-pick (unit a) (pick (unit b) found (queried.Refused (badDeterminant 1))) (queried.Refused (badDeterminant 0))
-      (λ f. fits-pick (unit b) found (queried.Refused (badDeterminant 1))
-      (λ g. found-fits (record { entries = ltb-false i 8 e; A = f; B = g }))
-      (λ g. refused-fits (badDeterminant 1) (omega arith) (omega arith)))
-      (λ f. refused-fits (badDeterminant 0) (omega arith) (omega arith)))
+      fitting-if start n (foundSign v t (ofList a) (ofList b)) (matricesCheck a b orElse none orElse space orElse Accepted)
+      (small-first (matricesCheck a b) (none orElse space orElse Accepted) (pair-small a b)
+      (λ e. small-first none (space orElse Accepted) (small-refuse (not (closes v t (ofList a) (ofList b))) noWord (omega arith) (omega arith))
+      (λ f. small-first space Accepted
+      (small-refuse (not (wordFits start n room)) (tooShort n) (omega arith) (omega (arith, letters-most ok a b (passed-by a b e)))) (λ g. tt))))
+      in-room

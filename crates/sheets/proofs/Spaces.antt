@@ -13,7 +13,7 @@ use lib.Seq.{sets-eq, length-sets, length-take-le, take-append-le, take-take, ta
 use lib.IntN.{ℤ}
 use Rattle.basics.specs.Choice.{pick}
 use Rattle.matrix.specs.Matrix.{ofList}
-use Rattle.refusal.specs.Refusal.{noRefusal}
+use Rattle.call.specs.Refusal.{noRefusal}
 use Rattle.word.specs.Answer.{queryRefusal, foundWord, foundSign, wordFits, queryOf, placed, wordLeft, partOf}
 use Rattle.word.specs.Claim.{Claim}
 use Rattle.word.specs.declared.Queried.{Queried}
@@ -150,7 +150,8 @@ module _ (v : ℕ) (t p : List ℤ) (w : List ℕ) (out : List ℤ) where
       let m = word-stood v t a b w o (at i .next) s k sign e in
       let end : wordEnd (answerAt v t p (length w) out i) (at i .next) ≡ s + k = ap (λ (x : Queried). wordEnd x (at i .next)) e in
       let z = stays (s + k) (suc i) n (omega arith) (omega (arith, end)) in
-      part-same s k (at n .letters) (at (suc i) .letters) (omega (arith, kept n .long, kept i .long, m .place, m .inside)) (kept n .long ∙ sym (kept (suc i) .long)) (z .same)
+      part-same s k (at n .letters) (at (suc i) .letters) (omega (arith, kept n .long, kept i .long, m .place, m .inside))
+      (kept n .long ∙ sym (kept (suc i) .long)) (z .same)
       ∙ ap (λ (y : ℕ). partOf (at (suc i) .letters) y k) (m .place)
       ∙ ap (λ (y : ℕ). partOf (at (suc i) .letters) (at i .next) y) (m .long)
       ∙ m .part

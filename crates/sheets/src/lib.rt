@@ -1,32 +1,28 @@
-// A sheet of pairs against one symbol: its tables are built once, and line by line the answers are those of single queries in the same word space.
+// A sheet of pairs against one symbol: its tables are built once, and line by line the answers are those of single
+// queries in the same word space.
 //
 // specs/Sheet.antt says what a sheet answers and leaves, specs/Meaning.antt what that means.
-use refusal::BAD_DETERMINANT;
-use refusal::Checked;
-use refusal::Filled;
-use refusal::MATRIX_ENTRY;
-use refusal::Refusal;
-use refusal::TOO_SHORT;
+use call::refusal::Checked;
+use call::refusal::Filled;
+use call::refusal::Refusal;
+use call::refusal::TOO_SHORT;
 use symbol::check;
 use word::Queried;
 use word::answer_ready;
 use word::four_at;
-use word::judge;
+use word::pair_check;
 use word::sign_number;
 ghost use mathlib.Core.Path.{_≡_};
 ghost use mathlib.Core.List.{[], _∷_, _++_};
-ghost use Prim.Native.Nat.{_+_, _*_, _/_, _^_, _≤_, _<_};
+ghost use Prim.Native.Nat.{_+_, _*_, _^_, _≤_, _<_};
 ghost use lib.ListN.{length, drop};
 ghost use lib.IntN.{pos};
-ghost use Rattle.matrix.specs.Matrix.{ofList};
-ghost use Rattle.workspace.specs.Space.{zeros};
-ghost use Rattle.coset.specs.Answer.{roomOne};
-ghost use Rattle.pairing.specs.Generator.{workAfter};
-ghost use Rattle.word.specs.Answer.{four, foundWord, wordLeft};
-ghost use Rattle.sheets.specs.Sheet.{pairsIn, badCount, sheetCheck, wordEnd, spaceAt, lineOf, linesTo, sheetOf, linesLeft, lettersAfter};
-ghost use Rattle.sheets.specs.Meaning.{SheetMeans};
+ghost use Rattle.call.specs.Space.{zeros};
+ghost use Rattle.call.specs.Inner.Fills.{Fills, madeIf};
+ghost use Rattle.word.specs.Answer.{four, foundIf};
 ghost use Rattle.coset.specs.Inner.Steps.{BuiltSteps};
-ghost use Rattle.sheets.specs.Inner.Pairs.{pairOf, SheetReady, lineAt, Fitting};
+ghost use Rattle.sheets.specs.Sheet.{pairsIn, badCount, wordEnd, spaceAt, lineOf, linesTo, lineSteps, sheetSteps};
+ghost use Rattle.sheets.specs.Inner.Pairs.{pairSteps, SheetReady, lineAt, Fitting};
 
 // The entries of a sheet, at most.
 pub const ENTRIES: usize = 2048;
@@ -111,25 +107,17 @@ fn answer_pair(
     start: usize,
 ) -> Queried
     requires { ⌜ BuiltSteps (now t) v (now w) home × (length (now pair) ≡ 8) ⌝ }
-    ensures { λ r. ⌜ r ≡ pairOf v (now (t .entry)) (four (now (pair .entry)) 0) (four (now (pair .entry)) 4) (length (now (out .entry))) start ⌝ }
-    ensures { λ r. ⌜ now (out .exit) ≡ wordLeft r (foundWord v (now (t .entry)) (ofList (four (now (pair .entry)) 0)) (ofList (four (now (pair .entry)) 4))) (now (out .entry)) ⌝ }
+    ensures { λ r. ⌜ Fills
+        (pairSteps v (now (t .entry)) (four (now (pair .entry)) 0) (four (now (pair .entry)) 4) out start)
+        (foundIf v (now (t .entry)) (four (now (pair .entry)) 0) (four (now (pair .entry)) 4) start) r ⌝ }
 {
     let a = four_at(pair, 0);
     let b = four_at(pair, 4);
-    let judged = judge(a, b);
-    if judged < 8 {
-        return Queried::Refused(Refusal {
-            number: MATRIX_ENTRY,
-            place: judged,
-        });
+    let paired = pair_check(a, b);
+    match paired {
+        Checked::Refused(refusal) => Queried::Refused(refusal),
+        Checked::Accepted => answer_ready(t, v, w, home, a, b, out, start),
     }
-    if judged < 10 {
-        return Queried::Refused(Refusal {
-            number: BAD_DETERMINANT,
-            place: judged - 8,
-        });
-    }
-    answer_ready(t, v, w, home, a, b, out, start)
 }
 
 // The answers for all pairs, each in its own line.
@@ -142,9 +130,14 @@ fn answer_pairs(
     lines: &mut [i64],
     out: &mut [i16],
 )
-    requires { ⌜ BuiltSteps (now t) v (now w) home × SheetReady v (now t) (now p) (now w) × (4 * pairsIn (now p) ≤ length (now lines)) ⌝ }
-    ensures { λ _. ⌜ now (lines .exit) ≡ linesTo v (now (t .entry)) (now (p .entry)) (length (now (w .entry))) (now (out .entry)) (pairsIn (now (p .entry))) ++ drop (4 * pairsIn (now (p .entry))) (now (lines .entry)) ⌝ }
-    ensures { λ _. ⌜ now (out .exit) ≡ spaceAt v (now (t .entry)) (now (p .entry)) (length (now (w .entry))) (now (out .entry)) (pairsIn (now (p .entry))) .letters ⌝ }
+    requires { ⌜ BuiltSteps (now t) v (now w) home × SheetReady v (now t) (now p) (now w)
+        × (4 * pairsIn (now p) ≤ length (now lines)) ⌝ }
+    ensures { λ _. ⌜ now (lines .exit)
+        ≡ linesTo v (now (t .entry)) (now (p .entry)) (length (now (w .entry))) (now (out .entry))
+        (pairsIn (now (p .entry))) ++ drop (4 * pairsIn (now (p .entry))) (now (lines .entry)) ⌝ }
+    ensures { λ _. ⌜ now (out .exit)
+        ≡ spaceAt v (now (t .entry)) (now (p .entry)) (length (now (w .entry))) (now (out .entry))
+        (pairsIn (now (p .entry))) .letters ⌝ }
 {
     let n = p.len() / 8;
     let mut next: usize = 0;
@@ -160,14 +153,13 @@ fn answer_pairs(
 // The answer where the sheet passes its checks and the work space is long enough, which is cleared after.
 fn fill(v: usize, t: &[i64], p: &[i64], w: &mut [u16], lines: &mut [i64], out: &mut [i16]) -> Filled
     requires { ⌜ SheetReady v (now t) (now p) (now w) ⌝ }
-    ensures { λ r. ⌜ r ≡ roomOne (pairsIn (now (p .entry))) (length (now (lines .entry)) / 4) ⌝ }
+    ensures { λ r. ⌜ Fills (lineSteps v (now (t .entry)) (now (p .entry)) (length (now (w .entry))) lines out)
+        (madeIf (pairsIn (now (p .entry)))) r ⌝ }
     ensures { λ r. ⌜ now (w .exit) ≡ zeros (length (now (w .entry))) ⌝ }
-    ensures { λ r. ⌜ now (lines .exit) ≡ linesLeft r (linesTo v (now (t .entry)) (now (p .entry)) (length (now (w .entry))) (now (out .entry)) (pairsIn (now (p .entry)))) (now (lines .entry)) ⌝ }
-    ensures { λ r. ⌜ now (out .exit) ≡ lettersAfter r (spaceAt v (now (t .entry)) (now (p .entry)) (length (now (w .entry))) (now (out .entry)) (pairsIn (now (p .entry))) .letters) (now (out .entry)) ⌝ }
 {
     let n = p.len() / 8;
     if lines.len() / 4 < n {
-        workspace::clear(w);
+        call::workspace::clear(w);
         return Filled::Refused(Refusal {
             number: TOO_SHORT,
             place: n,
@@ -175,12 +167,12 @@ fn fill(v: usize, t: &[i64], p: &[i64], w: &mut [u16], lines: &mut [i64], out: &
     }
     let home = coset::steps::build(t, v, w);
     answer_pairs(t, v, w, home, p, lines, out);
-    workspace::clear(w);
+    call::workspace::clear(w);
     Filled::Made(n)
 }
 
-// The lines of all pairs in p, from the front of `lines`, and their words in `out`: 11 for a number of entries that is no sheet, then checks 1 to 7,
-// then the work space, then the line table, counted in whole lines.
+// The lines of all pairs in p, from the front of `lines`, and their words in `out`: 11 for a number of entries that is
+// no sheet, then checks 1 to 7, then the work space, then the line table, counted in whole lines.
 pub fn sheet(
     v: usize,
     t: &[i64],
@@ -189,11 +181,8 @@ pub fn sheet(
     lines: &mut [i64],
     out: &mut [i16],
 ) -> Filled
-    ensures { λ r. ⌜ r ≡ sheetOf v (now (t .entry)) (length (now (p .entry))) (length (now (w .entry))) (length (now (lines .entry))) ⌝ }
-    ensures { λ r. ⌜ now (w .exit) ≡ workAfter (sheetCheck v (now (t .entry)) (length (now (p .entry)))) (now (w .entry)) ⌝ }
-    ensures { λ r. ⌜ now (lines .exit) ≡ linesLeft r (linesTo v (now (t .entry)) (now (p .entry)) (length (now (w .entry))) (now (out .entry)) (pairsIn (now (p .entry)))) (now (lines .entry)) ⌝ }
-    ensures { λ r. ⌜ now (out .exit) ≡ lettersAfter r (spaceAt v (now (t .entry)) (now (p .entry)) (length (now (w .entry))) (now (out .entry)) (pairsIn (now (p .entry))) .letters) (now (out .entry)) ⌝ }
-    ensures { λ r. ⌜ SheetMeans v (now (t .entry)) (now (p .entry)) (now (w .entry)) (now (out .entry)) r (now (lines .exit)) (now (out .exit)) ⌝ }
+    ensures { λ r. ⌜ Fills (sheetSteps v (now (t .entry)) (now (p .entry)) w lines out)
+        (madeIf (pairsIn (now (p .entry)))) r ⌝ }
 {
     if is_bad_count(p.len()) {
         return Filled::Refused(Refusal {
@@ -205,10 +194,10 @@ pub fn sheet(
     match checked {
         Checked::Refused(refusal) => Filled::Refused(refusal),
         Checked::Accepted => {
-            if w.len() < workspace::WORK {
+            if w.len() < call::workspace::WORK {
                 return Filled::Refused(Refusal {
                     number: TOO_SHORT,
-                    place: workspace::WORK,
+                    place: call::workspace::WORK,
                 });
             }
             fill(v, t, p, w, lines, out)

@@ -6,8 +6,9 @@
 --   letterSign x       what the letter x adds to the sign of an alternating word: plus for Q, minus for S and for P
 --   wordSign l         the product of these over the letters of l
 --   entrySign z s      the sign of the integer z, and s where z is 0
---   columnSign m       the sign of the first column of m: that of its upper entry, or where this is 0, that of its lower entry, and then the
---                      opposite where the rows don't agree (`agree`, in the crate matrix): minus for S, whose word is S with its minus
+--   columnSign m       the sign of the first column of m: that of its upper entry, or where this is 0, that of its
+--                      lower entry, and then the opposite where the rows don't agree (`agree`, in the crate matrix):
+--                      minus for S, whose word is S with its minus
 --   matrixSign m       the sign of m against its alternating word: m is that sign times the value of the word
 --
 -- No product of matrices is needed: the value of an alternating word has the column sign `wordSign`.

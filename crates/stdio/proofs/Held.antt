@@ -7,8 +7,8 @@ use mathlib.Core.List.{List}
 use lib.ListN.{length, take}
 use lib.Seq.{length-take-le}
 use Rattle.stdio.specs.Input.{Held, Further}
-use Rattle.input.specs.declared.Input.{Input}
-use Rattle.input.specs.declared.Input.the-variants as input
+use Rattle.text.specs.declared.input.Input.{Input}
+use Rattle.text.specs.declared.input.Input.the-variants as input
 
 pub ended : (n : ℕ) (xs : List ℕ) → n ≤ length xs → Held (input.Read n false) xs
 ended n xs h = (h, sym (length-take-le n xs h), λ (e : false ≡ true). cc)

@@ -8,8 +8,8 @@ use mathlib.Core.Path.{_≡_}
 use mathlib.Core.Bool.{Bool, true}
 use mathlib.Core.List.{List}
 use lib.ListN.{length, take}
-use Rattle.input.specs.declared.Input.{Input}
-use Rattle.input.specs.declared.Input.the-variants as input
+use Rattle.text.specs.declared.input.Input.{Input}
+use Rattle.text.specs.declared.input.Input.the-variants as input
 use Rattle.stdio.specs.declared.Piece.{Piece}
 use Rattle.stdio.specs.declared.Piece.the-variants as piece
 

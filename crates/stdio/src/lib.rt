@@ -1,16 +1,16 @@
 // Standard input read to its end and standard output written whole, for the programs.
 //
-// The end of the input is a read that answers 0, and nothing else is taken for it: after the last bytes there is one more read. A read or
-// a write that fails is told in one line on standard error and isn't tried again: `libc` can't tell why it failed, so that there is nothing
-// to wait for.
+// The end of the input is a read that answers 0, and nothing else is taken for it: after the last bytes there is one
+// more read. A read or a write that fails is told in one line on standard error and isn't tried again: `libc` can't
+// tell why it failed, so that there is nothing to wait for.
 ghost use Prim.Native.Nat.{_≤_};
 ghost use mathlib.Core.Path.{_≡_};
 ghost use lib.ListN.{length};
 ghost use Rattle.stdio.specs.Input.{Within, Held, Further};
-use input::Input;
 use libc::STDERR_FILENO;
 use libc::STDIN_FILENO;
 use libc::STDOUT_FILENO;
+use text::input::Input;
 
 // What one read came to.
 enum Piece {
@@ -45,8 +45,8 @@ pub fn read_whole(buf: &mut [u8]) -> Input
     read_further(done)
 }
 
-// Writes all the bytes to standard output, and answers how many of them it took: fewer than all where a write failed, which standard
-// error then says.
+// Writes all the bytes to standard output, and answers how many of them it took: fewer than all where a write failed,
+// which standard error then says.
 pub fn write_whole(bytes: &[u8]) -> usize
     ensures { λ r. ⌜ r ≤ length (now (bytes .entry)) ⌝ }
 {

@@ -21,16 +21,16 @@ use Rattle.symbol.specs.Table.{numer, denom, pairingEntries, pairingEntr
 use Rattle.symbol.specs.Check.{refuse, refuseAt, eqZ, check1, check2, check3, check4, check5, check6, check7, symbolCheck, outOfRange, apart}
 use Rattle.symbol.specs.Check.{isZero, sides, unpairedIn, unpairedBy, isOdd, lacksOdd}
 use Rattle.symbol.specs.Symbol.{ZeroAt, FreeLabel, IsSymbol, SymbolVerdict}
-use Rattle.refusal.proofs.Apart.{refused-accepted}
-use Rattle.refusal.proofs.Answers.{both-pass}
-use Rattle.refusal.proofs.Numbered.{Among, among-first}
+use Rattle.call.proofs.Apart.{refused-accepted}
+use Rattle.call.proofs.Answers.{both-pass}
+use Rattle.call.proofs.Numbered.{Among, among-first}
 use Rattle.symbol.specs.declared.Side.{Side}
 use Rattle.symbol.specs.declared.Pairing.{Pairing}
 use Rattle.symbol.specs.declared.Pairing.the-variants.{Even, Odd, Free, Bad}
-use Rattle.refusal.specs.declared.Refusal.{Refusal}
-use Rattle.refusal.specs.Refusal.{_orElse_, badVertexCount, tableLength, vertexEntry, notNeighbours, noZero, badPairing, noOddSide}
-use Rattle.refusal.specs.declared.Checked.{Checked}
-use Rattle.refusal.specs.declared.Checked.the-variants.{Accepted, Refused}
+use Rattle.call.specs.declared.refusal.Refusal.{Refusal}
+use Rattle.call.specs.Refusal.{_orElse_, badVertexCount, tableLength, vertexEntry, notNeighbours, noZero, badPairing, noOddSide}
+use Rattle.call.specs.declared.refusal.Checked.{Checked}
+use Rattle.call.specs.declared.refusal.Checked.the-variants.{Accepted, Refused}
 use Rattle.symbol.proofs.Choice.{eqZ-true, eq-eqZ, positive-true, true-positive}
 use Rattle.basics.proofs.Choice.{pick-true, pick-false, either, clash, and-left, and-right}
 use Rattle.basics.proofs.Count.{Clear, Found, first-clear, clear-first, first-hit, found, search-first}
@@ -211,7 +211,8 @@ module _ (v : ℕ) (t : List ℤ) where
       record {
         some = leb-true 1 v (and-left (leb 1 v) (leb v 1023) one);
         most = leb-true v 1023 (and-right (leb 1 v) (leb v 1023) one);
-        long = eqb-true (length t) (3 * v + 1) (not-false (eqb (length t) (3 * v + 1)) (passes (not (eqb (length t) (3 * v + 1))) (tableLength (length t)) (p .two)));
+        long = eqb-true (length t) (3 * v + 1)
+            (not-false (eqb (length t) (3 * v + 1)) (passes (not (eqb (length t) (3 * v + 1))) (tableLength (length t)) (p .two)));
         numers = λ i h. in-range (2 * i) (three .none (2 * i) (omega arith)) .0;
         denoms = λ i h.
             let k = in-range (2 * i + 1) (three .none (2 * i + 1) (omega arith)) in
@@ -243,8 +244,10 @@ module _ (v : ℕ) (t : List ℤ) where
       let a = s .some in
       let b = s .most in
       record {
-        one = pass (not (leb 1 v && leb v 1023)) badVertexCount (false-not (leb 1 v && leb v 1023) (and-true (leb 1 v) (leb v 1023) (le-leb 1 v a) (le-leb v 1023 b)));
-        two = pass (not (eqb (length t) (3 * v + 1))) (tableLength (length t)) (false-not (eqb (length t) (3 * v + 1)) (eq-eqb (length t) (3 * v + 1) (s .long)));
+        one = pass (not (leb 1 v && leb v 1023)) badVertexCount
+            (false-not (leb 1 v && leb v 1023) (and-true (leb 1 v) (leb v 1023) (le-leb 1 v a) (le-leb v 1023 b)));
+        two = pass (not (eqb (length t) (3 * v + 1))) (tableLength (length t))
+            (false-not (eqb (length t) (3 * v + 1)) (eq-eqb (length t) (3 * v + 1) (s .long)));
         three = pass-at (outOfRange t) (2 * v) vertexEntry (record { none = range-of s });
         four = pass-at (apart v t) (v + 1) notNeighbours
             (record {
@@ -252,7 +255,8 @@ module _ (v : ℕ) (t : List ℤ) where
                   (eq-eqZ (gap (sideAt v t i)) (pos 1) (neighbour (sideAt v t i) ∙ s .neighbours i (omega arith)));
             });
         five = pass (not (ltb (first (isZero t) v) v)) noZero (found-zero (s .zero));
-        six = pass-at (unpairedIn v (pairingEntries v t)) (v + 1) badPairing (record { none = λ i h. not-lonely (pairingEntry v t i) (s .pairings i (omega arith)) });
+        six = pass-at (unpairedIn v (pairingEntries v t)) (v + 1) badPairing
+            (record { none = λ i h. not-lonely (pairingEntry v t i) (s .pairings i (omega arith)) });
         seven = pass (eqb v 1 && not (isOdd (pairingEntries v t) 0 || isOdd (pairingEntries v t) 1)) noOddSide (one-odd (s .odd));
       }
 

@@ -61,7 +61,8 @@ module _ (w : List ℕ) (k : ℕ) (inside : k / 2 < length w) where
       go (no d) e = digit-byte w (set w (k / 2) b) j (getD-set-other w (k / 2) (j / 2) b 0 d)
       go (yes d) (yes e) =
           let odd : j % 2 ≡ 0 → ⊥ = λ z. h (omega arith) in
-          digit-high (set w (k / 2) b) j odd ∙ ap (λ (n : ℕ). n / 16) (same-byte d) ∙ high e ∙ ap (λ (n : ℕ). getD w n 0 / 16) (sym d) ∙ sym (digit-high w j odd)
+          digit-high (set w (k / 2) b) j odd ∙ ap (λ (n : ℕ). n / 16) (same-byte d) ∙ high e ∙ ap (λ (n : ℕ). getD w n 0 / 16) (sym d)
+          ∙ sym (digit-high w j odd)
       go (yes d) (no e) =
           let even : j % 2 ≡ 0 = omega-even j k d e h in
           digit-low (set w (k / 2) b) j even ∙ ap (λ (n : ℕ). n % 16) (same-byte d) ∙ low e ∙ ap (λ (n : ℕ). getD w n 0 % 16) (sym d) ∙ sym (digit-low w j even)
@@ -122,7 +123,8 @@ noted-free v x l w w' e m = record { long = m .long; counts = λ j h. go j (ℕ-
     go j (yes z) =
         let k = label-of v x l e in
         let s : l ≡ suc j = let low = k .1 in omega arith in
-        ap (digit w') z ∙ m .here ∙ ap (λ (n : ℕ). more (digit w n)) (sym z) ∙ sym (pick-true (eqZ x (pos (suc j))) _ _ (eq-eqZ x (pos (suc j)) (k .0 ∙ ap pos s)))
+        ap (digit w') z ∙ m .here ∙ ap (λ (n : ℕ). more (digit w n)) (sym z)
+        ∙ sym (pick-true (eqZ x (pos (suc j))) _ _ (eq-eqZ x (pos (suc j)) (k .0 ∙ ap pos s)))
     go j (no z) =
         let k = label-of v x l e in
         m .others j z ∙ sym (pick-false (eqZ x (pos (suc j))) _ _ (differs (either (eqZ x (pos (suc j))))))

@@ -22,10 +22,10 @@ use Rattle.symbol.specs.Table.{pairingEntries}
 use Rattle.symbol.specs.Check.{refuse, refuseAt, eqZ, outOfRange, isOdd, lacksOdd, check1, check2, check3, check4, check5, check6, check7, symbolCheck}
 use Rattle.symbol.specs.Inner.Marks.{digit, Tallied}
 use Rattle.symbol.specs.Inner.Ready.{MayCheck}
-use Rattle.refusal.specs.declared.Refusal.{Refusal}
-use Rattle.refusal.specs.Refusal.{_orElse_, badVertexCount, tableLength}
-use Rattle.refusal.specs.declared.Checked.{Checked}
-use Rattle.refusal.specs.declared.Checked.the-variants.{Accepted, Refused}
+use Rattle.call.specs.declared.refusal.Refusal.{Refusal}
+use Rattle.call.specs.Refusal.{_orElse_, badVertexCount, tableLength}
+use Rattle.call.specs.declared.refusal.Checked.{Checked}
+use Rattle.call.specs.declared.refusal.Checked.the-variants.{Accepted, Refused}
 use Rattle.symbol.proofs.Choice.{eqZ-true, eq-eqZ}
 use Rattle.basics.proofs.Choice.{pick-true, pick-false, clash}
 use Rattle.basics.proofs.Count.{Clear, first-le, clear-first}

@@ -17,10 +17,11 @@ use Rattle.basics.specs.Count.{first, count}
 use Rattle.symbol.specs.Table.{numer, denom, pairingEntries, pairingEntry, sideAt, gap, pairingOf}
 use Rattle.symbol.specs.declared.Pairing.{Pairing}
 use Rattle.symbol.specs.declared.Pairing.the-variants.{Even, Odd, Free, Bad}
-use Rattle.refusal.specs.declared.Refusal.{Refusal}
-use Rattle.refusal.specs.Refusal.{_orElse_, badVertexCount, tableLength, vertexEntry, notNeighbours, noZero, badPairing, noOddSide}
-use Rattle.refusal.specs.declared.Checked.{Checked}
-use Rattle.refusal.specs.declared.Checked.the-variants.{Accepted, Refused}
+use Rattle.call.specs.declared.refusal.Refusal.{Refusal}
+use Rattle.call.specs.Refusal.{_orElse_, badVertexCount, tableLength, vertexEntry, notNeighbours, noZero, badPairing}
+use Rattle.call.specs.Refusal.{noOddSide}
+use Rattle.call.specs.declared.refusal.Checked.{Checked}
+use Rattle.call.specs.declared.refusal.Checked.the-variants.{Accepted, Refused}
 
 -- refused where b holds
 abbrev pub refuse : Bool → Refusal → Checked
@@ -96,4 +97,5 @@ check7 v p = refuse (lacksOdd v p) noOddSide
 
 abbrev pub symbolCheck : ℕ → List ℤ → Checked
 symbolCheck v t =
-    check1 v orElse check2 v t orElse check3 v t orElse check4 v t orElse check5 v t orElse check6 v (pairingEntries v t) orElse check7 v (pairingEntries v t)
+    check1 v orElse check2 v t orElse check3 v t orElse check4 v t orElse check5 v t orElse check6 v
+    (pairingEntries v t) orElse check7 v (pairingEntries v t)

@@ -13,8 +13,8 @@ use lib.IntN.{ℤ, pos, negsuc, natAbs}
 use Rattle.matrix.specs.Matrix.{det}
 use Rattle.symbol.specs.Table.{numer, denom, pairingEntry, sideAt, frame}
 use Rattle.symbol.specs.Check.{sides, symbolCheck}
-use Rattle.refusal.specs.declared.Checked.{Checked}
-use Rattle.refusal.specs.declared.Checked.the-variants.{Accepted}
+use Rattle.call.specs.declared.refusal.Checked.{Checked}
+use Rattle.call.specs.declared.refusal.Checked.the-variants.{Accepted}
 
 -- a vertex that is 0/1
 pub record ZeroAt (v : ℕ) (t : List ℤ) : Type 0 where
@@ -36,10 +36,12 @@ pub record IsSymbol (v : ℕ) (t : List ℤ) : Type 0 where
   pub most : v ≤ 1023
   pub long : length t ≡ 3 * v + 1
   pub numers : (i : ℕ) → i < v → natAbs (numer t i) ≤ 1000000000
-  pub denoms : (i : ℕ) → i < v → (1 ≤ natAbs (denom t i)) × (natAbs (denom t i) ≤ 1000000000) × (denom t i ≡ pos (natAbs (denom t i)))
+  pub denoms : (i : ℕ) → i < v → (1 ≤ natAbs (denom t i)) × (natAbs (denom t i) ≤ 1000000000)
+      × (denom t i ≡ pos (natAbs (denom t i)))
   pub neighbours : (i : ℕ) → i ≤ v → det (frame (sideAt v t i)) ≡ pos 1
   pub zero : ZeroAt v t
-  pub pairings : (i : ℕ) → i ≤ v → (pairingEntry v t i ≡ negsuc 1) ⊎ (pairingEntry v t i ≡ negsuc 2) ⊎ FreeLabel v t (pairingEntry v t i)
+  pub pairings : (i : ℕ) → i ≤ v → (pairingEntry v t i ≡ negsuc 1) ⊎ (pairingEntry v t i ≡ negsuc 2)
+      ⊎ FreeLabel v t (pairingEntry v t i)
   pub odd : v ≡ 1 → (pairingEntry v t 0 ≡ negsuc 2) ⊎ (pairingEntry v t 1 ≡ negsuc 2)
 
 pub record SymbolVerdict (v : ℕ) (t : List ℤ) (r : Checked) : Type 0 where

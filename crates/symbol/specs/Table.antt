@@ -9,7 +9,8 @@
 --   gap s                    c b - a d, which is 1 where the two ends are neighbours
 --   carried n x m            n x m⁻¹, for matrices of determinant 1
 --   Pairing                  Even, Odd, Free with its label, or Bad
---   pairingOf v x            the pairing that x stands for in a symbol of v vertices: -2 even, -3 odd, 1 to v + 1 a free label
+--   pairingOf v x            the pairing that x stands for in a symbol of v vertices: -2 even, -3 odd, 1 to v + 1 a
+--                            free label
 use mathlib.Core.Bool.{Bool, true, false}
 use mathlib.Core.List.{List}
 use Prim.Native.Nat.{ℕ, zero, suc, _+_, _*_}

@@ -1,15 +1,16 @@
 // A Farey symbol in a lent table: the checks of docs/CONVENTIONS.md, and its sides with their frames and generators.
 //
-// A table of a symbol with v vertices holds 2v vertex entries and then v + 1 pairings. specs/ says what each call returns and leaves.
-use refusal::BAD_PAIRING;
-use refusal::BAD_VERTEX_COUNT;
-use refusal::Checked;
-use refusal::NO_ODD_SIDE;
-use refusal::NO_ZERO;
-use refusal::NOT_NEIGHBOURS;
-use refusal::Refusal;
-use refusal::TABLE_LENGTH;
-use refusal::VERTEX_ENTRY;
+// A table of a symbol with v vertices holds 2v vertex entries and then v + 1 pairings. specs/ says what each call
+// returns and leaves.
+use call::refusal::BAD_PAIRING;
+use call::refusal::BAD_VERTEX_COUNT;
+use call::refusal::Checked;
+use call::refusal::NO_ODD_SIDE;
+use call::refusal::NO_ZERO;
+use call::refusal::NOT_NEIGHBOURS;
+use call::refusal::Refusal;
+use call::refusal::TABLE_LENGTH;
+use call::refusal::VERTEX_ENTRY;
 ghost use mathlib.Core.Path.{_≡_};
 ghost use Prim.Native.Nat.{ℕ, _+_, _*_, _%_, _≤_, _<_};
 ghost use lib.Dec.{leb};
@@ -18,10 +19,12 @@ ghost use Rattle.matrix.specs.Euclid.{positive};
 ghost use lib.ListN.{length};
 ghost use Rattle.matrix.specs.Matrix.{nth, ofList, toList, matS, matQ};
 ghost use Rattle.matrix.specs.Bounds.{Small};
-ghost use Rattle.refusal.specs.Refusal.{_orElse_};
+ghost use Rattle.call.specs.Refusal.{_orElse_};
 ghost use Rattle.basics.specs.Count.{first};
-ghost use Rattle.symbol.specs.Table.{leftNum, leftDen, rightNum, rightDen, sideAt, frame, gap, carried, pairingOf};
-ghost use Rattle.symbol.specs.Check.{eqZ, outOfRange, apart, isZero, unpairedIn, check3, check4, check5, lacksOdd, check6, check7};
+ghost use Rattle.symbol.specs.Table.{leftNum, leftDen, rightNum, rightDen, sideAt, frame, gap, carried};
+ghost use Rattle.symbol.specs.Table.{pairingOf};
+ghost use Rattle.symbol.specs.Check.{eqZ, outOfRange, apart, isZero, unpairedIn, check3, check4, check5};
+ghost use Rattle.symbol.specs.Check.{lacksOdd, check6, check7};
 ghost use Rattle.symbol.specs.Inner.Marks.{digit, CountedAt, Noted, Tallied};
 ghost use Rattle.symbol.specs.Symbol.{SymbolVerdict};
 ghost use Rattle.symbol.specs.Inner.Ready.{SmallSide, failsOf, placesOf, MayCheck};
@@ -320,7 +323,8 @@ fn first_place(check: u8, v: usize, t: &[i64], marks: &[u8; 512], n: usize) -> u
 // Checks 3 to 5, on a table of the right length.
 fn check_vertices(v: usize, t: &[i64], marks: &[u8; 512]) -> Checked
     requires { ⌜ (v ≤ 1023) × (length (now t) ≡ 3 * v + 1) ⌝ }
-    ensures { λ r. ⌜ r ≡ (check3 v (now (t .entry)) orElse check4 v (now (t .entry)) orElse check5 v (now (t .entry))) ⌝ }
+    ensures { λ r. ⌜ r ≡ (check3 v (now (t .entry)) orElse check4 v (now (t .entry)) orElse check5 v
+        (now (t .entry))) ⌝ }
 {
     let entry = first_place(3, v, t, marks, 2 * v);
     if entry < 2 * v {
@@ -382,7 +386,8 @@ fn check_pairings(v: usize, p: &[i64], marks: &mut [u8; 512]) -> Checked
     Checked::Accepted
 }
 
-// Checks 1 to 7 on a table and a number of vertices, whatever they are: the first fault, or that the symbol is accepted.
+// Checks 1 to 7 on a table and a number of vertices, whatever they are: the first fault, or that the symbol is
+// accepted.
 pub fn check(v: usize, t: &[i64]) -> Checked
     ensures { λ r. ⌜ SymbolVerdict v (now (t .entry)) r ⌝ }
 {

@@ -14,7 +14,7 @@ use native.Mathlib.Omega.{arith}
 use lib.IntN.{ℤ}
 use lib.ListN.{length}
 use borrow.Author.Tests.{lt-ltb, le-ltb}
-use Rattle.refusal.specs.Refusal.{badText}
+use Rattle.call.specs.Refusal.{badText}
 use Rattle.text.specs.Piece.{Piece, pieces, firstBad, numbers, placeAt}
 use Rattle.text.specs.Reading.{wanted, wantedOr1, handed, countPlace, firstPlace, orElse, place19, answer, readingOf}
 use Rattle.text.specs.Laws.{Nineteen, Eleven}

@@ -17,7 +17,7 @@ use lib.IntN.{ℤ, pos, negsuc}
 use lib.ListN.{length, getD, take, drop, length-drop}
 use lib.Seq.{take-at, drop-append-le, length-take-le}
 use borrow.Author.Tests.{lt-ltb, le-ltb}
-use Rattle.refusal.specs.Refusal.{tooShort, badText}
+use Rattle.call.specs.Refusal.{tooShort, badText}
 use Rattle.basics.specs.Choice.{pick}
 use Rattle.text.specs.Piece.{Piece, pieces, firstBad, numbers, placeAt}
 use Rattle.text.specs.Reading.{textMost, wanted, handed, countPlace, firstPlace, orElse, place19, answer, readingOf, inputOf, leftBy}
@@ -128,7 +128,8 @@ pub input-read : (longer : Bool) (f : Format) (t : List ℕ) (room : ℕ) → lo
 unfolding inputOf
 input-read longer f t room e = rw e refl
 
-pub input-on : (longer : Bool) (f : Format) (t : List ℕ) (room k : ℕ) → 1 ≤ f .more → reading.Numbers k ≡ inputOf longer f t room → Handed (numbers (pieces t)) room k
+pub input-on : (longer : Bool) (f : Format) (t : List ℕ) (room k : ℕ) → 1 ≤ f .more → reading.Numbers k ≡ inputOf longer f t room
+    → Handed (numbers (pieces t)) room k
 unfolding inputOf
 input-on true f t room k m e = clash cc
 input-on false f t room k m e = handed-on f t room k m e

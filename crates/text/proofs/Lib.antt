@@ -13,3 +13,10 @@ pub mod Handed
 pub mod Says
 pub mod Counts
 pub mod Examples
+-- The laws of lines.
+pub mod Placing
+pub mod Spacing
+-- Where a part ends.
+pub mod Ends
+-- The laws of an input's text.
+pub mod InputText

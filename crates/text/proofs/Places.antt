@@ -13,7 +13,7 @@ use native.Mathlib.Omega.{arith}
 use lib.ListN.{length, getD, drop, set, length-set}
 use lib.Seq.{paste, paste-suc, take-length, drop-cons, drop-set-lt, getD-set-same}
 use borrow.Author.Tests.{le-leb, lt-leb}
-use Rattle.refusal.specs.Refusal.{tooShort}
+use Rattle.call.specs.Refusal.{tooShort}
 use Rattle.text.specs.Writing.{writtenOf, bytesPlaced, roomMost}
 use Rattle.text.specs.declared.Written.the-variants as written
 

@@ -3,8 +3,8 @@
 --     WriteThenRead    reading the decimal form of a number gives the number back
 --     NoBlank          the decimal form of a number has no blank byte
 --     OnePiece         so that as a text it is one piece, which begins at 0 and says the number
---     NumberFirst      a text that begins with the decimal form of a number and a blank byte: a piece that says the number, and then the
---                      pieces of what is behind
+--     NumberFirst      a text that begins with the decimal form of a number and a blank byte: a piece that says the
+--                      number, and then the pieces of what is behind
 --     Nineteen         a text with a place of refusal 19 is refused with 19 and that place, whatever the space
 --     Eleven           any other text that finds too little space is refused with 11 and the entries that it needs
 -- Assumes nothing.
@@ -20,7 +20,7 @@ use Rattle.text.specs.Number.{integerFrom}
 use Rattle.text.specs.Piece.{piecesFrom, pieces, numbers}
 use Rattle.text.specs.Reading.{handed, place19, readingOf}
 use Rattle.text.specs.Refusal.{readingRefusal}
-use Rattle.refusal.specs.Refusal.{tooShort, badText}
+use Rattle.call.specs.Refusal.{tooShort, badText}
 use Rattle.text.specs.declared.Format.{Format}
 use Rattle.text.specs.Decimal.{decimalOf}
 
@@ -39,7 +39,8 @@ OnePiece = (z : ℤ) → Inside64 z → pieces (decimalOf z) ≡ record { at = 0
 
 abbrev pub NumberFirst : Type 0
 NumberFirst = (z : ℤ) (b : ℕ) (t : List ℕ) (at : ℕ) → Inside64 z → isBlank b ≡ true
-    → piecesFrom at false (decimalOf z ++ (b ∷ t)) ≡ record { at = at; says = some z } ∷ piecesFrom (suc (at + length (decimalOf z))) false t
+    → piecesFrom at false (decimalOf z ++ (b ∷ t))
+    ≡ record { at = at; says = some z } ∷ piecesFrom (suc (at + length (decimalOf z))) false t
 
 abbrev pub Nineteen : Type 0
 Nineteen = (f : Format) (t : List ℕ) (room p : ℕ) → place19 f t ≡ some p

@@ -1,8 +1,10 @@
 -- The pieces of a text: the longest runs of bytes with no blank between them.
 --     Piece                     a piece: the offset where it begins (at), and the number that it says, or none (says)
---     begins inside b           a piece begins at the byte b: b is not blank, and the byte before it is not in a piece (inside)
+--     begins inside b           a piece begins at the byte b: b is not blank, and the byte before it is not in a piece
+--                               (inside)
 --     pieceAt at t              the piece that begins at the offset `at`, where the text goes on with t
---     piecesFrom at inside t    the pieces that begin in t, whose first byte stands at the offset `at` of the whole text
+--     piecesFrom at inside t    the pieces that begin in t, whose first byte stands at the offset `at` of the whole
+--                               text
 --     pieces t                  the pieces of t
 --     firstBad ps               where the first of the pieces ps that is no number begins; none where each is one
 --     numbers ps                the numbers that the pieces ps say

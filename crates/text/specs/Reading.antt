@@ -1,18 +1,21 @@
 -- What `read` answers, and what it leaves in the lent slice.
 --     textMost              the most bytes that a text may have
---     wanted f v            how many numbers a text of the format f has that begins with v; none where v is out of range
+--     wanted f v            how many numbers a text of the format f has that begins with v; none where v is out of
+--                           range
 --     wantedOr1 w           the count w, or 1 where no count is wanted
---     handed f ns           how many of a text's numbers ns are handed on: those wanted, or v alone where v is out of range
---     countPlace w n ps     where a text of n bytes with the pieces ps breaks the count w: at its end where they are too few,
---                           at the first extra piece where they are too many; none where they are just as many, or where no
---                           count is wanted
+--     handed f ns           how many of a text's numbers ns are handed on: those wanted, or v alone where v is out of
+--                           range
+--     countPlace w n ps     where a text of n bytes with the pieces ps breaks the count w: at its end where they are
+--                           too few, at the first extra piece where they are too many; none where they are just as
+--                           many, or where no count is wanted
 --     firstPlace f ns n ps  the same by the text's numbers ns: with no number at all they are too few
 --     orElse p q            the place p, or q where there is none
 --     place19 f t           the place of refusal 19; none where the text t is not refused
 --     answer p k room       19 at the place p; or else k numbers, where they fit into `room` entries, or 11 with k
 --     readingOf f t room    the answer to the text t
 --     symbolFormat          the form of a symbol's text: v from 1 to 1,023, and then 3v + 1 numbers
---     inputOf longer f t room     the same for a program's text: refused where more was sent than the program's buffer holds
+--     inputOf longer f t room     the same for a program's text: refused where more was sent than the program's buffer
+--                                 holds
 --     leftBy r ns out       what the slice holds in the end, where it held `out` and the text's numbers are ns
 --     vertexCount z         the first number as a number of vertices; a negative one is out of range as 0 is
 -- Assumes nothing.
@@ -23,7 +26,7 @@ use mathlib.Core.Option.{Option, none, some}
 use lib.Dec.{ltb, leb}
 use lib.IntN.{ℤ, pos, negsuc}
 use lib.ListN.{length, take, drop}
-use Rattle.refusal.specs.Refusal.{tooShort, badText}
+use Rattle.call.specs.Refusal.{tooShort, badText}
 use Rattle.basics.specs.Choice.{pick}
 use Rattle.text.specs.Piece.{Piece, pieces, firstBad, numbers, placeAt}
 use Rattle.text.specs.declared.Format.{Format}

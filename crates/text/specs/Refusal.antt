@@ -1,8 +1,8 @@
--- The refusal that an answer of `read` is, from the one list of numbers and places in the crate `refusal`.
+-- The refusal that an answer of `read` is, from the one list of numbers and places in the crate `call`.
 --     readingRefusal r    that of `read`'s answer r: none for numbers
 -- Assumes nothing.
-use Rattle.refusal.specs.Refusal.{noRefusal}
-use Rattle.refusal.specs.declared.Refusal.{Refusal}
+use Rattle.call.specs.Refusal.{noRefusal}
+use Rattle.call.specs.declared.refusal.Refusal.{Refusal}
 use Rattle.text.specs.declared.Reading.{Reading}
 use Rattle.text.specs.declared.Reading.the-variants as reading
 

@@ -1,7 +1,8 @@
 -- What `copy` and `write` answer, and what they leave in the lent slice.
 --     roomMost                 the greatest number of 64 bits: no slice is longer
---     writtenOf k room at      the answer where k bytes are to stand from the offset `at` on in a slice of `room` bytes.
---                              Where they do not fit, 11 with the length that they need, or with roomMost where that is greater.
+--     writtenOf k room at      the answer where k bytes are to stand from the offset `at` on in a slice of `room`
+--                              bytes. Where they do not fit, 11 with the length that they need, or with roomMost where
+--                              that is greater.
 --     bytesPlaced bs at out    out with the bytes bs from the offset `at` on, in place of those that stood there
 --     standing w bs at out     what the slice holds in the end, where it held `out` and the answer is w
 -- Assumes nothing.
@@ -9,7 +10,7 @@ use Prim.Native.Nat.{ℕ, _+_, min}
 use mathlib.Core.List.{List, _++_}
 use lib.Dec.{leb}
 use lib.ListN.{length, take, drop}
-use Rattle.refusal.specs.Refusal.{tooShort}
+use Rattle.call.specs.Refusal.{tooShort}
 use Rattle.basics.specs.Choice.{pick}
 use Rattle.text.specs.declared.Written.{Written}
 use Rattle.text.specs.declared.Written.the-variants.{To, Refused}

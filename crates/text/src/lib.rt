@@ -1,8 +1,8 @@
 // Text in and text out: decimal numbers split by blanks are read into a lent slice, and numbers and words are written
 // into one.
-use refusal::BAD_TEXT;
-use refusal::Refusal;
-use refusal::TOO_SHORT;
+use call::refusal::BAD_TEXT;
+use call::refusal::Refusal;
+use call::refusal::TOO_SHORT;
 ghost use mathlib.Core.Path.{_≡_};
 ghost use Prim.Native.Nat.{ℕ, _+_, _<_, _≤_, min};
 ghost use mathlib.Core.Option.{none};
@@ -15,7 +15,12 @@ ghost use Rattle.text.specs.Piece.{pieces, numbers, firstBad, placeAt};
 ghost use Rattle.text.specs.Reading.{readingOf, inputOf, answer, leftBy, wanted, vertexCount};
 ghost use Rattle.text.specs.Decimal.{digits, decimalOf};
 ghost use Rattle.text.specs.Writing.{roomMost, writtenOf, bytesPlaced, standing};
-ghost use Rattle.text.specs.Inner.Inside.{naturalOf, integerOf, digitPushed, wantedOf, stretch, Steps, surveyOf, countedOf};
+ghost use Rattle.text.specs.Inner.Inside.{naturalOf, integerOf, digitPushed, wantedOf, stretch, Steps, surveyOf};
+ghost use Rattle.text.specs.Inner.Inside.{countedOf};
+
+pub mod input;
+pub mod line;
+pub mod part;
 
 // The most bytes that a text may have.
 pub const TEXT_MOST: usize = 65536;
@@ -303,7 +308,8 @@ pub fn wanted_for(format: Format, v: i64) -> Wanted
 // Hands on the first k numbers of the text.
 fn give(text: &[u8], k: usize, out: &mut [i64]) -> Reading
     requires { ⌜ (firstBad (pieces (now text)) ≡ none) × (k ≤ length (pieces (now text))) ⌝ }
-    ensures { λ r. ⌜ (r ≡ answer none k (length (now (out .entry)))) × (now (out .exit) ≡ leftBy r (numbers (pieces (now (text .entry)))) (now (out .entry))) ⌝ }
+    ensures { λ r. ⌜ (r ≡ answer none k (length (now (out .entry))))
+        × (now (out .exit) ≡ leftBy r (numbers (pieces (now (text .entry)))) (now (out .entry))) ⌝ }
 {
     if out.len() < k {
         return Reading::Refused(Refusal {
@@ -318,7 +324,8 @@ fn give(text: &[u8], k: usize, out: &mut [i64]) -> Reading
 // Tests the count of a text whose pieces are all numbers, and hands them on. `count` is how many there are.
 fn count_and_give(text: &[u8], format: Format, count: usize, out: &mut [i64]) -> Reading
     requires { ⌜ (firstBad (pieces (now text)) ≡ none) × (length (pieces (now text)) ≡ count) ⌝ }
-    ensures { λ r. ⌜ (r ≡ countedOf format (now (text .entry)) (length (now (out .entry)))) × (now (out .exit) ≡ leftBy r (numbers (pieces (now (text .entry)))) (now (out .entry))) ⌝ }
+    ensures { λ r. ⌜ (r ≡ countedOf format (now (text .entry)) (length (now (out .entry))))
+        × (now (out .exit) ≡ leftBy r (numbers (pieces (now (text .entry)))) (now (out .entry))) ⌝ }
 {
     match next(text, 0) {
         Step::End => return Reading::Refused(Refusal {
@@ -352,11 +359,12 @@ fn count_and_give(text: &[u8], format: Format, count: usize, out: &mut [i64]) ->
     }
 }
 
-// Reads the numbers of a text into the front of `out`. A first pass looks at each piece, and a second one fills `out`, so
-// that a refusal leaves it as it was. Refusal 19 goes before the space: a text that is too long, then
-// the first piece that is no number, then too few or too many numbers.
+// Reads the numbers of a text into the front of `out`. A first pass looks at each piece, and a second one fills `out`,
+// so that a refusal leaves it as it was. Refusal 19 goes before the space: a text that is too long, then the first
+// piece that is no number, then too few or too many numbers.
 pub fn read(text: &[u8], format: Format, out: &mut [i64]) -> Reading
-    ensures { λ r. ⌜ (r ≡ readingOf format (now (text .entry)) (length (now (out .entry)))) × (now (out .exit) ≡ leftBy r (numbers (pieces (now (text .entry)))) (now (out .entry))) ⌝ }
+    ensures { λ r. ⌜ (r ≡ readingOf format (now (text .entry)) (length (now (out .entry))))
+        × (now (out .exit) ≡ leftBy r (numbers (pieces (now (text .entry)))) (now (out .entry))) ⌝ }
 {
     if TEXT_MOST < text.len() {
         return Reading::Refused(Refusal {
@@ -373,9 +381,11 @@ pub fn read(text: &[u8], format: Format, out: &mut [i64]) -> Reading
     }
 }
 
-// The same for a program's text, where `longer` says that more was sent than the program's buffer of 65,536 bytes holds.
+// The same for a program's text, where `longer` says that more was sent than the program's buffer of 65,536 bytes
+// holds.
 pub fn read_input(text: &[u8], longer: bool, format: Format, out: &mut [i64]) -> Reading
-    ensures { λ r. ⌜ (r ≡ inputOf longer format (now (text .entry)) (length (now (out .entry)))) × (now (out .exit) ≡ leftBy r (numbers (pieces (now (text .entry)))) (now (out .entry))) ⌝ }
+    ensures { λ r. ⌜ (r ≡ inputOf longer format (now (text .entry)) (length (now (out .entry))))
+        × (now (out .exit) ≡ leftBy r (numbers (pieces (now (text .entry)))) (now (out .entry))) ⌝ }
 {
     if longer {
         return Reading::Refused(Refusal {
@@ -420,7 +430,8 @@ fn put(bytes: &[u8], out: &mut [u8], at: usize)
 
 // Copies the bytes into `out` from `at` on, where they fit.
 pub fn copy(bytes: &[u8], out: &mut [u8], at: usize) -> Written
-    ensures { λ r. ⌜ (r ≡ writtenOf (length (now (bytes .entry))) (length (now (out .entry))) at) × (now (out .exit) ≡ standing r (now (bytes .entry)) at (now (out .entry))) ⌝ }
+    ensures { λ r. ⌜ (r ≡ writtenOf (length (now (bytes .entry))) (length (now (out .entry))) at)
+        × (now (out .exit) ≡ standing r (now (bytes .entry)) at (now (out .entry))) ⌝ }
 {
     let k = bytes.len();
     let room = out.len();
@@ -452,11 +463,12 @@ pub fn size(n: i64) -> u64
     n as u64
 }
 
-// The digits of m at the end of the buffer, the last one first; where they begin. A number of 64 bits has at most 20 digits, so
-// that a place is left for a minus.
+// The digits of m at the end of the buffer, the last one first; where they begin. A number of 64 bits has at most 20
+// digits, so that a place is left for a minus.
 fn digits_back(m: u64, buffer: &mut [u8; 21]) -> usize
     requires { ⌜ length (now buffer) ≡ 21 ⌝ }
-    ensures { λ r. ⌜ (drop r (now (buffer .exit)) ≡ digits m) × (1 ≤ r) × (r ≤ 21) × (length (now (buffer .exit)) ≡ 21) ⌝ }
+    ensures { λ r. ⌜ (drop r (now (buffer .exit)) ≡ digits m) × (1 ≤ r) × (r ≤ 21)
+        × (length (now (buffer .exit)) ≡ 21) ⌝ }
 {
     let mut rest = m;
     let mut at: usize = 21;
@@ -486,7 +498,8 @@ fn form(n: i64, buffer: &mut [u8; 21]) -> usize
 
 // Writes the decimal form of n into `out` from `at` on, where it fits.
 pub fn write(n: i64, out: &mut [u8], at: usize) -> Written
-    ensures { λ r. ⌜ (r ≡ writtenOf (length (decimalOf n)) (length (now (out .entry))) at) × (now (out .exit) ≡ standing r (decimalOf n) at (now (out .entry))) ⌝ }
+    ensures { λ r. ⌜ (r ≡ writtenOf (length (decimalOf n)) (length (now (out .entry))) at)
+        × (now (out .exit) ≡ standing r (decimalOf n) at (now (out .entry))) ⌝ }
 {
     let mut buffer = [0u8; 21];
     let from = form(n, &mut buffer);
@@ -495,7 +508,8 @@ pub fn write(n: i64, out: &mut [u8], at: usize) -> Written
 
 // The same for a natural number of 64 bits.
 pub fn write_natural(n: u64, out: &mut [u8], at: usize) -> Written
-    ensures { λ r. ⌜ (r ≡ writtenOf (length (digits n)) (length (now (out .entry))) at) × (now (out .exit) ≡ standing r (digits n) at (now (out .entry))) ⌝ }
+    ensures { λ r. ⌜ (r ≡ writtenOf (length (digits n)) (length (now (out .entry))) at)
+        × (now (out .exit) ≡ standing r (digits n) at (now (out .entry))) ⌝ }
 {
     let mut buffer = [0u8; 21];
     let from = digits_back(n, &mut buffer);

@@ -19,18 +19,19 @@ use lib.IntN.{ℤ, pos, negsuc}
 use lib.Signed.{ltZ}
 use Rattle.basics.specs.Choice.{pick}
 use Rattle.basics.proofs.Choice.{pick-false, clash}
-use Rattle.refusal.specs.Refusal.{_orElse_, tableLength}
-use Rattle.refusal.specs.declared.Refusal.{Refusal}
-use Rattle.refusal.specs.declared.Checked.{Checked}
-use Rattle.refusal.specs.declared.Checked.the-variants.{Accepted, Refused}
-use Rattle.refusal.proofs.Apart.{refused-accepted}
-use Rattle.refusal.proofs.Answers.{both-pass, pass-both, first-refuses, then-next}
-use Rattle.refusal.proofs.Numbered.{Among, among-first}
+use Rattle.call.specs.Refusal.{_orElse_, tableLength}
+use Rattle.call.specs.declared.refusal.Refusal.{Refusal}
+use Rattle.call.specs.declared.refusal.Checked.{Checked}
+use Rattle.call.specs.declared.refusal.Checked.the-variants.{Accepted, Refused}
+use Rattle.call.proofs.Apart.{refused-accepted}
+use Rattle.call.proofs.Answers.{both-pass, pass-both, first-refuses, then-next}
+use Rattle.call.proofs.Numbered.{Among, among-first}
 use Rattle.symbol.specs.Check.{symbolCheck}
 use Rattle.symbol.specs.Symbol.{IsSymbol}
 use Rattle.symbol.proofs.Accepted.{accepted, check-among}
-use Rattle.subgroup_pairs.specs.Symbols.{contained}
-use Rattle.towers.specs.Tower.{orZero, entryVertices, entryTable, entryCheck, fromEntry, namedAt, verticesAt, tableAt, symbolsCheck, listedBefore, claimHolds}
+use Rattle.containment.specs.TwoSymbols.{contained}
+use Rattle.towers.specs.Tower.{orZero, entryVertices, entryTable, entryCheck, fromEntry, namedAt, verticesAt, tableAt, symbolsCheck, listedBefore}
+use Rattle.towers.specs.Tower.{claimHolds}
 use Rattle.towers.specs.Meaning.{AreSymbols, NameListed}
 use Rattle.towers.specs.Inner.Entries.{EntriesWhole, StartsAt}
 use Rattle.towers.proofs.Entries.{symbol-fits}
@@ -128,7 +129,8 @@ listed-names t e (inr m) = ap (λ (x : ℤ). listedBefore x e) (m .is) ∙ lt-lt
 -- ---- as the code reads them
 
 -- the checks of the part from p on
-pub entry-read : (n : ℕ) {t : List ℤ} {e p : ℕ} → StartsAt t e p → (k : ℕ) → k ≡ suc e → (r : Checked) → r ≡ entryCheck (eqb k n) (take (length t - p) (drop p t))
+pub entry-read : (n : ℕ) {t : List ℤ} {e p : ℕ} → StartsAt t e p → (k : ℕ) → k ≡ suc e → (r : Checked) → r
+    ≡ entryCheck (eqb k n) (take (length t - p) (drop p t))
     → r ≡ entryCheck (eqb (suc e) n) (fromEntry t e)
 entry-read n {t} {e} {p} s k z r h =
     let a : take (length t - p) (drop p t) ≡ fromEntry t e = take-all (length t - p) (drop p t) (omega (arith, length-drop p t)) ∙ s .rest in

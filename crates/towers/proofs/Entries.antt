@@ -18,7 +18,7 @@ use lib.IntN.{ℤ, pos, negsuc}
 use lib.Signed.{ltZ}
 use Rattle.matrix.specs.Matrix.{nth}
 use Rattle.symbol.specs.Symbol.{IsSymbol}
-use Rattle.subgroup_pairs.specs.Symbols.{contained}
+use Rattle.containment.specs.TwoSymbols.{contained}
 use Rattle.towers.specs.Tower.{orZero, entryVertices, entryTable, fromEntry, namedAt, verticesAt, tableAt}
 use Rattle.towers.specs.Meaning.{AreSymbols}
 use Rattle.towers.specs.Inner.Entries.{EntriesWhole, StartsAt, EndsAt}
@@ -72,7 +72,8 @@ module _ {t : List ℤ} {e p : ℕ} (s : StartsAt t e p) where
   }
 
 -- from an entry to the next, by its v as the code reads it
-pub starts-on : {t : List ℤ} {e p : ℕ} → StartsAt t e p → 3 * verticesAt t e + 3 ≤ length (fromEntry t e) → (v : ℕ) → v ≡ orZero (nth t (p + 1)) → (k : ℕ) → k ≡ suc e
+pub starts-on : {t : List ℤ} {e p : ℕ} → StartsAt t e p → 3 * verticesAt t e + 3 ≤ length (fromEntry t e) → (v : ℕ) → v ≡ orZero (nth t (p + 1)) → (k : ℕ) → k
+    ≡ suc e
     → StartsAt t k (p + (3 * v + 3))
 starts-on {t} {e} {p} s h v q k z =
     let a : StartsAt t (suc e) (p + (3 * verticesAt t e + 3)) = starts-next s h in

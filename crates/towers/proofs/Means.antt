@@ -1,4 +1,4 @@
--- What the answer of a tower means: `tower-means`.
+-- What the refusal of a tower means, or that there is none (`towerOf`, `TowerMeans`): `tower-means`.
 -- Why: the checks before 26 pass exactly where all entries have symbols and no name is at fault; then a claim holds exactly where `contained` says so.
 -- Assumes nothing.
 use mathlib.Core.Path.{_≡_, refl, sym, _∙_, ap}
@@ -14,22 +14,38 @@ use Rattle.basics.specs.Choice.{pick}
 use Rattle.basics.specs.Count.{first}
 use Rattle.basics.proofs.Choice.{pick-true, clash}
 use Rattle.basics.proofs.Count.{Clear, Found, found}
-use Rattle.refusal.specs.Refusal.{_orElse_, checkedRefusal, refusal, tooShort, notListedBefore, falseClaim}
-use Rattle.refusal.specs.declared.Refusal.{Refusal}
-use Rattle.refusal.specs.declared.Checked.{Checked}
-use Rattle.refusal.specs.declared.Checked.the-variants.{Accepted, Refused}
-use Rattle.refusal.proofs.Apart.{refused-accepted}
-use Rattle.refusal.proofs.Answers.{both-pass, pass-both}
-use Rattle.refusal.proofs.Numbered.{Among, among-first}
-use Rattle.workspace.specs.Space.{workLength}
+use Rattle.call.specs.Refusal.{_orElse_, checkedRefusal, refusal, tooShort, notListedBefore, falseClaim}
+use Rattle.call.specs.declared.refusal.Refusal.{Refusal}
+use Rattle.call.specs.declared.refusal.Checked.{Checked}
+use Rattle.call.specs.declared.refusal.Checked.the-variants.{Accepted, Refused}
+use Rattle.call.proofs.Apart.{refused-accepted}
+use Rattle.call.proofs.Answers.{both-pass, pass-both}
+use Rattle.call.proofs.Numbered.{Among, among-first}
+use Rattle.call.specs.Space.{workLength}
 use Rattle.symbol.specs.Check.{refuse, refuseAt}
 use Rattle.symbol.proofs.Accepted.{passes, pass, passes-at, pass-at, among-refuse}
+use Rattle.symbol.proofs.Order.{accept-at}
 use Rattle.pairing.specs.Inner.Admitted.{workCheck}
-use Rattle.subgroup_pairs.proofs.Symbols.{containment}
-use Rattle.inclusion.proofs.Means.{does-contain, contains-not}
-use Rattle.towers.specs.Tower.{namedAt, verticesAt, tableAt, symbolsCheck, listedBefore, unlisted, namedCheck, claimHolds, claimFails, claimsCheck, entriesCheck, towerOf}
-use Rattle.towers.specs.Meaning.{AreSymbols, NameListed, ClaimTrue, FirstUnlisted, FirstFalse, TowerMeans}
+use Rattle.containment.proofs.TwoSymbols.{containment}
+use Rattle.containment.proofs.InclusionMeans.{does-contain, contains-not}
+use Rattle.towers.specs.Tower.{namedAt, verticesAt, tableAt, symbolsCheck, listedBefore, unlisted, namedCheck, claimHolds, claimFails, claimsCheck}
+use Rattle.towers.specs.Meaning.{AreSymbols, NameListed, ClaimTrue, TrueTower, FirstUnlisted, FirstFalse}
+use Rattle.towers.specs.Answer.{countCheck}
 use Rattle.towers.proofs.Checks.{symbols-accepted, symbols-among, names-listed, listed-names}
+
+-- what comes before the work space, and the whole
+abbrev pub entriesCheck : ℕ → List ℤ → Checked
+entriesCheck n t = countCheck n orElse symbolsCheck n t n orElse namedCheck n t
+
+abbrev pub towerOf : ℕ → List ℤ → (work : ℕ) → Checked
+towerOf n t work = entriesCheck n t orElse pick (eqb n 0) Accepted (workCheck work orElse claimsCheck n t)
+
+pub record TowerMeans (n : ℕ) (t : List ℤ) (work : ℕ) (r : Checked) : Type 0 where
+  pub few : r ≡ Accepted → n ≤ 64
+  pub passes : r ≡ Accepted → TrueTower n t
+  pub true-passes : n ≤ 64 → TrueTower n t → (n ≡ 0) ⊎ (workLength ≤ work) → r ≡ Accepted
+  pub not-listed : (e : ℕ) → r ≡ Refused (notListedBefore e) → FirstUnlisted n t e
+  pub false-claim : (e : ℕ) → r ≡ Refused (falseClaim e) → FirstFalse n t e
 
 -- ---- which check refused
 
@@ -62,6 +78,9 @@ module _ (n : ℕ) (t : List ℤ) where
 
   listed-clear : ((e : ℕ) → e < n → NameListed t e) → Clear (unlisted t) n
   listed-clear l = record { none = λ e h. ap not (listed-names t e (l e h)) }
+
+  pub names-passed : (k : ℕ) → k ≡ first (unlisted t) n → n ≤ k → (e : ℕ) → e < n → NameListed t e
+  names-passed k is l = all-listed (passes-at (unlisted t) n notListedBefore (accept-at (unlisted t) n k notListedBefore is l))
 
   -- ---- 26
 
@@ -105,7 +124,8 @@ module _ (n : ℕ) (t : List ℤ) where
         earlier = c;
         named = m .named;
         is = m .is;
-        itself = contains-not (verticesAt t (m .named)) (tableAt n t (m .named)) (verticesAt t e) (tableAt n t e) (s (m .named) (omega (arith, m .before, h))) (s e h)
+        itself = contains-not (verticesAt t (m .named)) (tableAt n t (m .named)) (verticesAt t e) (tableAt n t e) (s (m .named) (omega (arith, m .before, h)))
+            (s e h)
             (sym (ap (claimHolds n t e) (m .is)) ∙ p);
       }
 
@@ -180,7 +200,8 @@ module _ (n : ℕ) (t : List ℤ) (work : ℕ) where
     where
       at : entriesCheck n t ≡ Refused (notListedBefore e) → FirstUnlisted n t e
       at q =
-          let a = passed-on 1 11 (refuse (ltb 64 n) (tooShort 64)) (behind n t) (notListedBefore e) (among-refuse 1 11 (ltb 64 n) (tooShort 64) (omega arith) (omega arith))
+          let a = passed-on 1 11 (refuse (ltb 64 n) (tooShort 64)) (behind n t) (notListedBefore e)
+          (among-refuse 1 11 (ltb 64 n) (tooShort 64) (omega arith) (omega arith))
           (omega arith) q in
           let b = passed-on 1 7 (symbolsCheck n t n) (namedCheck n t) (notListedBefore e) (symbols-among n t n) (omega arith) (a .1) in
           let f = refused-first 25 (unlisted t) n e (b .1) in
@@ -223,6 +244,3 @@ module _ (n : ℕ) (t : List ℤ) (work : ℕ) where
     not-listed = unlisted-first;
     false-claim = false-first;
   }
-
-pub answer-means : (n : ℕ) (t : List ℤ) (work : ℕ) (r : Checked) → r ≡ towerOf n t work → TowerMeans n t work r
-answer-means n t work r e = rw e (tower-means n t work)

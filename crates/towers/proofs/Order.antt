@@ -1,88 +1,95 @@
--- The ways out of `tower`, in order: what the checks before the work space say (`too-many`, `bad-symbol`, `bad-name`, `all-good`), and then the
--- whole answer (`said-refused`, `said-empty`, `said-short`, `said-claims`).
+-- The ways out of `tower`, in order: a 65th entry (`too-many`), a symbol that is refused (`bad-symbol`), a name (`bad-name`); and behind these an empty tower
+-- (`is-empty`), a short work space (`is-short`), the claims (`by-claims`).
 -- Assumes nothing.
 use mathlib.Core.Path.{_≡_, refl, sym, _∙_, ap}
-use mathlib.Core.Bool.{Bool, true, false}
-use mathlib.Core.List.{List}
-use Prim.Native.Nat.{ℕ, _≤_, _<_}
-use lib.Dec.{ltb, eqb}
+use mathlib.Core.List.{List, [], _∷_}
+use Prim.Native.Nat.{ℕ, zero, suc, _≤_, _<_}
+use native.Mathlib.Omega.{arith}
 use lib.ListN.{length}
+use lib.Dec.{ltb}
 use lib.IntN.{ℤ}
-use borrow.Author.Tests.{lt-ltb, le-ltb, eq-eqb, ne-eqb}
-use Rattle.basics.specs.Choice.{pick}
+use borrow.Author.Tests.{lt-ltb, le-ltb}
 use Rattle.basics.specs.Count.{first}
-use Rattle.basics.proofs.Choice.{pick-true, pick-false}
-use Rattle.refusal.specs.Refusal.{_orElse_, tooShort, notListedBefore}
-use Rattle.refusal.specs.declared.Refusal.{Refusal}
-use Rattle.refusal.specs.declared.Checked.{Checked}
-use Rattle.refusal.specs.declared.Checked.the-variants.{Accepted, Refused}
-use Rattle.workspace.specs.Space.{workLength, zeros}
-use Rattle.symbol.proofs.Order.{first-refused, next-check, refuse-yes, refuse-no, refuse-at, accept-at}
-use Rattle.pairing.specs.Generator.{workAfter}
-use Rattle.pairing.specs.Inner.Admitted.{workCheck}
-use Rattle.towers.specs.Tower.{symbolsCheck, unlisted, namedCheck, claimsCheck, entriesCheck, towerOf, towerWork}
-use Rattle.towers.specs.Meaning.{TowerMeans}
-use Rattle.towers.proofs.Means.{answer-means}
+use Rattle.call.specs.Refusal.{_orElse_, tooShort, notListedBefore}
+use Rattle.call.specs.declared.refusal.Refusal.{Refusal}
+use Rattle.call.specs.declared.refusal.Checked.{Checked}
+use Rattle.call.specs.declared.refusal.Checked.the-variants.{Accepted, Refused}
+use Rattle.call.specs.Space.{workLength, zeros}
+use Rattle.call.specs.Call.{Step, Asks, Clears, lengthCheck}
+use Rattle.call.specs.Inner.Fills.{Fills}
+use Rattle.call.proofs.Laws.{Run, Untouched, run-end, run-stop, run-pass, run-put, run-work, room-short, fills-as}
+use Rattle.symbol.proofs.Order.{refuse-yes, refuse-no, refuse-at, accept-at}
+use Rattle.towers.specs.Tower.{symbolsCheck, unlisted, namedCheck, claimsCheck}
+use Rattle.towers.specs.Answer.{countCheck, claimSteps}
 
--- ---- before the work space
+-- ---- the work space and the claims
 
-module _ (n : ℕ) (t : List ℤ) where
-  pub too-many : 64 < n → entriesCheck n t ≡ Refused (tooShort 64)
-  too-many h = first-refused (symbolsCheck n t n orElse namedCheck n t) (refuse-yes (ltb 64 n) (tooShort 64) (lt-ltb 64 n h))
+untouched : (n : ℕ) (t : List ℤ) (w w' : List ℕ) → w' ≡ w → Untouched (claimSteps n t w w')
+untouched zero t w w' e = (e, tt)
+untouched (suc n) t w w' e = (e, tt)
 
-  few : n ≤ 64 → entriesCheck n t ≡ (symbolsCheck n t n orElse namedCheck n t)
-  few h = next-check (symbolsCheck n t n orElse namedCheck n t) (refuse-no (ltb 64 n) (tooShort 64) (le-ltb 64 n h))
+run-one : (c : Checked) {r : Checked} → r ≡ c → Run (Asks c ∷ []) r
+run-one c e = record { is = go c ∙ sym e; leaves = tt }
+  where
+    go : (c : Checked) → (c orElse Accepted) ≡ c
+    go Accepted = refl
+    go (Refused f) = refl
 
-  pub bad-symbol : n ≤ 64 → (f : Refusal) → symbolsCheck n t n ≡ Refused f → entriesCheck n t ≡ Refused f
-  bad-symbol h f e = few h ∙ first-refused (namedCheck n t) e
+empty-run : (n : ℕ) (t : List ℤ) (w w' : List ℕ) → n ≡ 0 → w' ≡ w → Run (claimSteps n t w w') Accepted
+empty-run zero t w w' z e = run-put w w w' [] e run-end
+empty-run (suc n) t w w' z e = absurd (omega (arith, z))
 
-  pub bad-name : n ≤ 64 → symbolsCheck n t n ≡ Accepted → (k : ℕ) → k ≡ first (unlisted t) n → k < n → entriesCheck n t ≡ Refused (notListedBefore k)
-  bad-name h s k e l = few h ∙ next-check (namedCheck n t) s ∙ refuse-at (unlisted t) n k notListedBefore e l
+short-run : (n : ℕ) (t : List ℤ) (w w' : List ℕ) → (n ≡ 0 → ⊥) → length w < workLength → w' ≡ w → Run (claimSteps n t w w') (Refused (tooShort workLength))
+short-run zero t w w' z h e = absurd (z refl)
+short-run (suc n) t w w' z h e =
+    run-stop (tooShort workLength) (lengthCheck workLength (length w)) (Clears w w' ∷ Asks (claimsCheck (suc n) t) ∷ [])
+    (room-short workLength (length w) h) (e, tt)
 
-  pub all-good : n ≤ 64 → symbolsCheck n t n ≡ Accepted → (k : ℕ) → k ≡ first (unlisted t) n → n ≤ k → entriesCheck n t ≡ Accepted
-  all-good h s k e l = few h ∙ next-check (namedCheck n t) s ∙ accept-at (unlisted t) n k notListedBefore e l
+claims-run : (n : ℕ) (t : List ℤ) (w w' : List ℕ) → (n ≡ 0 → ⊥) → workLength ≤ length w → {r : Checked} → r ≡ claimsCheck n t → w' ≡ zeros (length w)
+    → Run (claimSteps n t w w') r
+claims-run zero t w w' z h p e = absurd (z refl)
+claims-run (suc n) t w w' z h p e = run-work w (Asks (claimsCheck (suc n) t) ∷ []) w' h e (run-one (claimsCheck (suc n) t) p)
 
--- ---- the whole answer
+-- ---- the whole
 
-abbrev pub Said : ℕ → List ℤ → List ℕ → Checked → List ℕ → Type 0
-Said n t w r w' = (r ≡ towerOf n t (length w)) × ((w' ≡ towerWork n t w) × TowerMeans n t (length w) r)
+module _ (n : ℕ) (t : List ℤ) (w w' : List ℕ) where
+  abbrev named : List Step
+  named = Asks (namedCheck n t) ∷ claimSteps n t w w'
 
-same-either : (b : Bool) (w : List ℕ) → w ≡ pick b w w
-same-either true w = refl
-same-either false w = refl
+  abbrev symbols : List Step
+  symbols = Asks (symbolsCheck n t n) ∷ named
 
-module _ (n : ℕ) (t : List ℤ) (w : List ℕ) where
-  abbrev behind : Checked
-  behind = workCheck (length w) orElse claimsCheck n t
+  abbrev Said : Checked → Type 0
+  Said r = Fills (Asks (countCheck n) ∷ symbols) (λ (c : Checked). c) r
 
-  said : (r : Checked) (w' : List ℕ) → r ≡ towerOf n t (length w) → w' ≡ towerWork n t w → Said n t w r w'
-  said r w' e f = (e, (f, answer-means n t (length w) r e))
+  pub too-many : 64 < n → w' ≡ w → Said (Refused (tooShort 64))
+  too-many h e =
+      fills-as {by = λ (c : Checked). c}
+      (run-stop (tooShort 64) (countCheck n) symbols (refuse-yes (ltb 64 n) (tooShort 64) (lt-ltb 64 n h)) (untouched n t w w' e)) refl
 
-  pub said-refused : (f : Refusal) → entriesCheck n t ≡ Refused f → Said n t w (Refused f) w
-  said-refused f e =
-      said (Refused f) w (sym (first-refused (pick (eqb n 0) Accepted behind) e))
-      (same-either (eqb n 0) w ∙ ap (λ (c : Checked). pick (eqb n 0) w (workAfter c w)) (sym e))
+  few : n ≤ 64 → {d : Checked} → Run symbols d → Said d
+  few h k = fills-as {by = λ (c : Checked). c} (run-pass (countCheck n) symbols (refuse-no (ltb 64 n) (tooShort 64) (le-ltb 64 n h)) k) refl
 
-  pub said-empty : entriesCheck n t ≡ Accepted → n ≡ 0 → Said n t w Accepted w
-  said-empty e z =
-      said Accepted w (sym (next-check (pick (eqb n 0) Accepted behind) e ∙ pick-true (eqb n 0) Accepted behind (eq-eqb n 0 z)))
-      (sym (pick-true (eqb n 0) w (workAfter (entriesCheck n t) w) (eq-eqb n 0 z)))
+  pub bad-symbol : n ≤ 64 → (f : Refusal) → symbolsCheck n t n ≡ Refused f → w' ≡ w → Said (Refused f)
+  bad-symbol h f s e = few h (run-stop f (symbolsCheck n t n) named s (untouched n t w w' e))
 
-  some : entriesCheck n t ≡ Accepted → (n ≡ 0 → ⊥) → towerOf n t (length w) ≡ behind
-  some e z = next-check (pick (eqb n 0) Accepted behind) e ∙ pick-false (eqb n 0) Accepted behind (ne-eqb n 0 z)
+  pub bad-name : n ≤ 64 → symbolsCheck n t n ≡ Accepted → (k : ℕ) → k ≡ first (unlisted t) n → k < n → w' ≡ w
+      → Said (Refused (notListedBefore k))
+  bad-name h s k is l e =
+      few h (run-pass (symbolsCheck n t n) named s
+      (run-stop (notListedBefore k) (namedCheck n t) (claimSteps n t w w') (refuse-at (unlisted t) n k notListedBefore is l) (untouched n t w w' e)))
 
-  some-work : entriesCheck n t ≡ Accepted → (n ≡ 0 → ⊥) → towerWork n t w ≡ pick (ltb (length w) workLength) w (zeros (length w))
-  some-work e z = pick-false (eqb n 0) w (workAfter (entriesCheck n t) w) (ne-eqb n 0 z) ∙ ap (λ (c : Checked). workAfter c w) e
+  -- all entries are symbols, and all names are listed before
+  module _ (h : n ≤ 64) (s : symbolsCheck n t n ≡ Accepted) (k : ℕ) (is : k ≡ first (unlisted t) n) (l : n ≤ k) where
+    good : {d : Checked} → Run (claimSteps n t w w') d → Said d
+    good r =
+        few h (run-pass (symbolsCheck n t n) named s (run-pass (namedCheck n t) (claimSteps n t w w') (accept-at (unlisted t) n k notListedBefore is l) r))
 
-  pub said-short : entriesCheck n t ≡ Accepted → (n ≡ 0 → ⊥) → length w < workLength → Said n t w (Refused (tooShort workLength)) w
-  said-short e z h =
-      let b = lt-ltb (length w) workLength h in
-      said (Refused (tooShort workLength)) w (sym (some e z ∙ first-refused (claimsCheck n t) (refuse-yes (ltb (length w) workLength) (tooShort workLength) b)))
-      (sym (some-work e z ∙ pick-true (ltb (length w) workLength) w (zeros (length w)) b))
+    pub is-empty : n ≡ 0 → w' ≡ w → Said Accepted
+    is-empty z e = good (empty-run n t w w' z e)
 
-  pub said-claims : entriesCheck n t ≡ Accepted → (n ≡ 0 → ⊥) → workLength ≤ length w → (r : Checked) (w' : List ℕ) → r ≡ claimsCheck n t
-      → w' ≡ zeros (length w) → Said n t w r w'
-  said-claims e z h r w' p q =
-      let b = le-ltb (length w) workLength h in
-      said r w' (p ∙ sym (some e z ∙ next-check (claimsCheck n t) (refuse-no (ltb (length w) workLength) (tooShort workLength) b)))
-      (q ∙ sym (some-work e z ∙ pick-false (ltb (length w) workLength) w (zeros (length w)) b))
+    pub is-short : (n ≡ 0 → ⊥) → length w < workLength → w' ≡ w → Said (Refused (tooShort workLength))
+    is-short z b e = good (short-run n t w w' z b e)
+
+    pub by-claims : (n ≡ 0 → ⊥) → workLength ≤ length w → {r : Checked} → r ≡ claimsCheck n t → w' ≡ zeros (length w) → Said r
+    by-claims z b p e = good (claims-run n t w w' z b p e)

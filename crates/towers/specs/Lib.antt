@@ -1,4 +1,6 @@
--- What a reader of the crate `towers` must believe, in reading order: the answer of a tower, what it means; and then the inner functions.
+-- What a reader of the crate `towers` must believe, in reading order: a tower, what its answer means, the call; and
+-- then the inner functions.
 pub mod Tower
 pub mod Meaning
+pub mod Answer
 pub mod Inner

@@ -3,24 +3,22 @@
 --   AreSymbols n t        each entry has a symbol
 --   NamesEarlier t e      entry e names an entry before it
 --   NameListed t e        it does, or it names none
---   ClaimTrue n t e       the claim of entry e: the subgroup of the entry that it names, if it names one, contains its own (`Contains`, of the
---                         crate `inclusion`: every matrix of the one belongs to the other, and every generator of the one is a word in the other's)
+--   ClaimTrue n t e       the claim of entry e: the subgroup of the entry that it names, if it names one, contains its
+--                         own (`Contains`, of the crate `containment`: every matrix of the one belongs to the other,
+--                         and every generator of the one is a word in the other's)
 --   TrueTower n t         each entry has a symbol, names an entry listed before it or none, and its claim is true
 --   FirstUnlisted n t e   e is the first entry that names one not listed before it
 --   FirstFalse n t e      e is the first entry whose claim is false, where all are symbols and no name is at fault
---   TowerMeans n t work r     THE TOWER PASSES PRECISELY WHEN IT IS TRUE, given the space; and what the answers 25 and 26 mean
---   TowerSays n t work number place     the same by the refusal's number and place, which are 0 and 0 where it passes
+--   TowerSays n t work number place     THE TOWER PASSES PRECISELY WHEN IT IS TRUE, given a work space of the length
+--                         `work`: then the number is 0; and what the numbers 25 and 26 say, with the entry as place
 use mathlib.Core.Path.{_≡_}
 use mathlib.Core.Logic.{_⊎_}
 use mathlib.Core.List.{List}
 use Prim.Native.Nat.{ℕ, _≤_, _<_}
 use lib.IntN.{ℤ, pos, negsuc}
-use Rattle.refusal.specs.Refusal.{notListedBefore, falseClaim}
-use Rattle.refusal.specs.declared.Checked.{Checked}
-use Rattle.refusal.specs.declared.Checked.the-variants.{Accepted, Refused}
-use Rattle.workspace.specs.Space.{workLength}
+use Rattle.call.specs.Space.{workLength}
 use Rattle.symbol.specs.Symbol.{IsSymbol}
-use Rattle.inclusion.specs.Answer.{Contains, ContainsNot}
+use Rattle.containment.specs.Inclusion.{Contains, ContainsNot}
 use Rattle.towers.specs.Tower.{namedAt, verticesAt, tableAt}
 
 abbrev pub AreSymbols : ℕ → List ℤ → Type 0
@@ -35,7 +33,8 @@ abbrev pub NameListed : List ℤ → ℕ → Type 0
 NameListed t e = (namedAt t e ≡ negsuc 0) ⊎ NamesEarlier t e
 
 abbrev pub ClaimTrue : ℕ → List ℤ → ℕ → Type 0
-ClaimTrue n t e = (j : ℕ) → namedAt t e ≡ pos j → Contains (verticesAt t j) (tableAt n t j) (verticesAt t e) (tableAt n t e)
+ClaimTrue n t e =
+    (j : ℕ) → namedAt t e ≡ pos j → Contains (verticesAt t j) (tableAt n t j) (verticesAt t e) (tableAt n t e)
 
 pub record TrueTower (n : ℕ) (t : List ℤ) : Type 0 where
   pub symbols : AreSymbols n t
@@ -56,13 +55,6 @@ pub record FirstFalse (n : ℕ) (t : List ℤ) (e : ℕ) : Type 0 where
   pub named : ℕ
   pub is : namedAt t e ≡ pos named
   pub itself : ContainsNot (verticesAt t named) (tableAt n t named) (verticesAt t e) (tableAt n t e)
-
-pub record TowerMeans (n : ℕ) (t : List ℤ) (work : ℕ) (r : Checked) : Type 0 where
-  pub few : r ≡ Accepted → n ≤ 64
-  pub passes : r ≡ Accepted → TrueTower n t
-  pub true-passes : n ≤ 64 → TrueTower n t → (n ≡ 0) ⊎ (workLength ≤ work) → r ≡ Accepted
-  pub not-listed : (e : ℕ) → r ≡ Refused (notListedBefore e) → FirstUnlisted n t e
-  pub false-claim : (e : ℕ) → r ≡ Refused (falseClaim e) → FirstFalse n t e
 
 pub record TowerSays (n : ℕ) (t : List ℤ) (work number place : ℕ) : Type 0 where
   pub few : number ≡ 0 → n ≤ 64

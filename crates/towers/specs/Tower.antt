@@ -1,10 +1,12 @@
--- A TOWER: symbols in one lent table t, each with the number of an entry listed before that should contain it, or -1 for none. For each entry
--- come the named entry, v, and the symbol's table. Entries are counted from 0; n is how many there are.
+-- A TOWER: symbols in one lent table t, each with the number of an entry listed before that should contain it, or -1
+-- for none. For each entry come the named entry, v, and the symbol's table. Entries are counted from 0; n is how many
+-- there are.
 --
 --   orZero x              x, or 0 where it is negative, which as a v is out of range as well
 --   entryNamed l          the entry that is named by the entry with which the numbers l begin
 --   entryVertices l       its v
---   entryTable last l     its symbol's table: the next 3v + 1 numbers or the fewer left, and for the last entry all that are left
+--   entryTable last l     its symbol's table: the next 3v + 1 numbers or the fewer left, and for the last entry all
+--                         that are left
 --   entryCheck last l     its checks 1 to 7; 2 with place 0 where there is no v
 --   fromEntry t e         the numbers from entry e on
 --   namedAt, verticesAt, tableAt    the same of entry e
@@ -13,9 +15,6 @@
 --   namedCheck n t        25 with the first entry that names one not listed before it
 --   claimHolds n t e x    x is no entry, or the subgroup of the entry x contains that of the entry e
 --   claimsCheck n t       26 with the first entry whose claim is false
---   entriesCheck n t      what comes before the work space: 11 with place 64 for a 65th entry, then the symbols, then 25
---   towerOf n t work      THE ANSWER: these, then the work space, then 26
---   towerWork n t w       what the call leaves in the work space
 use mathlib.Core.Bool.{Bool, true, not}
 use mathlib.Core.List.{List}
 use Prim.Native.Nat.{ℕ, zero, suc, _+_, _*_}
@@ -25,13 +24,11 @@ use lib.IntN.{ℤ, pos, negsuc}
 use Rattle.matrix.specs.Matrix.{nth}
 use Rattle.basics.specs.Choice.{pick}
 use Rattle.basics.specs.Count.{first}
-use Rattle.refusal.specs.Refusal.{_orElse_, tooShort, tableLength, notListedBefore, falseClaim}
-use Rattle.refusal.specs.declared.Checked.{Checked}
-use Rattle.refusal.specs.declared.Checked.the-variants.{Accepted, Refused}
-use Rattle.symbol.specs.Check.{refuse, refuseAt, symbolCheck}
-use Rattle.pairing.specs.Generator.{workAfter}
-use Rattle.pairing.specs.Inner.Admitted.{workCheck}
-use Rattle.subgroup_pairs.specs.Symbols.{contained}
+use Rattle.call.specs.Refusal.{_orElse_, tableLength, notListedBefore, falseClaim}
+use Rattle.call.specs.declared.refusal.Checked.{Checked}
+use Rattle.call.specs.declared.refusal.Checked.the-variants.{Accepted, Refused}
+use Rattle.symbol.specs.Check.{refuseAt, symbolCheck}
+use Rattle.containment.specs.TwoSymbols.{contained}
 
 abbrev pub orZero : ℤ → ℕ
 orZero (pos n) = n
@@ -49,7 +46,8 @@ abbrev pub entryTable : (last : Bool) → List ℤ → List ℤ
 entryTable last l = pick last (drop 2 l) (take (3 * entryVertices l + 1) (drop 2 l))
 
 abbrev pub entryCheck : (last : Bool) → List ℤ → Checked
-entryCheck last l = pick (ltb (length l) 2) (Refused (tableLength 0)) (symbolCheck (entryVertices l) (entryTable last l))
+entryCheck last l =
+    pick (ltb (length l) 2) (Refused (tableLength 0)) (symbolCheck (entryVertices l) (entryTable last l))
 
 -- ---- all entries: each but the last takes two numbers and the 3v + 1 of its table
 
@@ -93,17 +91,3 @@ claimFails n t e = not (claimHolds n t e (namedAt t e))
 
 abbrev pub claimsCheck : ℕ → List ℤ → Checked
 claimsCheck n t = refuseAt (first (claimFails n t) n) n falseClaim
-
--- ---- the answer
-
-abbrev pub entriesCheck : ℕ → List ℤ → Checked
-entriesCheck n t = refuse (ltb 64 n) (tooShort 64) orElse symbolsCheck n t n orElse namedCheck n t
-
--- An empty tower passes, whatever space is lent: the request says so without a condition. In every other tower the work space is tested, also where no
--- entry names another.
-abbrev pub towerOf : ℕ → List ℤ → (work : ℕ) → Checked
-towerOf n t work = entriesCheck n t orElse pick (eqb n 0) Accepted (workCheck work orElse claimsCheck n t)
-
--- zeros after a tower with entries that got past the length check, else all as it was
-abbrev pub towerWork : ℕ → List ℤ → List ℕ → List ℕ
-towerWork n t w = pick (eqb n 0) w (workAfter (entriesCheck n t) w)

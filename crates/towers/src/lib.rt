@@ -1,21 +1,24 @@
-// Towers: symbols in one lent table, each naming an entry listed before it that should contain it. specs/Tower.antt says what the call answers,
-// specs/Meaning.antt what that means.
-use inclusion::contains_accepted;
-use refusal::Checked;
-use refusal::FALSE_CLAIM;
-use refusal::NOT_LISTED_BEFORE;
-use refusal::Refusal;
-use refusal::TABLE_LENGTH;
-use refusal::TOO_SHORT;
+// Towers: symbols in one lent table, each naming an entry listed before it that should contain it. specs/Answer.antt
+// says what the call answers and leaves, specs/Meaning.antt what that means.
+use call::refusal::Checked;
+use call::refusal::FALSE_CLAIM;
+use call::refusal::NOT_LISTED_BEFORE;
+use call::refusal::Refusal;
+use call::refusal::TABLE_LENGTH;
+use call::refusal::TOO_SHORT;
+use containment::inclusion::contains_accepted;
 use symbol::check;
 ghost use mathlib.Core.Path.{_≡_};
 ghost use Prim.Native.Nat.{_≤_, _<_};
 ghost use lib.ListN.{length};
 ghost use Rattle.basics.specs.Count.{first};
-ghost use Rattle.workspace.specs.Space.{zeros};
-ghost use Rattle.subgroup_pairs.specs.Symbols.{contained};
-ghost use Rattle.towers.specs.Tower.{orZero, entryCheck, verticesAt, tableAt, symbolsCheck, listedBefore, unlisted, namedAt, claimHolds, claimFails, claimsCheck, towerOf, towerWork};
-ghost use Rattle.towers.specs.Meaning.{AreSymbols, TowerMeans};
+ghost use Rattle.call.specs.Space.{zeros};
+ghost use Rattle.containment.specs.TwoSymbols.{contained};
+ghost use Rattle.call.specs.Inner.Fills.{Fills};
+ghost use Rattle.towers.specs.Tower.{orZero, entryCheck, verticesAt, tableAt, symbolsCheck, listedBefore};
+ghost use Rattle.towers.specs.Tower.{unlisted, namedAt, claimHolds, claimFails, claimsCheck};
+ghost use Rattle.towers.specs.Meaning.{AreSymbols};
+ghost use Rattle.towers.specs.Answer.{towerCall};
 ghost use Rattle.towers.specs.Inner.Entries.{EntriesWhole, StartsAt, EndsAt, ClaimReady};
 
 // The entries of a tower, at most.
@@ -31,7 +34,8 @@ fn or_zero(x: i64) -> usize
     x as usize
 }
 
-// Where the table of the entry ends with which l begins. The test keeps 3v + 3 from being reckoned where l is shorter than that.
+// Where the table of the entry ends with which l begins. The test keeps 3v + 3 from being reckoned where l is shorter
+// than that.
 fn table_end(l: &[i64], last: bool) -> usize
     requires { ⌜ 2 ≤ length (now l) ⌝ }
     ensures { λ r. ⌜ EndsAt last (now (l .entry)) r ⌝ }
@@ -123,7 +127,8 @@ fn first_unlisted(n: usize, t: &[i64]) -> usize
 // Whether the subgroup of entry j contains that of entry e.
 fn contains_entry(n: usize, t: &[i64], j: usize, e: usize, w: &mut [u16]) -> bool
     requires { ⌜ ClaimReady n (now t) (now w) × (j < n) × (e < n) ⌝ }
-    ensures { λ r. ⌜ r ≡ contained (verticesAt (now (t .entry)) e) (tableAt n (now (t .entry)) e) (verticesAt (now (t .entry)) j) (tableAt n (now (t .entry)) j) ⌝ }
+    ensures { λ r. ⌜ r ≡ contained (verticesAt (now (t .entry)) e) (tableAt n (now (t .entry)) e)
+        (verticesAt (now (t .entry)) j) (tableAt n (now (t .entry)) j) ⌝ }
 {
     let p = start_of(t, j);
     let q = start_of(t, e);
@@ -167,7 +172,7 @@ fn check_claims(n: usize, t: &[i64], w: &mut [u16]) -> Checked
     ensures { λ r. ⌜ now (w .exit) ≡ zeros (length (now (w .entry))) ⌝ }
 {
     let e = first_false(n, t, w);
-    workspace::clear(w);
+    call::workspace::clear(w);
     if e < n {
         return Checked::Refused(Refusal {
             number: FALSE_CLAIM,
@@ -177,11 +182,10 @@ fn check_claims(n: usize, t: &[i64], w: &mut [u16]) -> Checked
     Checked::Accepted
 }
 
-// Whether each of the count entries in t lies in the one that it names: 11 for a 65th entry, the symbols' checks in listing order, 25, the work space, 26.
+// Whether each of the count entries in t lies in the one that it names: 11 for a 65th entry, the symbols' checks in
+// listing order, 25, the work space, 26.
 pub fn tower(count: usize, t: &[i64], w: &mut [u16]) -> Checked
-    ensures { λ r. ⌜ r ≡ towerOf count (now (t .entry)) (length (now (w .entry))) ⌝ }
-    ensures { λ r. ⌜ now (w .exit) ≡ towerWork count (now (t .entry)) (now (w .entry)) ⌝ }
-    ensures { λ r. ⌜ TowerMeans count (now (t .entry)) (length (now (w .entry))) r ⌝ }
+    ensures { λ r. ⌜ Fills (towerCall count (now (t .entry)) w .steps) (λ (c : Checked). c) r ⌝ }
 {
     if ENTRIES < count {
         return Checked::Refused(Refusal {
@@ -203,10 +207,10 @@ pub fn tower(count: usize, t: &[i64], w: &mut [u16]) -> Checked
     if count == 0 {
         return Checked::Accepted;
     }
-    if w.len() < workspace::WORK {
+    if w.len() < call::workspace::WORK {
         return Checked::Refused(Refusal {
             number: TOO_SHORT,
-            place: workspace::WORK,
+            place: call::workspace::WORK,
         });
     }
     check_claims(count, t, w)

@@ -57,7 +57,8 @@ turn-view next f = elim (either (beginsWithQ f)) [ inl e ↦ rw e | inr e ↦ rw
 
 module _ (f : Form) (u : Unimodular f) (k : Proper f) where
   pub rows-Q : f .p + f .q ≤ f .r + f .t → (f .p ≤ f .r) × (f .q ≤ f .t)
-  rows-Q h = let m = rows (swap f) (unimodular-swap f u) (record { not-one = omega (arith, k .not-S); not-S = omega (arith, k .not-one) }) h in (m .left, m .right)
+  rows-Q h = let m = rows (swap f) (unimodular-swap f u) (record { not-one = omega (arith, k .not-S); not-S = omega (arith, k .not-one) }) h in
+      (m .left, m .right)
 
   pub rows-P : f .r + f .t < f .p + f .q → (f .r ≤ f .p) × (f .t ≤ f .q)
   rows-P h = let m = rows f u k (omega arith) in (m .left, m .right)

@@ -127,7 +127,8 @@ module _ {v : ℕ} {t : List ℤ} (g : Polygon v t) {start limit : ℕ} where
           few = omega (arith, stepped-few s, stepped-few s', o .few, block-less);
         };
         onward = onward-from rest-is
-            (onward-trans (onward-step (turnLetter (formOf c) ∷ tailOf (total (formOf b)) (formOf b)) s) (onward-step (tailOf (total (formOf b)) (formOf b)) s'));
+            (onward-trans (onward-step (turnLetter (formOf c) ∷ tailOf (total (formOf b)) (formOf b)) s)
+            (onward-step (tailOf (total (formOf b)) (formOf b)) s'));
         sign = sign-step (tailOf (total (formOf b)) (formOf b)) s' ∙ sign-step (turnLetter (formOf c) ∷ tailOf (total (formOf b)) (formOf b)) s
             ∙ ap (signLeft v t (a .sign) (a .at)) (sym rest-is);
       }
@@ -164,7 +165,8 @@ module _ {v : ℕ} {t : List ℤ} (g : Polygon v t) {start limit : ℕ} where
       onward = record {
         ends-at = ap (λ (y : ℕ). ends v t y (tailOf (total (formOf a)) (formOf a))) at-x ∙ ap (ends v t x) word;
         count = ap (λ (i : ℕ). i + length (writes v t (a .at) (tailOf (total (formOf a)) (formOf a)))) zero
-            ∙ ap (λ (y : ℕ). 0 + length (writes v t y (tailOf (total (formOf a)) (formOf a)))) at-x ∙ ap (λ (l : List Letter). 0 + length (writes v t x l)) word;
+            ∙ ap (λ (y : ℕ). 0 + length (writes v t y (tailOf (total (formOf a)) (formOf a)))) at-x
+            ∙ ap (λ (l : List Letter). 0 + length (writes v t x l)) word;
         left = ap (λ (i : ℕ). stored start limit i (writes v t (a .at) (tailOf (total (formOf a)) (formOf a))) out) zero
             ∙ ap (λ (y : ℕ). stored start limit 0 (writes v t y (tailOf (total (formOf a)) (formOf a))) out) at-x
             ∙ ap (λ (l : List Letter). stored start limit 0 (writes v t x l) out) word;
@@ -207,18 +209,21 @@ module _ {v : ℕ} {t : List ℤ} (g : Polygon v t) {start limit : ℕ} where
 -- ---- a power of Q, by which row is the smaller one
 
 powered : {v : ℕ} {t : List ℤ} {start limit : ℕ} {a b : Way} {out out' : List ℤ} (x : Letter) (f : Form) → turnLetter (formOf a) ≡ x → turnForm (formOf a) ≡ f
-    → WayStepped v t start limit x a out b out' → formOf b ≡ f → WayStepped v t start limit (turnLetter (formOf a)) a out b out' × (formOf b ≡ turnForm (formOf a))
+    → WayStepped v t start limit x a out b out' → formOf b ≡ f → WayStepped v t start limit (turnLetter (formOf a)) a out b out'
+    × (formOf b ≡ turnForm (formOf a))
 powered {v} {t} {start} {limit} {a} {b} {out} {out'} x f e g s h = (subst (λ (y : Letter). WayStepped v t start limit y a out b out') (sym e) s, h ∙ sym g)
 
 pub powered-Q : {v : ℕ} {t : List ℤ} {start limit : ℕ} {a b : Way} {out out' : List ℤ} → a .p + a .q ≤ a .r + a .s → WayStepped v t start limit Q a out b out'
-    → formOf b ≡ form (a .r - a .p) (a .s - a .q) (a .p) (a .q) → WayStepped v t start limit (turnLetter (formOf a)) a out b out' × (formOf b ≡ turnForm (formOf a))
+    → formOf b ≡ form (a .r - a .p) (a .s - a .q) (a .p) (a .q) → WayStepped v t start limit (turnLetter (formOf a)) a out b out'
+    × (formOf b ≡ turnForm (formOf a))
 powered-Q {a} h s e =
     let k = le-leb (a .p + a .q) (a .r + a .s) h in
     powered Q (form (a .r - a .p) (a .s - a .q) (a .p) (a .q)) (pick-true (beginsWithQ (formOf a)) Q P k)
     (pick-true (beginsWithQ (formOf a)) (form (a .r - a .p) (a .s - a .q) (a .p) (a .q)) (form (a .r) (a .s) (a .p - a .r) (a .q - a .s)) k) s e
 
 pub powered-P : {v : ℕ} {t : List ℤ} {start limit : ℕ} {a b : Way} {out out' : List ℤ} → a .r + a .s < a .p + a .q → WayStepped v t start limit P a out b out'
-    → formOf b ≡ form (a .r) (a .s) (a .p - a .r) (a .q - a .s) → WayStepped v t start limit (turnLetter (formOf a)) a out b out' × (formOf b ≡ turnForm (formOf a))
+    → formOf b ≡ form (a .r) (a .s) (a .p - a .r) (a .q - a .s) → WayStepped v t start limit (turnLetter (formOf a)) a out b out'
+    × (formOf b ≡ turnForm (formOf a))
 powered-P {a} h s e =
     let k = lt-leb (a .p + a .q) (a .r + a .s) h in
     powered P (form (a .r) (a .s) (a .p - a .r) (a .q - a .s)) (pick-false (beginsWithQ (formOf a)) Q P k)
@@ -234,7 +239,8 @@ module _ {v : ℕ} {t : List ℤ} {start limit : ℕ} where
       → Going v t start limit a out c out2
   going-more g h = record { sound = h .sound; onward = onward-trans (g .onward) (h .onward); sign = h .sign ∙ g .sign }
 
-  pub walked : {m : Mat} {x : ℕ} {a b c : Way} {out out1 out2 out3 : List ℤ} → Positions v t → det m ≡ pos 1 → Real v t x → Begun v t start limit m x out a out1 → Going v t start limit a out1 b out2
+  pub walked : {m : Mat} {x : ℕ} {a b c : Way} {out out1 out2 out3 : List ℤ} → Positions v t → det m ≡ pos 1 → Real v t x → Begun v t start limit m x out a out1
+      → Going v t start limit a out1 b out2
       → Ended v t start limit b out2 c out3
       → Walked v t start limit m x out c out3
   walked {m} {x} {c} k d r b g e =

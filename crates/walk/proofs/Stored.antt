@@ -22,7 +22,8 @@ module _ (start limit : ℕ) where
   stored-++ [] m n out = ap (λ (k : ℕ). stored start limit k m out) (sym (add-zero n))
   stored-++ (z ∷ l) m n out =
       let out1 = pick (ltb n limit) (set out (start + n) z) out in
-      stored-++ l m (suc n) out1 ∙ ap (λ (k : ℕ). stored start limit k m (stored start limit (suc n) l out1)) (suc-add n (length l) ∙ sym (add-suc n (length l)))
+      stored-++ l m (suc n) out1
+      ∙ ap (λ (k : ℕ). stored start limit k m (stored start limit (suc n) l out1)) (suc-add n (length l) ∙ sym (add-suc n (length l)))
 
   one-length : (b : Bool) (n : ℕ) (z : ℤ) (out : List ℤ) → length (pick b (set out (start + n) z) out) ≡ length out
   one-length true n z out = length-set out (start + n) z

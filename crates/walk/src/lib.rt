@@ -1,7 +1,7 @@
 // The walk of a matrix over the positions of a symbol, letter by letter, with the rest of the matrix as four naturals.
 //
-// It is made twice: the first time no letter has room, so that the letters are counted and nothing is stored; the second time the word
-// is known to fit. specs/Inner/Way.antt has the state and what each part leaves.
+// It is made twice: the first time no letter has room, so that the letters are counted and nothing is stored; the
+// second time the word is known to fit. specs/Inner/Way.antt has the state and what each part leaves.
 use coset::steps::back;
 use coset::steps::forth;
 use coset::steps::letter;
@@ -21,9 +21,11 @@ ghost use Rattle.matrix.specs.Words.{S};
 ghost use Rattle.matrix.specs.Euclid.{total, swap, positive, agree, sizes};
 ghost use Rattle.matrix.specs.Bounds.{Small};
 ghost use Rattle.coset.specs.Positions.{Real, lettersOf, entrySign, columnSign};
-ghost use Rattle.walk.specs.Inner.Way.{formOf, properOf, turnLetter, turnForm, stored, Setting, WayStepped, Sound, Begun, Going, Ended, Walked};
+ghost use Rattle.walk.specs.Inner.Way.{formOf, properOf, turnLetter, turnForm, stored, Setting, WayStepped};
+ghost use Rattle.walk.specs.Inner.Way.{Sound, Begun, Going, Ended, Walked};
 
-// What is left of the matrix, (p q; r s) in size, the position, how many letters are written so far, and the sign so far, plus for true.
+// What is left of the matrix, (p q; r s) in size, the position, how many letters are written so far, and the sign so
+// far, plus for true.
 pub struct Way {
     pub p: u64,
     pub q: u64,
@@ -34,10 +36,12 @@ pub struct Way {
     pub sign: bool,
 }
 
-// One letter more, none for 0: it is stored where its number is below the limit. Returns how many letters there are then.
+// One letter more, none for 0: it is stored where its number is below the limit. Returns how many letters there are
+// then.
 fn put(out: &mut [i16], start: usize, limit: usize, count: usize, letter: i16) -> usize
     requires { ⌜ (limit ≤ length (now out) - start) × (count ≤ 2 ^ 61) ⌝ }
-    ensures { λ r. ⌜ (r ≡ count + length (lettersOf letter)) × (now (out .exit) ≡ stored start limit count (lettersOf letter) (now (out .entry))) ⌝ }
+    ensures { λ r. ⌜ (r ≡ count + length (lettersOf letter))
+        × (now (out .exit) ≡ stored start limit count (lettersOf letter) (now (out .entry))) ⌝ }
 {
     if letter == 0 {
         return count;
@@ -60,7 +64,8 @@ fn cross(
     limit: usize,
 ) -> Way
     requires { ⌜ Setting (now t) v (now w) (now out) start limit × Real v (now t) (way .at) × (way .count ≤ 2 ^ 61) ⌝ }
-    ensures { λ r. ⌜ WayStepped v (now (t .entry)) start limit S way (now (out .entry)) r (now (out .exit)) × (formOf r ≡ swap (formOf way)) ⌝ }
+    ensures { λ r. ⌜ WayStepped v (now (t .entry)) start limit S way (now (out .entry)) r (now (out .exit))
+        × (formOf r ≡ swap (formOf way)) ⌝ }
 {
     let at = way.at;
     let z = letter(t, v, w, at);
@@ -88,8 +93,10 @@ fn power(
     start: usize,
     limit: usize,
 ) -> Way
-    requires { ⌜ Setting (now t) v (now w) (now out) start limit × Sound v (now t) (2 ^ 61) way × (properOf (formOf way) ≡ true) ⌝ }
-    ensures { λ r. ⌜ WayStepped v (now (t .entry)) start limit (turnLetter (formOf way)) way (now (out .entry)) r (now (out .exit)) × (formOf r ≡ turnForm (formOf way)) ⌝ }
+    requires { ⌜ Setting (now t) v (now w) (now out) start limit × Sound v (now t) (2 ^ 61) way
+        × (properOf (formOf way) ≡ true) ⌝ }
+    ensures { λ r. ⌜ WayStepped v (now (t .entry)) start limit (turnLetter (formOf way)) way (now (out .entry)) r
+        (now (out .exit)) × (formOf r ≡ turnForm (formOf way)) ⌝ }
 {
     let at = way.at;
     if way.p + way.q <= way.r + way.s {
@@ -131,8 +138,9 @@ fn is_proper(way: Way) -> bool
     way.p + way.s != 0
 }
 
-// S and a power of Q: the rows change places and the smaller one is taken from the larger, so each row stays where it is; the tables lead over both at
-// once. A turn changes nothing of what it writes, so its letter is read where it has led to. In an alternating word S and Q⁻¹ add a minus each.
+// S and a power of Q: the rows change places and the smaller one is taken from the larger, so each row stays where it
+// is; the tables lead over both at once. A turn changes nothing of what it writes, so its letter is read where it has
+// led to. In an alternating word S and Q⁻¹ add a minus each.
 fn block(
     t: &[i64],
     v: usize,
@@ -142,8 +150,10 @@ fn block(
     start: usize,
     limit: usize,
 ) -> Way
-    requires { ⌜ Setting (now t) v (now w) (now out) start limit × Sound v (now t) (2 ^ 60) way × (properOf (formOf way) ≡ true) ⌝ }
-    ensures { λ r. ⌜ Going v (now (t .entry)) start limit way (now (out .entry)) r (now (out .exit)) × (total (formOf r) < total (formOf way)) × (length (now (out .exit)) ≡ length (now (out .entry))) ⌝ }
+    requires { ⌜ Setting (now t) v (now w) (now out) start limit × Sound v (now t) (2 ^ 60) way
+        × (properOf (formOf way) ≡ true) ⌝ }
+    ensures { λ r. ⌜ Going v (now (t .entry)) start limit way (now (out .entry)) r (now (out .exit))
+        × (total (formOf r) < total (formOf way)) × (length (now (out .exit)) ≡ length (now (out .entry))) ⌝ }
 {
     let at = way.at;
     let z = letter(t, v, w, at);
@@ -188,7 +198,8 @@ fn finish(
     start: usize,
     limit: usize,
 ) -> Way
-    requires { ⌜ Setting (now t) v (now w) (now out) start limit × Sound v (now t) (2 ^ 60) way × (properOf (formOf way) ≡ false) ⌝ }
+    requires { ⌜ Setting (now t) v (now w) (now out) start limit × Sound v (now t) (2 ^ 60) way
+        × (properOf (formOf way) ≡ false) ⌝ }
     ensures { λ r. ⌜ Ended v (now (t .entry)) start limit way (now (out .entry)) r (now (out .exit)) ⌝ }
 {
     if way.q + way.r == 0 {
@@ -255,7 +266,8 @@ fn sign_of_column(m: [i64; 4]) -> bool
 // The state before the first letter.
 fn whole(m: [i64; 4], home: usize) -> Way
     requires { ⌜ Small (2 ^ 50) (ofList m) ⌝ }
-    ensures { λ r. ⌜ (formOf r ≡ sizes (ofList m)) × (r .at ≡ home) × (r .count ≡ 0) × (r .sign ≡ columnSign (ofList m)) ⌝ }
+    ensures { λ r. ⌜ (formOf r ≡ sizes (ofList m)) × (r .at ≡ home) × (r .count ≡ 0)
+        × (r .sign ≡ columnSign (ofList m)) ⌝ }
 {
     Way {
         p: magnitude(m[0]),
@@ -279,8 +291,10 @@ fn begin(
     start: usize,
     limit: usize,
 ) -> Way
-    requires { ⌜ Setting (now t) v (now w) (now out) start limit × Real v (now t) home × (det (ofList m) ≡ pos 1) × Small (2 ^ 50) (ofList m) ⌝ }
-    ensures { λ r. ⌜ Begun v (now (t .entry)) start limit (ofList m) home (now (out .entry)) r (now (out .exit)) × (length (now (out .exit)) ≡ length (now (out .entry))) ⌝ }
+    requires { ⌜ Setting (now t) v (now w) (now out) start limit × Real v (now t) home × (det (ofList m) ≡ pos 1)
+        × Small (2 ^ 50) (ofList m) ⌝ }
+    ensures { λ r. ⌜ Begun v (now (t .entry)) start limit (ofList m) home (now (out .entry)) r (now (out .exit))
+        × (length (now (out .exit)) ≡ length (now (out .entry))) ⌝ }
 {
     let way = whole(m, home);
     if rows_agree(m) {
@@ -289,8 +303,8 @@ fn begin(
     way
 }
 
-// The walk that follows m from home: where it ends, how many letters it writes, and the sign of m against them. The first `limit` of them are stored in
-// `out`, from the place `start` on.
+// The walk that follows m from home: where it ends, how many letters it writes, and the sign of m against them. The
+// first `limit` of them are stored in `out`, from the place `start` on.
 pub fn walk(
     t: &[i64],
     v: usize,
@@ -301,7 +315,8 @@ pub fn walk(
     start: usize,
     limit: usize,
 ) -> Way
-    requires { ⌜ Setting (now t) v (now w) (now out) start limit × Real v (now t) home × (det (ofList m) ≡ pos 1) × Small (2 ^ 50) (ofList m) ⌝ }
+    requires { ⌜ Setting (now t) v (now w) (now out) start limit × Real v (now t) home × (det (ofList m) ≡ pos 1)
+        × Small (2 ^ 50) (ofList m) ⌝ }
     ensures { λ r. ⌜ Walked v (now (t .entry)) start limit (ofList m) home (now (out .entry)) r (now (out .exit)) ⌝ }
 {
     let mut way = begin(t, v, w, m, home, out, start, limit);

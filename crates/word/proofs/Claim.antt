@@ -1,16 +1,16 @@
 -- THE CLAIM (specs/Claim.antt), from what the crate `coset` promises of an accepted symbol: its positions with their steps, frames and signs, the
 -- start and the only reduced word (`Positions`), and its tables (`Cosets`).
 --
--- In order: the walk comes home exactly where a word exists (`joined-home`, `home-product`, the normal form `home-normal`, with its sign `home-exact`; the walk's equation `walk-is`),
--- and where A and B lead to the same point (`joined-same`, `same-joined`); the word's letters, its length (`letters-of`, `bound-of`, `sixteen-of`); the word in its place (`part-placed`);
--- the three answers (`absent`, `fitting`, `too-short`); the claim (`answered`).
+-- In order: the walk comes home exactly where a word exists (`joined-home`, `home-product`, the normal form `home-normal`, with its sign `home-exact`; the
+-- walk's equation `walk-is`), and where A and B lead to the same point (`joined-same`, `same-joined`); the word's letters, its length (`letters-of`,
+-- `bound-of`, `sixteen-of`); the word in its place (`part-placed`); the three answers (`absent`, `fitting`, `too-short`); the claim (`answered`).
 --
 -- Why: a product W of generators has W A ≈ B exactly where W ≈ B A⁻¹, so such a product exists exactly where B A⁻¹ is in H, and H is the
 -- stabiliser of the start.
 -- Assumes nothing.
 use mathlib.Core.Path.{_≡_, refl, sym, _∙_, ap, subst}
 use mathlib.Core.Logic.{_⊎_, inl, inr}
-use mathlib.Core.Bool.{Bool, true, false, _&&_}
+use mathlib.Core.Bool.{Bool, true, false, not, _&&_}
 use mathlib.Core.List.{List, [], _∷_, _++_, append-assoc}
 use Prim.Native.Nat.{ℕ, zero, suc, _+_, _-_, _≤_, _<_}
 use native.Mathlib.Omega.{arith}
@@ -26,14 +26,17 @@ use Rattle.matrix.proofs.Matrix.{⊗-assoc, ⊗-idr, ⊗-adj, adj-⊗, det-adj,
 use Rattle.symbol.specs.Symbol.{IsSymbol}
 use Rattle.pairing.specs.Generator.{generators}
 use Rattle.pairing.specs.Subgroup.{IsWord, valueOf}
-use Rattle.basics.proofs.Choice.{either, clash, pick-true, pick-false, and-left, and-right}
+use Rattle.basics.proofs.Choice.{clash, pick-true, and-left, and-right}
 use Rattle.coset.specs.Positions.{startOf, followed, walkEnds, Polygon, withSign, querySign, Signs, FrameEquation, Positions}
 use Rattle.coset.specs.Tables.{tableS, tableR}
-use Rattle.coset.specs.Theorem.{leads}
+use Rattle.right_cosets.specs.Leads.{leads}
 use Rattle.coset.proofs.Answer.{meaning}
-use Rattle.refusal.specs.Refusal.{noWord, tooShort}
-use Rattle.refusal.specs.declared.Refusal.{Refusal}
-use Rattle.word.specs.Answer.{placed, closes, foundWord, foundSign, wordFits, wordOrShort, foundOf, wordLeft, partOf}
+use Rattle.call.specs.Refusal.{_orElse_, noWord, tooShort}
+use Rattle.call.specs.declared.refusal.Refusal.{Refusal}
+use Rattle.call.specs.declared.refusal.Checked.the-variants.{Accepted}
+use Rattle.call.specs.Call.{verdict}
+use Rattle.symbol.specs.Check.{refuse}
+use Rattle.word.specs.Answer.{placed, closes, foundWord, foundSign, wordFits, wordIf, foundIf, foundChecks, wordLeft, partOf}
 use Rattle.word.specs.Claim.{Joined, Fits, NormalWord, Answered}
 use Rattle.word.specs.declared.Queried.{Queried}
 use Rattle.word.specs.declared.Queried.the-variants as queried
@@ -93,7 +96,7 @@ module _ {v : ℕ} {t : List ℤ} (ok : IsSymbol v t) (A B : Mat) (d : det A ≡
       let W = valueOf (generators v t) (j .word) in
       ≈-sym (≈-right (adj A) (j .is)) ∙≈ inl (⊗-assoc W A (adj A) ∙ ap (λ (m : Mat). W ⊗ m) (⊗-adj A d) ∙ ⊗-idr W)
 
-  joined-home : Joined v t A B → closes v t A B ≡ true
+  pub joined-home : Joined v t A B → closes v t A B ≡ true
   unfolding closes
   joined-home j = eq-eqb (walkEnds v t X) (startOf v t) (g .stabiliser X X-unit .0 (record { word = j .word; letters = j .letters; is = joined-value j }))
 
@@ -135,15 +138,15 @@ module _ {v : ℕ} {t : List ℤ} (ok : IsSymbol v t) (A B : Mat) (d : det A ≡
   sixteen-of : (i : ℕ) → i < length word → natAbs (getD word i (pos 0)) ≤ 1024
   sixteen-of i h = omega (arith, letter-most (length (generators v t)) word letters-of i h, all .few-generators)
 
-  home-joined : closes v t A B ≡ true → Joined v t A B
+  pub home-joined : closes v t A B ≡ true → Joined v t A B
   home-joined h = record { word = word; letters = letters-of; is = home-product h }
 
   -- ---- the same point of the tables
 
-  joined-same : Joined v t A B → leads (tableS v t) (tableR v t) A ≡ leads (tableS v t) (tableR v t) B
+  pub joined-same : Joined v t A B → leads (tableS v t) (tableR v t) A ≡ leads (tableS v t) (tableR v t) B
   joined-same j = meaning ok .cosets .cosets A B d e .1 j
 
-  same-joined : leads (tableS v t) (tableR v t) A ≡ leads (tableS v t) (tableR v t) B → Joined v t A B
+  pub same-joined : leads (tableS v t) (tableR v t) A ≡ leads (tableS v t) (tableR v t) B → Joined v t A B
   same-joined q = meaning ok .cosets .cosets A B d e .0 q
 
   -- ---- the three answers
@@ -167,7 +170,10 @@ module _ {v : ℕ} {t : List ℤ} (ok : IsSymbol v t) (A B : Mat) (d : det A ≡
         let no : Joined v t A B → ⊥ = λ j. clash (joined-home j) h in
         record {
           found = ((λ f. elim f [ inl z ↦ absurd (omega (arith, same-number z)) | inr z ↦ absurd (omega (arith, same-number z)) ]), (λ j. absurd (no j)));
-          points = ((λ f. elim f [ inl z ↦ absurd (omega (arith, same-number z)) | inr z ↦ absurd (omega (arith, same-number z)) ]), (λ e. absurd (no (same-joined e))));
+          points = (
+            (λ f. elim f [ inl z ↦ absurd (omega (arith, same-number z)) | inr z ↦ absurd (omega (arith, same-number z)) ]),
+            (λ e. absurd (no (same-joined e))),
+          );
           letters = λ f. letters-of;
           product = λ f. elim f [ inl z ↦ absurd (omega (arith, same-number z)) | inr z ↦ absurd (omega (arith, same-number z)) ];
           normal = λ f. elim f [ inl z ↦ absurd (omega (arith, same-number z)) | inr z ↦ absurd (omega (arith, same-number z)) ];
@@ -240,25 +246,11 @@ module _ {v : ℕ} {t : List ℤ} (ok : IsSymbol v t) (a b : List ℤ) (d : det 
   abbrev Left : Queried → Type 0
   Left r = Answered v t (ofList a) (ofList b) l q out start r (wordLeft r l out)
 
-  abbrev Home : Bool → Type 0
-  Home h = closes v t (ofList a) (ofList b) ≡ h
+  answered-by : (home room : Bool) → closes v t (ofList a) (ofList b) ≡ home → wordFits start (length l) (length out) ≡ room
+      → Left (wordIf start (length l) q (refuse (not home) noWord orElse refuse (not room) (tooShort (length l)) orElse Accepted))
+  answered-by false room h k = absent ok (ofList a) (ofList b) d e out start h
+  answered-by true true h k = fitting ok (ofList a) (ofList b) d e out start h k
+  answered-by true false h k = too-short ok (ofList a) (ofList b) d e out start h k
 
-  abbrev Room : Bool → Type 0
-  Room k = wordFits start (length l) (length out) ≡ k
-
-  in-room : Home true → wordOrShort (length l) q start (length out) ≡ foundOf v t a b start (length out)
-  in-room h = sym (pick-true (closes v t (ofList a) (ofList b)) (wordOrShort (length l) q start (length out)) (queried.Refused noWord) h)
-
-  answered-by : Home true ⊎ Home false → Room true ⊎ Room false → Left (foundOf v t a b start (length out))
-  answered-by (inr h) k =
-      subst Left (sym (pick-false (closes v t (ofList a) (ofList b)) (wordOrShort (length l) q start (length out)) (queried.Refused noWord) h))
-      (absent ok (ofList a) (ofList b) d e out start h)
-  answered-by (inl h) (inl k) =
-      subst Left (sym (pick-true (wordFits start (length l) (length out)) (queried.Word start (length l) q) (queried.Refused (tooShort (length l))) k) ∙ in-room h)
-      (fitting ok (ofList a) (ofList b) d e out start h k)
-  answered-by (inl h) (inr k) =
-      subst Left (sym (pick-false (wordFits start (length l) (length out)) (queried.Word start (length l) q) (queried.Refused (tooShort (length l))) k) ∙ in-room h)
-      (too-short ok (ofList a) (ofList b) d e out start h k)
-
-  pub answered : Left (foundOf v t a b start (length out))
-  answered = answered-by (either (closes v t (ofList a) (ofList b))) (either (wordFits start (length l) (length out)))
+  pub answered : Left (foundIf v t a b start (verdict (foundChecks v t a b start (length out))))
+  answered = answered-by (closes v t (ofList a) (ofList b)) (wordFits start (length l) (length out)) refl refl

@@ -1,10 +1,10 @@
--- Laws for the functions that walk: the matrix that is followed, within its bounds (`between-room`, `between-small`, `ready`, `pair-ready`), and what its walk
--- is (`along-found`, `end-found`); what a walk finds (`Result`, `setting`, `result`) and leaves (`kept-out`, `placed-out`); the answers by
--- it (`not-home`, `too-far`, `too-long`, `fitting`).
+-- Laws for the functions that walk: the matrix that is followed, within its bounds (`between-room`, `between-small`, `ready`, `pair-ready`), and the steps
+-- of its walk (`as-found`); what a walk finds (`Result`, `setting`, `result`) and leaves (`kept-out`, `placed-out`); the answers by it (`not-home`, `too-far`,
+-- `too-long`, `fitting`), by whether it came home (`away`, `at-home`).
 -- Assumes nothing.
-use mathlib.Core.Path.{_≡_, sym, _∙_, ap, subst}
-use mathlib.Core.Bool.{Bool, _&&_}
-use mathlib.Core.List.{List}
+use mathlib.Core.Path.{_≡_, refl, sym, _∙_, ap, subst}
+use mathlib.Core.Bool.{Bool, true, false, not, _&&_}
+use mathlib.Core.List.{List, [], _∷_, _++_}
 use Prim.Native.Nat.{ℕ, _*_, _-_, _^_, _≤_, _<_}
 use native.Mathlib.Omega.{arith}
 use lib.Dec.{leb, eqb, lit<}
@@ -17,17 +17,22 @@ use Rattle.matrix.specs.Euclid.{wordOf}
 use Rattle.matrix.specs.Action as action
 use Rattle.matrix.proofs.Matrix.{det-adj, det-one}
 use Rattle.matrix.proofs.Bounds.{small-adj, small-⊗, room}
-use Rattle.basics.proofs.Choice.{pick-true, pick-false}
 use Rattle.coset.specs.Positions.{Real, startOf, followed, ends, querySign}
 use Rattle.coset.specs.Inner.Steps.{BuiltSteps}
 use Rattle.coset.proofs.Positions.{positions}
 use Rattle.walk.specs.Inner.Way.{stored, Setting, Walked}
 use Rattle.walk.specs.declared.Way.{Way}
 use Rattle.walk.proofs.Stored.{stored-none, stored-all}
-use Rattle.refusal.specs.Refusal.{noWord, tooShort}
-use Rattle.word.specs.Answer.{placed, closes, foundWord, foundSign, wordFits, wordOrShort, foundOf}
+use Rattle.call.specs.Refusal.{noWord, tooShort}
+use Rattle.call.specs.declared.refusal.Checked.{Checked}
+use Rattle.call.specs.Call.{Step, Asks, Gives}
+use Rattle.call.specs.Inner.Fills.{Fills}
+use Rattle.call.proofs.Laws.{Run, run-end, run-stop, run-pass, run-put, fills-as}
+use Rattle.symbol.specs.Check.{refuse}
+use Rattle.word.specs.Answer.{placed, closes, foundWord, foundSign, wordFits, walkChecks, wordIf, foundIf}
 use Rattle.word.specs.Claim.{Asked}
-use Rattle.word.specs.Inner.Ready.{lettersAlong, signAlongWalk, endOf, WalkReady, PairReady}
+use Rattle.word.specs.Inner.Ready.{lettersAlong, signAlongWalk, homeAlong, WalkReady, PairReady}
+use Rattle.word.specs.declared.Queried.{Queried}
 use Rattle.word.specs.declared.Queried.the-variants as queried
 use Rattle.word.proofs.Turned.{followed-small}
 
@@ -59,14 +64,20 @@ pub pair-ready : {v : ℕ} {t a b : List ℤ} {w₀ w : List ℕ} {x : ℕ} → 
 pair-ready q e =
     record { prepared = e .prepared; start = e .start; entries-A = q .entries-A; entries-B = q .entries-B; unit-A = q .unit-A; unit-B = q .unit-B }
 
-module _ (v : ℕ) (t a b : List ℤ) {m : List ℤ} (m-is : m ≡ toList (followed v t (ofList b ⊗ adj (ofList a)))) where
-  pub along-found : lettersAlong v t (ofList m) ≡ foundWord v t (ofList a) (ofList b)
-  unfolding lettersAlong foundWord
-  along-found = ap (λ (l : List ℤ). lettersAlong v t (ofList l)) m-is
+-- ---- its steps
 
-  pub end-found : (start room : ℕ) → endOf v t (ofList m) start room ≡ foundOf v t a b start room
-  unfolding lettersAlong signAlongWalk closes foundWord foundSign querySign action.at
-  end-found start room = ap (λ (l : List ℤ). endOf v t (ofList l) start room) m-is
+abbrev pub walkRun : (home : Bool) (l out out' : List ℤ) (start : ℕ) → List Step
+walkRun home l out out' start = walkChecks home l start (length out) ++ Gives (placed start l out) out out' ∷ []
+
+-- those of the walk along the matrix that is followed are those of the walk from A to B
+pub as-found : (v : ℕ) (t a b : List ℤ) {m : List ℤ} → m ≡ toList (followed v t (ofList b ⊗ adj (ofList a))) → (out out' : List ℤ) (start : ℕ) (r : Queried)
+    → Fills (walkRun (homeAlong v t (ofList m)) (lettersAlong v t (ofList m)) out out' start)
+    (wordIf start (length (lettersAlong v t (ofList m))) (signAlongWalk v t (ofList m))) r
+    → Fills (walkRun (closes v t (ofList a) (ofList b)) (foundWord v t (ofList a) (ofList b)) out out' start) (foundIf v t a b start) r
+unfolding lettersAlong signAlongWalk homeAlong closes foundWord foundSign querySign action.at
+as-found v t a b m-is out out' start r g =
+    subst (λ (l : List ℤ). Fills (walkRun (homeAlong v t (ofList l)) (lettersAlong v t (ofList l)) out out' start)
+    (wordIf start (length (lettersAlong v t (ofList l))) (signAlongWalk v t (ofList l))) r) m-is g
 
 -- ---- what a walk finds
 
@@ -79,10 +90,16 @@ pub record Result (v : ℕ) (t : List ℤ) (m : Mat) (start limit : ℕ) (out : 
 module _ {v : ℕ} {t m : List ℤ} {w : List ℕ} {x : ℕ} (q : WalkReady t v w m x) where
   pub setting : (start limit : ℕ) (out : List ℤ) → limit ≤ length out - start → Setting t v w out start limit × Real v t x × (det (ofList m) ≡ pos 1)
       × Small (2 ^ 50) (ofList m)
-  setting start limit out h =
-      (record { prepared = q .prepared; room = h }, subst (Real v t) (sym (q .start)) (positions (q .prepared .tables .symbol) .polygon .start), q .unit, q .small)
+  setting start limit out h = (
+    record { prepared = q .prepared; room = h },
+    subst (Real v t) (sym (q .start))
+        (positions (q .prepared .tables .symbol) .polygon .start),
+    q .unit,
+    q .small,
+  )
 
-  pub result : {start limit : ℕ} {out out' : List ℤ} {end : Way} → Walked v t start limit (ofList m) x out end out' → Result v t (ofList m) start limit out end out'
+  pub result : {start limit : ℕ} {out out' : List ℤ} {end : Way} → Walked v t start limit (ofList m) x out end out' → Result v t
+      (ofList m) start limit out end out'
   unfolding lettersAlong signAlongWalk
   result {start} {limit} {out} {out'} {end} k =
       let k' = subst (λ (y : ℕ). Walked v t start limit (ofList m) y out end out') (q .start) k in
@@ -101,34 +118,53 @@ placed-out {v} {t} {m} {start} {n} {out} {out1} {out2} e f h k r =
 
 -- ---- the answers
 
-module _ (v : ℕ) (t : List ℤ) (m : Mat) (start room : ℕ) where
+module _ (home : Bool) (l out out' : List ℤ) (start : ℕ) (q : Bool) where
   abbrev n : ℕ
-  n = length (lettersAlong v t m)
+  n = length l
 
-  abbrev q : Bool
-  q = signAlongWalk v t m
+  abbrev Answers : Queried → Type 0
+  Answers r = Fills (walkRun home l out out' start) (wordIf start n q) r
 
-  abbrev last : ℕ
-  last = ends v t (startOf v t) (wordOf m)
+  abbrev space : Checked
+  space = refuse (not (wordFits start n (length out))) (tooShort n)
 
-  pub not-home : (x : ℕ) → x ≡ last → (x ≡ startOf v t → ⊥) → (queried.Refused noWord) ≡ endOf v t m start room
-  not-home x e h = sym (pick-false (eqb last (startOf v t)) (wordOrShort n q start room) (queried.Refused noWord) (ne-eqb last (startOf v t) (λ z. h (e ∙ z))))
+  abbrev put : List Step
+  put = Gives (placed start l out) out out' ∷ []
 
-  at-home : (x : ℕ) → x ≡ last → x ≡ startOf v t → wordOrShort n q start room ≡ endOf v t m start room
-  at-home x e h = sym (pick-true (eqb last (startOf v t)) (wordOrShort n q start room) (queried.Refused noWord) (eq-eqb last (startOf v t) (sym e ∙ h)))
+  pub not-home : home ≡ false → out' ≡ out → Answers (queried.Refused noWord)
+  not-home h e = fills-as (run-stop noWord (refuse (not home) noWord) (Asks space ∷ put) (ap (λ (b : Bool). refuse (not b) noWord) h) (e, tt)) refl
 
-  module _ (x : ℕ) (e : x ≡ last) (h : x ≡ startOf v t) where
-    pub too-far : room < start → queried.Refused (tooShort n) ≡ endOf v t m start room
-    too-far k =
-        sym (pick-false (wordFits start n room) (queried.Word start n q) (queried.Refused (tooShort n))
-        (ap (λ (c : Bool). c && leb n (room - start)) (lt-leb start room k))) ∙ at-home x e h
+  module _ (h : home ≡ true) (k : ℕ) (long : k ≡ n) where
+    came : {c : Checked} → Run (Asks space ∷ put) c → Run (walkRun home l out out' start) c
+    came r = run-pass (refuse (not home) noWord) (Asks space ∷ put) (ap (λ (b : Bool). refuse (not b) noWord) h) r
 
-    fits-by : start ≤ room → wordFits start n room ≡ leb n (room - start)
-    fits-by k = ap (λ (c : Bool). c && leb n (room - start)) (le-leb start room k)
+    no-room : wordFits start n (length out) ≡ false → out' ≡ out → Answers (queried.Refused (tooShort k))
+    no-room f e =
+        fills-as (came (run-stop (tooShort n) space put (ap (λ (b : Bool). refuse (not b) (tooShort n)) f) (e, tt)))
+        (ap (λ (i : ℕ). queried.Refused (tooShort i)) long)
 
-    pub too-long : start ≤ room → room - start < n → queried.Refused (tooShort n) ≡ endOf v t m start room
-    too-long k l = sym (pick-false (wordFits start n room) (queried.Word start n q) (queried.Refused (tooShort n)) (fits-by k ∙ lt-leb n (room - start) l))
-        ∙ at-home x e h
+    pub too-far : length out < start → out' ≡ out → Answers (queried.Refused (tooShort k))
+    too-far f = no-room (ap (λ (c : Bool). c && leb n (length out - start)) (lt-leb start (length out) f))
 
-    pub fitting : start ≤ room → n ≤ room - start → queried.Word start n q ≡ endOf v t m start room
-    fitting k l = sym (pick-true (wordFits start n room) (queried.Word start n q) (queried.Refused (tooShort n)) (fits-by k ∙ le-leb n (room - start) l)) ∙ at-home x e h
+    fits-by : start ≤ length out → wordFits start n (length out) ≡ leb n (length out - start)
+    fits-by f = ap (λ (c : Bool). c && leb n (length out - start)) (le-leb start (length out) f)
+
+    pub too-long : start ≤ length out → length out - start < k → out' ≡ out → Answers (queried.Refused (tooShort k))
+    too-long f g = no-room (fits-by f ∙ lt-leb n (length out - start) (omega (arith, g, long)))
+
+    pub fitting : (s : Bool) → s ≡ q → start ≤ length out → k ≤ length out - start → out' ≡ placed start l out → Answers (queried.Word start k s)
+    fitting s is f g e =
+        fills-as
+        (came (run-pass space put (ap (λ (b : Bool). refuse (not b) (tooShort n)) (fits-by f ∙ le-leb n (length out - start) (omega (arith, g, long))))
+        (run-put (placed start l out) out out' [] e run-end)))
+        (ap (λ (i : ℕ). queried.Word start i s) long ∙ ap (queried.Word start n) is)
+
+-- the walk came home, or it didn't
+module _ (v : ℕ) (t : List ℤ) (m : Mat) {x : ℕ} (e : x ≡ ends v t (startOf v t) (wordOf m)) where
+  pub away : (x ≡ startOf v t → ⊥) → homeAlong v t m ≡ false
+  unfolding homeAlong
+  away h = ne-eqb (ends v t (startOf v t) (wordOf m)) (startOf v t) (λ z. h (e ∙ z))
+
+  pub at-home : x ≡ startOf v t → homeAlong v t m ≡ true
+  unfolding homeAlong
+  at-home h = eq-eqb (ends v t (startOf v t) (wordOf m)) (startOf v t) (sym e ∙ h)

@@ -3,6 +3,6 @@ pub mod Pair
 pub mod Turned
 pub mod Claim
 pub mod Returned
+pub mod Finding
 pub mod Refused
 pub mod Order
-pub mod Finding

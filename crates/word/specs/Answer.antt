@@ -1,4 +1,4 @@
--- The answer of a pair query, and what it leaves in the two lent spaces.
+-- The answer of a pair query, and its steps: the refusals in the order of docs/CONVENTIONS.md, and what it leaves.
 --
 --   Queried                     the answer of `query`
 --   queryRefusal                the refusal that the answer is, noRefusal for a word
@@ -6,17 +6,23 @@
 --   entryAt a b i               the entry i of the pair: 0 to 3 in A, 4 to 7 in B
 --   large a b i                 whether it is beyond 1,000,000 in size
 --   unit m                      whether the determinant of m is 1
---   passes a b                  whether the pair passes 8 and 9
+--   matricesCheck a b               8 for the first entry that is large; then 9, for A before B
 --   closes v t m n              whether the walk from m to n, which follows n m⁻¹, ends where it began
 --   foundWord v t m n           the word that it writes
---   foundSign v t m n           the sign that it tells: the word times m is that sign times n, where the walk comes home
---   wordFits start n room       whether n letters fit in a space of `room` letters from the place `start` on
+--   foundSign v t m n           the sign that it tells: the word times m is that sign times n, where the walk comes
+--                               home
 --   signNumber s                the sign s as a number: 1 for plus, -1 for minus
---   wordOrShort, foundOf        the word with its sign, or 11 with its length; the same, or 10 where the walk doesn't come home
---   queryOf v t a b work room start     the refusals in the order of docs/CONVENTIONS.md, or the word
---   queryWork v t a b w         what the call leaves in the work space: zeros where it got past the length check, else all as it was
+--   wordFits start n room       whether n letters fit in a space of `room` letters from the place `start` on
 --   placed start l out          the letters l in place of those that stood from `start` on
---   wordLeft r l out            what the call leaves in the word space: the letters l from the start place on, or all as it was
+--   walkChecks home l start room    10 where the walk doesn't come home, then 11 with the length of its word l
+--   wordSteps home l out start  these two, and the letters l from the start place on as the result
+--   foundChecks, foundSteps     the same of the walk from A to B
+--   querySteps v t a b w out start  THE STEPS OF A QUERY: 1 to 7, then 8 and 9, then the work space, then 10, then the
+--                               word space, in which it leaves its word
+--   wordIf start n sign c       the answer by the verdict c: the word, or the refusal
+--   foundIf v t a b start c     the same of the walk from A to B
+--   queryOf v t a b work room start    the answer of a query, by the lengths of its spaces
+--   wordLeft r l out            what a query with the answer r leaves in the word space
 --   partOf out start n          the part of n letters from `start` on, empty where it doesn't fit
 use mathlib.Core.Bool.{Bool, true, false, not, _&&_}
 use mathlib.Core.List.{List, [], _∷_, _++_}
@@ -26,14 +32,14 @@ use lib.ListN.{length, take, drop}
 use lib.IntN.{ℤ, pos, negsuc, natAbs}
 use Rattle.matrix.specs.Matrix.{Mat, _⊗_, adj, det, nth, ofList}
 use Rattle.basics.specs.Choice.{pick}
-use Rattle.workspace.specs.Space.{workLength}
-use Rattle.refusal.specs.Refusal.{noRefusal, matrixEntry, badDeterminant, noWord, tooShort}
-use Rattle.refusal.specs.declared.Refusal.{Refusal}
+use Rattle.call.specs.Space.{workLength}
+use Rattle.call.specs.Refusal.{_orElse_, noRefusal, matrixEntry, badDeterminant, noWord, tooShort}
+use Rattle.call.specs.declared.refusal.Refusal.{Refusal}
 use Rattle.basics.specs.Count.{first}
-use Rattle.symbol.specs.Check.{eqZ, symbolCheck}
-use Rattle.pairing.specs.Generator.{workAfter}
-use Rattle.refusal.specs.declared.Checked.{Checked}
-use Rattle.refusal.specs.declared.Checked.the-variants.{Accepted, Refused}
+use Rattle.call.specs.declared.refusal.Checked.{Checked}
+use Rattle.call.specs.declared.refusal.Checked.the-variants.{Accepted, Refused}
+use Rattle.call.specs.Call.{Lent, Step, asks, work, resultIn, lengthCheck, verdict}
+use Rattle.symbol.specs.Check.{eqZ, refuse, refuseAt, symbolCheck}
 use Rattle.coset.specs.Positions.{startOf, walkEnds, walkWrites, querySign}
 use Rattle.word.specs.declared.Queried.{Queried}
 use Rattle.word.specs.declared.Queried.the-variants as queried
@@ -56,8 +62,11 @@ large a b i = not (leb (natAbs (entryAt a b i)) 1000000)
 abbrev pub unit : List ℤ → Bool
 unit m = eqZ (det (ofList m)) (pos 1)
 
-abbrev pub passes : (a b : List ℤ) → Bool
-passes a b = not (ltb (first (large a b) 8) 8) && (unit a && unit b)
+abbrev pub matricesCheck : (a b : List ℤ) → Checked
+matricesCheck a b =
+    refuseAt (first (large a b) 8) 8 matrixEntry
+    orElse refuse (not (unit a)) (badDeterminant 0)
+    orElse refuse (not (unit b)) (badDeterminant 1)
 
 -- ---- the walk
 
@@ -74,45 +83,50 @@ abbrev pub signNumber : Bool → ℤ
 signNumber true = pos 1
 signNumber false = negsuc 0
 
--- ---- the answer
+-- ---- the steps
 
 abbrev pub wordFits : (start n room : ℕ) → Bool
 wordFits start n room = leb start room && leb n (room - start)
 
-abbrev pub wordOrShort : (n : ℕ) (sign : Bool) (start room : ℕ) → Queried
-wordOrShort n sign start room = pick (wordFits start n room) (queried.Word start n sign) (queried.Refused (tooShort n))
-
-abbrev pub foundOf : (v : ℕ) (t a b : List ℤ) (start room : ℕ) → Queried
-foundOf v t a b start room =
-    pick (closes v t (ofList a) (ofList b))
-    (wordOrShort (length (foundWord v t (ofList a) (ofList b))) (foundSign v t (ofList a) (ofList b)) start room)
-    (queried.Refused noWord)
-
-abbrev pub queryByWork : (work : ℕ) → Queried → Queried
-queryByWork work r = pick (ltb work workLength) (queried.Refused (tooShort workLength)) r
-
--- 9, A before B
-abbrev pub byDeterminants : (a b : List ℤ) → Queried → Queried
-byDeterminants a b r = pick (unit a) (pick (unit b) r (queried.Refused (badDeterminant 1))) (queried.Refused (badDeterminant 0))
-
--- 8, A before B
-abbrev pub byEntries : (a b : List ℤ) → Queried → Queried
-byEntries a b r = let i = first (large a b) 8 in pick (ltb i 8) (queried.Refused (matrixEntry i)) r
-
-abbrev pub byCheck : Checked → Queried → Queried
-byCheck (Refused f) r = queried.Refused f
-byCheck Accepted r = r
-
-abbrev pub queryOf : (v : ℕ) (t a b : List ℤ) (work room start : ℕ) → Queried
-queryOf v t a b work room start = byCheck (symbolCheck v t) (byEntries a b (byDeterminants a b (queryByWork work (foundOf v t a b start room))))
-
--- ---- what it leaves
-
-abbrev pub queryWork : (v : ℕ) (t a b : List ℤ) → List ℕ → List ℕ
-queryWork v t a b w = pick (passes a b) (workAfter (symbolCheck v t) w) w
-
 abbrev pub placed : ℕ → (l out : List ℤ) → List ℤ
 placed start l out = take start out ++ l ++ drop (start + length l) out
+
+abbrev pub walkChecks : (home : Bool) (l : List ℤ) (start room : ℕ) → List Step
+walkChecks home l start room =
+    asks (refuse (not home) noWord) ++ asks (refuse (not (wordFits start (length l) room)) (tooShort (length l)))
+
+abbrev pub wordSteps : (home : Bool) (l : List ℤ) → Lent (List ℤ) → (start : ℕ) → List Step
+wordSteps home l out start =
+    walkChecks home l start (length (out .entry .now)) ++ resultIn (placed start l (out .entry .now)) out
+
+-- those of the walk from A to B
+abbrev pub foundSteps : (v : ℕ) (t a b : List ℤ) → Lent (List ℤ) → (start : ℕ) → List Step
+foundSteps v t a b out start =
+    wordSteps (closes v t (ofList a) (ofList b)) (foundWord v t (ofList a) (ofList b)) out start
+
+abbrev pub querySteps : (v : ℕ) (t a b : List ℤ) → Lent (List ℕ) → Lent (List ℤ) → (start : ℕ) → List Step
+querySteps v t a b w out start =
+    asks (symbolCheck v t) ++ asks (matricesCheck a b) ++ work w ++ foundSteps v t a b out start
+
+-- ---- the answer
+
+abbrev pub wordIf : (start n : ℕ) (sign : Bool) → Checked → Queried
+wordIf start n sign Accepted = queried.Word start n sign
+wordIf start n sign (Refused f) = queried.Refused f
+
+abbrev pub foundIf : (v : ℕ) (t a b : List ℤ) (start : ℕ) → Checked → Queried
+foundIf v t a b start =
+    wordIf start (length (foundWord v t (ofList a) (ofList b))) (foundSign v t (ofList a) (ofList b))
+
+abbrev pub foundChecks : (v : ℕ) (t a b : List ℤ) (start room : ℕ) → List Step
+foundChecks v t a b start room =
+    walkChecks (closes v t (ofList a) (ofList b)) (foundWord v t (ofList a) (ofList b)) start room
+
+abbrev pub queryOf : (v : ℕ) (t a b : List ℤ) (work room start : ℕ) → Queried
+queryOf v t a b work room start =
+    foundIf v t a b start
+    (verdict (asks (symbolCheck v t) ++ asks (matricesCheck a b) ++ asks (lengthCheck workLength work)
+    ++ foundChecks v t a b start room))
 
 abbrev pub wordLeft : Queried → (l out : List ℤ) → List ℤ
 wordLeft (queried.Word start n sign) l out = placed start l out

@@ -1,18 +1,19 @@
-// Pair queries: whether some product of a symbol's generators and their inverses takes one matrix to another, up to sign, which, and with which sign.
+// Pair queries: whether some product of a symbol's generators and their inverses takes one matrix to another, up to
+// sign, which, and with which sign.
 //
 // specs/Answer.antt says what a query answers and leaves, specs/Claim.antt what that means.
+use call::refusal::BAD_DETERMINANT;
+use call::refusal::Checked;
+use call::refusal::MATRIX_ENTRY;
+use call::refusal::NO_WORD;
+use call::refusal::Refusal;
+use call::refusal::TOO_SHORT;
 use coset::steps::build;
 use coset::steps::is_turned;
 use matrix::determinant;
 use matrix::inverse;
 use matrix::matrix_s;
 use matrix::product;
-use refusal::BAD_DETERMINANT;
-use refusal::Checked;
-use refusal::MATRIX_ENTRY;
-use refusal::NO_WORD;
-use refusal::Refusal;
-use refusal::TOO_SHORT;
 use symbol::check;
 use walk::walk;
 ghost use mathlib.Core.Path.{_≡_};
@@ -22,13 +23,15 @@ ghost use lib.ListN.{length};
 ghost use lib.IntN.{natAbs};
 ghost use Rattle.matrix.specs.Matrix.{ofList, toList, _⊗_, adj};
 ghost use Rattle.matrix.specs.Bounds.{Small};
-ghost use Rattle.workspace.specs.Space.{zeros};
+ghost use Rattle.call.specs.Space.{zeros};
 ghost use Rattle.basics.specs.Count.{first};
 ghost use Rattle.symbol.specs.Symbol.{IsSymbol};
 ghost use Rattle.coset.specs.Positions.{followed};
-ghost use Rattle.word.specs.Answer.{queryRefusal, signNumber, four, entryAt, large, unit, foundWord, foundOf, queryOf, queryWork, wordLeft, partOf};
-ghost use Rattle.word.specs.Claim.{Asked, Claim};
-ghost use Rattle.word.specs.Inner.Ready.{judgedOf, lettersAlong, endOf, WalkReady, PairReady};
+ghost use Rattle.call.specs.Inner.Fills.{Fills};
+ghost use Rattle.word.specs.Answer.{queryRefusal, signNumber, four, entryAt, large, unit, matricesCheck, partOf};
+ghost use Rattle.word.specs.Answer.{wordSteps, wordIf, foundSteps, foundIf, querySteps};
+ghost use Rattle.word.specs.Claim.{Asked};
+ghost use Rattle.word.specs.Inner.Ready.{lettersAlong, signAlongWalk, homeAlong, WalkReady, PairReady};
 
 // The answer of `query`.
 pub enum Queried {
@@ -89,21 +92,30 @@ fn is_unit(m: [i64; 4]) -> bool
     determinant(m) == 1
 }
 
-// Refusals 8 and 9: the first entry that is too large, 8 or 9 for the first determinant that isn't 1, or 10 where the pair passes.
-pub fn judge(a: [i64; 4], b: [i64; 4]) -> usize
-    ensures { λ r. ⌜ r ≡ judgedOf a b ⌝ }
+// Refusals 8 and 9: the first entry that is too large, then the first determinant that isn't 1.
+pub fn pair_check(a: [i64; 4], b: [i64; 4]) -> Checked
+    ensures { λ r. ⌜ r ≡ matricesCheck a b ⌝ }
 {
     let i = first_large(a, b);
     if i < 8 {
-        return i;
+        return Checked::Refused(Refusal {
+            number: MATRIX_ENTRY,
+            place: i,
+        });
     }
     if !is_unit(a) {
-        return 8;
+        return Checked::Refused(Refusal {
+            number: BAD_DETERMINANT,
+            place: 0,
+        });
     }
     if !is_unit(b) {
-        return 9;
+        return Checked::Refused(Refusal {
+            number: BAD_DETERMINANT,
+            place: 1,
+        });
     }
-    10
+    Checked::Accepted
 }
 
 // The matrix that the walk from a to b follows: b a⁻¹, or S⁻¹ b a⁻¹ S where it starts turned round.
@@ -120,8 +132,8 @@ fn matrix_between(t: &[i64], v: usize, a: [i64; 4], b: [i64; 4]) -> [i64; 4]
     x
 }
 
-// The answer by the walk along m from home, by the tables in the work space: the letters are counted first, and stored once they are
-// known to fit.
+// The answer by the walk along m from home, by the tables in the work space: the letters are counted first, and stored
+// once they are known to fit.
 fn find(
     t: &[i64],
     v: usize,
@@ -132,8 +144,10 @@ fn find(
     start: usize,
 ) -> Queried
     requires { ⌜ WalkReady (now t) v (now w) m home ⌝ }
-    ensures { λ r. ⌜ r ≡ endOf v (now (t .entry)) (ofList m) start (length (now (out .entry))) ⌝ }
-    ensures { λ r. ⌜ now (out .exit) ≡ wordLeft r (lettersAlong v (now (t .entry)) (ofList m)) (now (out .entry)) ⌝ }
+    ensures { λ r. ⌜ Fills
+        (wordSteps (homeAlong v (now (t .entry)) (ofList m)) (lettersAlong v (now (t .entry)) (ofList m)) out start)
+        (wordIf start (length (lettersAlong v (now (t .entry)) (ofList m)))
+        (signAlongWalk v (now (t .entry)) (ofList m))) r ⌝ }
 {
     let end = walk(t, v, w, m, home, out, start, 0);
     if end.at != home {
@@ -171,8 +185,7 @@ pub fn answer_ready(
     start: usize,
 ) -> Queried
     requires { ⌜ PairReady (now t) v (now w) a b home ⌝ }
-    ensures { λ r. ⌜ r ≡ foundOf v (now (t .entry)) a b start (length (now (out .entry))) ⌝ }
-    ensures { λ r. ⌜ now (out .exit) ≡ wordLeft r (foundWord v (now (t .entry)) (ofList a) (ofList b)) (now (out .entry)) ⌝ }
+    ensures { λ r. ⌜ Fills (foundSteps v (now (t .entry)) a b out start) (foundIf v (now (t .entry)) a b start) r ⌝ }
 {
     let m = matrix_between(t, v, a, b);
     find(t, v, w, m, home, out, start)
@@ -189,18 +202,17 @@ fn answer(
     start: usize,
 ) -> Queried
     requires { ⌜ Asked v (now t) a b (now w) ⌝ }
-    ensures { λ r. ⌜ r ≡ foundOf v (now (t .entry)) a b start (length (now (out .entry))) ⌝ }
-    ensures { λ r. ⌜ now (out .exit) ≡ wordLeft r (foundWord v (now (t .entry)) (ofList a) (ofList b)) (now (out .entry)) ⌝ }
+    ensures { λ r. ⌜ Fills (foundSteps v (now (t .entry)) a b out start) (foundIf v (now (t .entry)) a b start) r ⌝ }
     ensures { λ r. ⌜ now (w .exit) ≡ zeros (length (now (w .entry))) ⌝ }
 {
     let home = build(t, v, w);
     let found = answer_ready(t, v, w, home, a, b, out, start);
-    workspace::clear(w);
+    call::workspace::clear(w);
     found
 }
 
-// A word in the generators that takes A to B up to sign, with that sign, from the start place on in `out`: checks 1 to 7, then 8 and 9, A before B
-// under each, then the work space, then 10, then the word space.
+// A word in the generators that takes A to B up to sign, with that sign, from the start place on in `out`: checks 1 to
+// 7, then 8 and 9, A before B under each, then the work space, then 10, then the word space.
 pub fn query(
     v: usize,
     t: &[i64],
@@ -210,35 +222,25 @@ pub fn query(
     out: &mut [i16],
     start: usize,
 ) -> Queried
-    ensures { λ r. ⌜ r ≡ queryOf v (now (t .entry)) a b (length (now (w .entry))) (length (now (out .entry))) start ⌝ }
-    ensures { λ r. ⌜ now (w .exit) ≡ queryWork v (now (t .entry)) a b (now (w .entry)) ⌝ }
-    ensures { λ r. ⌜ now (out .exit) ≡ wordLeft r (foundWord v (now (t .entry)) (ofList a) (ofList b)) (now (out .entry)) ⌝ }
-    ensures { λ r. ⌜ Claim v (now (t .entry)) a b (now (w .entry)) (now (out .entry)) start r (now (out .exit)) ⌝ }
+    ensures { λ r. ⌜ Fills (querySteps v (now (t .entry)) a b w out start) (foundIf v (now (t .entry)) a b start) r ⌝ }
 {
     let checked = check(v, t);
     match checked {
         Checked::Refused(refusal) => Queried::Refused(refusal),
         Checked::Accepted => {
-            let judged = judge(a, b);
-            if judged < 8 {
-                return Queried::Refused(Refusal {
-                    number: MATRIX_ENTRY,
-                    place: judged,
-                });
+            let paired = pair_check(a, b);
+            match paired {
+                Checked::Refused(refusal) => Queried::Refused(refusal),
+                Checked::Accepted => {
+                    if w.len() < call::workspace::WORK {
+                        return Queried::Refused(Refusal {
+                            number: TOO_SHORT,
+                            place: call::workspace::WORK,
+                        });
+                    }
+                    answer(v, t, a, b, w, out, start)
+                }
             }
-            if judged < 10 {
-                return Queried::Refused(Refusal {
-                    number: BAD_DETERMINANT,
-                    place: judged - 8,
-                });
-            }
-            if w.len() < workspace::WORK {
-                return Queried::Refused(Refusal {
-                    number: TOO_SHORT,
-                    place: workspace::WORK,
-                });
-            }
-            answer(v, t, a, b, w, out, start)
         }
     }
 }
@@ -266,8 +268,8 @@ pub fn sign_number(sign: bool) -> i64
     -1
 }
 
-// The part of the lent space that an answer names: `length` letters from the place `start` on, and the empty part where they don't
-// fit there.
+// The part of the lent space that an answer names: `length` letters from the place `start` on, and the empty part where
+// they don't fit there.
 pub fn word_part(out: &[i16], start: usize, length: usize) -> &[i16]
     ensures { λ r. ⌜ now r ≡ partOf (now (out .entry)) start length ⌝ }
 {

@@ -12,12 +12,12 @@ use crate::symbol::{EVEN, MAX_ENTRY, ODD};
 use crate::text::{numbers, put, IMPORT};
 use crate::{refused, Refusal};
 
-/// What the program `import` prints.
+/// What the job `import` prints.
 pub fn plain_import(text: &[u8]) -> Vec<u8> {
     symbol_text(try_import(text, leftmost))
 }
 
-/// What the program `import_wide` prints.
+/// What the job `import-wide` prints.
 pub fn plain_import_wide(text: &[u8]) -> Vec<u8> {
     symbol_text(try_import(text, wide))
 }

@@ -10,7 +10,7 @@ use crate::import::{leftmost, symbol_of, symbol_text, wide, Pair, Parts, Way};
 use crate::text::{numbers, NAMED};
 use crate::Refusal;
 
-/// What the program `named` prints.
+/// What the job `named` prints.
 pub fn plain_named(text: &[u8]) -> Vec<u8> {
     symbol_text(try_named(text))
 }

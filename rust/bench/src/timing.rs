@@ -8,9 +8,10 @@ use std::path::{Path, PathBuf};
 use std::process::{Command, Stdio};
 use std::time::{Duration, Instant};
 
-/// Wall times of one program.
+/// Wall times of one program, with its argument where it has one.
 pub struct Runs {
     path: PathBuf,
+    job: Option<String>,
     times: Vec<Duration>,
 }
 
@@ -22,16 +23,17 @@ pub struct Comparison {
 }
 
 impl Runs {
-    fn new(path: &Path) -> Runs {
+    fn new(path: &Path, job: Option<&str>) -> Runs {
         Runs {
             path: path.to_path_buf(),
+            job: job.map(str::to_string),
             times: Vec::new(),
         }
     }
 
     fn command(&self, text: &Path) -> io::Result<Command> {
         let mut command = Command::new(&self.path);
-        command.stdin(File::open(text)?);
+        command.args(&self.job).stdin(File::open(text)?);
         Ok(command)
     }
 
@@ -74,18 +76,20 @@ impl Runs {
 
 impl Comparison {
     /// Runs both once to see that they print the same, and then each so many
-    /// times by turns. `nothing` is the program that does nothing.
+    /// times by turns. `job` is the engine's argument, `nothing` is the program that
+    /// does nothing.
     pub fn of(
         engine: &Path,
+        job: Option<&str>,
         plain: &Path,
         nothing: &Path,
         text: &Path,
         runs: usize,
     ) -> io::Result<Comparison> {
         let mut all = Comparison {
-            engine: Runs::new(engine),
-            plain: Runs::new(plain),
-            nothing: Runs::new(nothing),
+            engine: Runs::new(engine, job),
+            plain: Runs::new(plain, None),
+            nothing: Runs::new(nothing, None),
         };
         if all.engine.output(text)? != all.plain.output(text)? {
             let message = format!("{}: the two print different things", text.display());

@@ -4,69 +4,19 @@
 //! `read` and `write` are the exported functions on lent slices, safe for the reasons
 //! that `calls` gives; `read_cycles` and `write_cycles` lend these spaces themselves.
 
-use crate::calls::{answer, NAMED, UNWRITTEN};
+use crate::calls::{exported, NAMED};
 use crate::refusal::Refusal;
 use crate::symbol::{certain, Symbol};
 
 /// Enough for each of the two tables of every text that is read: 3,066.
 pub const POINTS: usize = NAMED;
 
-// The engine's functions, as include/farey.h declares them.
-mod engine {
-    extern "C" {
-        pub fn farey_read_cycles(
-            text: *const u8,
-            text_len: usize,
-            s: *mut u32,
-            s_len: usize,
-            r: *mut u32,
-            r_len: usize,
-            place: *mut usize,
-        ) -> u64;
-        pub fn farey_write_cycles(
-            s: *const u32,
-            s_len: usize,
-            r: *const u32,
-            r_len: usize,
-            out: *mut u8,
-            out_len: usize,
-            place: *mut usize,
-        ) -> u64;
-    }
-}
+exported! {
+    /// The tables of S and R in a text to the fronts of s and r: the index.
+    read = farey_read_cycles(text: &[u8], s: &mut [u32], r: &mut [u32]) -> usize;
 
-/// The tables of S and R in a text to the fronts of s and r: the index.
-pub fn read(text: &[u8], s: &mut [u32], r: &mut [u32]) -> Result<usize, Refusal> {
-    let mut place = UNWRITTEN;
-    let number = unsafe {
-        engine::farey_read_cycles(
-            text.as_ptr(),
-            text.len(),
-            s.as_mut_ptr(),
-            s.len(),
-            r.as_mut_ptr(),
-            r.len(),
-            &mut place,
-        )
-    };
-    answer(number, place)
-}
-
-/// The text of S and R to the front of out: its length.
-pub fn write(s: &[u32], r: &[u32], out: &mut [u8]) -> Result<usize, Refusal> {
-    let mut place = UNWRITTEN;
-    let number = unsafe {
-        engine::farey_write_cycles(
-            s.as_ptr(),
-            s.len(),
-            r.as_ptr(),
-            r.len(),
-            out.as_mut_ptr(),
-            out.len(),
-            &mut place,
-        )
-    };
-    answer(number, place)
+    /// The text of S and R to the front of out: its length.
+    write = farey_write_cycles(s: &[u32], r: &[u32], out: &mut [u8]) -> usize;
 }
 
 /// The images of the points 0, 1, 2, .. under S, and those under R, from a text in

@@ -10,9 +10,9 @@ pub struct Refusal {
     pub place: usize,
 }
 
-/// A line for each refusal: its number and its sentence, with `{place}` for the
-/// place. The script `./farey` of the repository
-/// reads the same lines.
+/// The table of refusals. A line that begins with a number has its sentence, with
+/// `{place}` for the place; the script `./farey` of the repository reads the same
+/// lines.
 const SENTENCES: &str = include_str!("../refusals.txt");
 
 impl Refusal {

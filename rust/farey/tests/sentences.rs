@@ -7,7 +7,8 @@ use farey::Refusal;
 fn each_refusal_has_its_sentence() {
     let listed = include_str!("../refusals.txt");
     let mut count = 0;
-    for line in listed.lines() {
+    let begins = |line: &&str| line.starts_with(|c: char| c.is_ascii_digit());
+    for line in listed.lines().filter(begins) {
         let (number, sentence) = line.split_once(' ').expect("a number and a sentence");
         let number = number.parse().expect("a number");
         for place in [0, 47] {
@@ -21,7 +22,7 @@ fn each_refusal_has_its_sentence() {
         }
         count += 1;
     }
-    assert!(count >= 19);
+    assert!(count >= 27);
 }
 
 #[test]

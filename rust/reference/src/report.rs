@@ -103,7 +103,7 @@ fn try_query(text: &[u8]) -> Result<Found, Refusal> {
     pair_query(&symbol, a, b, LENT_LETTERS, 0)
 }
 
-/// What the program `sheet` prints: a line for each pair, as the query program
+/// What the job `sheet` prints: a line for each pair, as the query program
 /// prints it, in one word space for all of them.
 pub fn sheet(text: &[u8]) -> String {
     try_sheet(text).unwrap_or_else(|refusal| format!("{refusal}\n"))
@@ -117,7 +117,7 @@ fn try_sheet(text: &[u8]) -> Result<String, Refusal> {
     Ok(answers.iter().map(|(_, a)| answer_line(a)).collect())
 }
 
-/// What the program `exchange` prints: the exchanged symbol as `import` prints one.
+/// What the job `exchange` prints: the exchanged symbol as `import` prints one.
 pub fn exchange(text: &[u8]) -> String {
     match try_exchange(text) {
         Ok(numbers) => {
@@ -148,7 +148,7 @@ pub fn import(text: &[u8]) -> String {
     symbol_text(try_import(Rule::Leftmost, text))
 }
 
-/// What the program `import_wide` prints: the same by the wide rule.
+/// What the job `import-wide` prints: the same by the wide rule.
 pub fn import_wide(text: &[u8]) -> String {
     symbol_text(try_import(Rule::Wide, text))
 }
@@ -189,7 +189,7 @@ fn pair(text: &[u8]) -> Result<(Vec<i64>, Vec<i64>), Refusal> {
     Ok((s.to_vec(), r.to_vec()))
 }
 
-/// What the program `cycles` prints: the tables of a text in cycle notation as
+/// What the job `cycles` prints: the tables of a text in cycle notation as
 /// `import` reads them.
 pub fn cycles(text: &[u8]) -> String {
     match try_cycles(text) {
@@ -216,7 +216,7 @@ fn try_cycles(text: &[u8]) -> Result<(Vec<i64>, Vec<i64>), Refusal> {
     }
 }
 
-/// What the program `to_cycles` prints: the tables of a text for `import` in cycle
+/// What the job `to-cycles` prints: the tables of a text for `import` in cycle
 /// notation, on a line.
 pub fn to_cycles(text: &[u8]) -> String {
     match pair(text).and_then(|(s, r)| write(&s, &r)) {
@@ -225,7 +225,7 @@ pub fn to_cycles(text: &[u8]) -> String {
     }
 }
 
-/// What the program `named` prints: the symbol by the rule, or where that is
+/// What the job `named` prints: the symbol by the rule, or where that is
 /// refused with 16 the one by the wide rule.
 pub fn named(text: &[u8]) -> String {
     symbol_text(try_named(text))
@@ -257,7 +257,7 @@ fn try_named(text: &[u8]) -> Result<Imported, Refusal> {
     }
 }
 
-/// What the program `same` prints.
+/// What the job `same` prints.
 pub fn same(text: &[u8]) -> String {
     match try_same(text) {
         Ok(true) => "same\n".to_string(),
@@ -273,7 +273,7 @@ fn try_same(text: &[u8]) -> Result<bool, Refusal> {
     Ok(same_group(&one, &other))
 }
 
-/// What the program `intersection` prints: the number of points, S and R, a line
+/// What the job `intersection` prints: the number of points, S and R, a line
 /// each, as the import programs read them.
 pub fn intersection(text: &[u8]) -> String {
     match try_intersection(text) {
@@ -297,7 +297,7 @@ fn try_intersection(text: &[u8]) -> Result<subgroups::Tables, Refusal> {
     subgroups::intersection(&one, &other)
 }
 
-/// What the program `tower` prints.
+/// What the job `tower` prints.
 pub fn tower(text: &[u8]) -> String {
     match try_tower(text) {
         Ok(()) => "passes\n".to_string(),

@@ -1,6 +1,6 @@
-//! The programs of cycle notation against the reference: `cycles`, named by
-//! CYCLES_PROGRAM, and `to_cycles`, named by TO_CYCLES_PROGRAM; and `./farey cycles`,
-//! which takes one line end away first. The files of examples/cycles end in one.
+//! The jobs of cycle notation, `cycles` and `to-cycles`, against the reference; and
+//! `./farey cycles`, which takes one line end away first. The files of examples/cycles
+//! end in one.
 
 mod child;
 
@@ -69,11 +69,11 @@ fn examples_by_the_reference() {
 
 #[test]
 fn examples_by_the_programs() {
-    for (variable, input, output) in [
-        ("CYCLES_PROGRAM", "cycles", "tables"),
-        ("TO_CYCLES_PROGRAM", "pair", "export"),
+    for (job, input, output) in [
+        ("cycles", "cycles", "tables"),
+        ("to-cycles", "pair", "export"),
     ] {
-        if let Some(program) = Program::named_by(variable) {
+        if let Some(program) = Program::of(job) {
             for (_, text, printed) in examples(input, output) {
                 program.must_print(&text, &printed);
             }
@@ -143,7 +143,7 @@ impl Counts {
 
 #[test]
 fn cycles_of_random_texts() {
-    let Some(program) = Program::named_by("CYCLES_PROGRAM") else {
+    let Some(program) = Program::of("cycles") else {
         return;
     };
     let mut counts = Counts::default();
@@ -160,7 +160,7 @@ fn cycles_of_random_texts() {
 /// the first 65,536 bytes, and judges their whole pieces.
 #[test]
 fn cycles_of_long_texts() {
-    let Some(program) = Program::named_by("CYCLES_PROGRAM") else {
+    let Some(program) = Program::of("cycles") else {
         return;
     };
     let blanks = |count: usize| " ".repeat(count);
@@ -225,7 +225,7 @@ fn cut(text: &str) -> Vec<u8> {
 /// none.
 #[test]
 fn cycles_of_cut_texts() {
-    let Some(program) = Program::named_by("CYCLES_PROGRAM") else {
+    let Some(program) = Program::of("cycles") else {
         return;
     };
     for (text, answer) in [
@@ -274,7 +274,7 @@ fn cycles_of_cut_texts() {
 /// reader without a limit tells of every text with these bytes in front.
 #[test]
 fn what_follows_is_free() {
-    let Some(program) = Program::named_by("CYCLES_PROGRAM") else {
+    let Some(program) = Program::of("cycles") else {
         return;
     };
     let (mut told, mut cut_off) = (0, 0);
@@ -313,7 +313,7 @@ fn what_follows_is_free() {
 
 #[test]
 fn to_cycles_of_random_pairs() {
-    let Some(program) = Program::named_by("TO_CYCLES_PROGRAM") else {
+    let Some(program) = Program::of("to-cycles") else {
         return;
     };
     let mut counts = Counts::default();
@@ -347,10 +347,7 @@ fn to_cycles_of_random_pairs() {
 /// There and back through both programs.
 #[test]
 fn there_and_back() {
-    let (Some(reader), Some(writer)) = (
-        Program::named_by("CYCLES_PROGRAM"),
-        Program::named_by("TO_CYCLES_PROGRAM"),
-    ) else {
+    let (Some(reader), Some(writer)) = (Program::of("cycles"), Program::of("to-cycles")) else {
         return;
     };
     for case in 0..200 {

@@ -86,27 +86,27 @@ fn by_the_reference() {
 
 #[test]
 fn listings_by_the_program() {
-    LISTINGS.by_the_program("LISTING_PROGRAM");
+    LISTINGS.by_the_program("listing");
 }
 
 #[test]
 fn queries_by_the_program() {
-    QUERIES.by_the_program("QUERY_PROGRAM");
+    QUERIES.by_the_program("query");
 }
 
 #[test]
 fn imports_by_the_program() {
-    IMPORTS.by_the_program("IMPORT_PROGRAM");
+    IMPORTS.by_the_program("import");
 }
 
 #[test]
 fn wide_imports_by_the_program() {
-    WIDE_IMPORTS.by_the_program("IMPORT_WIDE_PROGRAM");
+    WIDE_IMPORTS.by_the_program("import-wide");
 }
 
 #[test]
 fn named_by_the_program() {
-    NAMED.by_the_program("NAMED_PROGRAM");
+    NAMED.by_the_program("named");
 }
 
 #[test]
@@ -116,7 +116,7 @@ fn exchanges_by_the_reference() {
 
 #[test]
 fn exchanges_by_the_program() {
-    EXCHANGES.by_the_program("EXCHANGE_PROGRAM");
+    EXCHANGES.by_the_program("exchange");
 }
 
 /// Exchanged and exchanged again: back where the labels cross, and not where they stand
@@ -137,12 +137,12 @@ fn stated_exchanges() {
 
 #[test]
 fn same_by_the_program() {
-    SAMES.by_the_program("SAME_PROGRAM");
+    SAMES.by_the_program("same");
 }
 
 #[test]
 fn sheets_by_the_program() {
-    SHEETS.by_the_program("SHEET_PROGRAM");
+    SHEETS.by_the_program("sheet");
 }
 
 /// What document and hand say of the sheets.

@@ -7,8 +7,8 @@
 //! | `text PATH`           | the file of that path holds just this                    |
 //! | `console`             | `$ COMMAND`, and then all that the command prints;       |
 //! |                       | several of them one after the other                      |
-//! | a row of the refusals | the program answers its example so, and the sentence is  |
-//! |                       | that of rust/farey/refusals.txt                          |
+//! | a refusal's example   | the program answers it so; the list is made by           |
+//! |                       | tools/refusals of rust/farey/refusals.txt                |
 
 mod child;
 
@@ -27,10 +27,9 @@ struct Block {
     text: String,
 }
 
-/// A row of the table of refusals.
+/// A refusal's example: the file and a line of the answer to it.
 struct Row {
     number: u32,
-    sentence: String,
     example: String,
     answer: String,
 }
@@ -72,42 +71,40 @@ fn blocks(page: &str) -> Vec<Block> {
     blocks
 }
 
-/// The rows of the page on refusals.
-fn rows(page: &str) -> Vec<Row> {
-    let unmarked = |cell: &str| cell.trim().trim_matches('`').to_string();
-    let (_, behind) = page.split_once("\n## Refusals\n").expect("that page");
-    let refusals = behind.split("\n## ").next().expect("that page");
-    refusals
-        .lines()
-        .filter_map(|line| {
-            let cells: Vec<&str> = line.split('|').collect();
-            let number = cells.get(1)?.trim().parse().ok()?;
-            assert_eq!(cells.len(), 7, "{line}");
-            Some(Row {
+/// The examples of the table of refusals.
+fn rows() -> Vec<Row> {
+    let mut number = 0;
+    let mut rows = Vec::new();
+    for line in page("rust/farey/refusals.txt").lines() {
+        if let Some(begun) = line.split(' ').next().and_then(|word| word.parse().ok()) {
+            number = begun;
+        } else if let Some(shown) = line.strip_prefix("  example: ") {
+            let (example, answer) = shown.split_once(": ").expect("a file and its answer");
+            rows.push(Row {
                 number,
-                sentence: cells[2].trim().to_string(),
-                example: unmarked(cells[4]),
-                answer: unmarked(cells[5]),
-            })
-        })
-        .collect()
+                example: example.to_string(),
+                answer: answer.to_string(),
+            });
+        }
+    }
+    rows
 }
 
 /// What the reference says, and what the program says.
 fn answers(program: &str, text: &[u8]) -> [String; 2] {
-    let (variable, reference): (_, fn(&[u8]) -> String) = match program {
-        "listing" => ("LISTING_PROGRAM", listing),
-        "query" => ("QUERY_PROGRAM", query),
-        "import" => ("IMPORT_PROGRAM", import),
-        "import-wide" => ("IMPORT_WIDE_PROGRAM", import_wide),
-        "named" => ("NAMED_PROGRAM", named),
-        "same" => ("SAME_PROGRAM", same),
-        "sheet" => ("SHEET_PROGRAM", sheet),
-        "exchange" => ("EXCHANGE_PROGRAM", exchange),
-        "intersection" => ("INTERSECTION_PROGRAM", intersection),
-        "tower" => ("TOWER_PROGRAM", tower),
-        "cycles" => ("CYCLES_PROGRAM", cycles),
-        "to-cycles" => ("TO_CYCLES_PROGRAM", to_cycles),
+    let reference: fn(&[u8]) -> String = match program {
+        "listing" => listing,
+        "query" => query,
+        "import" => import,
+        "import-wide" => import_wide,
+        "named" => named,
+        "same" => same,
+        "sheet" => sheet,
+        "exchange" => exchange,
+        "intersection" => intersection,
+        "tower" => tower,
+        "cycles" => cycles,
+        "to-cycles" => to_cycles,
         _ => panic!("there is no program {program}"),
     };
     // `./farey cycles` takes one line end away before the program reads the text.
@@ -116,7 +113,7 @@ fn answers(program: &str, text: &[u8]) -> [String; 2] {
         _ => text,
     };
     let expected = reference(text);
-    match Program::named_by(variable) {
+    match Program::of(program) {
         Some(named) => [expected, named.output(text)],
         None => [expected.clone(), expected],
     }
@@ -252,35 +249,24 @@ fn commands_print_what_is_shown() {
     }
 }
 
-/// The table has a row for each line of refusals.txt, and the same sentence with
-/// P for the place.
+/// Each refusal but 18, which no symbol has, has an example, and the handbook
+/// shows it.
 #[test]
-fn refusals_have_their_sentences() {
-    let listed = page("rust/farey/refusals.txt");
-    let expected: Vec<(u32, String)> = listed
-        .lines()
-        .map(|line| {
-            let (number, sentence) = line.split_once(' ').expect("a number and a sentence");
-            let number = number.parse().expect("a number");
-            (number, sentence.replace("{place}", "P"))
-        })
-        .collect();
-    let rows = rows(&handbook());
-    let shown: Vec<(u32, String)> = rows
-        .into_iter()
-        .map(|row| (row.number, row.sentence))
-        .collect();
-    assert_eq!(shown, expected);
+fn refusals_have_examples() {
+    let page = handbook();
+    let rows = rows();
+    let numbers: Vec<u32> = rows.iter().map(|row| row.number).collect();
+    assert_eq!(numbers, (1..18).chain(19..28).collect::<Vec<u32>>());
+    for row in rows {
+        for part in [row.example, row.answer] {
+            assert!(page.contains(&format!("`{part}`")), "{part}");
+        }
+    }
 }
 
 #[test]
 fn refusals_are_met() {
-    for row in rows(&handbook()) {
-        // No symbol has refusal 18.
-        if row.number == 18 {
-            assert_eq!(row.answer, "");
-            continue;
-        }
+    for row in rows() {
         let (_, kind) = row.example.rsplit_once('.').expect("a file's name");
         // `./farey draw` is run by the Python tests.
         if kind == "drawing" {

@@ -48,7 +48,7 @@ fn sum_of_widths(n: u64) -> u64 {
 
 #[test]
 fn the_program_writes_the_constant() {
-    let Some(program) = Program::named_by("INDEX_TABLE_PROGRAM") else {
+    let Some(program) = Program::of("index_table") else {
         return;
     };
     let answer = program.run(b"");

@@ -1,6 +1,7 @@
 //! docs/PROMISES.md names files of definitions and files of proofs, and
 //! docs/WRONG-PROGRAMS.md wrong programs: each of them is there, and each wrong
-//! program is named. The names of definitions mean one thing in all crates.
+//! program is named. The names of definitions mean one thing in all crates. (What a
+//! referee reads is counted by `tools/reading-list`, which the Python tests run.)
 
 mod child;
 
@@ -62,31 +63,41 @@ fn named_files_are_there() {
 
 /// A row of docs/WRONG-PROGRAMS.md: an edit, whether the gate tries it, and
 /// what is wrong.
-struct Row<'a> {
-    name: &'a str,
-    label: &'a str,
+struct Row {
+    name: String,
+    label: String,
     gate: bool,
-    title: &'a str,
+    title: String,
 }
 
-fn row(line: &str) -> Option<Row<'_>> {
-    let cells: Vec<&str> = line
-        .trim_matches('|')
-        .splitn(5, '|')
-        .map(str::trim)
-        .collect();
-    let [name, label, gate, _, title] = cells[..] else {
-        return None;
-    };
-    let name = name.strip_prefix('`')?.strip_suffix('`')?;
-    let label = label.strip_prefix('`')?.strip_suffix('`')?;
-    let gate = gate == "gate";
-    Some(Row {
-        name,
-        label,
-        gate,
-        title,
-    })
+/// The rows of the page's last block: a crate's name, and below it a line for each
+/// edit, `f label: what is wrong`, with a capital where the gate tries it. A line
+/// that is set in goes on with the one above.
+fn wrong_programs(page: &str) -> Vec<Row> {
+    let (_, block) = page.rsplit_once("```text\n").expect("a block");
+    let mut name = String::new();
+    let mut rows: Vec<Row> = Vec::new();
+    for line in block.lines().take_while(|line| *line != "```") {
+        assert!(line.chars().count() <= 120, "{line}");
+        if let (Some(more), Some(row)) = (line.strip_prefix("    "), rows.last_mut()) {
+            row.title = format!("{} {more}", row.title);
+        } else if let Some((edit, title)) = line.split_once(": ") {
+            let (kind, label) = edit.split_once(' ').expect("a letter and a label");
+            assert!(
+                ["f", "p", "s", "x", "u"].contains(&&*kind.to_lowercase()),
+                "{line}"
+            );
+            rows.push(Row {
+                name: name.clone(),
+                label: label.to_string(),
+                gate: kind == kind.to_uppercase(),
+                title: title.to_string(),
+            });
+        } else {
+            name = line.to_string();
+        }
+    }
+    rows
 }
 
 /// docs/WRONG-PROGRAMS.md has a row for each edit, with whether the gate tries
@@ -95,7 +106,7 @@ fn row(line: &str) -> Option<Row<'_>> {
 fn wrong_programs_are_there_and_named() {
     let path = repository().join("docs/WRONG-PROGRAMS.md");
     let page = fs::read_to_string(&path).unwrap_or_else(|e| panic!("{}: {e}", path.display()));
-    let rows: Vec<Row> = page.lines().filter_map(row).collect();
+    let rows = wrong_programs(&page);
     let named = |gate: bool| -> BTreeSet<String> {
         let those = rows.iter().filter(|row| row.gate == gate);
         those
@@ -111,13 +122,16 @@ fn wrong_programs_are_there_and_named() {
     assert_eq!(rows.len(), tried.len() + further.len());
     for row in rows {
         let folder = match row.gate {
-            true => repository().join("crates").join(row.name).join("must-fail"),
-            false => repository().join("mutants").join(row.name),
+            true => repository()
+                .join("crates")
+                .join(&row.name)
+                .join("must-fail"),
+            false => repository().join("mutants").join(&row.name),
         };
         let path = folder.join(format!("{}.edit", row.label));
         let edit = fs::read_to_string(&path).unwrap_or_else(|e| panic!("{}: {e}", path.display()));
         let title = edit.lines().next().and_then(|line| line.strip_prefix("# "));
-        assert_eq!(title, Some(row.title), "{}", path.display());
+        assert_eq!(title, Some(&*row.title), "{}", path.display());
     }
 }
 
@@ -203,38 +217,4 @@ fn named_definitions_are_in_their_files() {
         }
     }
     assert!(found > 30, "only {found} names behind files");
-}
-
-/// The counts of lines in the list of what a referee reads: without blank lines
-/// and imports.
-#[test]
-fn lines_to_read_are_counted() {
-    let page = promises();
-    let crates = repository().join("crates");
-    let count = |name: &str| {
-        let text = fs::read_to_string(crates.join(name)).expect("the file can be read");
-        let lines = text.lines().map(str::trim);
-        lines
-            .filter(|line| !line.is_empty() && !line.starts_with("use "))
-            .count()
-    };
-    let mut counts = Vec::new();
-    for line in page.lines() {
-        let cells: Vec<&str> = line.trim_matches('|').split(" | ").map(str::trim).collect();
-        let [number, _, files, lines] = cells[..] else {
-            continue;
-        };
-        let Ok(number) = number.parse::<usize>() else {
-            continue;
-        };
-        counts.push(quoted(files).map(count).sum::<usize>());
-        assert_eq!(counts.len(), number);
-        assert_eq!(lines, counts[number - 1].to_string(), "row {number}");
-    }
-    assert_eq!(counts.len(), 9);
-    let calls: usize = counts[..7].iter().sum();
-    let all: usize = counts.iter().sum();
-    assert!(page.contains(&format!(
-        "imports; {calls} for the calls of the library,\nrows 1 to 7, and {all} in all"
-    )));
 }

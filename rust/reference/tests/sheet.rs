@@ -1,4 +1,4 @@
-//! The program `sheet` (`SHEET_PROGRAM`) against the reference: a symbol and the
+//! The job `sheet` against the reference: a symbol and the
 //! entries of pairs in, a line for each pair out.
 
 mod child;
@@ -77,7 +77,7 @@ fn random_sheet(rng: &mut Rng, v: usize, pairs: usize, long: bool) -> (Vec<i64>,
 /// fit together.
 #[test]
 fn sheets_of_random_pairs() {
-    let Some(program) = Program::named_by("SHEET_PROGRAM") else {
+    let Some(program) = Program::of("sheet") else {
         return;
     };
     let mut rng = Rng::new(61);
@@ -108,10 +108,10 @@ fn sheets_of_random_pairs() {
 /// its pair.
 #[test]
 fn lines_are_those_of_queries() {
-    let Some(program) = Program::named_by("SHEET_PROGRAM") else {
+    let Some(program) = Program::of("sheet") else {
         return;
     };
-    let single = Program::named_by("QUERY_PROGRAM");
+    let single = Program::of("query");
     let mut rng = Rng::new(62);
     for case in 0..40 {
         let (numbers, entries) = random_sheet(&mut rng, 1 + case % 20, 12, false);
@@ -135,7 +135,7 @@ fn lines_are_those_of_queries() {
 /// Damage to the symbol, to the number of entries and to the bytes.
 #[test]
 fn sheets_of_damaged_texts() {
-    let Some(program) = Program::named_by("SHEET_PROGRAM") else {
+    let Some(program) = Program::of("sheet") else {
         return;
     };
     let mut rng = Rng::new(63);
@@ -203,7 +203,7 @@ fn sheets_of_damaged_texts() {
 /// Answers by hand.
 #[test]
 fn sheets_of_odd_texts() {
-    let Some(program) = Program::named_by("SHEET_PROGRAM") else {
+    let Some(program) = Program::of("sheet") else {
         return;
     };
     let refused = |number: u32, place: usize| format!("refused {number} {place}\n");
@@ -307,7 +307,7 @@ fn sheets_of_odd_texts() {
 /// space, and what is then asked.
 #[test]
 fn one_word_space() {
-    let Some(program) = Program::named_by("SHEET_PROGRAM") else {
+    let Some(program) = Program::of("sheet") else {
         return;
     };
     let to = |k: usize| format!("1 0 0 1 1 {k} 0 1\n");
@@ -365,7 +365,7 @@ fn one_word_space() {
 /// each number, fits: 256 pairs against 1,023 vertices.
 #[test]
 fn the_longest_sheet_fits() {
-    let Some(program) = Program::named_by("SHEET_PROGRAM") else {
+    let Some(program) = Program::of("sheet") else {
         return;
     };
     let vertex = format!("{} {} ", -MAX_ENTRY, MAX_ENTRY);

@@ -9,14 +9,11 @@
 //! | a reader that is gone  | the system's signal ends it, unless it is ignored: then as a write    |
 //! | nothing, but a pause   | the answer to the whole text                                          |
 //!
-//! Each test is made of each of the programs (`LISTING_PROGRAM`,
-//! `QUERY_PROGRAM`, `SHEET_PROGRAM`, `IMPORT_PROGRAM`, `IMPORT_WIDE_PROGRAM`,
-//! `NAMED_PROGRAM`, `SAME_PROGRAM`, `EXCHANGE_PROGRAM`, `INTERSECTION_PROGRAM`,
-//! `TOWER_PROGRAM`, `CYCLES_PROGRAM`, `TO_CYCLES_PROGRAM`) and of `./farey` with each of their names (`FAREY_PROGRAM`), whose exit
-//! status isn't 0 then. A program of the engine has no exit status of its own to give. Of
-//! `./farey` with the programs `named`, `same` and `intersection`, for which it doesn't read
-//! standard input, it is the tests of writing. No answer of `same` or `tower` is long
-//! enough to fill a pipe.
+//! Each test is made of the programs `listing` and `query`, of each job of the program
+//! `farey`, and of `./farey` with each of their names, whose exit status isn't 0 then. A
+//! program of the engine has no exit status of its own to give. Of `./farey` with the
+//! jobs `named`, `same` and `intersection`, for which it doesn't read standard input, it
+//! is the tests of writing. No answer of `same` or `tower` is long enough to fill a pipe.
 
 mod child;
 
@@ -62,7 +59,7 @@ extern "C" {
     fn signal(number: i32, handler: usize) -> usize;
 }
 
-/// A program, or `./farey` with its name.
+/// A program or a job, or `./farey` with its name.
 struct Subject {
     name: &'static str,
     program: Program,
@@ -93,78 +90,40 @@ impl Subject {
     }
 
     fn all() -> Vec<Subject> {
-        type Row = (
-            &'static str,
-            &'static str,
-            fn(&[u8]) -> String,
-            &'static str,
-        );
+        type Row = (&'static str, fn(&[u8]) -> String, &'static str);
         let rows: [Row; 12] = [
+            ("listing", listing, "2\n0 1 1 1\n1 -2 1\n"),
+            ("query", query, "2 0 1 1 1 1 -2 1 0 -1 1 0 0 -1 1 20"),
             (
-                "LISTING_PROGRAM",
-                "listing",
-                listing,
-                "2\n0 1 1 1\n1 -2 1\n",
-            ),
-            (
-                "QUERY_PROGRAM",
-                "query",
-                query,
-                "2 0 1 1 1 1 -2 1 0 -1 1 0 0 -1 1 20",
-            ),
-            (
-                "SHEET_PROGRAM",
                 "sheet",
                 sheet,
                 "2 0 1 1 1 1 -2 1 1 0 0 1 1 1 0 1 0 -1 1 0 0 -1 1 20",
             ),
-            ("IMPORT_PROGRAM", "import", import, "3\n1 0 2\n2 0 1\n"),
+            ("import", import, "3\n1 0 2\n2 0 1\n"),
+            ("import-wide", import_wide, "3\n1 0 2\n2 0 1\n"),
+            ("named", named, "0 11"),
+            ("same", same, "2\n0 1 1 1\n1 -2 1\n2\n-1 1 0 1\n1 -2 1\n"),
+            ("exchange", exchange, "3\n0 1 1 1 2 1\n1 2 2 1\n1 2\n"),
             (
-                "IMPORT_WIDE_PROGRAM",
-                "import-wide",
-                import_wide,
-                "3\n1 0 2\n2 0 1\n",
-            ),
-            ("NAMED_PROGRAM", "named", named, "0 11"),
-            (
-                "SAME_PROGRAM",
-                "same",
-                same,
-                "2\n0 1 1 1\n1 -2 1\n2\n-1 1 0 1\n1 -2 1\n",
-            ),
-            (
-                "EXCHANGE_PROGRAM",
-                "exchange",
-                exchange,
-                "3\n0 1 1 1 2 1\n1 2 2 1\n1 2\n",
-            ),
-            (
-                "INTERSECTION_PROGRAM",
                 "intersection",
                 intersection,
                 "2\n0 1 1 1\n1 -2 1\n2\n0 1 1 1\n-2 1 1\n",
             ),
             (
-                "TOWER_PROGRAM",
                 "tower",
                 tower,
                 "2\n-1\n2\n0 1 1 1\n1 -2 1\n0\n2\n-1 1 0 1\n1 -2 1\n",
             ),
-            ("CYCLES_PROGRAM", "cycles", cycles, "3 (1,2) (1,3,2)"),
-            (
-                "TO_CYCLES_PROGRAM",
-                "to-cycles",
-                to_cycles,
-                "3\n1 0 2\n2 0 1\n",
-            ),
+            ("cycles", cycles, "3 (1,2) (1,3,2)"),
+            ("to-cycles", to_cycles, "3\n1 0 2\n2 0 1\n"),
         ];
         let mut all = Vec::new();
         for by_script in [false, true] {
-            for (variable, name, reference, text) in rows {
+            for (name, reference, text) in rows {
                 let named = if by_script {
                     farey()
                 } else {
-                    Program::named_by(variable)
+                    Program::of(name)
                 };
                 all.extend(named.map(|program| Subject {
                     name,

@@ -1,10 +1,10 @@
-//! The programs `intersection` and `tower`, a process for each text: the examples, random
+//! The jobs `intersection` and `tower`, a process for each text: the examples, random
 //! groups and towers, damaged texts, and answers worked out by hand.
 //!
-//! | variable               | what the program reads and prints                           |
-//! |------------------------|-------------------------------------------------------------|
-//! | `INTERSECTION_PROGRAM` | two symbols in, the index, S and R of the intersection out  |
-//! | `TOWER_PROGRAM`        | a count and a table in, `passes` or a refusal out           |
+//! | job            | what it reads and prints                                    |
+//! |----------------|-------------------------------------------------------------|
+//! | `intersection` | two symbols in, the index, S and R of the intersection out  |
+//! | `tower`        | a count and a table in, `passes` or a refusal out           |
 
 mod child;
 mod kind;
@@ -64,12 +64,12 @@ fn examples_by_the_reference() {
 
 #[test]
 fn intersections_by_the_program() {
-    INTERSECTIONS.by_the_program("INTERSECTION_PROGRAM");
+    INTERSECTIONS.by_the_program("intersection");
 }
 
 #[test]
 fn towers_by_the_program() {
-    TOWERS.by_the_program("TOWER_PROGRAM");
+    TOWERS.by_the_program("tower");
 }
 
 /// What is known of the examples by hand.
@@ -139,7 +139,7 @@ fn stated_towers() {
 /// Groups of every kind, now and then with a fault or damage to the bytes.
 #[test]
 fn intersections_of_random_symbols() {
-    let Some(program) = Program::named_by("INTERSECTION_PROGRAM") else {
+    let Some(program) = Program::of("intersection") else {
         return;
     };
     let mut rng = Rng::new(131);
@@ -188,7 +188,7 @@ fn what_is_printed_can_be_read() {
 /// Towers of every kind, sound and not, in texts that fit.
 #[test]
 fn random_towers() {
-    let Some(program) = Program::named_by("TOWER_PROGRAM") else {
+    let Some(program) = Program::of("tower") else {
         return;
     };
     let mut rng = Rng::new(133);
@@ -214,7 +214,7 @@ fn random_towers() {
 /// 64 entries, and one more; the largest symbols that a text has room for.
 #[test]
 fn long_towers() {
-    let Some(program) = Program::named_by("TOWER_PROGRAM") else {
+    let Some(program) = Program::of("tower") else {
         return;
     };
     let groups = [2, 4, 8].map(|n| named(Family::Gamma0, n).numbers());
@@ -244,7 +244,7 @@ fn long_towers() {
 /// Answers by hand: what the count is, and how far the last table goes.
 #[test]
 fn towers_of_odd_texts() {
-    let Some(program) = Program::named_by("TOWER_PROGRAM") else {
+    let Some(program) = Program::of("tower") else {
         return;
     };
     let passes = || "passes\n".to_string();

@@ -8,12 +8,12 @@ use mathlib.Core.Bool.{Bool}
 use mathlib.Core.List.{List}
 use Prim.Native.Nat.{ℕ}
 use Rattle.basics.specs.Choice.{pick}
-use Rattle.refusal.specs.Refusal.{noRefusal}
-use Rattle.refusal.specs.declared.Refusal.{Refusal}
-use Rattle.refusal.specs.declared.Checked.{Checked}
-use Rattle.refusal.specs.declared.Checked.the-variants.{Accepted, Refused}
-use Rattle.refusal.specs.declared.Filled.{Filled}
-use Rattle.refusal.specs.declared.Filled.the-variants as filled
+use Rattle.call.specs.Refusal.{noRefusal}
+use Rattle.call.specs.declared.refusal.Refusal.{Refusal}
+use Rattle.call.specs.declared.refusal.Checked.{Checked}
+use Rattle.call.specs.declared.refusal.Checked.the-variants.{Accepted, Refused}
+use Rattle.call.specs.declared.refusal.Filled.{Filled}
+use Rattle.call.specs.declared.refusal.Filled.the-variants as filled
 use Rattle.call.specs.declared.Decision.{Decision}
 use Rattle.call.specs.declared.Decision.the-variants as decision
 use Rattle.call.specs.Call.{Step, verdict, Leaves}

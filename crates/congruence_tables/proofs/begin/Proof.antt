@@ -1,7 +1,7 @@
 -- `congruence_tables::begin` meets its contract: in a cleared work space with the columns the identity's entry is the only one of its chain.
 -- Assumes nothing.
 use borrow.Author.Needs.{needs}
-use Rattle.residues.proofs.Signs.{entry-small}
+use Rattle.congruence_tables.proofs.Signs.{entry-small}
 use Rattle.congruence_tables.proofs.Walked.{begin-pushes, begun}
 use Rattle.congruence_tables.proofs.begin.Statement.{statement}
 use Rattle.congruence_tables.proofs.begin.Tie as tie

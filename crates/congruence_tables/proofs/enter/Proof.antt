@@ -2,7 +2,7 @@
 -- Assumes nothing.
 use borrow.Author.Needs.{needs}
 use native.Mathlib.Omega.{arith}
-use Rattle.residues.proofs.Signs.{entry-small}
+use Rattle.congruence_tables.proofs.Signs.{entry-small}
 use Rattle.congruence_tables.proofs.Held.{seeks, entered-old, pushes, entered}
 use Rattle.congruence_tables.proofs.enter.Statement.{statement}
 use Rattle.congruence_tables.proofs.enter.Tie as tie
@@ -10,7 +10,7 @@ use Rattle.congruence_tables.proofs.enter.Reads as reads
 use Rattle.congruence_tables.proofs.enter.Lts as lts
 use Rattle.congruence_tables.proofs.find.Reads as find-reads
 use Rattle.congruence_tables.proofs.push.Reads as push-reads
-use Rattle.residues.proofs.bucket.Reads as bucket-reads
+use Rattle.congruence_tables.proofs.residues.bucket.Reads as bucket-reads
 
 -- src/lib.rt:94:9
 bucket-requires : tie.Need-bucket-requires

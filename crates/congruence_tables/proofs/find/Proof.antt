@@ -9,8 +9,8 @@ use Rattle.congruence_tables.proofs.find.Tie as tie
 use Rattle.congruence_tables.proofs.find.Reads as reads
 use Rattle.congruence_tables.proofs.find.Lts as lts
 use Rattle.congruence_tables.proofs.load.Reads as load-reads
-use Rattle.residues.proofs.same_entry.Reads as same-entry-reads
-use Rattle.workspace.proofs.index.Reads as index-reads
+use Rattle.congruence_tables.proofs.residues.same_entry.Reads as same-entry-reads
+use Rattle.call.proofs.workspace.index.Reads as index-reads
 
 abbrev Inv-loop : tie.InvT-loop
 Inv-loop f n w count x k p₀ p = Searching f n w count x k p
@@ -85,7 +85,8 @@ loop-again : tie.Need-loop-again Inv-loop μ-loop
 loop-again c =
     let pre = c .before .before .before .before .before .before .before .before .before .before .pre in
     let inv = c .before .before .before .before .before .before .loop .inv in
-    seek-next pre (omega arith) inv (c .before .before .before .before .load .ensures) (c .before .before .before .same-entry .ensures) (c .before .before .if1 .left) (c .index2 .ensures)
+    seek-next pre (omega arith) inv (c .before .before .before .before .load .ensures) (c .before .before .before .same-entry .ensures)
+    (c .before .before .if1 .left) (c .index2 .ensures)
 
 -- src/lib.rt:63:1
 returns-2 : tie.Need-returns-2 Inv-loop μ-loop

@@ -27,13 +27,16 @@ signed-requires-2 : tie.Need-signed-requires-2
 signed-requires-2 c κs = let s = c .before .before .before in (s .pre .0, one-residues (s .args .n) (s .pre .0))
 
 returns : tie.Need-returns
-returns c = let s = c .before .before .before .before in identity-0 (s .args .n) (s .pre .0) (c .point .result) (c .before .enum-told .given .1) (c .point .ensures)
+returns c = let s = c .before .before .before .before in
+    identity-0 (s .args .n) (s .pre .0) (c .point .result) (c .before .enum-told .given .1) (c .point .ensures)
 
 returns-2 : tie.Need-returns-2
-returns-2 c = let s = c .before .before .before .before in identity-1 (s .args .n) (s .pre .0) (c .signed .result) (c .before .enum-told2 .given .1) (c .signed .ensures)
+returns-2 c = let s = c .before .before .before .before in
+    identity-1 (s .args .n) (s .pre .0) (c .signed .result) (c .before .enum-told2 .given .1) (c .signed .ensures)
 
 returns-3 : tie.Need-returns-3
-returns-3 c = let s = c .before .before .before .before in identity-2 (s .args .n) (s .pre .0) (c .signed2 .result) (c .before .enum-told3 .given .1) (c .signed2 .ensures)
+returns-3 c = let s = c .before .before .before .before in
+    identity-2 (s .args .n) (s .pre .0) (c .signed2 .result) (c .before .enum-told3 .given .1) (c .signed2 .ensures)
 
 pub identity-spec : {M : Type 1} → statement M
 identity-spec =

@@ -1,7 +1,7 @@
 -- `congruence_tables::image_r` meets its contract, by the family: the entry of a point, or the product with R with the first sign.
 -- Assumes nothing.
 use borrow.Author.Needs.{needs}
-use Rattle.residues.proofs.Images.{image-1, image-2}
+use Rattle.congruence_tables.proofs.Images.{image-1, image-2}
 use Rattle.matrix.specs.Matrix.{matR}
 use Rattle.congruence_tables.proofs.Image.{point-of, residues-1, residues-2, points-R, image-R}
 use Rattle.congruence_tables.proofs.image_r.Statement.{statement}
@@ -38,7 +38,8 @@ signed-requires-2 : tie.Need-signed-requires-2
 signed-requires-2 c κs = (c .before .before .before .before .pre .modulus, c .times-r2 .ensures .low)
 
 returns : tie.Need-returns
-returns c = image-R (c .before .before .before .before .before .pre) (c .before .before .enum-told .given .1) (c .before .difference .ensures) (c .point .ensures)
+returns c = image-R (c .before .before .before .before .before .pre) (c .before .before .enum-told .given .1) (c .before .difference .ensures)
+    (c .point .ensures)
 
 returns-2 : tie.Need-returns-2
 returns-2 c =

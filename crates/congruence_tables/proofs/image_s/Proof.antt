@@ -1,7 +1,7 @@
 -- `congruence_tables::image_s` meets its contract, by the family: the entry of a point, or the product with S with the first sign.
 -- Assumes nothing.
 use borrow.Author.Needs.{needs}
-use Rattle.residues.proofs.Images.{image-1, image-2}
+use Rattle.congruence_tables.proofs.Images.{image-1, image-2}
 use Rattle.matrix.specs.Matrix.{matS}
 use Rattle.congruence_tables.proofs.Image.{point-of, residues-1, residues-2, points-S, image-S}
 use Rattle.congruence_tables.proofs.image_s.Statement.{statement}

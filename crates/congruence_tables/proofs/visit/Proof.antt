@@ -13,7 +13,8 @@ image-s-requires : tie.Need-image-s-requires
 image-s-requires c κs = images-S (c .before .before .before .before .before .before .pre) (c .before .load .ensures)
 
 enter-requires : tie.Need-enter-requires
-enter-requires c κs = enters-S (c .before .before .before .before .before .before .before .before .pre) (c .before .before .before .load .ensures) (c .before .image-s .ensures)
+enter-requires c κs = enters-S (c .before .before .before .before .before .before .before .before .pre) (c .before .before .before .load .ensures)
+    (c .before .image-s .ensures)
 
 image-r-requires : tie.Need-image-r-requires
 image-r-requires c κs =

@@ -1,4 +1,5 @@
--- The right cosets of a family in the work space: an entry of each, chains of those in one bucket, and what entries are made with.
+-- The right cosets of a family in the work space: an entry of each, chains of those in one bucket, and what entries are
+-- made with.
 --
 --     place   code         here         holds, for the coset with the number j
 --      4096   ENTRY_A      ENTRY-A      the number a of its entry
@@ -14,7 +15,8 @@
 --   Columns n w             w holds the parts and multipliers
 --   withColumn w c h s      w with those of c; ColumnsMade n w w': made in w, all below untouched
 --   Latest f n w b i p      of the entries before i, p - 1 is the last one in the bucket b; 0 is for none
---   HoldsCosets f n l w count  w holds entries of the list l of `count` matrices, no two in one coset, with their chains
+--   HoldsCosets f n l w count  w holds entries of the list l of `count` matrices, no two in one coset, with their
+--                              chains
 --   HoldsSome f n w count   it holds some list
 --   Group f n               n is a modulus, and the index of the family is at most 3,066
 --   Points, PointAt         what is asked for the entry of a point, and what it is
@@ -30,16 +32,16 @@ use mathlib.Core.List.{List}
 use Prim.Native.Nat.{ℕ, suc, _+_, _≤_, _<_}
 use lib.ListN.{length, getD, set}
 use Rattle.matrix.specs.Matrix.{Mat, _⊗_, matS, matR}
-use Rattle.workspace.specs.Space.{workLength}
+use Rattle.call.specs.Space.{workLength}
 use Rattle.congruence.specs.Congruence.{Meets, meets}
 use Rattle.congruence.specs.Index.{familyIndex}
-use Rattle.congruence.specs.Cosets.{cosetIn, withCoset, afterVisit, cosetsTo}
+use Rattle.right_cosets.specs.Cosets.{cosetIn, withCoset, afterVisit, cosetsTo}
 use Rattle.congruence.specs.declared.Family.{Family}
-use Rattle.congruence.specs.Inner.Listed.{matrixAt, CosetList}
-use Rattle.modular.specs.Inner.Common.{Modulus, CommonOf}
-use Rattle.residues.specs.declared.Residues.{Residues}
-use Rattle.modular.specs.declared.Common.{Common}
-use Rattle.residues.specs.Inner.Residues.{SmallOf, PointOf, EntryOf, Stands, bucketOf}
+use Rattle.right_cosets.specs.Inner.Listed.{matrixAt, CosetList}
+use Rattle.congruence.specs.Inner.Common.{Modulus, CommonOf}
+use Rattle.congruence_tables.specs.declared.residues.Residues.{Residues}
+use Rattle.congruence.specs.declared.modular.Common.{Common}
+use Rattle.congruence_tables.specs.Inner.Residues.{SmallOf, PointOf, EntryOf, Stands, bucketOf}
 
 abbrev pub ENTRY-A : ℕ
 ENTRY-A = 4096
@@ -66,7 +68,12 @@ abbrev pub MULTIPLIER : ℕ
 MULTIPLIER = 29696
 
 abbrev pub residuesAt : List ℕ → ℕ → Residues
-residuesAt w j = record { a = getD w (ENTRY-A + j) 0; b = getD w (ENTRY-B + j) 0; c = getD w (ENTRY-C + j) 0; d = getD w (ENTRY-D + j) 0 }
+residuesAt w j = record {
+  a = getD w (ENTRY-A + j) 0;
+  b = getD w (ENTRY-B + j) 0;
+  c = getD w (ENTRY-C + j) 0;
+  d = getD w (ENTRY-D + j) 0;
+}
 
 pub record Group (f : Family) (n : ℕ) : Type 0 where
   pub modulus : Modulus n
@@ -131,13 +138,16 @@ pub record HoldsSome (f : Family) (n : ℕ) (w : List ℕ) (count : ℕ) : Type 
   pub holds : HoldsCosets f n list w count
 
 abbrev pub Finds : Family → ℕ → List ℕ → ℕ → Residues → ℕ → Type 0
-Finds f n w count x p = (l : List Mat) (m : Mat) → HoldsCosets f n l w count → Stands f n x m → p ≡ cosetIn (meets f n) l m
+Finds f n w count x p = (l : List Mat) (m : Mat) → HoldsCosets f n l w count → Stands f n x m → p
+    ≡ cosetIn (meets f n) l m
 
 abbrev pub withEntries : List ℕ → ℕ → Residues → List ℕ
-withEntries w i x = set (set (set (set w (ENTRY-A + i) (x .a)) (ENTRY-B + i) (x .b)) (ENTRY-C + i) (x .c)) (ENTRY-D + i) (x .d)
+withEntries w i x = set (set (set (set w (ENTRY-A + i) (x .a)) (ENTRY-B + i) (x .b)) (ENTRY-C + i) (x .c)) (ENTRY-D + i)
+    (x .d)
 
 abbrev pub withMatrix : List ℕ → ℕ → Residues → ℕ → List ℕ
-withMatrix w i x k = set (set (withEntries w i x) (EARLIER + i) (getD (withEntries w i x) (HEAD + k) 0)) (HEAD + k) (i + 1)
+withMatrix w i x k = set (set (withEntries w i x) (EARLIER + i) (getD (withEntries w i x) (HEAD + k) 0)) (HEAD + k)
+    (i + 1)
 
 pub record Pushes (w : List ℕ) (i : ℕ) (x : Residues) (k : ℕ) : Type 0 where
   pub long : workLength ≤ length w
@@ -160,10 +170,13 @@ pub record Enters (f : Family) (n : ℕ) (w : List ℕ) (count : ℕ) (x : Resid
   pub some : HoldsSome f n w count
   pub stands : StandsSome f n x
 
-pub record EntersAs (f : Family) (n : ℕ) (w : List ℕ) (count : ℕ) (x : Residues) (w' : List ℕ) (place count' : ℕ) : Type 0 where
+pub record EntersAs (f : Family) (n : ℕ) (w : List ℕ) (count : ℕ) (x : Residues) (w' : List ℕ) (place count' : ℕ) : Type
+    0 where
   pub same : length w' ≡ length w
-  pub holds : (l : List Mat) (m : Mat) → HoldsCosets f n l w count → Stands f n x m → HoldsCosets f n (withCoset (meets f n) l m) w' count'
-  pub place-is : (l : List Mat) (m : Mat) → HoldsCosets f n l w count → Stands f n x m → place ≡ cosetIn (meets f n) (withCoset (meets f n) l m) m
+  pub holds : (l : List Mat) (m : Mat) → HoldsCosets f n l w count → Stands f n x m
+      → HoldsCosets f n (withCoset (meets f n) l m) w' count'
+  pub place-is : (l : List Mat) (m : Mat) → HoldsCosets f n l w count → Stands f n x m → place
+      ≡ cosetIn (meets f n) (withCoset (meets f n) l m) m
 
 -- ---- the walk over the cosets
 
@@ -178,8 +191,10 @@ pub record Visits (f : Family) (n : ℕ) (w s r : List ℕ) (i count : ℕ) : Ty
 pub record VisitsTo (f : Family) (n : ℕ) (w s r : List ℕ) (i count : ℕ) (w' s' r' : List ℕ) (count' : ℕ) : Type 0 where
   pub same : length w' ≡ length w
   pub holds : (l : List Mat) → HoldsCosets f n l w count → HoldsCosets f n (afterVisit (meets f n) l i) w' count'
-  pub S-is : (l : List Mat) → HoldsCosets f n l w count → s' ≡ set s i (cosetIn (meets f n) (withCoset (meets f n) l (matrixAt l i ⊗ matS)) (matrixAt l i ⊗ matS))
-  pub R-is : (l : List Mat) → HoldsCosets f n l w count → r' ≡ set r i (cosetIn (meets f n) (afterVisit (meets f n) l i) (matrixAt l i ⊗ matR))
+  pub S-is : (l : List Mat) → HoldsCosets f n l w count → s'
+      ≡ set s i (cosetIn (meets f n) (withCoset (meets f n) l (matrixAt l i ⊗ matS)) (matrixAt l i ⊗ matS))
+  pub R-is : (l : List Mat) → HoldsCosets f n l w count → r'
+      ≡ set r i (cosetIn (meets f n) (afterVisit (meets f n) l i) (matrixAt l i ⊗ matR))
 
 pub record Started (f : Family) (n : ℕ) (w w' : List ℕ) : Type 0 where
   pub same : length w' ≡ length w

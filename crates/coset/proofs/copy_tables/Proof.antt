@@ -15,8 +15,10 @@ returns c =
 returns-2 : tie.Need-returns-2
 returns-2 c =
     let e = c .before in
-    let s = e .before .before .before .before .before in
-    (room-second (s .args .n) (length (s .args .s .now)) (length (s .args .r .now)) (length (s .args .u .now)) (e .if1 .left) (c .if2 .taken), (refl, (refl, refl)))
+    let s = e .before .before .before .before .before in (
+      room-second (s .args .n) (length (s .args .s .now)) (length (s .args .r .now)) (length (s .args .u .now)) (e .if1 .left) (c .if2 .taken),
+      (refl, (refl, refl)),
+    )
 
 returns-3 : tie.Need-returns-3
 returns-3 c =

@@ -1,11 +1,13 @@
--- `figures` meets its contract: a call that is not admitted leaves the work space as it was; for one that is, the table is a symbol
--- (`admitted`), and the figures of `make_figures` have their meaning (`meaning`). Assumes nothing.
-use mathlib.Core.Path.{_≡_, sym, _∙_}
+-- `figures` meets its contract: a call that is not admitted leaves the work space as it was (`admit-stop`); for one that is, the table is a
+-- symbol (`admitted`), and the figures are those of `make_figures` (`admit-pass`). Assumes nothing.
+use mathlib.Core.Path.{_≡_, refl, sym, _∙_}
+use mathlib.Core.List.{[]}
 use lib.ListN.{length}
-use Rattle.refusal.specs.declared.Checked.the-variants.{Accepted, Refused}
+use Rattle.call.specs.declared.refusal.Checked.the-variants.{Accepted}
+use Rattle.call.proofs.Laws.{admit-stop, admit-pass, run-end, fills-as}
+use Rattle.symbol.specs.Check.{symbolCheck}
 use Rattle.pairing.specs.Inner.Admitted.{admittedOf}
-use Rattle.pairing.proofs.Admitted.{admitted, work-by}
-use Rattle.coset.proofs.Answer.{meaning, figures-mean-refused, figured-by}
+use Rattle.pairing.proofs.Admitted.{admitted}
 use borrow.Author.Needs.{needs}
 use Rattle.coset.proofs.figures.Statement.{statement}
 use Rattle.coset.proofs.figures.Tie as tie
@@ -41,9 +43,7 @@ returns c =
     let v = s .args .v in
     let t = s .args .t .now in
     let w = s .args .w .now in
-    let r = Refused (k .0 .0) in
-    let no = sym (k .1) ∙ a .admit .ensures in
-    (figured-by v t (length w) r no, (work-by v t w r no, figures-mean-refused (k .0 .0)))
+    fills-as (admit-stop w [] (symbolCheck v t) w (k .0 .0) (sym (k .1) ∙ a .admit .ensures) refl tt) refl
 
 same-length : tie.Need-same-length
 same-length c = search needs
@@ -57,7 +57,7 @@ returns-2 c =
     let t = s .args .t .now in
     let w = s .args .w .now in
     let made = m .make-figures .ensures in
-    (made .0 ∙ figured-by v t (length w) Accepted (ok e), (made .1 ∙ work-by v t w Accepted (ok e), λ n z. meaning (admitted v t (length w) (ok e) .0)))
+    fills-as (admit-pass w [] (symbolCheck v t) _ (ok e) (made .1) run-end) (made .0)
 
 pub figures-spec : {M : Type 1} → statement M
 figures-spec =

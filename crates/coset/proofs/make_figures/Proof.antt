@@ -1,6 +1,6 @@
 -- `coset::make_figures` meets its contract: the figures of `survey`, and then the work space is cleared. Assumes nothing.
 use mathlib.Core.Path.{_∙_, ap}
-use Rattle.workspace.specs.Space.{zeros}
+use Rattle.call.specs.Space.{zeros}
 use Rattle.coset.specs.declared.Figured.the-variants as figured
 use borrow.Author.Needs.{needs}
 use Rattle.coset.proofs.make_figures.Statement.{statement}

@@ -4,10 +4,9 @@ use mathlib.Core.Path.{_∙_, ap}
 use mathlib.Core.List.{List}
 use Prim.Native.Nat.{ℕ}
 use lib.ListN.{length}
-use Rattle.workspace.specs.Space.{zeros}
+use Rattle.call.specs.Space.{zeros}
 use Rattle.figures.specs.Cusps as cusps
-use Rattle.coset.specs.Answer.{roomOne, columnLeft}
-use Rattle.coset.proofs.Answer.{made}
+use Rattle.coset.proofs.Answer.{made, stored-as}
 use borrow.Author.Needs.{needs}
 use Rattle.coset.proofs.make_widths.Statement.{statement}
 use Rattle.coset.proofs.make_widths.Tie as tie
@@ -40,13 +39,10 @@ returns c =
     let a = q .before .before .before .before in
     let st = a .before .before .before .before in
     let g = made (st .pre .0) (a .arrange .ensures .0) in
-    let e = m .copy-widths .ensures in
     let f = q .cusp-widths .ensures in (
-      e .0 ∙ ap (λ (n : ℕ). roomOne n (length (st .args .out .now))) (f .count ∙ ap (λ (l : List ℕ). length (cusps.widths l)) (g .T-is)),
-      (
-        k .clear .ensures ∙ ap zeros (f .frame .same ∙ a .arrange .ensures .1),
-        e .1 ∙ ap (λ (l : List ℕ). columnLeft (m .copy-widths .result) l (st .args .out .now)) (f .table ∙ ap cusps.widths (g .T-is)),
-      ),
+      stored-as _ _ (st .args .out .now) (m .copy-widths .ensures) (f .table ∙ ap cusps.widths (g .T-is))
+          (f .count ∙ ap (λ (l : List ℕ). length (cusps.widths l)) (g .T-is)),
+      k .clear .ensures ∙ ap zeros (f .frame .same ∙ a .arrange .ensures .1),
     )
 
 pub make-widths-spec : {M : Type 1} → statement M

@@ -1,13 +1,12 @@
--- `tables` meets its contract: a call that is not admitted leaves everything as it was; for one that is, the table is a symbol (`admitted`), the
--- answer is that of `make_tables`, and the tables are those of cosets (`meaning`). 4,090 entries are enough (`ample`). Assumes nothing.
+-- `tables` meets its contract: a call that is not admitted leaves everything as it was (`admit-stop`); for one that is, the table is a symbol
+-- (`admitted`), and the answer is that of `make_tables` (`admit-pass`). Assumes nothing.
 use mathlib.Core.Path.{_≡_, refl, sym, _∙_}
 use lib.ListN.{length}
-use Rattle.refusal.specs.declared.Checked.the-variants.{Accepted, Refused}
+use Rattle.call.specs.declared.refusal.Checked.the-variants.{Accepted}
+use Rattle.call.proofs.Laws.{admit-stop, admit-pass, fills-as, ran}
+use Rattle.symbol.specs.Check.{symbolCheck}
 use Rattle.pairing.specs.Inner.Admitted.{admittedOf}
-use Rattle.pairing.proofs.Admitted.{admitted, filled-by, work-by}
-use Rattle.coset.specs.Tables.{indexOf}
-use Rattle.coset.specs.Answer.{roomFor}
-use Rattle.coset.proofs.Answer.{meaning, means-refused, ample}
+use Rattle.pairing.proofs.Admitted.{admitted}
 use borrow.Author.Needs.{needs}
 use Rattle.coset.proofs.tables.Statement.{statement}
 use Rattle.coset.proofs.tables.Tie as tie
@@ -43,13 +42,7 @@ returns c =
     let v = s .args .v in
     let t = s .args .t .now in
     let w = s .args .w .now in
-    let r = Refused (k .0 .0) in
-    let no = sym (k .1) ∙ a .admit .ensures in
-    let x = length (s .args .s .now) in
-    let y = length (s .args .r .now) in
-    let z = length (s .args .u .now) in
-    let answer = filled-by v t w r no (roomFor (indexOf v t) x y z) in
-    (answer, (work-by v t w r no, (refl, (refl, (refl, (means-refused (k .0 .0), ample v t w (s .args .s .now) (s .args .r .now) (s .args .u .now) _ answer))))))
+    fills-as (admit-stop w _ (symbolCheck v t) w (k .0 .0) (sym (k .1) ∙ a .admit .ensures) refl (refl, (refl, (refl, tt)))) refl
 
 same-length : tie.Need-same-length
 same-length c = search needs
@@ -72,17 +65,7 @@ returns-2 c =
     let t = s .args .t .now in
     let w = s .args .w .now in
     let made = m .make-tables .ensures in
-    let x = length (s .args .s .now) in
-    let y = length (s .args .r .now) in
-    let z = length (s .args .u .now) in
-    let mean = meaning (admitted v t (length w) (ok e) .0) in
-    let answer = made .0 ∙ filled-by v t w Accepted (ok e) (roomFor (indexOf v t) x y z) in (
-      answer,
-      (
-        made .1 .0 ∙ work-by v t w Accepted (ok e),
-        (made .1 .1 .0, (made .1 .1 .1 .0, (made .1 .1 .1 .1, (λ n h. mean, ample v t w (s .args .s .now) (s .args .r .now) (s .args .u .now) _ answer)))),
-      ),
-    )
+    fills-as (admit-pass w _ (symbolCheck v t) _ (ok e) (made .1) (ran (made .0))) (made .0 .answer)
 
 pub tables-spec : {M : Type 1} → statement M
 tables-spec =

@@ -1,12 +1,12 @@
--- `widths` meets its contract: a call that is not admitted leaves everything as it was; for one that is, the table is a symbol (`admitted`), the
--- answer is that of `make_widths`, and the widths are those of the cusps (`meaning`). 4,090 entries are enough (`ample-for-widths`). Assumes nothing.
+-- `widths` meets its contract: a call that is not admitted leaves everything as it was (`admit-stop`); for one that is, the table is a symbol
+-- (`admitted`), and the answer is that of `make_widths` (`admit-pass`). Assumes nothing.
 use mathlib.Core.Path.{_≡_, refl, sym, _∙_}
 use lib.ListN.{length}
-use Rattle.refusal.specs.declared.Checked.the-variants.{Accepted, Refused}
+use Rattle.call.specs.declared.refusal.Checked.the-variants.{Accepted}
+use Rattle.call.proofs.Laws.{admit-stop, admit-pass, fills-as, ran}
+use Rattle.symbol.specs.Check.{symbolCheck}
 use Rattle.pairing.specs.Inner.Admitted.{admittedOf}
-use Rattle.pairing.proofs.Admitted.{admitted, filled-by, work-by}
-use Rattle.coset.specs.Answer.{roomOne, widthsOf}
-use Rattle.coset.proofs.Answer.{meaning, means-refused, ample-for-widths}
+use Rattle.pairing.proofs.Admitted.{admitted}
 use borrow.Author.Needs.{needs}
 use Rattle.coset.proofs.widths.Statement.{statement}
 use Rattle.coset.proofs.widths.Tie as tie
@@ -42,10 +42,7 @@ returns c =
     let v = s .args .v in
     let t = s .args .t .now in
     let w = s .args .w .now in
-    let r = Refused (k .0 .0) in
-    let no = sym (k .1) ∙ a .admit .ensures in
-    let answer = filled-by v t w r no (roomOne (length (widthsOf v t)) (length (s .args .out .now))) in
-    (answer, (work-by v t w r no, (refl, (means-refused (k .0 .0), ample-for-widths v t w (s .args .out .now) _ answer))))
+    fills-as (admit-stop w _ (symbolCheck v t) w (k .0 .0) (sym (k .1) ∙ a .admit .ensures) refl (refl, tt)) refl
 
 same-length : tie.Need-same-length
 same-length c = search needs
@@ -62,9 +59,7 @@ returns-2 c =
     let t = s .args .t .now in
     let w = s .args .w .now in
     let made = m .make-widths .ensures in
-    let answer = made .0 ∙ filled-by v t w Accepted (ok e) (roomOne (length (widthsOf v t)) (length (s .args .out .now))) in
-    let mean = meaning (admitted v t (length w) (ok e) .0) in
-    (answer, (made .1 .0 ∙ work-by v t w Accepted (ok e), (made .1 .1, (λ n z. mean, ample-for-widths v t w (s .args .out .now) _ answer))))
+    fills-as (admit-pass w _ (symbolCheck v t) _ (ok e) (made .1) (ran (made .0))) (made .0 .answer)
 
 pub widths-spec : {M : Type 1} → statement M
 widths-spec =

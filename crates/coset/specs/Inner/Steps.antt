@@ -1,5 +1,5 @@
--- The steps by S, once for each position, in the work space: where S leads, the letter that it writes with the sign of the step, and where S and then a
--- turn lead.
+-- The steps by S, once for each position, in the work space: where S leads, the letter that it writes with the sign of
+-- the step, and where S and then a turn lead.
 --
 --   NEXT, LETTER       where the tables of S lie
 --   FORTH, BACK        where those of S and then Q, of S and then Q⁻¹, which is Q twice

@@ -1,15 +1,17 @@
 -- What the functions that fill the work space ask and leave.
 --
---   FilledS t v w n     the first n positions have their S images in the table SIGMA, and the tables of the polygon are there
+--   FilledS t v w n     the first n positions have their S images in the table SIGMA, and the tables of the polygon are
+--                       there
 --   Inside v w          each S image is a position
---   FilledR v w w' n    the first n positions have their R images in the table RHO, made from the S images of w, which stay
+--   FilledR v w w' n    the first n positions have their R images in the table RHO, made from the S images of w, which
+--                       stay
 --   Arranged t v w n    the tables of S, R and T of the symbol's n cosets are in their places
 use mathlib.Core.Path.{_≡_}
 use mathlib.Core.List.{List}
 use Prim.Native.Nat.{ℕ, _+_, _≤_, _<_}
 use lib.ListN.{length, getD}
 use lib.IntN.{ℤ}
-use Rattle.workspace.specs.Space.{workLength}
+use Rattle.call.specs.Space.{workLength}
 use Rattle.polygon.specs.Cut.{places}
 use Rattle.polygon.specs.Step.{stepS, turnQ, originOf}
 use Rattle.polygon.specs.Inner.Tables.{PolygonTables}

@@ -1,14 +1,12 @@
--- `cusps` meets its contract: a call that is not admitted leaves everything as it was; for one that is, the table is a symbol (`admitted`), the answer is
--- that of `make_cusps`, and the columns keep the standing rule (`cusp-meaning`). 4,090 entries are enough
--- (`ample-for-cusps`). Assumes nothing.
+-- `cusps` meets its contract: a call that is not admitted leaves everything as it was (`admit-stop`); for one that is, the table is a symbol (`admitted`),
+-- and the answer is that of `make_cusps` (`admit-pass`). Assumes nothing.
 use mathlib.Core.Path.{_≡_, refl, sym, _∙_}
 use lib.ListN.{length}
-use Rattle.refusal.specs.declared.Checked.the-variants.{Accepted, Refused}
+use Rattle.call.specs.declared.refusal.Checked.the-variants.{Accepted}
+use Rattle.call.proofs.Laws.{admit-stop, admit-pass, fills-as, ran}
+use Rattle.symbol.specs.Check.{symbolCheck}
 use Rattle.pairing.specs.Inner.Admitted.{admittedOf}
-use Rattle.pairing.proofs.Admitted.{admitted, filled-by, work-by}
-use Rattle.coset.specs.Tables.{indexOf}
-use Rattle.coset.specs.Answer.{roomTwo}
-use Rattle.cusp_record.proofs.Answer.{cusp-meaning, cusps-mean-refused, ample-for-cusps}
+use Rattle.pairing.proofs.Admitted.{admitted}
 use borrow.Author.Needs.{needs}
 use Rattle.cusp_record.proofs.cusps.Statement.{statement}
 use Rattle.cusp_record.proofs.cusps.Tie as tie
@@ -44,12 +42,7 @@ returns c =
     let v = s .args .v in
     let t = s .args .t .now in
     let w = s .args .w .now in
-    let r = Refused (k .0 .0) in
-    let no = sym (k .1) ∙ a .admit .ensures in
-    let x = s .args .cusps .now in
-    let y = s .args .steps .now in
-    let answer = filled-by v t w r no (roomTwo (indexOf v t) (length x) (length y)) in
-    (answer, (work-by v t w r no, (refl, (refl, (cusps-mean-refused (k .0 .0), ample-for-cusps v t w x y _ answer)))))
+    fills-as (admit-stop w _ (symbolCheck v t) w (k .0 .0) (sym (k .1) ∙ a .admit .ensures) refl (refl, (refl, tt))) refl
 
 same-length : tie.Need-same-length
 same-length c = search needs
@@ -69,11 +62,7 @@ returns-2 c =
     let t = s .args .t .now in
     let w = s .args .w .now in
     let made = m .make-cusps .ensures in
-    let x = s .args .cusps .now in
-    let y = s .args .steps .now in
-    let mean = cusp-meaning (admitted v t (length w) (ok e) .0) in
-    let answer = made .0 ∙ filled-by v t w Accepted (ok e) (roomTwo (indexOf v t) (length x) (length y)) in
-    (answer, (made .1 .0 ∙ work-by v t w Accepted (ok e), (made .1 .1 .0, (made .1 .1 .1, (λ n z. mean, ample-for-cusps v t w x y _ answer)))))
+    fills-as (admit-pass w _ (symbolCheck v t) _ (ok e) (made .1) (ran (made .0))) (made .0 .answer)
 
 pub cusps-spec : {M : Type 1} → statement M
 cusps-spec =

@@ -1,10 +1,7 @@
 -- `make_cusps` copies the columns of the record; clearing comes last. Assumes nothing.
 use mathlib.Core.Path.{_∙_, ap}
-use mathlib.Core.List.{List}
-use Prim.Native.Nat.{ℕ}
-use lib.ListN.{length}
-use Rattle.workspace.specs.Space.{zeros}
-use Rattle.coset.specs.Answer.{roomTwo, columnLeft}
+use Rattle.call.specs.Space.{zeros}
+use Rattle.cusp_record.proofs.Answer.{both-as}
 use borrow.Author.Needs.{needs}
 use Rattle.cusp_record.proofs.make_cusps.Statement.{statement}
 use Rattle.cusp_record.proofs.make_cusps.Tie as tie
@@ -33,17 +30,9 @@ returns c =
     let m = k .before .before .before .before .before .before in
     let a = m .before .before .before .before .before .before in
     let st = a .before .before .before .before .before in
-    let f = a .arrange-record .ensures in
-    let e = m .copy-columns .ensures in
-    let r = m .copy-columns .result in (
-      e .0 ∙ ap (λ (n : ℕ). roomTwo n (length (st .args .cusps .now)) (length (st .args .steps .now))) (f .index),
-      (
-        k .clear .ensures ∙ ap zeros (f .same),
-        (
-          e .1 .0 ∙ ap (λ (l : List ℕ). columnLeft r l (st .args .cusps .now)) (f .cusps-are),
-          e .1 .1 ∙ ap (λ (l : List ℕ). columnLeft r l (st .args .steps .now)) (f .steps-are),
-        ),
-      ),
+    let f = a .arrange-record .ensures in (
+      both-as _ _ _ _ (st .args .cusps .now) (st .args .steps .now) (m .copy-columns .ensures) (f .cusps-are) (f .steps-are) (f .index),
+      k .clear .ensures ∙ ap zeros (f .same),
     )
 
 pub make-cusps-spec : {M : Type 1} → statement M

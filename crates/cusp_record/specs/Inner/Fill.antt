@@ -1,29 +1,34 @@
--- How the coset record's cusps and steps get into the work space. `figures` has left there the points by cusps and the widths; each point of that list, place
--- by place, gets its cusp and its steps.
+-- How the coset record's cusps and steps get into the work space. `figures` has left there the points by cusps and the
+-- widths; each point of that list, place by place, gets its cusp and its steps.
 --
 --     place   code     here     holds
 --         0   STEPS    STEPS    the steps of each coset, below the table of S
 --     12288   CUSPS    CUSPS    the cusp of each coset, where the R images of the positions were
 --
 --   cuspEntry u y           the entry y of the list of all points by cusps
---   ByCusps u n k w         the k cusps of the permutation u of n points: ORDER lists the points by cusps, NUMBER has the place of each, WIDTHS the widths
+--   ByCusps u n k w         the k cusps of the permutation u of n points: ORDER lists the points by cusps, NUMBER has
+--                           the place of each, WIDTHS the widths
 --   RecordFrame w w'        w' is w but for CUSPS and STEPS
---   AtCusp u c y            c has the number, the first place and the width of a cusp of u, and y lies from that place to the cusp's end, where the next begins
+--   AtCusp u c y            c has the number, the first place and the width of a cusp of u, and y lies from that place
+--                           to the cusp's end, where the next begins
 --   OnCusp u c y            the same, and y is not the end
 --   CuspsEntered u y w      CUSPS and STEPS are right for the points before the place y
---   RecordFilled u n k w w' CUSPS and STEPS hold the columns of cusps and of steps, and the lists and all else are as they were in w
---   SymbolRecord v t w w' n the record of a symbol's n cosets: its tables of S, R and T, its columns of cusps and of steps, its points by cusps
+--   RecordFilled u n k w w' CUSPS and STEPS hold the columns of cusps and of steps, and the lists and all else are as
+--     they were in w
+--   SymbolRecord v t w w' n the record of a symbol's n cosets: its tables of S, R and T, its columns of cusps and of
+--     steps, its points by cusps
 use mathlib.Core.Path.{_≡_}
 use mathlib.Core.List.{List}
 use Prim.Native.Nat.{ℕ, _+_, _-_, _≤_, _<_}
 use lib.ListN.{length, getD}
 use lib.IntN.{ℤ}
-use Rattle.workspace.specs.Space.{entries}
+use Rattle.call.specs.Space.{entries}
 use Rattle.numbering.specs.Table.{Permutes}
 use Rattle.numbering.specs.Inner.Space.{WORK, ROOM, S-TABLE, WIDTHS, NUMBER, ORDER, R-TABLE, T-TABLE}
 use Rattle.figures.specs.Cusps.{cusps}
 use Rattle.coset.specs.Tables.{indexOf, tableS, tableR, tableT}
-use Rattle.cusp_record.specs.Record.{cuspWidth, cuspOf, cuspSteps, cuspTable, stepTable, cuspOrder, cuspPlace, cuspFirst}
+use Rattle.cusp_record.specs.Record.{cuspWidth, cuspOf, cuspSteps, cuspTable, stepTable, cuspOrder, cuspPlace}
+use Rattle.cusp_record.specs.Record.{cuspFirst}
 use Rattle.cusp_record.specs.declared.Cusp.{Cusp}
 
 abbrev pub CUSPS : ℕ

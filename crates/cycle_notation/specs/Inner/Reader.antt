@@ -1,9 +1,12 @@
--- A reader of the form with one state for each thing that may come next. It runs twice, once with a semicolon to come and once without.
+-- A reader of the form with one state for each thing that may come next. It runs twice, once with a semicolon to come
+-- and once without.
 --
---     Phase               what may come next in a permutation: its beginning (start); behind its first `(` (opened); behind `()` (empty);
---                         behind a point; a point (wanted), behind a comma or a further `(`; behind a cycle (closed)
+--     Phase               what may come next in a permutation: its beginning (start); behind its first `(` (opened);
+--                         behind `()` (empty); behind a point; a point (wanted), behind a comma or a further `(`;
+--                         behind a cycle (closed)
 --     room n seen         some point is still free
---     PartTurn            what a piece does to a permutation: it goes on; the permutation was over before this piece; no text can go on so
+--     PartTurn            what a piece does to a permutation: it goes on; the permutation was over before this piece;
+--                         no text can go on so
 --     turnOf              that, by the phase, the points seen, those of the open cycle, and the cycles done
 --     State               the front, before the index; within S; within R; lost
 --     readPiece, readAll  a piece, and all pieces, one after the other
@@ -21,7 +24,8 @@ use lib.Dec.{ltb}
 use lib.ListN.{length}
 use Rattle.basics.specs.Choice.{pick}
 use Rattle.basics.specs.Count.{first}
-use Rattle.cycle_notation.specs.Piece.{CyclePiece, number, blank, opening, closing, comma, semicolon, another, PlacedPiece, cyclePieces, withoutOffsets}
+use Rattle.cycle_notation.specs.Piece.{CyclePiece, number, blank, opening, closing, comma, semicolon, another}
+use Rattle.cycle_notation.specs.Piece.{PlacedPiece, cyclePieces, withoutOffsets}
 use Rattle.cycle_notation.specs.Form.{free, inRange}
 use Rattle.cycle_notation.specs.Verdict.{Read, Verdict, reads, index-out, leaves}
 
@@ -187,4 +191,5 @@ unfoldable pub verdictOf : List ℕ → Verdict
 verdictOf t =
     let ps = withoutOffsets (cyclePieces t) in
     pick (badIndex ps) index-out
-    (eitherRead (outcome (readAll true front ps)) (outcome (readAll false front ps)) (lost front front (cyclePieces t) (length t)))
+    (eitherRead (outcome (readAll true front ps)) (outcome (readAll false front ps))
+    (lost front front (cyclePieces t) (length t)))

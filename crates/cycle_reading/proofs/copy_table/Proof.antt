@@ -39,13 +39,18 @@ loop-less : tie.Need-loop-less Inv-loop μ-loop
 loop-less c = search needs
 
 loop-again : tie.Need-loop-again Inv-loop μ-loop
-loop-again c = let l = c .before .before in let s = l .before in (rw (l .loop .inv .0) (copied-more (s .args .t .now) (s .args .out .now) (l .loop .j) (omega arith) (omega (arith, s .pre))), omega arith, simp length-set (l .loop .inv .2))
+loop-again c = let l = c .before .before in let s = l .before in (
+  rw (l .loop .inv .0) (copied-more (s .args .t .now) (s .args .out .now) (l .loop .j) (omega arith) (omega (arith, s .pre))),
+  omega arith,
+  simp length-set (l .loop .inv .2),
+)
 
 same-length : tie.Need-same-length Inv-loop μ-loop
 same-length c = search needs
 
 returns : tie.Need-returns Inv-loop μ-loop
-returns c = let l = c .before in let s = l .before in copied-all (s .args .t .now) (s .args .out .now) _ (l .loop .j) (omega arith) (omega arith) (l .loop .inv .0)
+returns c = let l = c .before in let s = l .before in
+    copied-all (s .args .t .now) (s .args .out .now) _ (l .loop .j) (omega arith) (omega arith) (l .loop .inv .0)
 
 pub copy-table-spec : {M : Type 1} → statement M
 copy-table-spec =

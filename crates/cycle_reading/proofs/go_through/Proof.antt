@@ -28,16 +28,22 @@ turn-requires : tie.Need-turn-requires Inv-loop μ-loop
 turn-requires c κs = (c .before .before .before .before .loop .inv .holds .fits, c .before .before .before .before .before .before .before .pre .most)
 
 returns : tie.Need-returns Inv-loop μ-loop
-returns c = lost-here _ _ (c .before .before .before .before .before .before .before .before .before .pre .most) _ _ _ _ _ _ _ (c .before .before .before .before .before .before .loop .inv) _ (c .before .before .before .before .piece-at .ensures) _ _ _ (c .before .turn .ensures) (c .if1 .taken)
+returns c = lost-here _ _ (c .before .before .before .before .before .before .before .before .before .pre .most) _ _ _ _ _ _ _
+    (c .before .before .before .before .before .before .loop .inv) _ (c .before .before .before .before .piece-at .ensures) _ _ _ (c .before .turn .ensures)
+    (c .if1 .taken)
 
 returns-2 : tie.Need-returns-2 Inv-loop μ-loop
-returns-2 c = over-here _ _ (c .before .before .before .before .before .before .before .before .before .before .pre .most) _ _ _ _ _ _ _ (c .before .before .before .before .before .before .before .loop .inv) _ (c .before .before .before .before .before .piece-at .ensures) _ _ _ (c .before .before .turn .ensures) (c .if2 .taken)
+returns-2 c = over-here _ _ (c .before .before .before .before .before .before .before .before .before .before .pre .most) _ _ _ _ _ _ _
+    (c .before .before .before .before .before .before .before .loop .inv) _ (c .before .before .before .before .before .piece-at .ensures) _ _ _
+    (c .before .before .turn .ensures) (c .if2 .taken)
 
 loop-less : tie.Need-loop-less Inv-loop μ-loop
 loop-less c = let f = c .before .before .before .before .before .piece-at .ensures in omega (arith, f .onward, f .inside)
 
 loop-again : tie.Need-loop-again Inv-loop μ-loop
-loop-again c = again _ _ (c .before .before .before .before .before .before .before .before .before .before .pre .most) _ _ _ _ _ _ _ (c .before .before .before .before .before .before .before .loop .inv) _ (c .before .before .before .before .before .piece-at .ensures) _ _ _ (c .before .before .turn .ensures) (c .before .if1 .left) (c .if2 .left)
+loop-again c = again _ _ (c .before .before .before .before .before .before .before .before .before .before .pre .most) _ _ _ _ _ _ _
+    (c .before .before .before .before .before .before .before .loop .inv) _ (c .before .before .before .before .before .piece-at .ensures) _ _ _
+    (c .before .before .turn .ensures) (c .before .if1 .left) (c .if2 .left)
 
 quiet-requires : tie.Need-quiet-requires Inv-loop μ-loop
 quiet-requires c κs = search needs

@@ -17,16 +17,27 @@ enum-known-end-2 : tie.Need-enum-known-end-2
 enum-known-end-2 c = search needs
 
 read-second-requires : tie.Need-read-second-requires
-read-second-requires c κs = let a = c .before .before .before .before .before .before .before in (over-in (a .args .semi) (a .args .n) (a .args .text .now) (a .args .from) _ _ (part-as (c .before .before .end2 .given .1) (c .before .before .before .before .read-part .ensures)), a .pre .1, a .pre .3)
+read-second-requires c κs = let a = c .before .before .before .before .before .before .before in (
+  over-in (a .args .semi) (a .args .n) (a .args .text .now) (a .args .from) _ _
+      (part-as (c .before .before .end2 .given .1) (c .before .before .before .before .read-part .ensures)),
+  a .pre .1,
+  a .pre .3,
+)
 
 returns : tie.Need-returns
-returns c = let a = c .before .before .before .before .before .before .args in alone-lost (a .semi) (a .n) (a .text .now) _ _ _ _ (c .before .before .before .before .before .before .pre .3) (part-as (c .before .end .given .1) (c .before .before .before .read-part .ensures))
+returns c = let a = c .before .before .before .before .before .before .args in
+    alone-lost (a .semi) (a .n) (a .text .now) _ _ _ _ (c .before .before .before .before .before .before .pre .3)
+    (part-as (c .before .end .given .1) (c .before .before .before .read-part .ensures))
 
 returns-2 : tie.Need-returns-2
-returns-2 c = let a = c .before .before .before .before .before .args in alone-short (a .semi) (a .n) (a .text .now) _ _ _ _ (c .before .before .before .before .before .pre .3) (part-as (c .enum-told .given .1) (c .before .before .read-part .ensures))
+returns-2 c = let a = c .before .before .before .before .before .args in
+    alone-short (a .semi) (a .n) (a .text .now) _ _ _ _ (c .before .before .before .before .before .pre .3)
+    (part-as (c .enum-told .given .1) (c .before .before .read-part .ensures))
 
 returns-3 : tie.Need-returns-3
-returns-3 c = let a = c .before .before .before .before .before .before .before .before .args in alone-over (a .semi) (a .n) (a .text .now) _ _ _ _ _ (part-as (c .before .before .before .end2 .given .1) (c .before .before .before .before .before .read-part .ensures)) (c .read-second .ensures)
+returns-3 c = let a = c .before .before .before .before .before .before .before .before .args in
+    alone-over (a .semi) (a .n) (a .text .now) _ _ _ _ _
+    (part-as (c .before .before .before .end2 .given .1) (c .before .before .before .before .before .read-part .ensures)) (c .read-second .ensures)
 
 pub read-alone-spec : {M : Type 1} → statement M
 read-alone-spec =

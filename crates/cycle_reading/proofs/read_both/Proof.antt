@@ -15,13 +15,18 @@ enum-known-first : tie.Need-enum-known-first
 enum-known-first c = search needs
 
 read-other-requires : tie.Need-read-other-requires
-read-other-requires c κs = let a = c .before .before .before .before .before .before .before .before .before .pre in let h = c .before .before .before .before .before .read-alone .ensures in (a .0, a .1, h .long-S, h .long-R)
+read-other-requires c κs = let a = c .before .before .before .before .before .before .before .before .before .pre in
+    let h = c .before .before .before .before .before .read-alone .ensures in (a .0, a .1, h .long-S, h .long-R)
 
 returns : tie.Need-returns
-returns c = let a = c .before .before .before .before .before .before .args in both-through (a .n) _ _ _ _ (solo-as (c .enum-told .given .1) (c .before .before .read-alone .ensures))
+returns c = let a = c .before .before .before .before .before .before .args in
+    both-through (a .n) _ _ _ _ (solo-as (c .enum-told .given .1) (c .before .before .read-alone .ensures))
 
 returns-2 : tie.Need-returns-2
-returns-2 c = let a = c .before .before .before .before .before .before .before .before .before .before .args in both-other (a .n) _ _ _ _ _ _ _ _ (solo-as (c .before .before .before .before .first .given .1) (c .before .before .before .before .before .before .read-alone .ensures)) (c .read-other .ensures)
+returns-2 c = let a = c .before .before .before .before .before .before .before .before .before .before .args in
+    both-other (a .n) _ _ _ _ _ _ _ _
+    (solo-as (c .before .before .before .before .first .given .1) (c .before .before .before .before .before .before .read-alone .ensures))
+    (c .read-other .ensures)
 
 pub read-both-spec : {M : Type 1} → statement M
 read-both-spec =

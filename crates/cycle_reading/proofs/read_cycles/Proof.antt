@@ -18,25 +18,36 @@ enum-known-judged-2 : tie.Need-enum-known-judged-2
 enum-known-judged-2 c = search needs
 
 array-share-prefix-a : tie.Need-array-share-prefix-a
-array-share-prefix-a c = reads-in (c .before .before .before .before .before .before .before .before .before .args .text .now) _ _ _ (c .before .before .before .read-text .ensures) _ (c .before .judged2 .given .1) .0
+array-share-prefix-a c = reads-in (c .before .before .before .before .before .before .before .before .before .args .text .now) _ _ _
+    (c .before .before .before .read-text .ensures) _ (c .before .judged2 .given .1) .0
 
 slice-aggregate-give : tie.Need-slice-aggregate-give
-slice-aggregate-give c = front-long (c .before .before .before .before .before .before .before .before .before .before .args .text .now) _ _ _ (c .before .before .before .before .read-text .ensures) _ (c .before .before .judged2 .given .1) .0
+slice-aggregate-give c = front-long (c .before .before .before .before .before .before .before .before .before .before .args .text .now) _ _ _
+    (c .before .before .before .before .read-text .ensures) _ (c .before .before .judged2 .given .1) .0
 
 array-share-prefix-b : tie.Need-array-share-prefix-b
-array-share-prefix-b c = reads-in (c .before .before .before .before .before .before .before .before .before .before .args .text .now) _ _ _ (c .before .before .before .before .read-text .ensures) _ (c .before .before .judged2 .given .1) .1
+array-share-prefix-b c = reads-in (c .before .before .before .before .before .before .before .before .before .before .args .text .now) _ _ _
+    (c .before .before .before .before .read-text .ensures) _ (c .before .before .judged2 .given .1) .1
 
 slice-aggregate-give-2 : tie.Need-slice-aggregate-give-2
-slice-aggregate-give-2 c = front-long (c .before .before .before .before .before .before .before .before .before .before .before .args .text .now) _ _ _ (c .before .before .before .before .before .read-text .ensures) _ (c .before .before .before .judged2 .given .1) .1
+slice-aggregate-give-2 c = front-long (c .before .before .before .before .before .before .before .before .before .before .before .args .text .now) _ _ _
+    (c .before .before .before .before .before .read-text .ensures) _ (c .before .before .before .judged2 .given .1) .1
 
 give-requires : tie.Need-give-requires
-give-requires c κs = reads-even (c .before .before .before .before .before .before .before .before .before .before .before .before .before .args .text .now) _ _ _ (c .before .before .before .before .before .before .before .read-text .ensures) _ (c .before .before .before .before .before .judged2 .given .1)
+give-requires c κs =
+    let earlier = c .before .before .before .before .before .before .before .before .before .before in
+    reads-even (earlier .before .before .before .args .text .now) _ _ _ (c .before .before .before .before .before .before .before .read-text .ensures) _
+    (c .before .before .before .before .before .judged2 .given .1)
 
 returns : tie.Need-returns
-returns c = let a = c .before .before .before .before .before .before .before .before .before .args in let g = cycles-left (a .text .now) _ _ _ (c .before .before .before .read-text .ensures) (a .s .now) (a .r .now) _ (c .before .judged .given .1) in (g .returned, (g .S-left, (g .R-left, g .means)))
+returns c = let a = c .before .before .before .before .before .before .before .before .before .args in
+    let g = cycles-left (a .text .now) _ _ _ (c .before .before .before .read-text .ensures) (a .s .now) (a .r .now) _ (c .before .judged .given .1) in
+    (g .returned, (g .S-left, (g .R-left, g .means)))
 
 returns-2 : tie.Need-returns-2
-returns-2 c = let a = c .before .before .before .before .before .before .before .before .args in let g = cycles-out (a .text .now) _ _ _ (c .before .before .read-text .ensures) (a .s .now) (a .r .now) (c .enum-told .given .1) in (g .returned, (g .S-left, (g .R-left, g .means)))
+returns-2 c = let a = c .before .before .before .before .before .before .before .before .args in
+    let g = cycles-out (a .text .now) _ _ _ (c .before .before .read-text .ensures) (a .s .now) (a .r .now) (c .enum-told .given .1) in
+    (g .returned, (g .S-left, (g .R-left, g .means)))
 
 same-length : tie.Need-same-length
 same-length c = search needs
@@ -45,7 +56,12 @@ same-length-2 : tie.Need-same-length-2
 same-length-2 c = search needs
 
 returns-3 : tie.Need-returns-3
-returns-3 c = let a = c .before .before .before .before .before .before .before .before .before .before .before .before .before .before .before .before .before .before .args in let x = c .before .before .before .before .give .ensures in let g = cycles-read (a .text .now) _ _ _ (c .before .before .before .before .before .before .before .before .before .before .before .before .read-text .ensures) (a .s .now) (a .r .now) _ (c .before .before .before .before .before .before .before .before .before .before .judged2 .given .1) _ _ _ (record { returned = x .0; S-left = x .1 .0; R-left = x .1 .1 }) in (g .returned, (g .S-left, (g .R-left, g .means)))
+returns-3 c =
+    let earlier = c .before .before .before .before .before .before .before .before .before .before in
+    let a = earlier .before .before .before .before .before .before .before .before .args in let x = c .before .before .before .before .give .ensures in
+    let g = cycles-read (a .text .now) _ _ _ (earlier .before .before .read-text .ensures) (a .s .now) (a .r .now) _
+    (c .before .before .before .before .before .before .before .before .before .before .judged2 .given .1) _ _ _
+    (record { returned = x .0; S-left = x .1 .0; R-left = x .1 .1 }) in (g .returned, (g .S-left, (g .R-left, g .means)))
 
 pub read-cycles-spec : {M : Type 1} → statement M
 read-cycles-spec =

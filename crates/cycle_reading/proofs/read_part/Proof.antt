@@ -10,7 +10,14 @@ fill-identity-requires : tie.Need-fill-identity-requires
 fill-identity-requires c κs = search needs
 
 go-through-requires : tie.Need-go-through-requires
-go-through-requires c κs = let a = c .before .before .before .before .before .pre in record { within = a .0; most = a .1; no-marks = no-mark 3066; marks-long = length-replicate {A = ℕ} 3066 0; table-is = c .before .before .fill-identity .ensures }
+go-through-requires c κs = let a = c .before .before .before .before .before .pre in
+    record {
+      within = a .0;
+      most = a .1;
+      no-marks = no-mark 3066;
+      marks-long = length-replicate {A = ℕ} 3066 0;
+      table-is = c .before .before .fill-identity .ensures;
+    }
 
 returns : tie.Need-returns
 returns c = search needs

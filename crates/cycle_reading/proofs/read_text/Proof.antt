@@ -16,16 +16,25 @@ digit-requires : tie.Need-digit-requires
 digit-requires c κs = search needs
 
 read-index-requires : tie.Need-read-index-requires
-read-index-requires c κs = let a = c .before .before .before .before .before .before .before .before in (c .before .before .before .before .before .before .skip-blanks .ensures, c .before .before .before .before .before .if1 .taken, sym (c .before .before .before .digit .ensures) ∙ c .before .before .if2 .taken, a .pre .0, a .pre .1)
+read-index-requires c κs = let a = c .before .before .before .before .before .before .before .before in (
+  c .before .before .before .before .before .before .skip-blanks .ensures,
+  c .before .before .before .before .before .if1 .taken,
+  sym (c .before .before .before .digit .ensures) ∙ c .before .before .if2 .taken,
+  a .pre .0,
+  a .pre .1,
+)
 
 returns : tie.Need-returns
 returns c = search needs
 
 returns-2 : tie.Need-returns-2
-returns-2 c = let a = c .before .before .before .before .before .before in let b = c .before .before .before .before .skip-blanks .ensures in verdict-mark (a .args .text .now) _ (b .same) (c .before .before .before .if1 .taken) _ _ (b .stops (c .before .before .before .if1 .taken)) (sym (c .before .digit .ensures) ∙ c .if2 .left)
+returns-2 c = let a = c .before .before .before .before .before .before in let b = c .before .before .before .before .skip-blanks .ensures in
+    verdict-mark (a .args .text .now) _ (b .same) (c .before .before .before .if1 .taken) _ _ (b .stops (c .before .before .before .if1 .taken))
+    (sym (c .before .digit .ensures) ∙ c .if2 .left)
 
 returns-3 : tie.Need-returns-3
-returns-3 c = let a = c .before .before .before in let b = c .before .skip-blanks .ensures in verdict-end (a .args .text .now) _ (b .same) _ _ (omega (arith, b .inside, c .if1 .left))
+returns-3 c = let a = c .before .before .before in let b = c .before .skip-blanks .ensures in
+    verdict-end (a .args .text .now) _ (b .same) _ _ (omega (arith, b .inside, c .if1 .left))
 
 pub read-text-spec : {M : Type 1} → statement M
 read-text-spec =

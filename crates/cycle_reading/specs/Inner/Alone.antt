@@ -28,7 +28,8 @@ aloneBehindR len sc (ended b rc) = pick b (through sc rc) (fails len)
 
 abbrev pub aloneBehindS : (semi : Bool) (n : ℕ) (t : List ℕ) → PartOut → Alone
 aloneBehindS semi n t (lost at) = fails at
-aloneBehindS semi n t (passed at sc) = aloneBehindR (length t) sc (partRun semi n (beginAt (not semi)) [] [] [] (piecesLeft t (at + 1)))
+aloneBehindS semi n t (passed at sc) =
+    aloneBehindR (length t) sc (partRun semi n (beginAt (not semi)) [] [] [] (piecesLeft t (at + 1)))
 aloneBehindS semi n t (ended b done) = fails (length t)
 
 abbrev pub aloneOf : (semi : Bool) (n : ℕ) (t : List ℕ) (from : ℕ) → Alone
@@ -56,4 +57,5 @@ pub record AloneRead (x : Alone) (o : Solo) (s r : List ℕ) : Type 0 where
 
 -- R alone: the cycles of S do not matter to it
 pub record SecondRead (out : PartOut) (len : ℕ) (o : Solo) (r : List ℕ) : Type 0 where
-  pub both : (sc : List (List ℕ)) (s : List ℕ) → s ≡ made sc → length s ≡ 3066 → AloneRead (aloneBehindR len sc out) o s r
+  pub both : (sc : List (List ℕ)) (s : List ℕ) → s ≡ made sc → length s ≡ 3066
+      → AloneRead (aloneBehindR len sc out) o s r

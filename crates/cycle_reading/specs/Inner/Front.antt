@@ -1,6 +1,7 @@
 -- Blanks and the index at the front of a text.
 --
---     FrontSame t at      up to the offset `at` the text t has blanks only: neither reader has moved, and the index is still to come
+--     FrontSame t at      up to the offset `at` the text t has blanks only: neither reader has moved, and the index is
+--                         still to come
 --     BlanksTo t at       and there is no further blank
 --     eitherAlone n a b   the verdict by what the readers with and without a semicolon say, behind the index n
 --     VerdictRead v o s r the code answers o for the verdict v, and s and r hold the tables of a text that is right
@@ -12,8 +13,8 @@ use mathlib.Core.List.{List}
 use Prim.Native.Nat.{ℕ, _≤_, _<_}
 use lib.Dec.{ltb}
 use lib.ListN.{length, getD}
-use Rattle.refusal.specs.Refusal.{filledBy}
-use Rattle.refusal.specs.declared.Filled.{Filled}
+use Rattle.call.specs.Refusal.{filledBy}
+use Rattle.call.specs.declared.refusal.Filled.{Filled}
 use Rattle.permutations.specs.Check.{pairCheck}
 use Rattle.basics.specs.Choice.{pick}
 use Rattle.cycle_notation.specs.Piece.{withoutOffsets}
@@ -27,7 +28,8 @@ use Rattle.cycle_reading.specs.Inner.PartRun.{made}
 use Rattle.cycle_reading.specs.Inner.Alone.{Alone, fails, through, died}
 
 pub record FrontSame (t : List ℕ) (at : ℕ) : Type 0 where
-  pub runs : (semi : Bool) → readAll semi front (withoutOffsets (piecesLeft t 0)) ≡ readAll semi front (withoutOffsets (piecesLeft t at))
+  pub runs : (semi : Bool) → readAll semi front (withoutOffsets (piecesLeft t 0))
+      ≡ readAll semi front (withoutOffsets (piecesLeft t at))
   pub dies : (semi : Bool) (len : ℕ) → died semi front (piecesLeft t 0) len ≡ died semi front (piecesLeft t at) len
   pub bad : badIndex (withoutOffsets (piecesLeft t 0)) ≡ badIndex (withoutOffsets (piecesLeft t at))
 

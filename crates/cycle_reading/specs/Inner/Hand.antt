@@ -3,7 +3,8 @@
 --     pieceOf k               the piece that the code calls k
 --     piecesLeft t at               the pieces of t from the offset `at` on, where no run of digits is under way
 --     digitRun l              how many digits l begins with
---     DigitsRead, FoundAt     what a run of digits, and a piece, must be read as; numbers past 3,066 are as good as 3,067
+--     DigitsRead, FoundAt     what a run of digits, and a piece, must be read as; numbers past 3,066 are as good as
+--                             3,067
 --     isQuiet, behindBlank .. behindSemicolon    the phase behind each mark
 --     Hand, hand              all that the code knows of a permutation: its part, the marks of the points and the table
 --     stepHand                what a piece does to it
@@ -15,7 +16,8 @@ use Prim.Native.Nat.{ℕ, zero, suc, _+_, _-_, _≤_, _<_, min}
 use lib.Dec.{eqb, leb, ltb}
 use lib.ListN.{length, getD, set, drop}
 use Rattle.basics.specs.Choice.{pick}
-use Rattle.cycle_notation.specs.Piece.{CyclePiece, number, blank, opening, closing, comma, semicolon, another, PlacedPiece, digitByte, runValue, cyclePiecesFrom}
+use Rattle.cycle_notation.specs.Piece.{CyclePiece, number, blank, opening, closing, comma, semicolon, another}
+use Rattle.cycle_notation.specs.Piece.{PlacedPiece, digitByte, runValue, cyclePiecesFrom}
 use Rattle.cycle_reading.specs.declared.Piece as code
 use Rattle.cycle_reading.specs.declared.Piece.the-variants as kind
 use Rattle.cycle_reading.specs.declared.Found.{Found}
@@ -58,7 +60,8 @@ pub record FoundAt (t : List ℕ) (at : ℕ) (r : Found) : Type 0 where
   pub onward : at < r .to
   pub inside : r .to ≤ length t
 
--- ---- phases as numbers: start, opened, empty, point, wanted, closed; 6 where the permutation was over, 7 where no text can go on so
+-- ---- phases as numbers: start, opened, empty, point, wanted, closed;
+-- 6 where the permutation was over, 7 where no text can go on so
 
 abbrev pub isQuiet : ℕ → Bool
 isQuiet ph = eqb ph 0 || (eqb ph 2 || eqb ph 5)
@@ -67,7 +70,8 @@ abbrev pub behindBlank : ℕ → ℕ
 behindBlank ph = pick (isQuiet ph) ph 7
 
 abbrev pub behindOpening : (semi room : Bool) → ℕ → ℕ
-behindOpening semi room ph = pick (eqb ph 0) 1 (pick (eqb ph 2) (pick semi 7 6) (pick (eqb ph 5) (pick semi (pick room 4 7) 6) 7))
+behindOpening semi room ph =
+    pick (eqb ph 0) 1 (pick (eqb ph 2) (pick semi 7 6) (pick (eqb ph 5) (pick semi (pick room 4 7) 6) 7))
 
 abbrev pub behindClosing : ℕ → ℕ
 behindClosing ph = pick (eqb ph 1) 2 (pick (eqb ph 3) 5 7)
@@ -134,7 +138,8 @@ abbrev pub stepHand : (semi : Bool) → ℕ → Hand → CyclePiece → Hand
 stepHand semi n h (number x) = namedOr n x h
 stepHand semi n h blank = moved h (behindBlank (h .part .phase))
 stepHand semi n h opening = moved h (behindOpening semi (roomLeft n (h .part)) (h .part .phase))
-stepHand semi n h closing = record { part = shutPart (h .part) (behindClosing (h .part .phase)); marks = h .marks; table = h .table }
+stepHand semi n h closing =
+    record { part = shutPart (h .part) (behindClosing (h .part .phase)); marks = h .marks; table = h .table }
 stepHand semi n h comma = moved h (behindComma (roomLeft n (h .part)) (h .part .phase))
 stepHand semi n h semicolon = moved h (behindSemicolon semi (h .part .phase))
 stepHand semi n h another = moved h 7

@@ -1,10 +1,12 @@
 -- The reader through one permutation, and how the code's hand holds its state.
 --
---     PartOut              where no text can go on; where the permutation was over, with its cycles; or the text's end, where it may be over or not
+--     PartOut              where no text can go on; where the permutation was over, with its cycles; or the text's end,
+--                          where it may be over or not
 --     partRun              that, for the pieces ps from a phase on
 --     partEndOf, Kept          the same as the code answers, and what the table then holds
 --     codeOf ph            the number of a phase
---     HandHolds                the marks are those of the points seen, the table has the links of the cycles done and of the open one
+--     HandHolds                the marks are those of the points seen, the table has the links of the cycles done and
+--                              of the open one
 --     ReadTo               the loop: what is left to read from the offset `at` on says what all of it does
 -- Assumes nothing.
 use mathlib.Core.Path.{_≡_}
@@ -17,7 +19,8 @@ use Rattle.basics.specs.Count.{count}
 use Rattle.numbering.specs.Find.{isIn}
 use Rattle.cycle_notation.specs.Piece.{PlacedPiece}
 use Rattle.cycle_notation.specs.Form.{free}
-use Rattle.cycle_notation.specs.Inner.Reader.{Phase, start, opened, empty, point, wanted, closed, on, over, stop, turnOf, mayEnd}
+use Rattle.cycle_notation.specs.Inner.Reader.{Phase, start, opened, empty, point, wanted, closed, on, over, stop}
+use Rattle.cycle_notation.specs.Inner.Reader.{turnOf, mayEnd}
 use Rattle.cycle_notation.specs.Inner.Stores.{cyclesStored, identity, lastOf}
 use Rattle.cycle_reading.specs.declared.PartEnd.{PartEnd}
 use Rattle.cycle_reading.specs.declared.PartEnd.the-variants as ending
@@ -29,7 +32,8 @@ pub data PartOut : Type 0 where
   passed : ℕ → List (List ℕ) → PartOut
   ended : Bool → List (List ℕ) → PartOut
 
-unfoldable pub partRun : (semi : Bool) (n : ℕ) → Phase → (seen cur : List ℕ) → (done : List (List ℕ)) → List PlacedPiece → PartOut
+unfoldable pub partRun : (semi : Bool) (n : ℕ) → Phase → (seen cur : List ℕ) → (done : List (List ℕ)) → List PlacedPiece
+    → PartOut
 partRun semi n ph seen cur done [] = ended (mayEnd ph) done
 partRun semi n ph seen cur done (p ∷ ps) = elim (turnOf semi n seen cur done ph (p .piece)) [
   | on ph' seen' cur' done' ↦ partRun semi n ph' seen' cur' done' ps
@@ -80,7 +84,8 @@ pub record HandHolds (n : ℕ) (ph : Phase) (seen cur : List ℕ) (done : List (
   pub cycle : CycleUnderWay (h .part) cur
   pub shut : ShutAt ph cur
 
-pub record ReadTo (semi : Bool) (n : ℕ) (ph₀ : Phase) (t : List ℕ) (from at : ℕ) (p : Part) (marks table : List ℕ) : Type 0 where
+pub record ReadTo (semi : Bool) (n : ℕ) (ph₀ : Phase) (t : List ℕ) (from at : ℕ) (p : Part) (marks table : List ℕ) :
+    Type 0 where
   pub ph : Phase
   pub seen : List ℕ
   pub cur : List ℕ

@@ -31,7 +31,8 @@ same-length c = search needs
 returns-2 : tie.Need-returns-2
 returns-2 c =
     let s = c .before .before .before .before .before .before .before .before .before in
-    let a = all-there (s .args .s .now) (s .args .r .now) (s .args .out .now) (c .before .before .put-export .ensures) (omega (arith, c .before .before .before .before .if1 .left, c .before .before .before .before .before .export-length .ensures)) in
+    let a = all-there (s .args .s .now) (s .args .r .now) (s .args .out .now) (c .before .before .put-export .ensures)
+    (omega (arith, c .before .before .before .before .if1 .left, c .before .before .before .before .before .export-length .ensures)) in
     (a .returned, a .result)
 
 pub write-accepted-spec : {M : Type 1} → statement M

@@ -1,6 +1,8 @@
--- Permutations whose cycles have three points at most: S has order two and R has order three, and one loop writes either.
+-- Permutations whose cycles have three points at most: S has order two and R has order three, and one loop writes
+-- either.
 --
---     ShortTable t         the table t takes its points to points, and back to themselves in two steps or in three; it has 3,066 points at most
+--     ShortTable t         the table t takes its points to points, and back to themselves in two steps or in three; it
+--                          has 3,066 points at most
 --     StartIn t x          x is a point of it, where a cycle begins
 --     bytesAt t x          the bytes of the cycle that begins at x, or none
 --     bytesBelow t k       the bytes of the cycles that begin below k

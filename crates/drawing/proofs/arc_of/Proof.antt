@@ -36,7 +36,8 @@ add-divided c =
     let x = c .before .before .before .before .before .before .args .s in
     let h = c .before .before .before .before .before .before .pre in
     let sum = cross-adds x h in
-    rw (held (x .a) (h .in-a), held (x .d) (h .in-d), held (x .c) (h .in-c), held (x .b) (h .in-b), toZ-ofZ (left-fits sum), toZ-ofZ (right-fits sum)) (sum-fits sum)
+    rw (held (x .a) (h .in-a), held (x .d) (h .in-d), held (x .c) (h .in-c), held (x .b) (h .in-b), toZ-ofZ (left-fits sum), toZ-ofZ (right-fits sum))
+    (sum-fits sum)
 
 divided-requires : tie.Need-divided-requires
 divided-requires c κs =

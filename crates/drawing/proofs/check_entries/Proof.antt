@@ -10,7 +10,7 @@ use borrow.Author.Needs.{needs}
 use Rattle.matrix.specs.Matrix.{nth}
 use Rattle.matrix.proofs.Bounds.{kept}
 use Rattle.basics.proofs.Count.{Clear, clear-zero, clear-more, clear-less, first-clear, first-hit}
-use Rattle.refusal.specs.Refusal.{tooLargeToDraw}
+use Rattle.call.specs.Refusal.{tooLargeToDraw}
 use Rattle.symbol.proofs.Order.{refuse-at, accept-at}
 use Rattle.drawing.specs.Answer.{tooLargeAt}
 use Rattle.drawing.proofs.check_entries.Statement.{statement}

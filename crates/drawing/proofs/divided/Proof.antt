@@ -1,6 +1,6 @@
 -- `divided`: a whole number of size at most 2⁵³ is a float (`in-float`), so the casts are allowed; the rest is the definition. Assumes nothing.
 use mir.Facts.{toZ-ofZ}
-use Rattle.rounding.specs.Quotient.{quotient}
+use Rattle.drawing.specs.Quotient.{quotient}
 use Rattle.drawing.proofs.Whole.{in-float}
 use Rattle.drawing.proofs.divided.Statement.{statement}
 use Rattle.drawing.proofs.divided.Tie as tie

@@ -11,8 +11,8 @@ use borrow.Author.Needs.{needs}
 use Rattle.matrix.specs.Matrix.{nth}
 use Rattle.symbol.specs.Table.{pairingOf}
 use Rattle.pairing.specs.Generator.{kindOf, pairingAt}
-use Rattle.rounding.specs.Quotient.{floatOf}
-use Rattle.rounding.specs.Extreme.{leastOf, greatestOf}
+use Rattle.drawing.specs.Quotient.{floatOf}
+use Rattle.drawing.specs.Extreme.{leastOf, greatestOf}
 use Rattle.drawing.specs.Drawn.{drawnOf, drawnAt}
 use Rattle.drawing.specs.Bounding.{boxTo}
 use Rattle.drawing.specs.Answer.{rowFor, drawnRow}

@@ -42,7 +42,8 @@ returns c =
     let v = s .args .v in
     let t = s .args .t .now in
     let g = drawn .draw-in-room .ensures in
-    let l = Asks (lengthCheck (v + 1) (length (s .args .out .now) / 4)) ∷ Gives (atFront (drawnRows v t (v + 1)) (s .args .out .now)) (s .args .out .now) _ ∷ [] in
+    let l = Asks (lengthCheck (v + 1) (length (s .args .out .now) / 4)) ∷ Gives (atFront (drawnRows v t (v + 1)) (s .args .out .now))
+    (s .args .out .now) _ ∷ [] in
     fills-as (run-join (symbolCheck v t) (check22 v t) l (run-pass (drawingCheck v t) l (sym (r .drawing-check .ensures) ∙ told .enum-told .given .1) (ran g)))
     (g .answer)
 
@@ -54,8 +55,10 @@ returns-2 c =
     let v = s .args .v in
     let t = s .args .t .now in
     let f = told .checked .given .0 .0 in
-    let l = Asks (lengthCheck (v + 1) (length (s .args .out .now) / 4)) ∷ Gives (atFront (drawnRows v t (v + 1)) (s .args .out .now)) (s .args .out .now) _ ∷ [] in
-    fills-as (run-join (symbolCheck v t) (check22 v t) l (run-stop f (drawingCheck v t) l (sym (r .drawing-check .ensures) ∙ told .checked .given .1) (refl, tt))) refl
+    let l = Asks (lengthCheck (v + 1) (length (s .args .out .now) / 4)) ∷ Gives (atFront (drawnRows v t (v + 1)) (s .args .out .now))
+    (s .args .out .now) _ ∷ [] in
+    fills-as (run-join (symbolCheck v t) (check22 v t) l
+    (run-stop f (drawingCheck v t) l (sym (r .drawing-check .ensures) ∙ told .checked .given .1) (refl, tt))) refl
 
 pub draw-symbol-spec : {M : Type 1} → statement M
 draw-symbol-spec =

@@ -2,7 +2,7 @@
 use mathlib.Core.Path.{sym, _∙_}
 use native.Mathlib.Omega.{arith}
 use borrow.Author.Needs.{needs}
-use Rattle.refusal.proofs.Answers.{first-refuses, then-next}
+use Rattle.call.proofs.Answers.{first-refuses, then-next}
 use Rattle.symbol.specs.Check.{symbolCheck}
 use Rattle.symbol.proofs.Accepted.{accepted}
 use Rattle.drawing.specs.Answer.{check22}

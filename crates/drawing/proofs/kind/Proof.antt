@@ -3,7 +3,7 @@ use borrow.Author.Needs.{needs}
 use Rattle.matrix.specs.Matrix.{nth}
 use Rattle.matrix.proofs.Bounds.{kept}
 use Rattle.symbol.specs.Table.{pairingOf}
-use Rattle.rounding.specs.Quotient.{floatOf}
+use Rattle.drawing.specs.Quotient.{floatOf}
 use Rattle.drawing.proofs.Whole.{in-float, kind-most}
 use Rattle.drawing.proofs.kind.Statement.{statement}
 use Rattle.drawing.proofs.kind.Tie as tie

@@ -1,6 +1,7 @@
 -- What the functions of `drawing` ask and leave.
 --
---   Drawable s             the ends of s are of size at most 33,554,432, no denominator is negative, and one of them isn't 0
+--   Drawable s             the ends of s are of size at most 33,554,432, no denominator is negative, and one of them
+--                          isn't 0
 --   SmallSymbol v t        a symbol, each of whose vertex entries is at most 33,554,432 in size
 --   sideBox r              the box of one drawn side
 --   jointBox a b           the smallest box that holds two with one bottom
@@ -15,14 +16,14 @@ use lib.IntN.{ℤ, pos, natAbs}
 use lib.ListN.{length, take, drop}
 use lib.Ieee.{Float}
 use Rattle.matrix.specs.Matrix.{nth}
-use Rattle.refusal.specs.Refusal.{_orElse_}
-use Rattle.refusal.specs.declared.Checked.{Checked}
-use Rattle.refusal.specs.declared.Checked.the-variants.{Accepted, Refused}
+use Rattle.call.specs.Refusal.{_orElse_}
+use Rattle.call.specs.declared.refusal.Checked.{Checked}
+use Rattle.call.specs.declared.refusal.Checked.the-variants.{Accepted, Refused}
 use Rattle.symbol.specs.Check.{symbolCheck}
 use Rattle.symbol.specs.Symbol.{IsSymbol}
 use Rattle.symbol.specs.declared.Side.{Side}
-use Rattle.rounding.specs.Quotient.{floatOf}
-use Rattle.rounding.specs.Extreme.{lesser, greater}
+use Rattle.drawing.specs.Quotient.{floatOf}
+use Rattle.drawing.specs.Extreme.{lesser, greater}
 use Rattle.drawing.specs.Drawn.{leftReach, rightReach, height}
 use Rattle.drawing.specs.Answer.{drawnRows, check22}
 use Rattle.drawing.specs.declared.Drawn.{Drawn}
@@ -47,7 +48,12 @@ abbrev pub sideBox : Drawn → BoundingBox
 sideBox r = record { left = leftReach r; right = rightReach r; bottom = floatOf 0; top = height r }
 
 abbrev pub jointBox : BoundingBox → BoundingBox → BoundingBox
-jointBox a b = record { left = lesser (a .left) (b .left); right = greater (a .right) (b .right); bottom = a .bottom; top = greater (a .top) (b .top) }
+jointBox a b = record {
+  left = lesser (a .left) (b .left);
+  right = greater (a .right) (b .right);
+  bottom = a .bottom;
+  top = greater (a .top) (b .top);
+}
 
 abbrev pub putFour : ℕ → List Float → List Float → List Float
 putFour i r out = take (4 * i) out ++ r ++ drop (4 * i + 4) out

@@ -1,8 +1,9 @@
 -- The test of the table of Γ0, over all its entries together.
 --
 --   indexBy f n        the index of Γ0(n) by its least prime, split off again and again, f times at most
---   rightFrom n is     whether the entries of the list are those for n, n + 1, ..: an entry costs about as many divisions as the largest prime of n
---                      says, where the product over all numbers up to n costs n of them, twice
+--   rightFrom n is     whether the entries of the list are those for n, n + 1, ..: an entry costs about as many
+--                      divisions as the largest prime of n says, where the product over all numbers up to n costs n of
+--                      them, twice
 use mathlib.Core.Bool.{Bool, true, false}
 use mathlib.Core.List.{List, [], _∷_}
 use Prim.Native.Nat.{ℕ, zero, suc, _*_, _/_}

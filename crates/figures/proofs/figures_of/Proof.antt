@@ -3,7 +3,7 @@
 use borrow.Author.Needs.{needs}
 use native.Mathlib.Omega.{arith}
 use Rattle.numbering.specs.Inner.Space.{S-TABLE, R-TABLE}
-use Rattle.workspace.specs.Space.{entries}
+use Rattle.call.specs.Space.{entries}
 use Rattle.figures.specs.Inner.Scan.{heldT}
 use Rattle.figures.proofs.Scan.{fixed-few, all-figures}
 use Rattle.figures.proofs.Filled.{widths-table}

@@ -8,7 +8,7 @@ use native.Mathlib.Omega.{arith}
 use lib.ListN.{length}
 use Rattle.figures.specs.Cusps.{isFixed}
 use Rattle.basics.specs.Count.{those}
-use Rattle.workspace.specs.Space.{entries}
+use Rattle.call.specs.Space.{entries}
 use Rattle.numbering.proofs.Those.{those-few}
 use Rattle.numbering.proofs.Space.{entries-length, entries-at}
 use Rattle.figures.proofs.Scan.{fixed-yes, fixed-no}

@@ -4,7 +4,7 @@
 use borrow.Author.Needs.{needs}
 use Prim.Native.Nat.{_-_, _≤_}
 use native.Mathlib.Omega.{arith}
-use Rattle.workspace.specs.Space.{entries}
+use Rattle.call.specs.Space.{entries}
 use Rattle.figures.proofs.Scan.{Levelling, level-start, level-positive, level-over, level-more, level-end}
 use Rattle.figures.proofs.level_of.Statement.{statement}
 use Rattle.figures.proofs.level_of.Tie as tie

@@ -3,12 +3,14 @@
 --     Permuted n w               T-TABLE holds a permutation of n places
 --     heldT n w                 that table
 --     CuspFrame k w w'           w' is w but for k entries at WIDTHS, and NUMBER and ORDER
---     CyclesListed t n i c k w   the cycles of the cusps of t below i have been listed, c points of k cusps, and their widths
+--     CyclesListed t n i c k w   the cycles of the cusps of t below i have been listed, c points of k cusps, and their
+--                                widths
 --     NewCycle n x c w           x is a point, and no point of its cycle is listed
 --     CycleDue n i c k w         Scan, at a point i
 --     CycleTaken n i w w' c k    Scan, at i + 1
---     CuspWidths n w w' k        WIDTHS holds the widths of the k cusps of T-TABLE; ORDER lists all points cusp by cusp, each cusp from its smallest
---                                point in the order of T, and NUMBER has the place of each point in that list
+--     CuspWidths n w w' k        WIDTHS holds the widths of the k cusps of T-TABLE; ORDER lists all points cusp by
+--                                cusp, each cusp from its smallest point in the order of T, and NUMBER has the place of
+--                                each point in that list
 --     FiguresOf n w w' f         f has the figures of the tables of S, R and T, and WIDTHS holds the widths
 --     PositiveTable off n w      the work space holds a table of n entries at off, none of them 0
 use mathlib.Core.Path.{_≡_}
@@ -22,7 +24,7 @@ use Rattle.figures.specs.LevelOf.{Positive}
 use Rattle.figures.specs.FiguresOf.{figuresIn}
 use Rattle.figures.specs.declared.FigureRecord.{FigureRecord}
 use Rattle.numbering.specs.Inner.Space.{WORK, ROOM, S-TABLE, WIDTHS, NUMBER, R-TABLE, T-TABLE}
-use Rattle.workspace.specs.Space.{entries}
+use Rattle.call.specs.Space.{entries}
 use Rattle.numbering.specs.Inner.Marks.{listed, Sparse}
 
 pub record HoldsTable (off n : ℕ) (w : List ℕ) : Type 0 where

@@ -1,20 +1,23 @@
--- Sides that carry their points: all that the rule asks of a side, it asks of the point 0·M, where M is the side's frame.
+-- Sides that carry their points: all that the rule asks of a side, it asks of the point 0·M, where M is the side's
+-- frame.
 --
 --   Placed               a side and its point
 --   bare u               the side alone
 --   pts l                the points of the sides of l
 --   lowerAt, upperAt     the two parts of a side: 0·M Q S and 0·M Q⁻¹ S are their points
---   isClosed B m         whether a side with the point m is paired where the sides have the points B: it is odd, or the point beyond it
---                        is a side's, its own where it is even, else its partner's
+--   isClosed B m         whether a side with the point m is paired where the sides have the points B: it is odd, or the
+--                        point beyond it is a side's, its own where it is even, else its partner's
 --   opensAt B l          which sides of l are open, B being the points of all sides
 --   partsAt i l          side i is split
 --   fitsIn i l           whether the vertex at which side i is split keeps to the limit
---   growBy order n k came l    n splits at the most, of the sides that the order chooses; k sides came so far, those of l as the numbers came
+--   growBy order n k came l    n splits at the most, of the sides that the order chooses; k sides came so far, those of
+--                              l as the numbers came
 --   grow order n l       the same from a start l of three sides
 --   markOf m             what a closed side with the point m is paired as
 --   rowsOf l             the sides of l with these marks
 --   startPlaced          the start of the rule
---   quickBy order n      THE RULE BY POINTS: for every pair of permutations it is `ruleBy order` (proofs/Theorem.antt, `rule-is`)
+--   quickBy order n      THE RULE BY POINTS: for every pair of permutations it is `ruleBy order` (proofs/Theorem.antt,
+--                        `rule-is`)
 use mathlib.Core.Bool.{Bool, true, false, not, _||_, _&&_}
 use mathlib.Core.List.{List, [], _∷_}
 use Prim.Native.Nat.{ℕ, zero, suc, _-_}

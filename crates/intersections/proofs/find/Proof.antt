@@ -55,10 +55,12 @@ index-requires-2 : tie.Need-index-requires-2 Inv-loop μ-loop
 index-requires-2 c κs = search needs
 
 loop-less : tie.Need-loop-less Inv-loop μ-loop
-loop-less c = seek-falls (c .before .before .before .before .before .before .before .before .before .pre) (omega arith) (c .before .before .before .before .before .loop .inv) (c .index2 .ensures)
+loop-less c = seek-falls (c .before .before .before .before .before .before .before .before .before .pre) (omega arith)
+    (c .before .before .before .before .before .loop .inv) (c .index2 .ensures)
 
 loop-again : tie.Need-loop-again Inv-loop μ-loop
-loop-again c = seek-next (c .before .before .before .before .before .before .before .before .before .pre) (omega arith) (c .before .before .before .before .before .loop .inv) (c .before .before .if1 .left) (c .index2 .ensures)
+loop-again c = seek-next (c .before .before .before .before .before .before .before .before .before .pre) (omega arith)
+    (c .before .before .before .before .before .loop .inv) (c .before .before .if1 .left) (c .index2 .ensures)
 
 returns-2 : tie.Need-returns-2 Inv-loop μ-loop
 returns-2 c = let e : c .before .loop .p ≡ 0 = omega arith in search-end (rw e at (c .before .loop .inv))

@@ -5,16 +5,20 @@ use mathlib.Core.Path.{refl, _∙_, ap}
 use mathlib.Core.List.{List}
 use Prim.Native.Nat.{ℕ}
 use native.Mathlib.Omega.{arith}
-use lib.ListN.{length}
+use Rattle.call.specs.Refusal.{largeIntersection}
+use Rattle.call.specs.Inner.Fills.{madeIf}
+use Rattle.call.proofs.Laws.{run-stop, run-pass, fills-as, ran}
 use Rattle.coset.specs.Answer.{columnLeft}
-use Rattle.intersections.proofs.Given.{given-large, given-room, composes, composed-length, composed-S, composed-R, composed-T}
+use Rattle.intersections.specs.Answer.{tooMany}
+use Rattle.intersections.proofs.Given.{given-large, given-few, copied as given, composes, long-S, long-R, long-T, composed-length, composed-S}
+use Rattle.intersections.proofs.Given.{composed-R, composed-T}
 use Rattle.intersections.proofs.give.Statement.{statement}
 use Rattle.intersections.proofs.give.Tie as tie
 
 returns : tie.Need-returns
 returns c =
-    let args = c .before .before .before .before .before .args in
-    (given-large (args .n) (length (args .s .now)) (length (args .r .now)) (length (args .u .now)) (omega arith), (refl, (refl, (refl, refl))))
+    let n = c .before .before .before .before .before .args .n in
+    (fills-as {by = madeIf n} (run-stop largeIntersection (tooMany n) _ (given-large n (omega arith)) (refl, (refl, (refl, tt)))) refl, refl)
 
 compose-requires : tie.Need-compose-requires
 compose-requires c κs =
@@ -41,21 +45,16 @@ returns-2 c =
     let composed = copied .before .before .before .before .before .before .before in
     let st = composed .before .before .before .before .before .before .before in
     let args = st .args in
+    let n = args .n in
     let is = composed .compose .ensures in
     let e = copied .copy-tables .ensures in
-    let q = copied .copy-tables .result in (
-      e .0 ∙ given-room (args .n) (length (args .s .now)) (length (args .r .now)) (length (args .u .now)) (omega arith),
-      (
-        composed-length (st .pre) (omega arith) is,
-        (
-          e .1 .0 ∙ ap (λ (l : List ℕ). columnLeft q l (args .s .now)) (composed-S (st .pre) (omega arith) is),
-          (
-            e .1 .1 .0 ∙ ap (λ (l : List ℕ). columnLeft q l (args .r .now)) (composed-R (st .pre) (omega arith) is),
-            e .1 .1 .1 ∙ ap (λ (l : List ℕ). columnLeft q l (args .u .now)) (composed-T (st .pre) (omega arith) is),
-          ),
-        ),
-      ),
-    )
+    let q = copied .copy-tables .result in
+    let k = given n _ _ _ (args .s .now) (args .r .now) (args .u .now) _ _ _ (long-S (st .pre) (omega arith)) (long-R (st .pre) (omega arith))
+    (long-T (st .pre) (omega arith)) (e .0)
+    (e .1 .0 ∙ ap (λ (l : List ℕ). columnLeft q l (args .s .now)) (composed-S (st .pre) (omega arith) is))
+    (e .1 .1 .0 ∙ ap (λ (l : List ℕ). columnLeft q l (args .r .now)) (composed-R (st .pre) (omega arith) is))
+    (e .1 .1 .1 ∙ ap (λ (l : List ℕ). columnLeft q l (args .u .now)) (composed-T (st .pre) (omega arith) is)) in
+    (fills-as {by = madeIf n} (run-pass (tooMany n) _ (given-few n (omega arith)) (ran k)) (k .answer), composed-length (st .pre) (omega arith) is)
 
 pub give-spec : {M : Type 1} → statement M
 give-spec =

@@ -1,15 +1,14 @@
--- `intersections::intersect` meets its contract: the tables of both symbols are kept, their pairs are listed (`walks`, `listed-common`) and the tables given; clearing
--- comes last, so zeros stay.
--- Assumes nothing.
+-- `intersections::intersect` meets its contract: the tables of both symbols are kept, their pairs are listed (`walks`, `listed-common`) and the tables given;
+-- clearing comes last, so zeros stay. Assumes nothing.
 use borrow.Author.Needs.{needs}
 use mathlib.Core.Path.{_≡_, _∙_, ap}
 use mathlib.Core.List.{List}
 use Prim.Native.Nat.{ℕ}
 use native.Mathlib.Omega.{arith}
 use lib.ListN.{length, getD, replicate, length-replicate}
-use Rattle.workspace.specs.Space.{zeros}
-use Rattle.workspace.proofs.Zeros.{length-zeros, getD-zeros}
-use Rattle.intersections.proofs.Symbols.{walks, listed-common, gives, room-is, left-S, left-R, left-T}
+use Rattle.call.specs.Space.{zeros}
+use Rattle.call.proofs.Zeros.{length-zeros, getD-zeros}
+use Rattle.intersections.proofs.Symbols.{walks, listed-common, gives, given-common}
 use Rattle.intersections.proofs.intersect.Statement.{statement}
 use Rattle.intersections.proofs.intersect.Tie as tie
 
@@ -74,7 +73,8 @@ list-pairs-requires c κs =
     let k1 = k2 .before .before .before .before in
     let a1 = k1 .before .before .before .before .before in
     let st = a1 .before .before .before .before .before .before in
-    walks (st .pre .0) (st .pre .1) (a1 .arrange .ensures .0) (a2 .arrange2 .ensures .0) fresh nothing (k1 .keep .ensures) (k2 .keep2 .ensures) (k3 .keep3 .ensures) (k4 .keep4 .ensures) fresh-size
+    walks (st .pre .0) (st .pre .1) (a1 .arrange .ensures .0) (a2 .arrange2 .ensures .0) fresh nothing (k1 .keep .ensures) (k2 .keep2 .ensures)
+    (k3 .keep3 .ensures) (k4 .keep4 .ensures) fresh-size
 
 give-requires : tie.Need-give-requires
 give-requires c κs =
@@ -87,7 +87,8 @@ give-requires c κs =
     let a1 = k1 .before .before .before .before .before in
     let st = a1 .before .before .before .before .before .before in
     let held =
-    listed-common (st .pre .0) (st .pre .1) (a1 .arrange .ensures .0) (a2 .arrange2 .ensures .0) fresh nothing (k1 .keep .ensures) (k2 .keep2 .ensures) (k3 .keep3 .ensures) (k4 .keep4 .ensures) fresh-size
+    listed-common (st .pre .0) (st .pre .1) (a1 .arrange .ensures .0) (a2 .arrange2 .ensures .0) fresh nothing (k1 .keep .ensures) (k2 .keep2 .ensures)
+    (k3 .keep3 .ensures) (k4 .keep4 .ensures) fresh-size
     (lp .list-pairs .ensures) in
     gives (st .pre .0) (st .pre .1) held (omega (arith, lp .list-pairs .ensures .same, a2 .arrange2 .ensures .0 .long))
 
@@ -106,7 +107,7 @@ same-length c =
     let k1 = k2 .before .before .before .before in
     let a1 = k1 .before .before .before .before .before in
     let st = a1 .before .before .before .before .before .before in
-    let same = gv .give .ensures .1 .0 ∙ lp .list-pairs .ensures .same ∙ a2 .arrange2 .ensures .1 ∙ a1 .arrange .ensures .1 in
+    let same = gv .give .ensures .1 ∙ lp .list-pairs .ensures .same ∙ a2 .arrange2 .ensures .1 ∙ a1 .arrange .ensures .1 in
     ap length (cl .clear .ensures) ∙ length-zeros _ ∙ same
 
 same-length-2 : tie.Need-same-length-2
@@ -131,25 +132,14 @@ returns c =
     let a1 = k1 .before .before .before .before .before in
     let st = a1 .before .before .before .before .before .before in
     let held =
-    listed-common (st .pre .0) (st .pre .1) (a1 .arrange .ensures .0) (a2 .arrange2 .ensures .0) fresh nothing (k1 .keep .ensures) (k2 .keep2 .ensures) (k3 .keep3 .ensures) (k4 .keep4 .ensures) fresh-size
+    listed-common (st .pre .0) (st .pre .1) (a1 .arrange .ensures .0) (a2 .arrange2 .ensures .0) fresh nothing (k1 .keep .ensures) (k2 .keep2 .ensures)
+    (k3 .keep3 .ensures) (k4 .keep4 .ensures) fresh-size
     (lp .list-pairs .ensures) in
-    let same = gv .give .ensures .1 .0 ∙ lp .list-pairs .ensures .same ∙ a2 .arrange2 .ensures .1 ∙ a1 .arrange .ensures .1 in
-    let e = gv .give .ensures in
-    let q = gv .give .result in
-    let s = st .args .a .now in
-    let r = st .args .b .now in
-    let u = st .args .c .now in (
-      e .0 ∙ room-is (st .pre .0) (st .pre .1) held (length s) (length r) (length u),
-      (
-        cl .clear .ensures ∙ ap zeros same,
-        (
-          e .1 .1 .0 ∙ left-S (st .pre .0) (st .pre .1) held q (length s) (length r) (length u) (e .0) s,
-          (
-            e .1 .1 .1 .0 ∙ left-R (st .pre .0) (st .pre .1) held q (length s) (length r) (length u) (e .0) r,
-            e .1 .1 .1 .1 ∙ left-T (st .pre .0) (st .pre .1) held q (length s) (length r) (length u) (e .0) u,
-          ),
-        ),
-      ),
+    let same = gv .give .ensures .1 ∙ lp .list-pairs .ensures .same ∙ a2 .arrange2 .ensures .1 ∙ a1 .arrange .ensures .1 in
+    let left = gv .give .last .1 .1 in (
+      given-common (st .pre .0) (st .pre .1) held (st .args .a .now) (left .0) (st .args .b .now) (left .1 .0) (st .args .c .now) (left .1 .1 .0) _
+          (gv .give .ensures .0),
+      cl .clear .ensures ∙ ap zeros same,
     )
 
 pub intersect-spec : {M : Type 1} → statement M

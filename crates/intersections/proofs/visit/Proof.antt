@@ -129,7 +129,12 @@ slice-write-w-2 c =
     let first = entered-S second in
     let at = args-S first in
     let v = start at .pre in
-    simp length-set (omega (arith, visited-long v (read-x at .index .ensures) (read-y at .index2 .ensures) (first .enter .ensures) (second .enter2 .ensures), v .low, v .room))
+    simp length-set (omega (
+      arith,
+      visited-long v (read-x at .index .ensures) (read-y at .index2 .ensures) (first .enter .ensures) (second .enter2 .ensures),
+      v .low,
+      v .room,
+    ))
 
 returns : tie.Need-returns
 returns c =

@@ -5,7 +5,7 @@
 --      8192   FIRST_OF      FIRST-OF      the first coset of each pair
 --     12288   SECOND_OF     SECOND-OF     the second
 --     16384   LAST_WITH     LAST-WITH     for each first coset, one more than the last pair that it stands in, or 0
---     20480   PAIR_BEFORE   PAIR-BEFORE   for each pair, one more than the last one before it with its first coset, or 0
+--     20480   PAIR_BEFORE   PAIR-BEFORE   for each pair, one more than the last before it with its first coset, or 0
 --     24576   R_TABLE       R-TABLE       the image of each pair by R, by number
 --
 --   LatestPair w x i p      of the pairs before i, p - 1 is the last one whose first coset is x; 0 is for none
@@ -14,20 +14,24 @@
 --   SeekPair, PairFound     what is asked where a pair is sought, and what is found: its place in whatever list w holds
 --   withPair w x y i        w with the pair of x and y at i; PushPair: what is asked for that
 --   EnterPair, PairEntered  a pair takes the next number, if it is new
---   PairTables n k a b c d  what is asked of the lent tables: a and b of S and R of the first cosets, c and d of the second, of which there are k
+--   PairTables n k a b c d  what is asked of the lent tables: a and b of S and R of the first cosets, c and d of the
+--                           second, of which there are k
 --   VisitPair, PairVisited  both images of the pair i take the next numbers, if they are new, and stand in the tables
 --   WalkPairs, PairsListed  the walk over the pairs: all of them and their tables, or more than 3,066
 --   GiveTables w n          what is asked for the table of T: the images by S are points
+--   giveSteps n x y z s r u    24 where there are more than 3,066, and then the tables x, y and z in the result spaces
 use mathlib.Core.Path.{_≡_}
-use mathlib.Core.List.{List}
+use mathlib.Core.List.{List, _++_}
 use Prim.Native.Nat.{ℕ, suc, _+_, _*_, _/_, _%_, _≤_, _<_}
 use lib.ListN.{length, getD, set}
-use Rattle.workspace.specs.Space.{workLength, entries}
+use Rattle.call.specs.Space.{workLength, entries}
 use Rattle.numbering.specs.Find.{find, Once}
 use Rattle.numbering.specs.Order.{add, visit, Maps}
 use Rattle.numbering.specs.Table.{imageAt}
 use Rattle.numbering.specs.Inner.Space.{S-TABLE, R-TABLE}
-use Rattle.subgroup_pairs.specs.Pairs.{pairsReached, pairsS, pairsR, pairByS, pairByR}
+use Rattle.call.specs.Call.{Lent, Step, asks, stores}
+use Rattle.containment.specs.Pairs.{pairsReached, pairsS, pairsR, pairByS, pairByR}
+use Rattle.intersections.specs.Answer.{tooMany}
 
 abbrev pub FIRST-OF : ℕ
 FIRST-OF = 8192
@@ -127,11 +131,13 @@ pub record PairVisited (w a b c d : List ℕ) (i count : ℕ) (w' : List ℕ) (c
   pub upto : count' ≤ count + 2
   pub S-kept : (j : ℕ) → j < i → getD w' (S-TABLE + j) 0 ≡ getD w (S-TABLE + j) 0
   pub R-kept : (j : ℕ) → j < i → getD w' (R-TABLE + j) 0 ≡ getD w (R-TABLE + j) 0
-  pub holds : (n k : ℕ) (l : List ℕ) → PairTables n k a b c d → HoldsPairs k l w count → HoldsPairs k (visit (pairByS n k a b c d) (pairByR n k a b c d) l i) w' count'
+  pub holds : (n k : ℕ) (l : List ℕ) → PairTables n k a b c d → HoldsPairs k l w count
+      → HoldsPairs k (visit (pairByS n k a b c d) (pairByR n k a b c d) l i) w' count'
   pub S-is : (n k : ℕ) (l : List ℕ) → PairTables n k a b c d → HoldsPairs k l w count
       → getD w' (S-TABLE + i) 0 ≡ find (add l (pairByS n k a b c d (getD l i 0))) (pairByS n k a b c d (getD l i 0))
   pub R-is : (n k : ℕ) (l : List ℕ) → PairTables n k a b c d → HoldsPairs k l w count
-      → getD w' (R-TABLE + i) 0 ≡ find (visit (pairByS n k a b c d) (pairByR n k a b c d) l i) (pairByR n k a b c d (getD l i 0))
+      → getD w' (R-TABLE + i) 0 ≡ find (visit (pairByS n k a b c d) (pairByR n k a b c d) l i)
+      (pairByR n k a b c d (getD l i 0))
 
 pub record WalkPairs (w a b c d : List ℕ) : Type 0 where
   pub long : workLength ≤ length w
@@ -150,3 +156,6 @@ pub record PairsListed (w a b c d w' : List ℕ) (count : ℕ) : Type 0 where
 pub record GiveTables (w : List ℕ) (n : ℕ) : Type 0 where
   pub long : workLength ≤ length w
   pub low : n ≤ 3066 → (j : ℕ) → j < n → imageAt (entries S-TABLE n w) j < n
+
+abbrev pub giveSteps : (n : ℕ) (x y z : List ℕ) (s r u : Lent (List ℕ)) → List Step
+giveSteps n x y z s r u = asks (tooMany n) ++ stores x s ++ stores y r ++ stores z u

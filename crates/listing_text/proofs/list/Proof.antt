@@ -2,8 +2,8 @@
 -- (`listing-means`). One that could not be read: nothing is done. Assumes nothing.
 use mathlib.Core.Path.{refl}
 use native.Mathlib.Omega.{arith}
-use Rattle.input.proofs.Text.{when-read, when-failed}
-use Rattle.text_line.proofs.Placing.{puts-within, puts-front}
+use Rattle.text.proofs.InputText.{when-read, when-failed}
+use Rattle.text.proofs.Placing.{puts-within, puts-front}
 use Rattle.listing_text.proofs.Listed.{listing-means}
 use borrow.Author.Needs.{needs}
 use Rattle.listing_text.proofs.list.Statement.{statement}
@@ -16,7 +16,7 @@ enum-told : tie.Need-enum-told
 enum-told c = search needs
 
 returns : tie.Need-returns
-returns c = (omega arith, when-failed (c .enum-told .given .1) (refl, refl, refl, refl, refl))
+returns c = (omega arith, when-failed (c .enum-told .given .1) (refl, refl))
 
 text-end-requires : tie.Need-text-end-requires
 text-end-requires c κs = search needs
@@ -24,16 +24,24 @@ text-end-requires c κs = search needs
 slice-aggregate-list-text : tie.Need-slice-aggregate-list-text
 slice-aggregate-list-text c = c .before .text-end .ensures .long
 
+slice-aggregate-list-text-2 : tie.Need-slice-aggregate-list-text-2
+slice-aggregate-list-text-2 c = search needs
+
+slice-aggregate-list-text-3 : tie.Need-slice-aggregate-list-text-3
+slice-aggregate-list-text-3 c = search needs
+
+slice-aggregate-list-text-4 : tie.Need-slice-aggregate-list-text-4
+slice-aggregate-list-text-4 c = search needs
+
 list-text-requires : tie.Need-list-text-requires
 list-text-requires c κs = (omega arith, record { work = omega arith; table-long = omega arith; out-long = omega arith })
 
 returns-2 : tie.Need-returns-2
 returns-2 c =
-    let ended = c .before .before .before .before .before .before in
-    let p = c .list-text .ensures in (
-      omega (arith, puts-within (p .0) (omega arith) (omega arith)),
-      when-read (ended .before .before .input .given .1) (ended .text-end .ensures)
-          (p .0, p .1, listing-means _ _ (puts-front (p .0))),
+    let ended = c .before .before .before .before .before .before .before .before .before in
+    let p = c .before .before .before .list-text .ensures in (
+      omega (arith, puts-within p (omega arith) (omega arith)),
+      when-read (ended .before .before .input .given .1) (ended .text-end .ensures) (p, listing-means _ _ (puts-front p)),
     )
 
 pub list-spec : {M : Type 1} → statement M
@@ -45,5 +53,8 @@ list-spec =
     returns
     text-end-requires
     slice-aggregate-list-text
+    slice-aggregate-list-text-2
+    slice-aggregate-list-text-3
+    slice-aggregate-list-text-4
     list-text-requires
     returns-2)

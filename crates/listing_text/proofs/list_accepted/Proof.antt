@@ -1,9 +1,8 @@
 -- `list_accepted` meets its contract: `survey` leaves the widths and the tables where the parts are listed from. Assumes nothing.
-use mathlib.Core.Path.{ap, _∙_}
+use mathlib.Core.Path.{ap}
 use native.Mathlib.Omega.{arith}
 use lib.ListN.{length}
-use Rattle.workspace.specs.Space.{zeros}
-use Rattle.text_line.proofs.Placing.{puts-as}
+use Rattle.text.proofs.Placing.{puts-as}
 use Rattle.listing_text.proofs.Gathered.{leaders-most, rows-long}
 use Rattle.listing_text.proofs.Listed.{parts-listed}
 use borrow.Author.Needs.{needs}
@@ -28,9 +27,6 @@ list-parts-requires c κs =
       p .4,
     )
 
-clear-requires : tie.Need-clear-requires
-clear-requires c κs = search needs
-
 same-length : tie.Need-same-length
 same-length c = search needs
 
@@ -39,12 +35,9 @@ same-length-2 c = search needs
 
 returns : tie.Need-returns
 returns c =
-    let f = (c .before .before .before .before .before .before .before .before .before .before .before) .survey .ensures in
-    let s = c .before .before .before .before .before .before .before .before .before .before .before .before .before .before .before in (
-      puts-as (parts-listed (s .args .g) (s .args .rows .now) f (s .pre .1) (s .pre .2))
-          ((c .before .before .before .before .before .before) .list-parts .ensures),
-      (c .before .before) .clear .ensures ∙ ap zeros (f .same),
-    )
+    let f = (c .before .before .before .before .before .before .before) .survey .ensures in
+    let s = c .before .before .before .before .before .before .before .before .before .before .before in
+    puts-as (parts-listed (s .args .g) (s .args .rows .now) f (s .pre .1) (s .pre .2)) ((c .before .before) .list-parts .ensures)
 
 pub list-accepted-spec : {M : Type 1} → statement M
 list-accepted-spec =
@@ -52,7 +45,6 @@ list-accepted-spec =
     (tie.spec
     survey-requires
     list-parts-requires
-    clear-requires
     same-length
     same-length-2
     returns)

@@ -13,11 +13,9 @@ use Rattle.text.specs.Reading.{symbolFormat, inputOf, leftBy, vertexCount}
 use Rattle.text.specs.declared.Reading.{Reading}
 use Rattle.text.specs.declared.Reading.the-variants.{Numbers, Refused}
 use Rattle.text.proofs.Handed.{Handed, input-on, first-entry, other-entries}
-use Rattle.text_line.proofs.Placing.{puts-as}
-use Rattle.symbol.specs.Check.{symbolCheck}
-use Rattle.pairing.specs.Generator.{workAfter}
-use Rattle.listing_text.specs.Listing.{listingLines, generatorsLeft}
-use Rattle.listing_text.proofs.Listed.{listing-by, leaves-by}
+use Rattle.text.proofs.Placing.{puts-as}
+use Rattle.listing_text.specs.Listing.{listingLines}
+use Rattle.listing_text.proofs.Listed.{listing-by}
 use borrow.Author.Needs.{needs}
 use Rattle.listing_text.proofs.list_text.Statement.{statement}
 use Rattle.listing_text.proofs.list_text.Tie as tie
@@ -129,7 +127,7 @@ returns c =
     let told = (c .before .before .before .before .before) .read .given in
     let x = Refused (told .0 .0) in
     let e = sym (told .1) ∙ answer r in
-    (puts-as (listing-by (s .args .longer) (s .args .text .now) x e) ((c .before .before) .refusal-line .ensures), leaves-by x e (left r x (told .1)) refl refl)
+    puts-as (listing-by (s .args .longer) (s .args .text .now) x e) ((c .before .before) .refusal-line .ensures)
 
 same-length-4 : tie.Need-same-length-4
 same-length-4 c = search needs
@@ -142,28 +140,23 @@ same-length-6 c = search needs
 
 returns-2 : tie.Need-returns-2
 returns-2 c =
-    let d = c .before .before .before .before .before .before .before .before .before .before .before .before .before in
-    let r = c .before .before .before .before .before .before .before .before .before .before .before .before .before .before .before .before .before in
-    let s = c .before .before .before .before .before .before .before .before .before .before .before .before .before .before .before .before .before .before .before .before .before .before in
+    let earlier = c .before .before .before .before .before .before .before .before .before .before in
+    let d = earlier .before .before .before in
+    let r = earlier .before .before .before .before .before .before .before in
+    let s = earlier .before .before .before .before .before .before .before .before .before .before .before .before in
     let l = (c .before .before .before .before .before) .list-symbol .ensures in
-    let v = c .before .before .before .before .before .before .before .before .before .before .before in
+    let v = earlier .before in
     let k = count d in
-    let w = s .args .w .now in
-    let table = s .args .table .now in
     let e = rw (toZ-ofZ {w = w64} {z = getD (stood r) 0 (pos 0)}
-    (record { sfits = (c .before .before .before .before .before .before .before .before .before .before .before .before) .vertex-count-arg .given })) at
+    (record { sfits = (earlier .before .before) .vertex-count-arg .given })) at
     (v .vertex-count .ensures) in
     let n = e ∙ ap vertexCount (first d) in
     let t = take (k - 1) (drop 1 (stood r)) in
     let first = vertexCount (nth (ns d) 0) in
     let x = Numbers k in
     let same : listingLines (v .vertex-count .result) t ≡ listingLines first (drop 1 (take k (ns d))) = ap (λ (m : ℕ). listingLines m t) n
-    ∙ ap (listingLines first) (others d) in (
-      puts-as (same ∙ listing-by (s .args .longer) (s .args .text .now) x (numbered d)) (l .0),
-      leaves-by x (numbered d) (numbers-left d)
-          (l .1 .0 ∙ ap (λ (m : ℕ). workAfter (symbolCheck m t) w) n ∙ ap (λ (m : List ℤ). workAfter (symbolCheck first m) w) (others d))
-          (l .1 .1 ∙ ap (λ (m : ℕ). generatorsLeft m t (length w) table) n ∙ ap (λ (m : List ℤ). generatorsLeft first m (length w) table) (others d)),
-    )
+    ∙ ap (listingLines first) (others d) in
+    puts-as (same ∙ listing-by (s .args .longer) (s .args .text .now) x (numbered d)) l
 
 pub list-text-spec : {M : Type 1} → statement M
 list-text-spec =

@@ -1,12 +1,13 @@
 -- The slices that a program lends for a listing, and its parts as they lie there.
---   ListingSpaces w table out  the work space, the generator table and the bytes that are written are long enough for every symbol
---   partsOf f g rows w     the lines of the figures f with the widths in the work space w, of g generators in the rows, and of the tables
---                          of S, R and T in w
+--   ListingSpaces w table out  the work space, the generator table and the bytes that are written are long enough for
+--                              every symbol
+--   partsOf f g rows w     the lines of the figures f with the widths in the work space w, of g generators in the rows,
+--                          and of the tables of S, R and T in w
 use mathlib.Core.List.{List, _++_}
 use Prim.Native.Nat.{ℕ, _≤_}
 use lib.IntN.{ℤ}
 use lib.ListN.{length}
-use Rattle.workspace.specs.Space.{workLength, entries}
+use Rattle.call.specs.Space.{workLength, entries}
 use Rattle.numbering.specs.Inner.Space.{S-TABLE, WIDTHS, R-TABLE, T-TABLE}
 use Rattle.figures.specs.declared.FigureRecord.{FigureRecord}
 use Rattle.listing_text.specs.Listing.{figureLines, generatorPart, tableLines}

@@ -2,98 +2,101 @@
 -- Assumes nothing.
 use borrow.Author.Needs.{needs}
 use Rattle.named_groups.proofs.Asking.{most, front-long, query-over, query-made}
-use Rattle.import_table.specs.Answer.{orderBy}
-use lib.ListN.{length}
+use Rattle.import_symbol.specs.Answer.{orderBy}
+use mathlib.Core.Path.{_≡_}
+use mathlib.Core.List.{List}
+use Prim.Native.Nat.{ℕ}
+use lib.IntN.{ℤ, pos}
+use lib.ListN.{length, replicate, length-replicate}
 use native.Mathlib.Omega.{arith}
-use mathlib.Core.Path.{refl}
 use Rattle.named_groups.proofs.answer_query.Statement.{statement}
 use Rattle.named_groups.proofs.answer_query.Tie as tie
-use Rattle.named_groups.proofs.answer_query.Reads as reads
-use Rattle.named_groups.proofs.answer_query.Lts as lts
-use Rattle.named_groups.proofs.make_symbol.Reads as make-symbol-reads
-use Rattle.word.proofs.query.Reads as query-reads
 
--- src/lib.rt:210:37
+-- the space for the symbol's table
+abbrev zeros3070 : List ℤ
+zeros3070 = replicate 3070 (pos 0)
+
+zeros3070-long : length zeros3070 ≡ 3070
+zeros3070-long = length-replicate {A = ℤ} 3070 (pos 0)
+
 slice-aggregate-make-symbol : tie.Need-slice-aggregate-make-symbol
 slice-aggregate-make-symbol c = search needs
 
--- src/lib.rt:210:9
 make-symbol-requires : tie.Need-make-symbol-requires
 make-symbol-requires c κs = search needs
 
--- src/lib.rt:212:25
 enum-known-made : tie.Need-enum-known-made
 enum-known-made c = search needs
 
--- src/lib.rt:213:22
 enum-known-made-2 : tie.Need-enum-known-made-2
 enum-known-made-2 c = search needs
 
--- src/lib.rt:213:48
 mul-t : tie.Need-mul-t
 mul-t c =
     let s = c .before .before .before .before .before .before .before .before .before .before in
     let m = c .before .before .before .before .before .before .make-symbol in
     let o = orderBy (s .args .wide) in
-    omega (arith, most (s .args .f) (s .args .n) (s .pre .group) o (m .ensures .0) (c .before .made2 .given .1))
+    omega (arith, most (s .args .f) (s .args .n) (s .pre .group) o zeros3070 (m .last .1 .1 .1 .0) zeros3070-long (m .ensures .0) (c .before .made2 .given .1))
 
--- src/lib.rt:213:48
 add-t : tie.Need-add-t
 add-t c =
     let s = c .before .before .before .before .before .before .before .before .before .before in
     let m = c .before .before .before .before .before .before .make-symbol in
     let o = orderBy (s .args .wide) in
-    omega (arith, most (s .args .f) (s .args .n) (s .pre .group) o (m .ensures .0) (c .before .made2 .given .1))
+    omega (arith, most (s .args .f) (s .args .n) (s .pre .group) o zeros3070 (m .last .1 .1 .1 .0) zeros3070-long (m .ensures .0) (c .before .made2 .given .1))
 
--- src/lib.rt:213:43
 array-share-prefix-t : tie.Need-array-share-prefix-t
 array-share-prefix-t c =
     let s = c .before .before .before .before .before .before .before .before .before .before in
     let m = c .before .before .before .before .before .before .make-symbol in
     let o = orderBy (s .args .wide) in
-    omega (arith, most (s .args .f) (s .args .n) (s .pre .group) o (m .ensures .0) (c .before .made2 .given .1), c .before .before .before .t2 .given)
+    omega (
+      arith,
+      most (s .args .f) (s .args .n) (s .pre .group) o zeros3070 (m .last .1 .1 .1 .0) zeros3070-long (m .ensures .0) (c .before .made2 .given .1),
+      c .before .before .before .t2 .given,
+    )
 
--- src/lib.rt:213:43
 slice-aggregate-query : tie.Need-slice-aggregate-query
 slice-aggregate-query c =
     let s = c .before .before .before .before .before .before .before .before .before .before .before in
     let m = c .before .before .before .before .before .before .before .make-symbol in
     let o = orderBy (s .args .wide) in
-    front-long (s .args .f) (s .args .n) (s .pre .group) o (m .ensures .0) (c .before .before .made2 .given .1) _ (m .ensures .1 .1)
+    front-long (s .args .f) (s .args .n) (s .pre .group) o zeros3070 (m .last .1 .1 .1 .0) zeros3070-long (m .ensures .0) (c .before .before .made2 .given .1)
 
--- src/lib.rt:213:28
 query-requires : tie.Need-query-requires
 query-requires c κs = search needs
 
--- src/lib.rt:193:1
 same-length : tie.Need-same-length
 same-length c = search needs
 
--- src/lib.rt:193:1
 returns : tie.Need-returns
 returns c =
     let s = c .before .before .before .before .before .before .before .before .before .before in
     let m = c .before .before .before .before .before .before .make-symbol in
-    let o = orderBy (s .args .wide) in
-    (query-over (s .args .f) (s .args .n) (s .pre .group) o (m .ensures .0) (c .before .made .given .1) (s .args .a) (s .args .b) (s .args .start) (length (s .args .out .now)), (m .ensures .1 .0, refl))
+    let o = orderBy (s .args .wide) in (
+      query-over (s .args .f) (s .args .n) (s .pre .group) o zeros3070 (m .last .1 .1 .1 .0) zeros3070-long (m .ensures .0)
+          (c .before .made .given .1) (s .args .a) (s .args .b) (s .args .out .now) (s .args .start),
+      m .ensures .1,
+    )
 
--- src/lib.rt:193:1
 same-length-2 : tie.Need-same-length-2
 same-length-2 c = search needs
 
--- src/lib.rt:193:1
 same-length-3 : tie.Need-same-length-3
 same-length-3 c = search needs
 
--- src/lib.rt:193:1
 returns-2 : tie.Need-returns-2
 returns-2 c =
-    let s = c .before .before .before .before .before .before .before .before .before .before .before .before .before .before .before .before .before in
-    let m = c .before .before .before .before .before .before .before .before .before .before .before .before .before .make-symbol in
+    let earlier = c .before .before .before .before .before .before .before .before .before .before in
+    let s = earlier .before .before .before .before .before .before .before in
+    let m = earlier .before .before .before .make-symbol in
     let o = orderBy (s .args .wide) in
     let q = c .before .before .before .query in
-    query-made (s .args .f) (s .args .n) (s .pre .group) o (m .ensures .0) (c .before .before .before .before .before .before .before .before .made2 .given .1) _ (m .ensures .1 .1)
-    (s .args .a) (s .args .b) (s .args .w .now) _ _ (s .args .out .now) _ (s .args .start) (q .result) (s .pre) (c .before .before .before .before .before .before .before .before .before .before .before .before .w .given) (q .ensures .0) (q .ensures .1 .0) (q .ensures .1 .1 .0)
+    query-made (s .args .f) (s .args .n) (s .pre .group) o zeros3070 (m .last .1 .1 .1 .0) zeros3070-long (m .ensures .0)
+    (c .before .before .before .before .before .before .before .before .made2 .given .1)
+    (s .args .a) (s .args .b) (s .args .w .now) (m .last .1 .1 .0) (q .last .1 .1 .1 .1 .0) (s .args .out .now) (q .last .1 .1 .1 .1 .1 .0) (s .args .start)
+    (s .pre)
+    (earlier .before .before .w .given) (q .ensures)
 
 pub answer-query-spec : {M : Type 1} → statement M
 answer-query-spec =

@@ -1,70 +1,74 @@
--- `named_groups::named_symbol_by` meets its contract: its ways out are the cases of `namedSymbolBy` in order.
+-- `named_groups::named_symbol_by` meets its contract: its ways out are the steps of `namedSymbolSteps` in order.
 -- Assumes nothing.
 use borrow.Author.Needs.{needs}
-use Rattle.named_groups.proofs.Answers.{group-by, symboled-refused, symboled-short, symboled-long}
-use Rattle.import_table.specs.Answer.{orderBy}
-use mathlib.Core.Path.{sym, _∙_}
+use Rattle.congruence.specs.Cosets.{familyS, familyR}
+use Rattle.import_symbol.specs.Answer.{orderBy}
+use Rattle.permutations.specs.Import.{neededVertices}
+use Rattle.permutations.proofs.Means.{symbolSteps}
+use Rattle.permutations.proofs.Answering.{check-refused, work-short, work-long}
+use Rattle.named_groups.specs.Group.{familyOf, groupCheck}
+use Rattle.named_groups.proofs.Answers.{group-by, symbol-by}
+use mathlib.Core.Path.{refl, sym, _∙_}
 use Rattle.named_groups.proofs.named_symbol_by.Statement.{statement}
 use Rattle.named_groups.proofs.named_symbol_by.Tie as tie
-use Rattle.named_groups.proofs.named_symbol_by.Reads as reads
-use Rattle.named_groups.proofs.named_symbol_by.Lts as lts
-use Rattle.named_groups.proofs.check.Reads as check-reads
-use Rattle.named_groups.proofs.family_of.Reads as family-of-reads
-use Rattle.named_groups.proofs.make_symbol.Reads as make-symbol-reads
 
--- src/lib.rt:157:9
 check-requires : tie.Need-check-requires
 check-requires c κs = search needs
 
--- src/lib.rt:159:26
 enum-known-checked : tie.Need-enum-known-checked
 enum-known-checked c = search needs
 
--- src/lib.rt:161:16
 enum-told : tie.Need-enum-told
 enum-told c = search needs
 
--- src/lib.rt:162:17
 returns : tie.Need-returns
 returns c =
-    let s = c .before .before .before .before .before .args in
-    let b = symboled-short (orderBy (s .wide)) (s .k) (s .n) (s .w .now) (s .out .now) (sym (c .before .before .before .check .ensures .returned) ∙ c .before .enum-told .given .1) (c .if1 .taken) in
-    (b .returned, (b .work, (b .result, b .means)))
+    let d = c .before .before .before in
+    let s = d .before .before in
+    work-short (groupCheck (s .args .k) (s .args .n)) (s .args .w .now) (neededVertices (familyR (familyOf (s .args .k)) (s .args .n)))
+    (sym (d .check .ensures .returned) ∙ c .before .enum-told .given .1)
+    (symbolSteps (orderBy (s .args .wide)) (familyS (familyOf (s .args .k)) (s .args .n)) (familyR (familyOf (s .args .k)) (s .args .n))
+    (s .args .out .now) (s .args .out .now)) (c .if1 .taken) (refl, tt)
 
--- src/lib.rt:167:25
 family-of-requires : tie.Need-family-of-requires
 family-of-requires c κs = search needs
 
--- src/lib.rt:167:13
 make-symbol-requires : tie.Need-make-symbol-requires
 make-symbol-requires c κs =
-    let s = c .before .before .before .before .before .before .before .before .args in
-    (group-by (s .k) (s .n) (c .before .before .family-of .ensures) (sym (c .before .before .before .before .before .before .check .ensures .returned) ∙ c .before .before .before .before .enum-told .given .1), c .before .before .before .if1 .left)
+    let f = c .before .before in
+    let i = f .before in
+    let d = i .before .before .before in
+    let s = d .before .before in
+    (group-by (s .args .k) (s .args .n) (f .family-of .ensures) (sym (d .check .ensures .returned) ∙ i .before .enum-told .given .1), i .if1 .left)
 
--- src/lib.rt:151:1
 returns-2 : tie.Need-returns-2
 returns-2 c =
-    let s = c .before .before .before .before .before .args in
-    let k = c .before .checked in
-    let b = symboled-refused (orderBy (s .wide)) (s .k) (s .n) (s .w .now) (s .out .now) (sym (c .before .before .before .check .ensures .returned) ∙ k .given .1) in
-    (b .returned, (b .work, (b .result, b .means)))
+    let d = c .before .before .before in
+    let s = d .before .before in
+    check-refused (groupCheck (s .args .k) (s .args .n)) (s .args .w .now) (neededVertices (familyR (familyOf (s .args .k)) (s .args .n))) _
+    (symbolSteps (orderBy (s .args .wide)) (familyS (familyOf (s .args .k)) (s .args .n)) (familyR (familyOf (s .args .k)) (s .args .n))
+    (s .args .out .now) (s .args .out .now))
+    (sym (d .check .ensures .returned) ∙ c .before .checked .given .1) (refl, tt)
 
--- src/lib.rt:151:1
 same-length : tie.Need-same-length
 same-length c = search needs
 
--- src/lib.rt:151:1
 same-length-2 : tie.Need-same-length-2
 same-length-2 c = search needs
 
--- src/lib.rt:151:1
 returns-3 : tie.Need-returns-3
 returns-3 c =
-    let s = c .before .before .before .before .before .before .before .before .before .before .before .before .args in
-    let m = c .before .before .before .make-symbol in
-    let b = symboled-long (orderBy (s .wide)) (s .k) (s .n) (s .w .now) (s .out .now) (sym (c .before .before .before .before .before .before .before .before .before .before .check .ensures .returned) ∙ c .before .before .before .before .before .before .before .before .enum-told .given .1) (c .before .before .before .before .before .before .before .if1 .left)
-    (c .before .before .before .before .before .before .family-of .ensures) (m .result) _ _ (m .ensures .0) (m .ensures .1 .0) (m .ensures .1 .1) in
-    (b .returned, (b .work, (b .result, b .means)))
+    let m = c .before .before .before in
+    let f = m .before .before .before in
+    let i = f .before in
+    let d = i .before .before .before in
+    let s = d .before .before in
+    work-long (groupCheck (s .args .k) (s .args .n)) (s .args .w .now) (neededVertices (familyR (familyOf (s .args .k)) (s .args .n)))
+    (sym (d .check .ensures .returned) ∙ i .before .enum-told .given .1)
+    (symbolSteps (orderBy (s .args .wide)) (familyS (familyOf (s .args .k)) (s .args .n)) (familyR (familyOf (s .args .k)) (s .args .n))
+    (s .args .out .now) _) (i .if1 .left) (m .make-symbol .ensures .1)
+    (symbol-by (orderBy (s .args .wide)) (s .args .k) (s .args .n) (f .family-of .ensures) (s .args .out .now) (m .make-symbol .last .1 .1 .1 .0)
+    (m .make-symbol .ensures .0))
 
 pub named-symbol-by-spec : {M : Type 1} → statement M
 named-symbol-by-spec =

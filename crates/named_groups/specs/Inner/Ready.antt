@@ -7,8 +7,8 @@ use lib.ListN.{length}
 use lib.IntN.{ℤ}
 use Rattle.matrix.specs.Matrix.{ofList}
 use Rattle.matrix.specs.Bounds.{Small}
-use Rattle.workspace.specs.Space.{workLength}
-use Rattle.congruence.specs.Condition.{Unit}
+use Rattle.call.specs.Space.{workLength}
+use Rattle.right_cosets.specs.Condition.{Unit}
 use Rattle.congruence.specs.declared.Family.{Family}
 use Rattle.congruence_tables.specs.Inner.Held.{Group}
 

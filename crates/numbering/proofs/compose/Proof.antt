@@ -7,7 +7,7 @@ use Prim.Native.Nat.{_-_, _≤_}
 use lib.ListN.{length, length-set}
 use Rattle.numbering.specs.Table.{_thenTable_}
 use Rattle.numbering.specs.Inner.Space.{putTo}
-use Rattle.workspace.specs.Space.{entries}
+use Rattle.call.specs.Space.{entries}
 use Rattle.numbering.proofs.Space.{put-none}
 use Rattle.numbering.proofs.Marks.{compose-low, compose-more}
 use Rattle.numbering.proofs.compose.Statement.{statement}

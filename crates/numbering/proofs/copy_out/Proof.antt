@@ -6,7 +6,7 @@ use mathlib.Core.List.{_++_}
 use Prim.Native.Nat.{_-_, _≤_}
 use native.Mathlib.Omega.{arith}
 use lib.ListN.{length, drop, length-set}
-use Rattle.workspace.specs.Space.{entries}
+use Rattle.call.specs.Space.{entries}
 use Rattle.numbering.proofs.Space.{copy-more}
 use Rattle.numbering.proofs.copy_out.Statement.{statement}
 use Rattle.numbering.proofs.copy_out.Tie as tie

@@ -31,8 +31,9 @@ same-length c = search needs
 
 returns : tie.Need-returns
 returns c =
-    let pre = c .before .before .before .before .before .before .before .before .before .before .before .before .before .before .before .before .before .pre in
-    let number = c .before .before .before .before .before .before .before .before .before .before .before .before .before .before .number in
+    let earlier = c .before .before .before .before .before .before .before .before .before .before in
+    let pre = earlier .before .before .before .before .before .before .before .pre in
+    let number = earlier .before .before .before .before .number in
     let rename = c .before .before .before .before .before .before .before .before .before .before .rename in
     let rename2 = c .before .before .before .before .before .before .rename2 in
     let compose = c .before .before .compose in

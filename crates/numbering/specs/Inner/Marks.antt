@@ -1,6 +1,6 @@
--- What the functions of the numbering ask of the work space, and what they leave there.
--- The tables NUMBER and ORDER are a sparse set: x is listed exactly when k = number[x] < n and order[k] = x, whatever stood in
--- the tables before, so nothing needs to be cleared.
+-- What the functions of the numbering ask of the work space, and what they leave there. The tables NUMBER and ORDER are
+-- a sparse set: x is listed exactly when k = number[x] < n and order[k] = x, whatever stood in the tables before, so
+-- nothing needs to be cleared.
 --     listed n w                 the n points that have numbers, by number
 --     Sparse size n w            NUMBER and ORDER list n points below size, each with its number
 --     NowListed size w w' l n    w' is w but for NUMBER and ORDER, which list l, n points
@@ -9,14 +9,16 @@
 --     Images start size w        SIGMA and RHO hold maps of the points 0 .. size-1, of which start is one
 --     orderIn start size w       the numbering that they give
 --     Renames from to size n w   the images in the table at from of what is listed are listed; there is room at to
---     Composes a b to n m w      the n entries of the table at a are places of the table of m entries at b; there is room at to, or to is a
---     TablesOf f g start size n w    the numbering of the maps f and g from start has n numbers; ORDER lists it; the tables of
+--     Composes a b to n m w      the n entries of the table at a are places of the table of m entries at b; there is
+--                                room at to, or to is a
+--     TablesOf f g start size n w    the numbering of the maps f and g from start has n numbers; ORDER lists it; the
+--                                    tables of
 --                                f, of g, and of f and then g, by number, stand at S-TABLE, R-TABLE and T-TABLE
 --     TablesLeft start size w w' n  w' holds the tables of the maps that SIGMA and RHO of w hold; all else is as before
 --     Copies off n w out         there is room in out for the table of n entries at off
 --     MapsFilled f g size w      SIGMA and RHO hold the maps f and g of the points 0 .. size-1
--- An upper crate that has filled SIGMA and RHO with its maps f and g shows `MapsFilled`; `proofs/Filled.antt` turns this into what
--- `tables` asks, and what `tables` leaves into `TablesOf`.
+-- An upper crate that has filled SIGMA and RHO with its maps f and g shows `MapsFilled`; `proofs/Filled.antt` turns
+-- this into what `tables` asks, and what `tables` leaves into `TablesOf`.
 use mathlib.Core.Path.{_≡_}
 use mathlib.Core.Logic.{_⊎_}
 use mathlib.Core.List.{List}
@@ -25,8 +27,9 @@ use lib.ListN.{length, getD}
 use Rattle.numbering.specs.Find.{_∈_, _∉_}
 use Rattle.numbering.specs.Order.{orderOf, Maps}
 use Rattle.numbering.specs.Table.{imageAt, _then_, renamed}
-use Rattle.numbering.specs.Inner.Space.{WORK, ROOM, S-TABLE, SIGMA, RHO, NUMBER, ORDER, R-TABLE, T-TABLE, Apart, ChangedWithin}
-use Rattle.workspace.specs.Space.{entries}
+use Rattle.numbering.specs.Inner.Space.{WORK, ROOM, S-TABLE, SIGMA, RHO, NUMBER, ORDER, R-TABLE, T-TABLE, Apart}
+use Rattle.numbering.specs.Inner.Space.{ChangedWithin}
+use Rattle.call.specs.Space.{entries}
 
 abbrev pub listed : ℕ → List ℕ → List ℕ
 listed n w = entries ORDER n w

@@ -1,15 +1,17 @@
 -- The work space: one lent slice of 32,768 numbers of 16 bits, which holds eight tables at fixed places.
 --     place   code       here       holds
 --      4096   S_TABLE    S-TABLE    the images of the coset numbers under S
---      8192   SIGMA      SIGMA      the images of the points under S; from `cusp_widths` on, which no longer needs them, the widths
+--      8192   SIGMA      SIGMA      the images of the points under S; from `cusp_widths` on, which no longer needs
+--             them, the widths
 --     12288   RHO        RHO        the images of the points under R
 --     16384   NUMBER     NUMBER     the number of each point, for those that have one
 --     20480   ORDER      ORDER      the point of each number
 --     24576   R_TABLE    R-TABLE    the images of the coset numbers under R
 --     28672   T_TABLE    T-TABLE    the images of the coset numbers under T
--- What stands below 4096 is the caller's. A point is a place in the tables of images (docs/CONVENTIONS.md has the word); upper
--- crates say what their points are.
---     WORK                  the length of the work space; ROOM: the most entries that a table has room for (4,090 are needed)
+-- What stands below 4096 is the caller's. A point is a place in the tables of images (docs/CONVENTIONS.md has the
+-- word); upper crates say what their points are.
+--     WORK                  the length of the work space; ROOM: the most entries that a table has room for (4,090 are
+--                           needed)
 --     putTo w off l j       w, with the first j entries of l at off
 --     Apart a m b n         the tables of m entries at a and of n entries at b share no place
 --     ChangedWithin a b w w'  w' is w but for the places from a up to b
@@ -20,7 +22,7 @@ use mathlib.Core.List.{List}
 use Prim.Native.Nat.{ℕ, _+_, _≤_, _<_}
 use lib.ListN.{length, getD}
 use lib.Seq.{paste}
-use Rattle.workspace.specs.Space.{workLength}
+use Rattle.call.specs.Space.{workLength}
 
 abbrev pub WORK : ℕ
 WORK = workLength

@@ -19,7 +19,7 @@ use lib.ListN.{length, getD, set, take, drop}
 use lib.IntN.{ℤ, pos}
 use Rattle.matrix.specs.Matrix.{nth}
 use Rattle.basics.specs.Choice.{pick}
-use Rattle.workspace.specs.Space.{workLength}
+use Rattle.call.specs.Space.{workLength}
 use Rattle.basics.specs.Count.{first, count, those}
 use Rattle.symbol.specs.Table.{pairingEntries, pairingOf}
 use Rattle.symbol.specs.Check.{eqZ, unpairedIn}
@@ -60,7 +60,8 @@ pub record AllPaired (v : ℕ) (p : List ℤ) : Type 0 where
 pub record PairedTo (v : ℕ) (p : List ℤ) (i : ℕ) (w : List ℕ) : Type 0 where
   pub long : workLength ≤ length w
   pub firsts : (l : ℕ) → 1 ≤ l → l ≤ v + 1 → getD w (FIRST + l) 0 ≡ seen p l i
-  pub partners : (j l : ℕ) → j < i → pairingOf v (nth p j) ≡ Free l → partnerIn v p j < i → getD w (PARTNER + j) 0 ≡ partnerIn v p j
+  pub partners : (j l : ℕ) → j < i → pairingOf v (nth p j) ≡ Free l → partnerIn v p j < i → getD w (PARTNER + j) 0
+      ≡ partnerIn v p j
 
 pub record Partnered (v : ℕ) (p : List ℤ) (w : List ℕ) : Type 0 where
   pub long : workLength ≤ length w

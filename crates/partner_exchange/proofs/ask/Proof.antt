@@ -1,15 +1,11 @@
--- `ask`: the figures of `survey`, and then the widths where there is room for them (`counted`); clearing comes last, so zeros stay.
+-- `ask`: the figures of `survey`, and then the widths where there is room for them (`run-made`, `run-refused`); clearing comes last, so zeros stay.
 -- Assumes nothing.
-use mathlib.Core.Path.{_≡_, refl, sym, _∙_, ap}
-use mathlib.Core.List.{List}
-use Prim.Native.Nat.{ℕ}
-use lib.ListN.{length}
-use Rattle.workspace.specs.Space.{zeros}
-use Rattle.refusal.specs.declared.Filled.{Filled}
-use Rattle.coset.specs.Answer.{columnLeft, widthsOf, figuresOf}
+use mathlib.Core.Path.{_≡_, refl, _∙_, ap}
+use Rattle.call.specs.Space.{zeros}
+use Rattle.call.proofs.Laws.{fills-as}
+use Rattle.call.proofs.Answered.{run-made, run-refused}
 use Rattle.coset.specs.declared.Figured.the-variants as figured
-use Rattle.partner_exchange.specs.Answer.{figuresAfter}
-use Rattle.partner_exchange.proofs.Answered.{counted}
+use Rattle.coset.proofs.Answer.{stored-as}
 use borrow.Author.Needs.{needs}
 use Rattle.partner_exchange.proofs.ask.Statement.{statement}
 use Rattle.partner_exchange.proofs.ask.Tie as tie
@@ -41,18 +37,9 @@ returns c =
     let k = z .before .before .before .before in
     let f = k .before .before .before .before .before in
     let s = f .before .before .before .before in
-    let v = s .args .v in
-    let u = s .args .u .now in
-    let n = length (s .args .out .now) in
     let g = f .survey .ensures in
-    let made = counted v u (f .survey .result) n (k .copy-widths .result) (g .figures) (k .copy-widths .ensures .0) in (
-      ap (λ (r : Filled). figuresAfter r (figured.Made (figuresOf v u))) (sym (c .before .made .given .1) ∙ made),
-      (
-        z .clear .ensures ∙ ap zeros (g .same),
-        k .copy-widths .ensures .1 ∙ ap (λ (l : List ℕ). columnLeft (k .copy-widths .result) l (s .args .out .now)) (g .widths-are)
-            ∙ ap (λ (r : Filled). columnLeft r (widthsOf v u) (s .args .out .now)) made,
-      ),
-    )
+    let made = stored-as _ _ (s .args .out .now) (k .copy-widths .ensures) (g .widths-are) refl in
+    (fills-as (run-refused made _ (c .before .made .given .1)) refl, z .clear .ensures ∙ ap zeros (g .same))
 
 same-length-3 : tie.Need-same-length-3
 same-length-3 c = search needs
@@ -66,18 +53,9 @@ returns-2 c =
     let k = z .before .before .before .before in
     let f = k .before .before .before .before .before in
     let s = f .before .before .before .before in
-    let v = s .args .v in
-    let u = s .args .u .now in
-    let n = length (s .args .out .now) in
     let g = f .survey .ensures in
-    let made = counted v u (f .survey .result) n (k .copy-widths .result) (g .figures) (k .copy-widths .ensures .0) in (
-      ap figured.Made (g .figures) ∙ ap (λ (r : Filled). figuresAfter r (figured.Made (figuresOf v u))) (sym (c .enum-told .given .1) ∙ made),
-      (
-        z .clear .ensures ∙ ap zeros (g .same),
-        k .copy-widths .ensures .1 ∙ ap (λ (l : List ℕ). columnLeft (k .copy-widths .result) l (s .args .out .now)) (g .widths-are)
-            ∙ ap (λ (r : Filled). columnLeft r (widthsOf v u) (s .args .out .now)) made,
-      ),
-    )
+    let made = stored-as _ _ (s .args .out .now) (k .copy-widths .ensures) (g .widths-are) refl in
+    (fills-as (run-made made _ (c .enum-told .given .1)) (ap figured.Made (g .figures)), z .clear .ensures ∙ ap zeros (g .same))
 
 pub ask-spec : {M : Type 1} → statement M
 ask-spec =

@@ -42,8 +42,11 @@ loop-again : tie.Need-loop-again Inv-loop μ-loop
 loop-again c =
     let l = c .before .before in
     let s = l .before in
-    let t = s .args .t .now in
-    (rw (l .loop .inv .0) (copied-more t (s .args .out .now) (l .loop .j) _ (omega arith) (omega (arith, s .pre)) (kept (nth t (l .loop .j)) (c .out .given))), omega arith, simp length-set (l .loop .inv .2))
+    let t = s .args .t .now in (
+      rw (l .loop .inv .0) (copied-more t (s .args .out .now) (l .loop .j) _ (omega arith) (omega (arith, s .pre)) (kept (nth t (l .loop .j)) (c .out .given))),
+      omega arith,
+      simp length-set (l .loop .inv .2),
+    )
 
 same-length : tie.Need-same-length Inv-loop μ-loop
 same-length c = search needs

@@ -1,14 +1,11 @@
--- `exchange`: the answer goes by the check (`filledBy`); what passed it can be exchanged (`exchangeable`), and the exchange is a trade (`trades`).
--- Assumes nothing.
-use mathlib.Core.Path.{_≡_, refl, sym, _∙_, ap}
-use lib.ListN.{length}
+-- `exchange`: a refusal of the checks leaves the result as it was (`run-stop`); what passed them can be exchanged (`exchangeable`), where there is room
+-- for it (`run-pass`). Assumes nothing.
+use mathlib.Core.Path.{_≡_, refl, sym, _∙_}
 use mir.Facts.{toZ-ofZ}
-use Rattle.refusal.specs.Refusal.{filledBy}
-use Rattle.refusal.specs.declared.Checked.{Checked}
-use Rattle.partner_exchange.specs.Answer.{symbolRoom}
+use Rattle.call.proofs.Laws.{run-stop, run-pass, fills-as, ran}
+use Rattle.partner_exchange.specs.Answer.{exchangeCheck}
 use Rattle.partner_exchange.specs.Inner.Ready.{Exchangeable}
-use Rattle.partner_exchange.proofs.Theorem.{trades}
-use Rattle.partner_exchange.proofs.Answered.{exchangeable, exchange-refused}
+use Rattle.partner_exchange.proofs.Answered.{exchangeable}
 use borrow.Author.Needs.{needs}
 use Rattle.partner_exchange.proofs.exchange.Statement.{statement}
 use Rattle.partner_exchange.proofs.exchange.Tie as tie
@@ -23,7 +20,8 @@ enum-told : tie.Need-enum-told
 enum-told c = search needs
 
 -- the labels have passed
-ready : (c : tie.After-enum-told) → Exchangeable (c .before .before .before .args .v) (c .before .before .before .args .t .now) (c .before .before .before .args .x)
+ready : (c : tie.After-enum-told) → Exchangeable (c .before .before .before .args .v) (c .before .before .before .args .t .now)
+    (c .before .before .before .args .x)
     (c .before .before .before .args .y)
 ready c =
     let r = c .before .before in
@@ -42,8 +40,8 @@ returns c =
     let s = r .before in
     let v = s .args .v in
     let t = s .args .t .now in
-    let refused = sym (c .before .checked .given .1) ∙ (rw (toZ-ofZ (s .fits .x), toZ-ofZ (s .fits .y)) at (r .exchange-check .ensures)) in
-    (ap (λ (k : Checked). filledBy k (symbolRoom v (length (s .args .out .now)))) refused, (refl, exchange-refused v t (s .args .x) (s .args .y) (c .before .checked .given .0 .0)))
+    let refused = sym (rw (toZ-ofZ (s .fits .x), toZ-ofZ (s .fits .y)) at (r .exchange-check .ensures)) ∙ c .before .checked .given .1 in
+    fills-as (run-stop (c .before .checked .given .0 .0) (exchangeCheck v t (s .args .x) (s .args .y)) _ refused (refl, tt)) refl
 
 same-length : tie.Need-same-length
 same-length c = search needs
@@ -56,10 +54,9 @@ returns-2 c =
     let s = r .before in
     let v = s .args .v in
     let t = s .args .t .now in
-    let passed = sym (rw (toZ-ofZ (s .fits .x), toZ-ofZ (s .fits .y)) at (r .exchange-check .ensures)) ∙ e .enum-told .given .1 in (
-      m .exchange-in-room .ensures .0 ∙ ap (λ (k : Checked). filledBy k (symbolRoom v (length (s .args .out .now)))) (sym passed),
-      (rw (toZ-ofZ (s .fits .x), toZ-ofZ (s .fits .y)) at (m .exchange-in-room .ensures .1), λ n z. trades (ready e)),
-    )
+    let passed = sym (rw (toZ-ofZ (s .fits .x), toZ-ofZ (s .fits .y)) at (r .exchange-check .ensures)) ∙ e .enum-told .given .1 in
+    let g = rw (toZ-ofZ (s .fits .x), toZ-ofZ (s .fits .y)) at (m .exchange-in-room .ensures) in
+    fills-as (run-pass (exchangeCheck v t (s .args .x) (s .args .y)) _ passed (ran g)) (g .answer)
 
 pub exchange-spec : {M : Type 1} → statement M
 exchange-spec =

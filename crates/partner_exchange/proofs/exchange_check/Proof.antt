@@ -6,7 +6,7 @@ use lib.ListN.{length-drop}
 use Prim.Native.Nat.{_*_}
 use native.Mathlib.Omega.{arith}
 use mir.Facts.{toZ-ofZ}
-use Rattle.refusal.proofs.Answers.{first-refuses, then-next}
+use Rattle.call.proofs.Answers.{first-refuses, then-next}
 use Rattle.symbol.specs.Table.{pairingEntries}
 use Rattle.symbol.specs.Check.{symbolCheck}
 use Rattle.symbol.specs.Symbol.{IsSymbol}

@@ -1,12 +1,12 @@
--- `exchange_in_room`: 11 where the table has no room, and otherwise the exchanged table in front (`room-short`, `room-made`). Assumes nothing.
-use mathlib.Core.Path.{refl, _∙_, ap}
-use mathlib.Core.List.{List, _++_}
+-- `exchange_in_room`: 11 where the table has no room (`short-write`), and otherwise the exchanged table in front (`run-write`), which is as long as that of
+-- a symbol (`trades`). Assumes nothing.
+use mathlib.Core.Path.{refl}
+use mathlib.Core.List.{[]}
 use Prim.Native.Nat.{_+_, _*_}
-use lib.ListN.{length, drop}
-use lib.IntN.{ℤ}
 use mir.Facts.{toZ-ofZ}
 use Rattle.partner_exchange.specs.Exchange.{exchanged}
-use Rattle.partner_exchange.proofs.Answered.{room-short, room-made}
+use Rattle.call.proofs.Laws.{run-end, run-write, short-write, fills-as}
+use Rattle.partner_exchange.proofs.Theorem.{trades}
 use borrow.Author.Needs.{needs}
 use Rattle.partner_exchange.proofs.exchange_in_room.Statement.{statement}
 use Rattle.partner_exchange.proofs.exchange_in_room.Tie as tie
@@ -20,7 +20,9 @@ add-n c = search needs
 returns : tie.Need-returns
 returns c =
     let s = c .before in
-    (room-short (s .args .v) (length (s .args .out .now)) (c .if1 .taken), refl)
+    let v = s .args .v in
+    let u = exchanged v (s .args .t .now) (s .args .x) (s .args .y) in
+    fills-as (short-write u (s .args .out .now) (3 * v + 1) (trades (s .pre) .accepted .long) [] (c .if1 .taken) tt) refl
 
 put-exchanged-requires : tie.Need-put-exchanged-requires
 put-exchanged-requires c κs =
@@ -37,7 +39,10 @@ returns-2 c =
     let i = k .before .before in
     let s = i .before in
     let v = s .args .v in
-    (room-made v (length (s .args .out .now)) (i .if1 .left), rw (toZ-ofZ (s .fits .x), toZ-ofZ (s .fits .y)) at (k .put-exchanged .ensures))
+    let u = exchanged v (s .args .t .now) (s .args .x) (s .args .y) in
+    fills-as
+    (run-write u (s .args .out .now) (3 * v + 1) (trades (s .pre) .accepted .long) [] _ (i .if1 .left)
+    (rw (toZ-ofZ (s .fits .x), toZ-ofZ (s .fits .y)) at (k .put-exchanged .ensures)) run-end) refl
 
 pub exchange-in-room-spec : {M : Type 1} → statement M
 exchange-in-room-spec =

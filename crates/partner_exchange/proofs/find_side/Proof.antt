@@ -44,7 +44,8 @@ loop-again : tie.Need-loop-again Inv-loop μ-loop
 loop-again c =
     let l = c .before .before .before in
     let s = l .before in (
-      rw add-one (clear-more (labelTest (s .args .p .now) (toZ w64 (ofZ w64 (s .args .x))) (s .args .skip)) (l .loop .k) (l .loop .inv .0) (sym (c .before .has-label .ensures) ∙ c .if1 .left)),
+      rw add-one (clear-more (labelTest (s .args .p .now) (toZ w64 (ofZ w64 (s .args .x))) (s .args .skip)) (l .loop .k) (l .loop .inv .0)
+          (sym (c .before .has-label .ensures) ∙ c .if1 .left)),
       omega arith,
     )
 

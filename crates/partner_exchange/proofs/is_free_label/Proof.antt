@@ -15,7 +15,8 @@ find-side-requires c κs = search needs
 returns : tie.Need-returns
 returns c =
     let s = c .before .before in
-    free-found (s .args .v) (s .args .p .now) (s .args .x) _ (rw (toZ-ofZ (s .fits .x)) at (c .find-side .ensures)) (rw (toZ-ofZ (s .fits .x)) at (c .before .if1 .taken))
+    free-found (s .args .v) (s .args .p .now) (s .args .x) _ (rw (toZ-ofZ (s .fits .x)) at (c .find-side .ensures))
+    (rw (toZ-ofZ (s .fits .x)) at (c .before .if1 .taken))
 
 returns-2 : tie.Need-returns-2
 returns-2 c =

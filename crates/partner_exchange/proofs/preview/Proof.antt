@@ -1,16 +1,11 @@
--- `preview`: the answer goes by the check (`previewBy`); what passed it can be exchanged (`exchangeable`), and then the answer is what is asked of the
--- exchanged symbol (`preview-means`). Assumes nothing.
-use mathlib.Core.Path.{_≡_, refl, sym, _∙_, ap}
-use lib.ListN.{length}
+-- `preview`: a refusal of the checks leaves everything as it was (`run-stop`); what passed them can be exchanged (`exchangeable`), and then the answer is
+-- what is asked of the exchanged symbol (`run-pass`). Assumes nothing.
+use mathlib.Core.Path.{_≡_, refl, sym, _∙_}
 use mir.Facts.{toZ-ofZ}
-use Rattle.refusal.specs.Refusal.{filledBy}
-use Rattle.refusal.specs.declared.Checked.{Checked}
-use Rattle.pairing.specs.Generator.{workAfter}
-use Rattle.coset.specs.Answer.{columnLeft, widthedOf, widthsOf}
-use Rattle.partner_exchange.specs.Exchange.{exchanged}
-use Rattle.partner_exchange.specs.Answer.{askedOf, previewBy}
+use Rattle.call.proofs.Laws.{run-stop, run-pass, fills-as, ran}
+use Rattle.partner_exchange.specs.Answer.{exchangeCheck}
 use Rattle.partner_exchange.specs.Inner.Ready.{Exchangeable}
-use Rattle.partner_exchange.proofs.Answered.{exchangeable, preview-refused, preview-means}
+use Rattle.partner_exchange.proofs.Answered.{exchangeable}
 use borrow.Author.Needs.{needs}
 use Rattle.partner_exchange.proofs.preview.Statement.{statement}
 use Rattle.partner_exchange.proofs.preview.Tie as tie
@@ -47,19 +42,8 @@ returns c =
     let t = s .args .t .now in
     let x = s .args .x in
     let y = s .args .y in
-    let u = exchanged v t x y in
-    let work = length (s .args .w .now) in
-    let n = length (s .args .out .now) in
-    let refused = sym (c .before .checked .given .1) ∙ (rw (toZ-ofZ (s .fits .x), toZ-ofZ (s .fits .y)) at (r .exchange-check .ensures)) in (
-      ap (λ (k : Checked). previewBy k (askedOf v u work n)) refused,
-      (
-        ap (λ (k : Checked). workAfter k (s .args .w .now)) refused,
-        (
-          ap (λ (k : Checked). columnLeft (filledBy k (widthedOf v u work n)) (widthsOf v u) (s .args .out .now)) refused,
-          preview-refused v t x y work (c .before .checked .given .0 .0),
-        ),
-      ),
-    )
+    let refused = sym (rw (toZ-ofZ (s .fits .x), toZ-ofZ (s .fits .y)) at (r .exchange-check .ensures)) ∙ c .before .checked .given .1 in
+    fills-as (run-stop (c .before .checked .given .0 .0) (exchangeCheck v t x y) _ refused (refl, (refl, tt))) refl
 
 same-length : tie.Need-same-length
 same-length c = search needs
@@ -77,20 +61,9 @@ returns-2 c =
     let t = s .args .t .now in
     let x = s .args .x in
     let y = s .args .y in
-    let u = exchanged v t x y in
-    let work = length (s .args .w .now) in
-    let n = length (s .args .out .now) in
-    let passed = sym (sym (rw (toZ-ofZ (s .fits .x), toZ-ofZ (s .fits .y)) at (r .exchange-check .ensures)) ∙ e .enum-told .given .1) in
-    let made = rw (toZ-ofZ (s .fits .x), toZ-ofZ (s .fits .y)) at (m .preview-exchanged .ensures) in (
-      made .0 ∙ ap (λ (k : Checked). previewBy k (askedOf v u work n)) passed,
-      (
-        made .1 .0 ∙ ap (λ (k : Checked). workAfter k (s .args .w .now)) passed,
-        (
-          made .1 .1 ∙ ap (λ (k : Checked). columnLeft (filledBy k (widthedOf v u work n)) (widthsOf v u) (s .args .out .now)) passed,
-          preview-means v t x y work n (m .preview-exchanged .result) (ready e) (made .0),
-        ),
-      ),
-    )
+    let passed = sym (rw (toZ-ofZ (s .fits .x), toZ-ofZ (s .fits .y)) at (r .exchange-check .ensures)) ∙ e .enum-told .given .1 in
+    let g = rw (toZ-ofZ (s .fits .x), toZ-ofZ (s .fits .y)) at (m .preview-exchanged .ensures) in
+    fills-as (run-pass (exchangeCheck v t x y) _ passed (ran g)) (g .answer)
 
 pub preview-spec : {M : Type 1} → statement M
 preview-spec =

@@ -1,20 +1,14 @@
--- `preview_exchanged`: 11 where the work space is too short (`asked-short`); otherwise the exchanged table, the front of an array (`front`), is a symbol
--- (`trades`), and what is asked of it is the answer (`asked-long`). Assumes nothing.
+-- `preview_exchanged`: 11 where the work space is too short (`short-work`); otherwise the exchanged table, the front of an array (`front`), is a symbol
+-- (`trades`), and what is asked of it is the answer (`asked-of`). Assumes nothing.
 use mathlib.Core.Path.{_≡_, refl, sym, _∙_, ap}
-use mathlib.Core.List.{List}
-use Prim.Native.Nat.{ℕ, _+_, _*_}
+use Prim.Native.Nat.{_+_, _*_}
 use native.Mathlib.Omega.{arith}
 use lib.ListN.{length, take}
-use lib.IntN.{ℤ}
 use mir.Facts.{toZ-ofZ}
-use Rattle.refusal.specs.declared.Filled.{Filled}
-use Rattle.symbol.specs.Symbol.{IsSymbol}
-use Rattle.coset.specs.Answer.{columnLeft, roomOne, widthsOf, figuresOf}
-use Rattle.coset.specs.declared.Figured.the-variants as figured
+use Rattle.call.proofs.Laws.{run-work, short-work, fills-as, ran}
 use Rattle.partner_exchange.specs.Exchange.{exchanged}
-use Rattle.partner_exchange.specs.Answer.{figuresAfter}
 use Rattle.partner_exchange.proofs.Theorem.{trades}
-use Rattle.partner_exchange.proofs.Answered.{front, asked-short, asked-long, asked-of}
+use Rattle.partner_exchange.proofs.Answered.{front, asked-of}
 use borrow.Author.Needs.{needs}
 use Rattle.partner_exchange.proofs.preview_exchanged.Statement.{statement}
 use Rattle.partner_exchange.proofs.preview_exchanged.Tie as tie
@@ -22,10 +16,7 @@ use Rattle.partner_exchange.proofs.preview_exchanged.Tie as tie
 returns : tie.Need-returns
 returns c =
     let s = c .before .before .before in
-    let v = s .args .v in
-    let u = exchanged v (s .args .t .now) (s .args .x) (s .args .y) in
-    let a = asked-short v u (trades (s .pre) .accepted) (s .args .w .now) (length (s .args .out .now)) (c .if1 .taken) in
-    (a .figures-is, (a .left-is, ap (λ (r : Filled). columnLeft r (widthsOf v u) (s .args .out .now)) (a .widths-is)))
+    fills-as (short-work (s .args .w .now) _ (c .if1 .taken) (refl, tt)) refl
 
 slice-aggregate-put-exchanged : tie.Need-slice-aggregate-put-exchanged
 slice-aggregate-put-exchanged c = search needs
@@ -82,9 +73,8 @@ returns-2 c =
     let s = i .before .before .before in
     let v = s .args .v in
     let u = exchanged v (s .args .t .now) (s .args .x) (s .args .y) in
-    let e = k .ask .ensures in
-    let a = asked-of v u _ (trades (s .pre) .accepted) (s .args .w .now) _ (s .args .out .now) _ (k .ask .result) (made q) (i .if1 .left) (e .0) (e .1 .0) (e .1 .1) in
-    (a .0, (a .1, a .2))
+    let g = asked-of v _ u (s .args .out .now) (k .ask .ensures .0) (made q) in
+    fills-as (run-work (s .args .w .now) _ _ (i .if1 .left) (k .ask .ensures .1) (ran g)) (g .answer)
 
 pub preview-exchanged-spec : {M : Type 1} → statement M
 preview-exchanged-spec =

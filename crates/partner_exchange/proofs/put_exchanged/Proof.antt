@@ -30,8 +30,11 @@ part-second-side-end c = search needs
 second-side-requires : tie.Need-second-side-requires
 second-side-requires c κs =
     let s = c .before in
-    let e = s .pre .0 in
-    (e .symbol, behind (s .args .v) (s .args .t .now), rw (toZ-ofZ (s .fits .x)) (ap (λ (q : List ℤ). isFreeLabel (s .args .v) q (s .args .x)) (behind (s .args .v) (s .args .t .now)) ∙ e .free-x))
+    let e = s .pre .0 in (
+      e .symbol,
+      behind (s .args .v) (s .args .t .now),
+      rw (toZ-ofZ (s .fits .x)) (ap (λ (q : List ℤ). isFreeLabel (s .args .v) q (s .args .x)) (behind (s .args .v) (s .args .t .now)) ∙ e .free-x),
+    )
 
 mul-second-side-3 : tie.Need-mul-second-side-3
 mul-second-side-3 c = search needs
@@ -51,8 +54,11 @@ part-second-side-end-2 c = search needs
 second-side-requires-2 : tie.Need-second-side-requires-2
 second-side-requires-2 c κs =
     let s = c .before .before .before in
-    let e = s .pre .0 in
-    (e .symbol, behind (s .args .v) (s .args .t .now), rw (toZ-ofZ (s .fits .y)) (ap (λ (q : List ℤ). isFreeLabel (s .args .v) q (s .args .y)) (behind (s .args .v) (s .args .t .now)) ∙ e .free-y))
+    let e = s .pre .0 in (
+      e .symbol,
+      behind (s .args .v) (s .args .t .now),
+      rw (toZ-ofZ (s .fits .y)) (ap (λ (q : List ℤ). isFreeLabel (s .args .v) q (s .args .y)) (behind (s .args .v) (s .args .t .now)) ∙ e .free-y),
+    )
 
 copy-table-requires : tie.Need-copy-table-requires
 copy-table-requires c κs = search needs

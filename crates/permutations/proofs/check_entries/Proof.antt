@@ -2,7 +2,7 @@
 -- (`entries-of`). Assumes nothing.
 use mathlib.Core.Path.{_≡_, _∙_}
 use lib.ListN.{length}
-use Rattle.refusal.specs.Refusal.{_orElse_, tableEntry}
+use Rattle.call.specs.Refusal.{_orElse_, tableEntry}
 use Rattle.permutations.specs.Check.{badEntry, twiceMoved, thriceMoved, check13, check14, check15}
 use Rattle.permutations.proofs.Marks.{refuse-at, accept-at, entries-of}
 use borrow.Author.Needs.{needs}

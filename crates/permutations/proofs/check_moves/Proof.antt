@@ -4,8 +4,8 @@ use mathlib.Core.Path.{_≡_, _∙_}
 use mathlib.Core.List.{List}
 use Prim.Native.Nat.{ℕ, _≤_}
 use lib.ListN.{length}
-use Rattle.refusal.specs.Refusal.{_orElse_, wrongOrder, unreached}
-use Rattle.refusal.specs.declared.Checked.{Checked}
+use Rattle.call.specs.Refusal.{_orElse_, wrongOrder, unreached}
+use Rattle.call.specs.declared.refusal.Checked.{Checked}
 use Rattle.basics.specs.Count.{first}
 use Rattle.permutations.specs.Check.{twiceMoved, thriceMoved, notReached, check14, check15}
 use Rattle.permutations.proofs.Marks.{refuse-at, accept-at, refuse-last, accept-last}

@@ -1,10 +1,9 @@
--- `grow_within` refuses where the result space is shorter than the symbol's table (`too-short`); where it isn't, the table fits, whichever rule is followed
--- (`has-room`), and `grow` has the answer (`long-enough`). Assumes nothing.
-use mathlib.Core.Path.{refl}
+-- `grow_within` refuses where the result space is shorter than the symbol's table (`no-room`); where it isn't, the table fits, whichever rule is followed
+-- (`has-room`), and `grow` has the answer (`grown-in-room`). Assumes nothing.
 use native.Mathlib.Omega.{arith}
-use Rattle.import_table.specs.Answer.{orderBy}
-use Rattle.permutations.proofs.Means.{has-room}
-use Rattle.permutations.proofs.Answering.{pair-of, too-short, long-enough}
+use Rattle.import_symbol.specs.Answer.{orderBy}
+use Rattle.permutations.proofs.Means.{has-room, no-room, grown-in-room}
+use Rattle.permutations.proofs.Answering.{pair-of}
 use borrow.Author.Needs.{needs}
 use Rattle.permutations.proofs.grow_within.Statement.{statement}
 use Rattle.permutations.proofs.grow_within.Tie as tie
@@ -16,7 +15,7 @@ returns : tie.Need-returns
 returns c =
     let n = c .before in
     let s = n .before .before .before .before in
-    (too-short (orderBy (s .args .wide)) (s .args .s .now) (s .args .r .now) _ (s .args .out .now) (n .needed-length .ensures) (c .if1 .taken), refl)
+    no-room (orderBy (s .args .wide)) (s .args .s .now) (s .args .r .now) (s .args .out .now) _ (n .needed-length .ensures) (c .if1 .taken)
 
 grow-requires : tie.Need-grow-requires
 grow-requires c κs =
@@ -40,7 +39,8 @@ returns-2 c =
     let n = i .before in
     let s = n .before .before .before .before in
     let a = g .grow .ensures in
-    (long-enough (orderBy (s .args .wide)) (s .args .s .now) (s .args .r .now) _ (s .args .out .now) (n .needed-length .ensures) (i .if1 .left) (a .0), a .1)
+    grown-in-room (orderBy (s .args .wide)) (s .args .s .now) (s .args .r .now) (s .args .out .now) (s .pre .0)
+    (rw (n .needed-length .ensures) at (i .if1 .left)) (a .0) (a .1)
 
 pub grow-within-spec : {M : Type 1} → statement M
 grow-within-spec = tie.close (tie.spec needed-length-requires returns grow-requires same-length same-length-2 returns-2)

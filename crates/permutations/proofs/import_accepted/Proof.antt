@@ -1,6 +1,6 @@
 -- `import_accepted` answers as `grow_within` does; the space is cleared after, so zeros stay on each way out. Assumes nothing.
 use mathlib.Core.Path.{_∙_, ap}
-use Rattle.workspace.specs.Space.{zeros}
+use Rattle.call.specs.Space.{zeros}
 use borrow.Author.Needs.{needs}
 use Rattle.permutations.proofs.import_accepted.Statement.{statement}
 use Rattle.permutations.proofs.import_accepted.Tie as tie
@@ -22,7 +22,7 @@ returns c =
     let k = c .before .before in
     let b = k .before .before .before .before in
     let g = b .before .grow-within in
-    (g .ensures .0, (k .clear .ensures ∙ ap zeros (b .w .given), g .ensures .1))
+    (g .ensures, k .clear .ensures ∙ ap zeros (b .w .given))
 
 pub import-accepted-spec : {M : Type 1} → statement M
 import-accepted-spec =

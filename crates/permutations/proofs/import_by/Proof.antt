@@ -1,8 +1,11 @@
--- `import_by` meets its contract: 12 to 15 leave both spaces as they were (`refused`), and so does a short work space (`short`); an accepted
--- pair is a passport (`passport-of`), and `import_accepted` has its answer with what that means (`long`). Assumes nothing.
-use mathlib.Core.Path.{_≡_, sym, _∙_}
-use Rattle.permutations.proofs.Answering.{refused, short, long, passport-of}
-use Rattle.import_table.specs.Answer.{orderBy}
+-- `import_by` meets its contract: 12 to 15 leave both spaces as they were (`check-refused`), and so does a short work space (`work-short`); an accepted
+-- pair is a passport (`passport-of`), and `import_accepted` has its answer (`work-long`). Assumes nothing.
+use mathlib.Core.Path.{refl, sym, _∙_}
+use Rattle.permutations.specs.Check.{pairCheck}
+use Rattle.permutations.specs.Import.{neededVertices}
+use Rattle.permutations.proofs.Means.{symbolSteps}
+use Rattle.permutations.proofs.Answering.{check-refused, work-short, work-long, passport-of}
+use Rattle.import_symbol.specs.Answer.{orderBy}
 use borrow.Author.Needs.{needs}
 use Rattle.permutations.proofs.import_by.Statement.{statement}
 use Rattle.permutations.proofs.import_by.Tie as tie
@@ -21,9 +24,9 @@ returns c =
     let k = c .before in
     let d = k .before .before in
     let s = d .before .before .before .before in
-    let b = short (orderBy (s .args .wide)) (s .args .s .now) (s .args .r .now) (s .args .w .now) (s .args .out .now)
-    (sym (d .check .ensures .returned) ∙ k .enum-told .given .1) (c .if1 .taken) in
-    (b .returned, (b .work, (b .result, b .means)))
+    work-short (pairCheck (s .args .s .now) (s .args .r .now)) (s .args .w .now) (neededVertices (s .args .r .now))
+    (sym (d .check .ensures .returned) ∙ k .enum-told .given .1)
+    (symbolSteps (orderBy (s .args .wide)) (s .args .s .now) (s .args .r .now) (s .args .out .now) (s .args .out .now)) (c .if1 .taken) (refl, tt)
 
 import-accepted-requires : tie.Need-import-accepted-requires
 import-accepted-requires c κs =
@@ -38,9 +41,9 @@ returns-2 c =
     let k = c .before in
     let d = k .before .before in
     let s = d .before .before .before .before in
-    let b = refused (orderBy (s .args .wide)) (s .args .s .now) (s .args .r .now) (s .args .w .now) (s .args .out .now) _
-    (sym (d .check .ensures .returned) ∙ k .checked .given .1) in
-    (b .returned, (b .work, (b .result, b .means)))
+    check-refused (pairCheck (s .args .s .now) (s .args .r .now)) (s .args .w .now) (neededVertices (s .args .r .now)) _
+    (symbolSteps (orderBy (s .args .wide)) (s .args .s .now) (s .args .r .now) (s .args .out .now) (s .args .out .now))
+    (sym (d .check .ensures .returned) ∙ k .checked .given .1) (refl, tt)
 
 same-length : tie.Need-same-length
 same-length c = search needs
@@ -56,9 +59,9 @@ returns-3 c =
     let d = k .before .before in
     let s = d .before .before .before .before in
     let a = g .import-accepted .ensures in
-    let b = long (orderBy (s .args .wide)) (s .args .s .now) (s .args .r .now) (s .args .w .now) (s .args .out .now)
-    (sym (d .check .ensures .returned) ∙ k .enum-told .given .1) (f .if1 .left) _ _ _ (a .0) (a .1 .0) (a .1 .1) in
-    (b .returned, (b .work, (b .result, b .means)))
+    work-long (pairCheck (s .args .s .now) (s .args .r .now)) (s .args .w .now) (neededVertices (s .args .r .now))
+    (sym (d .check .ensures .returned) ∙ k .enum-told .given .1)
+    (symbolSteps (orderBy (s .args .wide)) (s .args .s .now) (s .args .r .now) (s .args .out .now) _) (f .if1 .left) (a .1) (a .0)
 
 pub import-by-spec : {M : Type 1} → statement M
 import-by-spec =

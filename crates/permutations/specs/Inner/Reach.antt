@@ -1,6 +1,7 @@
 -- The points that are reached from 0, as the code lists them: a queue, and a mark for each point that is in it.
 --
---   QueueHolds n size seen queue   the queue begins with n points below size, no two the same, and the marks are 1 exactly at them
+--   QueueHolds n size seen queue   the queue begins with n points below size, no two the same, and the marks are 1
+--                                  exactly at them
 --   Entered x n ..                 x came to its end, if it was new
 --   VisitedAt σ ρ i n ..           the images of its entry i under σ and ρ came to its end, if they were new
 --   Two s r                        both tables hold points, and are of one length

@@ -3,7 +3,7 @@
 use mathlib.Core.Path.{_≡_, _∙_, ap}
 use native.Mathlib.Omega.{arith}
 use lib.ListN.{length}
-use Rattle.workspace.proofs.Zeros.{length-zeros}
+use Rattle.call.proofs.Zeros.{length-zeros}
 use Rattle.symbol.specs.Table.{pairingEntries}
 use Rattle.symbol.proofs.Order.{behind}
 use Rattle.pairing.proofs.Partners.{paired-none}

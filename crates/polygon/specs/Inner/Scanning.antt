@@ -7,8 +7,10 @@
 --   ScanRoom           what one vertex of the scan asks for: side i comes in, where n cells and m triangles are there
 --   Settled            what it leaves
 --   Cleared            the table of other sides is zero
---   Scanned            what the scan leaves: n cells, and r under the chord that ended at vertex z when it had been pushed
---   CutLeft            what the cut leaves: the array of other sides, and as its result r the position under the chord to 0/1
+--   Scanned            what the scan leaves: n cells, and r under the chord that ended at vertex z when it had been
+--                      pushed
+--   CutLeft            what the cut leaves: the array of other sides, and as its result r the position under the chord
+--                      to 0/1
 use mathlib.Core.Path.{_≡_}
 use mathlib.Core.Bool.{Bool, false}
 use mathlib.Core.List.{List, [], _∷_}
@@ -17,9 +19,10 @@ use lib.Dec.{eqb}
 use lib.ListN.{length, getD}
 use lib.IntN.{ℤ}
 use Rattle.symbol.specs.Symbol.{IsSymbol}
-use Rattle.polygon.specs.Cut.{outer, places, den, Cell, cell, below, handle, Scan, scan, pushed, scanned, flipOf, underZero}
+use Rattle.polygon.specs.Cut.{outer, places, den, Cell, cell, below, handle, Scan, scan, pushed, scanned, flipOf}
+use Rattle.polygon.specs.Cut.{underZero}
 use Rattle.polygon.specs.Inner.Space.{FLIP, STACK, HANDLE, CutFrame}
-use Rattle.workspace.specs.Space.{entries}
+use Rattle.call.specs.Space.{entries}
 
 unfoldable pub cellsIn : List ℕ → ℕ → List Cell
 cellsIn w zero = []

@@ -1,6 +1,7 @@
 -- What the upper crates get in the work space, and ask the steps with.
 --
---   PolygonTables t v w  w holds the other side of each position, the partners and the generator numbers of the symbol t
+--   PolygonTables t v w  w holds the other side of each position, the partners and the generator numbers of the symbol
+--                        t
 --   Built t v w r        what building them leaves: the tables, and the start as the result r
 --   lettersOf z          the word of one letter z, and the empty word for 0
 use mathlib.Core.Path.{_≡_}
@@ -12,7 +13,7 @@ use Rattle.symbol.specs.Symbol.{IsSymbol}
 use Rattle.polygon.specs.Cut.{places, flipOf}
 use Rattle.polygon.specs.Step.{startOf}
 use Rattle.polygon.specs.Inner.Space.{FLIP}
-use Rattle.workspace.specs.Space.{entries}
+use Rattle.call.specs.Space.{entries}
 use Rattle.polygon.specs.Inner.Partners.{PartnersHeld, Numbered}
 
 pub record PolygonTables (t : List ℤ) (v : ℕ) (w : List ℕ) : Type 0 where

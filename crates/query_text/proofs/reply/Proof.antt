@@ -1,9 +1,9 @@
--- `reply` meets its contract. An input that was read: the arrays are long enough, and the bytes mean what the claim
--- says (`reply-means`). One that could not be read: nothing is done. Assumes nothing.
+-- `reply` meets its contract. An input that was read: the arrays are long enough, and the bytes mean what the claim says
+-- (`reply-means`). One that could not be read: nothing is done. Assumes nothing.
 use mathlib.Core.Path.{refl}
 use native.Mathlib.Omega.{arith}
-use Rattle.input.proofs.Text.{when-read, when-failed}
-use Rattle.text_line.proofs.Placing.{puts-within, puts-front}
+use Rattle.text.proofs.InputText.{when-read, when-failed}
+use Rattle.text.proofs.Placing.{puts-within, puts-front}
 use Rattle.query_text.proofs.Replied.{reply-means}
 use borrow.Author.Needs.{needs}
 use Rattle.query_text.proofs.reply.Statement.{statement}
@@ -16,24 +16,32 @@ enum-told : tie.Need-enum-told
 enum-told c = search needs
 
 returns : tie.Need-returns
-returns c = (omega arith, when-failed (c .enum-told .given .1) (refl, refl, refl, refl, refl))
+returns c = (omega arith, when-failed (c .enum-told .given .1) (refl, refl))
 
 text-end-requires : tie.Need-text-end-requires
 text-end-requires c κs = search needs
 
 slice-aggregate-reply-text : tie.Need-slice-aggregate-reply-text
-slice-aggregate-reply-text c = c .before .text-end .ensures .long
+slice-aggregate-reply-text c = search needs
+
+slice-aggregate-reply-text-2 : tie.Need-slice-aggregate-reply-text-2
+slice-aggregate-reply-text-2 c = search needs
+
+slice-aggregate-reply-text-3 : tie.Need-slice-aggregate-reply-text-3
+slice-aggregate-reply-text-3 c = search needs
+
+slice-aggregate-reply-text-4 : tie.Need-slice-aggregate-reply-text-4
+slice-aggregate-reply-text-4 c = search needs
 
 reply-text-requires : tie.Need-reply-text-requires
-reply-text-requires c κs = (omega arith, record { work = omega arith; lent = omega arith; out-long = omega arith })
+reply-text-requires c κs = search needs
 
 returns-2 : tie.Need-returns-2
 returns-2 c =
-    let ended = c .before .before .before .before .before .before in
-    let p = c .reply-text .ensures in (
-      omega (arith, puts-within (p .0) (omega arith) (omega arith)),
-      when-read (ended .before .before .input .given .1) (ended .text-end .ensures)
-          (p .0, p .1, reply-means (omega arith) (omega arith) (puts-front (p .0)) (p .1)),
+    let ended = c .before .before .before .before .before .before .before .before .before in
+    let p = c .before .before .before .reply-text .ensures in (
+      omega (arith, puts-within p (omega arith) (omega arith)),
+      when-read (ended .before .before .input .given .1) (ended .text-end .ensures) (p, reply-means _ _ (puts-front p)),
     )
 
 pub reply-spec : {M : Type 1} → statement M
@@ -45,5 +53,8 @@ reply-spec =
     returns
     text-end-requires
     slice-aggregate-reply-text
+    slice-aggregate-reply-text-2
+    slice-aggregate-reply-text-3
+    slice-aggregate-reply-text-4
     reply-text-requires
     returns-2)

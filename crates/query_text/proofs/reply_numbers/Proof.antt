@@ -9,11 +9,10 @@ use mir.Syntax.{w64}
 use mir.Facts.{toZ-ofZ}
 use Rattle.matrix.specs.Matrix.{nth}
 use Rattle.text.specs.Reading.{vertexCount}
-use Rattle.word.specs.Answer.{queryWork}
-use Rattle.text_line.proofs.Placing.{puts-as}
-use Rattle.query_text.specs.Reply.{replied, lettersLeft}
+use Rattle.text.proofs.Placing.{puts-as}
+use Rattle.query_text.specs.Reply.{replied}
 use Rattle.word.specs.Answer.{four}
-use Rattle.query_text.proofs.Replied.{asked-as, few-line, few-work, few-letters, enough-line, enough-work, enough-letters}
+use Rattle.query_text.proofs.Replied.{asked-as, few-line, enough-line}
 use borrow.Author.Needs.{needs}
 use Rattle.query_text.proofs.reply_numbers.Statement.{statement}
 use Rattle.query_text.proofs.reply_numbers.Tie as tie
@@ -29,7 +28,7 @@ returns c =
     let s = c .before .before .before .before .before .before .before in
     let ns = s .args .ns .now in
     let h = (c .before .before .before .before) .if1 .taken in
-    (puts-as (few-line ns h) ((c .before .before) .refusal-line .ensures), (few-work ns (s .args .w .now) h, few-letters ns (s .args .letters .now) h))
+    puts-as (few-line ns h) ((c .before .before) .refusal-line .ensures)
 
 shared-slice-copy-out-vertex-count : tie.Need-shared-slice-copy-out-vertex-count
 shared-slice-copy-out-vertex-count c = search needs
@@ -72,28 +71,20 @@ same-length-4 c = search needs
 
 returns-2 : tie.Need-returns-2
 returns-2 c =
+    let earlier = c .before .before .before .before .before .before .before .before .before .before in
     let b = c .before .before .before .before .before .before .before .before .before .before in
-    let a = c .before .before .before .before .before .before .before .before .before .before .before in
-    let n = c .before .before .before .before .before .before .before .before .before .before .before .before in
-    let s = c .before .before .before .before .before .before .before .before .before .before .before .before .before .before .before .before .before in
+    let a = earlier .before in
+    let n = earlier .before .before in
+    let s = earlier .before .before .before .before .before .before .before in
     let ns = s .args .ns .now in
-    let w = s .args .w .now in
-    let letters = s .args .letters .now in
     let p = (c .before .before .before .before .before) .reply-pair .ensures in
-    let h = (c .before .before .before .before .before .before .before .before .before .before .before .before .before .before) .if1 .left in
-    let e = rw (toZ-ofZ {w = w64} {z = nth ns 0}
-    (record { sfits = (c .before .before .before .before .before .before .before .before .before .before .before .before .before) .vertex-count-arg .given })) at (n .vertex-count .ensures) in
+    let h = (earlier .before .before .before .before) .if1 .left in
+    let e = rw (toZ-ofZ {w = w64} {z = nth ns 0} (record { sfits = n .before .vertex-count-arg .given })) at (n .vertex-count .ensures) in
     let less : length ns - 8 - 1 ≡ length ns - 9 = omega arith in
     let t = ap (λ (m : ℕ). take m (drop 1 ns)) less in
     let x = a .four-at .ensures in
-    let y = b .four-at2 .ensures in (
-      puts-as (asked-as replied e t x y ∙ enough-line ns h) (p .0),
-      (
-        p .1 .0 ∙ asked-as (λ (m : ℕ) (u i j : List ℤ). queryWork m u i j w) e t x y ∙ enough-work ns w h,
-        p .1 .1
-            ∙ asked-as (λ (m : ℕ) (u i j : List ℤ). lettersLeft m u i j letters) e t x y ∙ enough-letters ns letters h,
-      ),
-    )
+    let y = b .four-at2 .ensures in
+    puts-as (asked-as replied e t x y ∙ enough-line ns h) p
 
 pub reply-numbers-spec : {M : Type 1} → statement M
 reply-numbers-spec =

@@ -9,16 +9,17 @@ use lib.ListN.{length}
 use types.Run.{OneOf, miss}
 use denote.Enum.Declared.{tagOf}
 use Rattle.matrix.specs.Matrix.{ofList}
-use Rattle.text_line.specs.Line.{line, refusalLine}
-use Rattle.text_line.proofs.Placing.{puts-as}
+use Rattle.text.specs.Line.{line, refusalLine}
+use Rattle.text.proofs.Placing.{puts-as}
 use Rattle.word.specs.Answer.{queryRefusal, foundWord, queryOf, wordLeft, partOf}
-use Rattle.refusal.specs.declared.Refusal.{Refusal}
+use Rattle.call.specs.declared.refusal.Refusal.{Refusal}
 use Rattle.word.specs.declared.Queried.{Queried}
 use Rattle.word.specs.declared.Queried.the-variants.{Word}
 use Rattle.word.proofs.Queried.{the-type}
+use Rattle.word.proofs.Order.{query-left}
 use Rattle.word.proofs.Returned.{part-found, word-most}
 use Rattle.query_text.specs.Reply.{wordHead, said}
-use Rattle.query_text.proofs.Replied.{said-other, replied-as, letters-as}
+use Rattle.query_text.proofs.Replied.{said-other, replied-as}
 use borrow.Author.Needs.{needs}
 use Rattle.query_text.proofs.reply_pair.Statement.{statement}
 use Rattle.query_text.proofs.reply_pair.Tie as tie
@@ -53,13 +54,19 @@ module _ (n : tie.After-word-part) where
   abbrev sign : Bool
   sign = told .answer .given .0 .1 .1 .0
 
-  named : Word from count sign ≡ queryOf (start .args .v) (start .args .t .now) (start .args .a) (start .args .b) (length (start .args .w .now)) (length letters) 0
-  named = sym (told .answer .given .1) ∙ asked .query .ensures .0
+  named : Word from count sign ≡ queryOf (start .args .v) (start .args .t .now) (start .args .a) (start .args .b) (length (start .args .w .now))
+      (length letters) 0
+  named = sym (told .answer .given .1) ∙ asked .query .ensures .answer
+
+  left : asked .query .last .1 .1 .1 .1 .1 .0 ≡ wordLeft (asked .query .result) word letters
+  left =
+      query-left (start .args .v) (start .args .t .now) (start .args .a) (start .args .b) (start .args .w .now) (asked .query .last .1 .1 .1 .1 .0) letters
+      (asked .query .last .1 .1 .1 .1 .1 .0) 0 (asked .query .ensures)
 
   part-is : n .word-part .result .now ≡ word
   part-is =
       n .word-part .ensures
-      ∙ ap (λ (x : List ℤ). partOf x from count) (asked .query .ensures .1 .1 .0 ∙ ap (λ (x : Queried). wordLeft x word letters) (told .answer .given .1))
+      ∙ ap (λ (x : List ℤ). partOf x from count) (left ∙ ap (λ (x : Queried). wordLeft x word letters) (told .answer .given .1))
       ∙ part-found from count sign (start .args .v) (start .args .t .now) (start .args .a) (start .args .b) (length (start .args .w .now)) 0 letters named
 
   part-most : length (n .word-part .result .now) ≤ 16384
@@ -107,15 +114,8 @@ returns c =
     let same =
     ap refusalLine ((c .before .before .before .before) .query-refusal .ensures)
     ∙ said-other r (foundWord v t (ofList a) (ofList b)) (never-word r ((c .before .before .before .before .before .before) .match .keys2))
-    ∙ replied-as v t a b r (length (s .args .w .now)) (length (s .args .letters .now)) (s .pre .work) (s .pre .lent) (q .query .ensures .0) in (
-      puts-as same ((c .before .before) .refusal-line .ensures),
-      (
-        q .query .ensures .1 .0,
-        q .query .ensures .1 .1 .0
-            ∙ letters-as v t a b r (length (s .args .w .now)) (length (s .args .letters .now)) (s .pre .work) (s .pre .lent) (q .query .ensures .0)
-            (s .args .letters .now),
-      ),
-    )
+    ∙ replied-as v t a b r (length (s .args .w .now)) (length (s .args .letters .now)) (s .pre .work) (s .pre .lent) (q .query .ensures .answer) in
+    puts-as same ((c .before .before) .refusal-line .ensures)
 
 word-part-requires : tie.Need-word-part-requires
 word-part-requires c κs = search needs
@@ -138,9 +138,10 @@ same-length-6 c = search needs
 
 returns-2 : tie.Need-returns-2
 returns-2 c =
+    let earlier = c .before .before .before .before .before .before .before .before .before .before in
     let n = c .before .before .before .before in
-    let q = c .before .before .before .before .before .before .before .before .before .before .before .before in
-    let s = c .before .before .before .before .before .before .before .before .before .before .before .before .before .before .before .before .before in
+    let q = earlier .before .before in
+    let s = earlier .before .before .before .before .before .before .before in
     let r = q .query .result in
     let v = s .args .v in
     let t = s .args .t .now in
@@ -149,15 +150,8 @@ returns-2 c =
     let same =
     ap (line (wordHead (sign n))) (part-is n)
     ∙ ap (λ (x : Queried). said x (word n)) (sym (told n .answer .given .1))
-    ∙ replied-as v t a b r (length (s .args .w .now)) (length (s .args .letters .now)) (s .pre .work) (s .pre .lent) (q .query .ensures .0) in (
-      puts-as same ((c .before .before) .word-line .ensures .0),
-      (
-        q .query .ensures .1 .0,
-        q .query .ensures .1 .1 .0
-            ∙ letters-as v t a b r (length (s .args .w .now)) (length (s .args .letters .now)) (s .pre .work) (s .pre .lent) (q .query .ensures .0)
-            (s .args .letters .now),
-      ),
-    )
+    ∙ replied-as v t a b r (length (s .args .w .now)) (length (s .args .letters .now)) (s .pre .work) (s .pre .lent) (q .query .ensures .answer) in
+    puts-as same ((c .before .before) .word-line .ensures .0)
 
 pub reply-pair-spec : {M : Type 1} → statement M
 reply-pair-spec =

@@ -11,9 +11,9 @@ use Rattle.text.specs.Reading.{inputOf, leftBy}
 use Rattle.text.specs.declared.Reading.{Reading}
 use Rattle.text.specs.declared.Reading.the-variants.{Numbers, Refused}
 use Rattle.text.proofs.Handed.{Handed, input-on, front-entries}
-use Rattle.text_line.proofs.Placing.{puts-as}
-use Rattle.query_text.specs.Reply.{repliedTo, workTo, lettersTo, queryFormat}
-use Rattle.query_text.proofs.Replied.{reply-by, leaves-by}
+use Rattle.text.proofs.Placing.{puts-as}
+use Rattle.query_text.specs.Reply.{repliedTo, queryFormat}
+use Rattle.query_text.proofs.Replied.{reply-by}
 use borrow.Author.Needs.{needs}
 use Rattle.query_text.proofs.reply_text.Statement.{statement}
 use Rattle.query_text.proofs.reply_text.Tie as tie
@@ -72,14 +72,23 @@ enum-known-read-2 : tie.Need-enum-known-read-2
 enum-known-read-2 c = search needs
 
 slice-reshare-prefix-reply-numbers : tie.Need-slice-reshare-prefix-reply-numbers
-slice-reshare-prefix-reply-numbers c = omega
-    (arith, some-numbers c .fitting, (c .before .before .before) .numbers .given, (c .before .before .before .before .before .before .before .before .before) .pre .0)
+slice-reshare-prefix-reply-numbers c = omega (
+  arith,
+  some-numbers c .fitting,
+  (c .before .before .before) .numbers .given,
+  (c .before .before .before .before .before .before .before .before .before) .pre .0,
+)
 
 slice-aggregate-reply-numbers : tie.Need-slice-aggregate-reply-numbers
 slice-aggregate-reply-numbers c =
     let d = c .before in
     sym (length-take-le (count d) (stood (read d))
-    (omega (arith, some-numbers d .fitting, (c .before .before .before .before) .numbers .given, (c .before .before .before .before .before .before .before .before .before .before) .pre .0)))
+    (omega (
+      arith,
+      some-numbers d .fitting,
+      (c .before .before .before .before) .numbers .given,
+      (c .before .before .before .before .before .before .before .before .before .before) .pre .0,
+    )))
 
 reply-numbers-requires : tie.Need-reply-numbers-requires
 reply-numbers-requires c κs = search needs
@@ -100,7 +109,7 @@ returns c =
     let told = (c .before .before .before .before .before) .read .given in
     let x = Refused (told .0 .0) in
     let e = sym (told .1) ∙ answer r in
-    (puts-as (reply-by (s .args .longer) (s .args .text .now) x e) ((c .before .before) .refusal-line .ensures), leaves-by x e (left r x (told .1)) refl refl)
+    puts-as (reply-by (s .args .longer) (s .args .text .now) x e) ((c .before .before) .refusal-line .ensures)
 
 same-length-4 : tie.Need-same-length-4
 same-length-4 c = search needs
@@ -114,14 +123,9 @@ same-length-6 c = search needs
 returns-2 : tie.Need-returns-2
 returns-2 c =
     let d = c .before .before .before .before .before .before .before .before .before .before in
-    let s = c .before .before .before .before .before .before .before .before .before .before .before .before .before .before .before .before .before .before .before in
+    let s = read d .before .before .before .before .before in
     let l = (c .before .before .before .before .before) .reply-numbers .ensures in
-    let x = Numbers (count d) in (
-      puts-as (ap repliedTo (front d) ∙ reply-by (s .args .longer) (s .args .text .now) x (numbered d)) (l .0),
-      leaves-by x (numbered d) (numbers-left d)
-          (l .1 .0 ∙ ap (λ (m : List ℤ). workTo m (s .args .w .now)) (front d))
-          (l .1 .1 ∙ ap (λ (m : List ℤ). lettersTo m (s .args .letters .now)) (front d)),
-    )
+    puts-as (ap repliedTo (front d) ∙ reply-by (s .args .longer) (s .args .text .now) (Numbers (count d)) (numbered d)) l
 
 pub reply-text-spec : {M : Type 1} → statement M
 reply-text-spec =

@@ -2,8 +2,8 @@
 use mathlib.Core.Path.{sym, ap}
 use mathlib.Core.Bool.{Bool}
 use native.Mathlib.Omega.{arith}
-use Rattle.text_line.specs.Line.{line}
-use Rattle.text_line.proofs.Placing.{puts-as}
+use Rattle.text.specs.Line.{line}
+use Rattle.text.proofs.Placing.{puts-as}
 use Rattle.query_text.specs.Reply.{wordHead}
 use borrow.Author.Needs.{needs}
 use Rattle.query_text.proofs.word_line.Statement.{statement}
@@ -21,8 +21,10 @@ same-length c = search needs
 returns : tie.Need-returns
 returns c =
     let s = c .before .before .before .before .before .before .before in
-    let p = c .before .before .line-of-letters .ensures in
-    (puts-as (ap (λ (b : Bool). line (wordHead b) (s .args .word .now)) (sym (c .before .before .before .before .before .if1 .taken))) (p .0), omega (arith, p .1))
+    let p = c .before .before .line-of-letters .ensures in (
+      puts-as (ap (λ (b : Bool). line (wordHead b) (s .args .word .now)) (sym (c .before .before .before .before .before .if1 .taken))) (p .0),
+      omega (arith, p .1),
+    )
 
 slice-aggregate-line-of-letters-2 : tie.Need-slice-aggregate-line-of-letters-2
 slice-aggregate-line-of-letters-2 c = search needs
@@ -36,8 +38,10 @@ same-length-2 c = search needs
 returns-2 : tie.Need-returns-2
 returns-2 c =
     let s = c .before .before .before .before .before .before .before in
-    let p = c .before .before .line-of-letters2 .ensures in
-    (puts-as (ap (λ (b : Bool). line (wordHead b) (s .args .word .now)) (sym (c .before .before .before .before .before .if1 .left))) (p .0), omega (arith, p .1))
+    let p = c .before .before .line-of-letters2 .ensures in (
+      puts-as (ap (λ (b : Bool). line (wordHead b) (s .args .word .now)) (sym (c .before .before .before .before .before .if1 .left))) (p .0),
+      omega (arith, p .1),
+    )
 
 pub word-line-spec : {M : Type 1} → statement M
 word-line-spec =

@@ -1,6 +1,7 @@
 -- `answer` makes the tables by place, compares two places by them (`found-is`), and clears the work space. Assumes nothing.
 use mathlib.Core.Path.{_∙_, ap}
-use Rattle.workspace.specs.Space.{zeros}
+use Rattle.call.specs.Space.{zeros}
+use Rattle.same_coset.specs.Inner.Ready.{yesNo}
 use Rattle.same_coset.proofs.Single.{found-is}
 use borrow.Author.Needs.{needs}
 use Rattle.same_coset.proofs.answer.Statement.{statement}
@@ -29,7 +30,7 @@ returns c =
     let s = c .before .before .before .before .before .before .before .before .before .before .before .before in
     let share = c .before .before .before .before .before .share in
     let g = c .before .before .before .before .before .before .before .before .before .prepare .ensures in (
-      c .yes-or-no .ensures ∙ found-is (s .pre) (share .result) (share .ensures (s .args .v) (s .args .t .now) (s .args .w .now) (s .pre .symbol) g),
+      c .yes-or-no .ensures ∙ ap yesNo (found-is (s .pre) (share .result) (share .ensures (s .args .v) (s .args .t .now) (s .args .w .now) (s .pre .symbol) g)),
       c .before .before .before .clear .ensures ∙ ap zeros (g .same),
     )
 

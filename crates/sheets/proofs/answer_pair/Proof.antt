@@ -1,16 +1,15 @@
--- `answer_pair` has three ways out: 8, 9, or what the walk answers (`by-large`, `by-determinant`, `by-walk`). Assumes nothing.
-use mathlib.Core.Path.{_≡_, refl, _∙_, ap}
+-- `answer_pair` makes the checks 8 and 9, and then it answers by the walk. Assumes nothing.
+use mathlib.Core.Path.{_≡_, refl, sym, _∙_, ap}
 use mathlib.Core.List.{List}
 use lib.IntN.{ℤ}
-use lib.ListN.{length}
+use Rattle.call.proofs.Laws.{run-stop, run-pass, fills-as, ran}
 use Rattle.matrix.specs.Matrix.{ofList}
-use Rattle.word.specs.declared.Queried.{Queried}
-use Rattle.word.specs.Answer.{four, foundWord, foundOf, wordLeft}
-use Rattle.word.specs.Inner.Ready.{judgedOf}
+use Rattle.word.specs.Answer.{four, matricesCheck, closes, foundWord}
 use Rattle.word.proofs.Pair.{unit-is}
+use Rattle.word.proofs.Finding.{walkRun}
 use Rattle.word.proofs.Order.{passed-small}
 use Rattle.word.proofs.Refused.{passed-by}
-use Rattle.sheets.proofs.Single.{by-large, by-determinant, by-walk}
+use Rattle.sheets.proofs.Single.{pair-as}
 use borrow.Author.Needs.{needs}
 use Rattle.sheets.proofs.answer_pair.Statement.{statement}
 use Rattle.sheets.proofs.answer_pair.Tie as tie
@@ -21,11 +20,17 @@ four-at-requires c κs = search needs
 four-at-requires-2 : tie.Need-four-at-requires-2
 four-at-requires-2 c κs = search needs
 
-judge-requires : tie.Need-judge-requires
-judge-requires c κs = search needs
+pair-check-requires : tie.Need-pair-check-requires
+pair-check-requires c κs = search needs
 
--- the pair that was judged
-module _ (j : tie.After-judge) where
+enum-known-paired : tie.Need-enum-known-paired
+enum-known-paired c = search needs
+
+enum-told : tie.Need-enum-told
+enum-told c = search needs
+
+-- the pair, as the code reads it
+module _ (j : tie.After-pair-check) where
   abbrev st : tie.Start
   st = j .before .before .before .before
 
@@ -35,66 +40,61 @@ module _ (j : tie.After-judge) where
   abbrev B : List ℤ
   B = four (st .args .pair .now) 4
 
-  abbrev found : Queried
-  found = foundOf (st .args .v) (st .args .t .now) A B (st .args .start) (length (st .args .out .now))
+  abbrev a : List ℤ
+  a = j .before .before .four-at .result
 
-  judged : j .judge .result ≡ judgedOf A B
-  judged =
-      j .judge .ensures
-      ∙ ap (λ (a : List ℤ). judgedOf a (j .before .four-at2 .result)) (j .before .before .four-at .ensures)
-      ∙ ap (judgedOf A) (j .before .four-at2 .ensures)
+  abbrev b : List ℤ
+  b = j .before .four-at2 .result
 
-returns : tie.Need-returns
-returns c =
-    let j = c .before in
-    let s = j .before .before .before .before in
-    (by-large (A j) (B j) (s .args .w .now) (found j) (s .pre .0 .prepared .tables .long) (j .judge .result) (judged j) (c .if1 .taken), refl)
+  is-A : a ≡ A
+  is-A = j .before .before .four-at .ensures
 
-returns-2 : tie.Need-returns-2
-returns-2 c =
-    let j = c .before .before in
-    let s = j .before .before .before .before in
-    (by-determinant (A j) (B j) (s .args .w .now) (found j) (s .pre .0 .prepared .tables .long) (j .judge .result) (judged j) (c .before .if1 .left) (c .if2 .taken), refl)
+  is-B : b ≡ B
+  is-B = j .before .four-at2 .ensures
 
 answer-ready-requires : tie.Need-answer-ready-requires
 answer-ready-requires c κs =
     let j = c .before .before .before in
     let s = st j in
-    let a = j .before .before .four-at .result in
-    let b = j .before .four-at2 .result in
-    let p = passed-by a b (j .judge .result) (j .judge .ensures) (c .before .if2 .left) in
-    let m = passed-small a b (p .entries) in
+    let p = passed-by (a j) (b j) (sym (j .pair-check .ensures) ∙ c .before .enum-told .given .1) in
+    let m = passed-small (a j) (b j) (p .entries) in
     record {
       prepared = s .pre .0 .prepared;
       start = s .pre .0 .start;
       entries-A = m .0;
       entries-B = m .1;
-      unit-A = unit-is a (p .A);
-      unit-B = unit-is b (p .B);
+      unit-A = unit-is (a j) (p .A);
+      unit-B = unit-is (b j) (p .B);
     }
+
+returns : tie.Need-returns
+returns c =
+    let j = c .before .before .before in
+    let s = st j in
+    let f = c .before .paired .given .0 .0 in
+    let out = s .args .out .now in
+    let is = ap (λ (x : List ℤ). matricesCheck x (B j)) (sym (is-A j)) ∙ ap (matricesCheck (a j)) (sym (is-B j)) in
+    fills-as
+    (run-stop f (matricesCheck (A j) (B j))
+    (walkRun (closes (s .args .v) (s .args .t .now) (ofList (A j)) (ofList (B j)))
+    (foundWord (s .args .v) (s .args .t .now) (ofList (A j)) (ofList (B j))) out out
+    (s .args .start))
+    (is ∙ sym (j .pair-check .ensures) ∙ c .before .paired .given .1) (refl, tt)) refl
 
 same-length : tie.Need-same-length
 same-length c = search needs
 
-returns-3 : tie.Need-returns-3
-returns-3 c =
+returns-2 : tie.Need-returns-2
+returns-2 c =
     let j = c .before .before .before .before .before in
     let s = st j in
     let v = s .args .v in
     let t = s .args .t .now in
     let out = s .args .out .now in
-    let f = c .before .answer-ready in
-    let is-A = j .before .before .four-at .ensures in
-    let is-B = j .before .four-at2 .ensures in
-    let b = j .before .four-at2 .result in (
-      f .ensures .0
-          ∙ ap (λ (x : List ℤ). foundOf v t x b (s .args .start) (length out)) is-A
-          ∙ ap (λ (y : List ℤ). foundOf v t (A j) y (s .args .start) (length out)) is-B
-          ∙ by-walk (A j) (B j) (s .args .w .now) (found j) (s .pre .0 .prepared .tables .long) (j .judge .result) (judged j) (c .before .before .before .if2 .left),
-      f .ensures .1
-          ∙ ap (λ (x : List ℤ). wordLeft (f .result) (foundWord v t (ofList x) (ofList b)) out) is-A
-          ∙ ap (λ (y : List ℤ). wordLeft (f .result) (foundWord v t (ofList (A j)) (ofList y)) out) is-B,
-    )
+    let g = c .before .answer-ready .ensures in
+    let rest = walkRun (closes v t (ofList (a j)) (ofList (b j))) (foundWord v t (ofList (a j)) (ofList (b j))) out _ (s .args .start) in
+    pair-as v t (is-A j) (is-B j) {out = out} {out' = c .before .answer-ready .last .1 .1 .1 .1 .1 .1 .0}
+    (fills-as (run-pass (matricesCheck (a j) (b j)) rest (sym (j .pair-check .ensures) ∙ c .before .before .before .enum-told .given .1) (ran g)) (g .answer))
 
 pub answer-pair-spec : {M : Type 1} → statement M
 answer-pair-spec =
@@ -102,9 +102,10 @@ answer-pair-spec =
     (tie.spec
     four-at-requires
     four-at-requires-2
-    judge-requires
-    returns
-    returns-2
+    pair-check-requires
+    enum-known-paired
+    enum-told
     answer-ready-requires
+    returns
     same-length
-    returns-3)
+    returns-2)

@@ -56,8 +56,9 @@ fits a =
     let k = 8 * l .loop .i in
     let part = take (k + 8 - k) (drop k (st .args .p .now)) in
     let same : length (l .loop .out) ≡ length (st .args .out .now) = l .loop .inv .3 in
-    subst Fitting (sym (a .answer-pair .ensures .0))
-    (pair-fits (st .pre .0 .prepared .tables .symbol) (four part 0) (four part 4) (length (l .loop .out)) (l .loop .next) (omega (arith, same, st .good .1 .1 .1 .1 .1 .1 .0)))
+    subst Fitting (sym (a .answer-pair .ensures .answer))
+    (pair-fits (st .pre .0 .prepared .tables .symbol) (four part 0) (four part 4) (length (l .loop .out)) (l .loop .next)
+    (omega (arith, same, st .good .1 .1 .1 .1 .1 .1 .0)))
 
 write-line-requires : tie.Need-write-line-requires Inv-loop μ-loop
 write-line-requires c κs =
@@ -83,7 +84,7 @@ loop-again c =
     let k = 8 * l .loop .i in
     let p = st .args .p .now in (
       going-more (ready .symbol) (ready .long) (l .loop .inv .0) _ (ap (λ (j : ℕ). take j (drop k p)) (add-sub-cancel-left k 8)) (a .answer-pair .result) _ _
-          (c .word-end .result) (a .answer-pair .ensures .0) (a .answer-pair .ensures .1) (c .before .before .write-line .ensures) (c .word-end .ensures)
+          (c .word-end .result) (a .answer-pair .ensures) (c .before .before .write-line .ensures) (c .word-end .ensures)
           (l .loop .i + 1) (add-one (l .loop .i)),
       omega (arith, c .before .before .before .before .before .before .before .before .loop-test .taken),
       c .before .lines .given ∙ l .loop .inv .2,
@@ -101,7 +102,8 @@ returns c =
     let l = c .before in
     let st = l .before .before in
     let end : l .loop .i ≡ pairsIn (st .args .p .now) = omega (arith, l .loop .inv .1, c .loop-test .left) in
-    let z = subst (λ (j : ℕ). Going (st .args .v) (st .args .t .now) (st .args .p .now) (st .args .w .now) (st .args .lines .now) (st .args .out .now) j (l .loop .lines)
+    let z = subst (λ (j : ℕ). Going (st .args .v) (st .args .t .now) (st .args .p .now) (st .args .w .now) (st .args .lines .now) (st .args .out .now) j
+    (l .loop .lines)
     (l .loop .out) (l .loop .next)) end (l .loop .inv .0) in
     (z .table, z .space)
 

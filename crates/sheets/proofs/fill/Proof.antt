@@ -1,12 +1,13 @@
 -- `fill` has two ways out: a line table that is too short, and the answers for all pairs. Assumes nothing.
 use mathlib.Core.Path.{refl, _∙_, ap}
-use Prim.Native.Nat.{ℕ, _*_, _/_}
+use Prim.Native.Nat.{ℕ, _*_}
 use native.Mathlib.Omega.{arith}
 use mathlib.Core.List.{_++_}
 use lib.ListN.{length, drop}
-use Rattle.workspace.specs.Space.{zeros}
-use Rattle.coset.proofs.Answer.{one-short, one-room}
+use Rattle.call.specs.Space.{zeros}
+use Rattle.call.proofs.Laws.{fills-as}
 use Rattle.sheets.specs.Sheet.{pairsIn, spaceAt, linesTo}
+use Rattle.sheets.proofs.Whole.{no-room, in-room}
 use borrow.Author.Needs.{needs}
 use Rattle.sheets.proofs.fill.Statement.{statement}
 use Rattle.sheets.proofs.fill.Tie as tie
@@ -20,7 +21,10 @@ same-length c = search needs
 returns : tie.Need-returns
 returns c =
     let s = c .before .before .before .before .before .before in
-    (one-short (pairsIn (s .args .p .now)) (length (s .args .lines .now) / 4) (c .before .before .before .before .if1 .taken), (c .before .before .clear .ensures, (refl, refl)))
+    let g = s .args in (
+      fills-as (no-room (g .v) (g .t .now) (g .p .now) (length (g .w .now)) (g .lines .now) (g .out .now) (c .before .before .before .before .if1 .taken)) refl,
+      c .before .before .clear .ensures,
+    )
 
 build-requires : tie.Need-build-requires
 build-requires c κs = search needs
@@ -54,14 +58,11 @@ returns-2 c =
     let g = s .args in
     let n = pairsIn (g .p .now) in
     let kept = b .build .ensures .1 in (
-      one-room n (length (g .lines .now) / 4) (b .before .before .if1 .left),
-      (
-        c .before .before .clear2 .ensures ∙ ap zeros kept,
-        (
-          a .answer-pairs .ensures .0 ∙ ap (λ (k : ℕ). linesTo (g .v) (g .t .now) (g .p .now) k (g .out .now) n ++ drop (4 * n) (g .lines .now)) kept,
-          a .answer-pairs .ensures .1 ∙ ap (λ (k : ℕ). spaceAt (g .v) (g .t .now) (g .p .now) k (g .out .now) n .letters) kept,
-        ),
-      ),
+      fills-as
+          (in-room (g .v) (g .t .now) (g .p .now) (length (g .w .now)) (g .lines .now) (g .out .now) _ _ (b .before .before .if1 .left)
+          (a .answer-pairs .ensures .0 ∙ ap (λ (k : ℕ). linesTo (g .v) (g .t .now) (g .p .now) k (g .out .now) n ++ drop (4 * n) (g .lines .now)) kept)
+          (a .answer-pairs .ensures .1 ∙ ap (λ (k : ℕ). spaceAt (g .v) (g .t .now) (g .p .now) k (g .out .now) n .letters) kept)) refl,
+      c .before .before .clear2 .ensures ∙ ap zeros kept,
     )
 
 pub fill-spec : {M : Type 1} → statement M

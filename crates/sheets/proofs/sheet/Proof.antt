@@ -1,13 +1,14 @@
--- `sheet` meets its contract. Its ways out are the cases of `sheetOf` in order (`by-count`, `by-symbol`, `by-work`, `by-fill`). Assumes nothing.
-use mathlib.Core.Path.{_≡_, refl, sym, _∙_}
-use mathlib.Core.Bool.{false}
-use Prim.Native.Nat.{_/_}
+-- `sheet` meets its contract: its ways out are those of its steps in order (`by-first`, `by-second`, `by-short`, `by-long`). Assumes nothing.
+use mathlib.Core.Path.{_≡_, refl, sym, _∙_, ap}
+use mathlib.Core.Bool.{Bool, false}
 use lib.ListN.{length}
-use Rattle.refusal.specs.declared.Checked.the-variants.{Accepted}
-use Rattle.symbol.specs.Check.{symbolCheck}
-use Rattle.symbol.proofs.Accepted.{accepted}
-use Rattle.sheets.specs.Sheet.{badCount}
-use Rattle.sheets.proofs.Whole.{by-count, by-symbol, by-work, by-fill, means-refused, means}
+use Rattle.call.specs.Refusal.{tooShort}
+use Rattle.call.specs.declared.refusal.Checked.the-variants.{Accepted}
+use Rattle.call.proofs.Laws.{fills-as, ran}
+use Rattle.symbol.specs.Check.{refuse, symbolCheck}
+use Rattle.symbol.proofs.Accepted.{accepted, pass}
+use Rattle.word.proofs.Refused.{by-first, by-second, by-short, by-long}
+use Rattle.sheets.specs.Sheet.{badCount, entriesCheck}
 use borrow.Author.Needs.{needs}
 use Rattle.sheets.proofs.sheet.Statement.{statement}
 use Rattle.sheets.proofs.sheet.Tie as tie
@@ -17,10 +18,9 @@ is-bad-count-requires c κs = search needs
 
 returns : tie.Need-returns
 returns c =
-    let s = c .before .before .before in
-    let a = s .args in
-    let k = by-count (a .v) (a .t .now) (length (a .p .now)) (a .w .now) (length (a .lines .now)) (sym (c .before .is-bad-count .ensures) ∙ c .if1 .taken) in
-    (k .0, (k .1, (refl, (refl, means-refused (a .v) (a .t .now) (a .p .now) (a .w .now) (a .out .now) _ _ _))))
+    let a = c .before .before .before .args in
+    fills-as (by-first (entriesCheck (length (a .p .now))) (symbolCheck (a .v) (a .t .now)) (a .w .now) _ (tooShort 2048)
+    (ap (λ (b : Bool). refuse b (tooShort 2048)) (sym (c .before .is-bad-count .ensures) ∙ c .if1 .taken)) (refl, (refl, tt))) refl
 
 check-requires : tie.Need-check-requires
 check-requires c κs = search needs
@@ -39,6 +39,9 @@ module _ (e : tie.After-enum-told) where
   counted : badCount (length (st .args .p .now)) ≡ false
   counted = sym (e .before .before .before .before .is-bad-count .ensures) ∙ e .before .before .before .if1 .left
 
+  sheeted : entriesCheck (length (st .args .p .now)) ≡ Accepted
+  sheeted = pass (badCount (length (st .args .p .now))) (tooShort 2048) counted
+
   ok : symbolCheck (st .args .v) (st .args .t .now) ≡ Accepted
   ok = sym (e .before .before .check .ensures .returned) ∙ e .enum-told .given .1
 
@@ -46,8 +49,8 @@ returns-2 : tie.Need-returns-2
 returns-2 c =
     let e = c .before in
     let a = st e .args in
-    let k = by-work (a .v) (a .t .now) (length (a .p .now)) (a .w .now) (length (a .lines .now)) (counted e) (ok e) (c .if2 .taken) in
-    (k .0, (k .1, (refl, (refl, means-refused (a .v) (a .t .now) (a .p .now) (a .w .now) (a .out .now) _ _ _))))
+    fills-as (by-short (entriesCheck (length (a .p .now))) (symbolCheck (a .v) (a .t .now)) (a .w .now) _ (sheeted e) (ok e) (c .if2 .taken)
+    (refl, (refl, tt))) refl
 
 fill-requires : tie.Need-fill-requires
 fill-requires c κs =
@@ -61,9 +64,10 @@ returns-3 c =
     let h = c .before .before .before in
     let a = h .before .before .before .before .args in
     let counted = sym (h .before .before .is-bad-count .ensures) ∙ h .before .if1 .left in
-    let b = by-symbol (a .v) (a .t .now) (length (a .p .now)) (a .w .now) (length (a .lines .now)) counted
-    (k .checked .given .0 .0) (sym (h .check .ensures .returned) ∙ k .checked .given .1) in
-    (b .0, (b .1, (refl, (refl, means-refused (a .v) (a .t .now) (a .p .now) (a .w .now) (a .out .now) _ _ _))))
+    fills-as
+    (by-second (entriesCheck (length (a .p .now))) (symbolCheck (a .v) (a .t .now)) (a .w .now) _
+    (pass (badCount (length (a .p .now))) (tooShort 2048) counted) (k .checked .given .0 .0)
+    (sym (h .check .ensures .returned) ∙ k .checked .given .1) (refl, (refl, tt))) refl
 
 same-length : tie.Need-same-length
 same-length c = search needs
@@ -76,21 +80,12 @@ same-length-3 c = search needs
 
 returns-4 : tie.Need-returns-4
 returns-4 c =
-    let f = c .before .before .before .before .fill in
+    let f = c .before .before .before .before .fill .ensures in
     let h = c .before .before .before .before .before .before .before .before in
     let e = h .before in
     let a = st e .args in
-    let k = by-fill (a .v) (a .t .now) (length (a .p .now)) (a .w .now) (length (a .lines .now)) (counted e) (ok e) (h .if2 .left) in
-    let g = f .ensures in (
-      g .0 ∙ k .0,
-      (
-        g .1 .0 ∙ k .1,
-        (
-          g .1 .1 .0,
-          (g .1 .1 .1, means (a .v) (a .t .now) (a .p .now) (a .w .now) (a .out .now) (a .lines .now) (length (a .lines .now) / 4) (f .result) _ _ (g .0) (g .1 .1 .0) (g .1 .1 .1)),
-        ),
-      ),
-    )
+    fills-as (by-long (entriesCheck (length (a .p .now))) (symbolCheck (a .v) (a .t .now)) (a .w .now) _ (sheeted e) (ok e) _ (h .if2 .left) (f .1)
+    (ran (f .0))) (f .0 .answer)
 
 pub sheet-spec : {M : Type 1} → statement M
 sheet-spec =

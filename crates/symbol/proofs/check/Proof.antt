@@ -9,8 +9,8 @@ use lib.IntN.{ℤ}
 use lib.ListN.{length, length-drop}
 use Rattle.symbol.specs.Table.{pairingEntries}
 use Rattle.symbol.specs.Check.{check6, check7, symbolCheck}
-use Rattle.refusal.specs.Refusal.{_orElse_}
-use Rattle.refusal.specs.declared.Checked.{Checked}
+use Rattle.call.specs.Refusal.{_orElse_}
+use Rattle.call.specs.declared.refusal.Checked.{Checked}
 use Rattle.symbol.proofs.Accepted.{verdict}
 use Rattle.symbol.proofs.Order.{first-refused, next-check, too-few, too-many, wrong-length, later, first-two, tallied-none, behind}
 use Rattle.symbol.proofs.check.Statement.{statement}

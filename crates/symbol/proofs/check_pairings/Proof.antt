@@ -4,8 +4,8 @@ use mathlib.Core.Path.{_≡_, refl, sym, _∙_, ap}
 use Prim.Native.Nat.{_+_}
 use borrow.Author.Needs.{needs}
 use Rattle.symbol.specs.Check.{unpairedIn, lacksOdd, check6, check7}
-use Rattle.refusal.specs.Refusal.{badPairing, noOddSide}
-use Rattle.refusal.specs.declared.Checked.the-variants.{Accepted}
+use Rattle.call.specs.Refusal.{badPairing, noOddSide}
+use Rattle.call.specs.declared.refusal.Checked.the-variants.{Accepted}
 use Rattle.symbol.proofs.Order.{first-refused, next-check, refuse-yes, refuse-no, refuse-at, accept-at, ready-6}
 use Rattle.symbol.proofs.check_pairings.Statement.{statement}
 use Rattle.symbol.proofs.check_pairings.Tie as tie

@@ -10,8 +10,8 @@ use borrow.Author.Tests.{lt-ltb, le-ltb}
 use mathlib.Core.Bool.{not}
 use Rattle.basics.specs.Count.{first}
 use Rattle.symbol.specs.Check.{outOfRange, apart, isZero, check3, check4, check5}
-use Rattle.refusal.specs.Refusal.{vertexEntry, notNeighbours, noZero}
-use Rattle.refusal.specs.declared.Checked.the-variants.{Accepted}
+use Rattle.call.specs.Refusal.{vertexEntry, notNeighbours, noZero}
+use Rattle.call.specs.declared.refusal.Checked.the-variants.{Accepted}
 use Rattle.symbol.proofs.Order.{first-refused, next-check, refuse-yes, refuse-no, refuse-at, accept-at, none-found, ready-3, ready-4, ready-5}
 use Rattle.symbol.proofs.check_vertices.Statement.{statement}
 use Rattle.symbol.proofs.check_vertices.Tie as tie

@@ -71,4 +71,5 @@ returns-4 c =
     c .is-unpaired .ensures ∙ sym (fails-6 (s .args .check) (s .args .v) (s .args .t .now) (s .args .i) (six (c .before)))
 
 pub finds-spec : {M : Type 1} → statement M
-finds-spec = tie.close (tie.spec out-of-range-requires returns at-requires neighbours-requires returns-2 is-zero-requires returns-3 is-unpaired-requires returns-4)
+finds-spec = tie.close
+    (tie.spec out-of-range-requires returns at-requires neighbours-requires returns-2 is-zero-requires returns-3 is-unpaired-requires returns-4)

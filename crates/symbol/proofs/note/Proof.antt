@@ -52,13 +52,15 @@ returns : tie.Need-returns
 returns c =
     let r = c .before .before in
     let s = r .before in
-    noted-none (s .args .v) (s .args .x) Even (s .args .marks .now) (sym (is-read r) ∙ c .enum-told .given .1) (λ l e. let z : _≡_ {A = ℕ} 0 1 = cc in omega arith)
+    noted-none (s .args .v) (s .args .x) Even (s .args .marks .now) (sym (is-read r) ∙ c .enum-told .given .1) (λ l e. let z : _≡_ {A = ℕ} 0 1 = cc in
+    omega arith)
 
 returns-2 : tie.Need-returns-2
 returns-2 c =
     let r = c .before .before in
     let s = r .before in
-    noted-none (s .args .v) (s .args .x) Odd (s .args .marks .now) (sym (is-read r) ∙ c .enum-told2 .given .1) (λ l e. let z : _≡_ {A = ℕ} 0 1 = cc in omega arith)
+    noted-none (s .args .v) (s .args .x) Odd (s .args .marks .now) (sym (is-read r) ∙ c .enum-told2 .given .1) (λ l e. let z : _≡_ {A = ℕ} 0 1 = cc in
+    omega arith)
 
 returns-3 : tie.Need-returns-3
 returns-3 c =
@@ -70,7 +72,9 @@ returns-4 : tie.Need-returns-4
 returns-4 c =
     let r = c .before .before in
     let s = r .before in
-    noted-none (s .args .v) (s .args .x) Bad (s .args .marks .now) (sym (is-read r) ∙ c .enum-told3 .given .1) (λ l e. let z : _≡_ {A = ℕ} 0 1 = cc in omega arith)
+    noted-none (s .args .v) (s .args .x) Bad (s .args .marks .now) (sym (is-read r) ∙ c .enum-told3 .given .1) (λ l e. let z : _≡_ {A = ℕ} 0 1 = cc in
+    omega arith)
 
 pub note-spec : {M : Type 1} → statement M
-note-spec = tie.close (tie.spec read-pairing-requires enum-told enum-told-2 enum-known-pairing sub-mark mark-requires enum-told-3 returns returns-2 returns-3 returns-4)
+note-spec = tie.close
+    (tie.spec read-pairing-requires enum-told enum-told-2 enum-known-pairing sub-mark mark-requires enum-told-3 returns returns-2 returns-3 returns-4)

@@ -1,11 +1,12 @@
 -- What the code of a check may assume, since the checks before it passed.
 --
 --   SmallSide s         no entry of the side is larger than 10⁹ in size
---   failsOf c v t i     what check c looks for at the place i: an entry out of range (3), a side whose ends are no neighbours (4),
---                       the vertex 0/1 (5), a side that isn't paired (6, where t is the part with the pairings)
+--   failsOf c v t i     what check c looks for at the place i: an entry out of range (3), a side whose ends are no
+--                       neighbours (4), the vertex 0/1 (5), a side that isn't paired (6, where t is the part with the
+--                       pairings)
 --   placesOf c v        the number of places that check c looks at
---   MayCheck c v t w    check c may run: the table is long enough; for 4 its vertex entries are in range; for 6 the labels are
---                       counted in w
+--   MayCheck c v t w    check c may run: the table is long enough; for 4 its vertex entries are in range; for 6 the
+--                       labels are counted in w
 use mathlib.Core.Path.{_≡_}
 use mathlib.Core.Bool.{Bool, false}
 use mathlib.Core.List.{List}
@@ -24,7 +25,8 @@ abbrev pub SmallSide : Side → Type 0
 SmallSide s = Small 1000000000 (frame s)
 
 abbrev pub failsOf : ℕ → ℕ → List ℤ → ℕ → Bool
-failsOf c v t i = pick (eqb c 3) (outOfRange t i) (pick (eqb c 4) (apart v t i) (pick (eqb c 5) (isZero t i) (unpairedIn v t i)))
+failsOf c v t i = pick (eqb c 3) (outOfRange t i)
+    (pick (eqb c 4) (apart v t i) (pick (eqb c 5) (isZero t i) (unpairedIn v t i)))
 
 abbrev pub placesOf : ℕ → ℕ → ℕ
 placesOf c v = pick (eqb c 3) (2 * v) (pick (eqb c 4) (v + 1) (pick (eqb c 5) v (v + 1)))

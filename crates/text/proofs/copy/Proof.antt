@@ -3,7 +3,7 @@ use mathlib.Core.Path.{refl, ap, _∙_}
 use native.Mathlib.Omega.{arith}
 use Prim.Native.Nat.{ℕ}
 use lib.ListN.{length}
-use Rattle.refusal.specs.Refusal.{tooShort}
+use Rattle.call.specs.Refusal.{tooShort}
 use Rattle.text.specs.Writing.{standing}
 use Rattle.text.specs.declared.Written.the-variants as written
 use Rattle.text.proofs.Places.{written-short, written-to}
@@ -16,16 +16,20 @@ needed-requires c κs = search needs
 
 returns : tie.Need-returns
 unfolding standing
-returns c = let a = c .before .before .before .before .args in
-    (ap (λ (n : ℕ). written.Refused (tooShort n)) (c .needed .ensures) ∙ written-short (length (a .bytes .now)) (length (a .out .now)) (a .at) (omega arith), refl)
+returns c = let a = c .before .before .before .before .args in (
+  ap (λ (n : ℕ). written.Refused (tooShort n)) (c .needed .ensures) ∙ written-short (length (a .bytes .now)) (length (a .out .now)) (a .at) (omega arith),
+  refl,
+)
 
 needed-requires-2 : tie.Need-needed-requires-2
 needed-requires-2 c κs = search needs
 
 returns-2 : tie.Need-returns-2
 unfolding standing
-returns-2 c = let a = c .before .before .before .before .before .args in
-    (ap (λ (n : ℕ). written.Refused (tooShort n)) (c .needed2 .ensures) ∙ written-short (length (a .bytes .now)) (length (a .out .now)) (a .at) (omega arith), refl)
+returns-2 c = let a = c .before .before .before .before .before .args in (
+  ap (λ (n : ℕ). written.Refused (tooShort n)) (c .needed2 .ensures) ∙ written-short (length (a .bytes .now)) (length (a .out .now)) (a .at) (omega arith),
+  refl,
+)
 
 put-requires : tie.Need-put-requires
 put-requires c κs = search needs

@@ -7,7 +7,7 @@ use lib.IntN.{ℤ}
 use lib.ListN.{length}
 use mir.Syntax.{w64}
 use mir.Facts.{toZ-ofZ}
-use Rattle.refusal.specs.Refusal.{badText}
+use Rattle.call.specs.Refusal.{badText}
 use Rattle.text.specs.Reading.{wanted, leftBy}
 use Rattle.text.specs.Inner.Inside.{wantedOf, PieceRead}
 use Rattle.text.specs.declared.Reading.the-variants as reading

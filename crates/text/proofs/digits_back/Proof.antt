@@ -13,14 +13,20 @@ use Rattle.text.proofs.digits_back.Statement.{statement}
 use Rattle.text.proofs.digits_back.Tie as tie
 
 abbrev Inv-loop : tie.InvT-loop
-Inv-loop m buffer₀ rest₀ at₀ buffer rest at = (inFront m [] ≡ inFront rest (drop at buffer)) × (2 ≤ at) × (at ≤ 21) × (rest < 10 ^ (at - 1)) × (length buffer ≡ 21)
+Inv-loop m buffer₀ rest₀ at₀ buffer rest at = (inFront m [] ≡ inFront rest (drop at buffer)) × (2 ≤ at) × (at ≤ 21) × (rest < 10 ^ (at - 1))
+    × (length buffer ≡ 21)
 
 abbrev μ-loop : tie.MeasureT-loop
 μ-loop m buffer₀ rest₀ at₀ buffer rest at = rest
 
 loop-holds : tie.Need-loop-holds Inv-loop μ-loop
-loop-holds c = let long = c .pre in
-    (ap (λ (t : List ℕ). inFront (c .args .m) t) (sym (drop-of-length-le (c .args .buffer .now) {i = 21} (omega arith))), omega arith, omega arith, omega arith, long)
+loop-holds c = let long = c .pre in (
+  ap (λ (t : List ℕ). inFront (c .args .m) t) (sym (drop-of-length-le (c .args .buffer .now) {i = 21} (omega arith))),
+  omega arith,
+  omega arith,
+  omega arith,
+  long,
+)
 
 sub-at : tie.Need-sub-at Inv-loop μ-loop
 sub-at c = search needs

@@ -37,7 +37,8 @@ enum-known-m : tie.Need-enum-known-m
 enum-known-m c = search needs
 
 negative-requires : tie.Need-negative-requires
-negative-requires c κs = within-le 9223372036854775808 _ (c .before .m .given .0 .0) (sym (c .before .m .given .1) ∙ c .before .before .before .magnitude .ensures)
+negative-requires c κs =
+    within-le 9223372036854775808 _ (c .before .m .given .0 .0) (sym (c .before .m .given .1) ∙ c .before .before .before .magnitude .ensures)
 
 magnitude-requires-2 : tie.Need-magnitude-requires-2
 magnitude-requires-2 c κs = search needs

@@ -64,7 +64,8 @@ returns-4 : tie.Need-returns-4
 returns-4 c =
     let a = c .before .before .before .before .before .before .before .args in
     let o = from-zero (c .before .before .before .before .before .before .before .fits .v) (c .before .before .before .before .before .before .if1 .left) in
-    ap wantedOf (sym (ap (wanted (a .format)) o ∙ want-these (a .format) (natOf (a .v)) (c .before .before .before .before .if2 .left) (c .before .before .if3 .left)))
+    ap wantedOf (sym (ap (wanted (a .format)) o ∙ want-these (a .format) (natOf (a .v)) (c .before .before .before .before .if2 .left)
+    (c .before .before .if3 .left)))
 
 pub wanted-for-spec : {M : Type 1} → statement M
 wanted-for-spec =

@@ -34,7 +34,8 @@ returns : tie.Need-returns
 returns c = let a = c .before .before .before .before .before .before .before .before .before .args in
     let f = c .before .before .before .before .before .before .digits-back in
     let tail = drop (f .result) (f .last .1 .0) in
-    let whole : take (21 - f .result) tail ≡ digits (a .n) = take-all (21 - f .result) tail (omega (arith, length-drop (f .result) (f .last .1 .0))) ∙ f .ensures .0 in
+    let whole : take (21 - f .result) tail ≡ digits (a .n) = take-all (21 - f .result) tail (omega (arith, length-drop (f .result) (f .last .1 .0)))
+    ∙ f .ensures .0 in
     let w = c .before .before .copy in (
       w .ensures .0 ∙ ap (λ (l : List ℕ). writtenOf (length l) (length (a .out .now)) (a .at)) whole,
       w .ensures .1

@@ -1,8 +1,8 @@
 -- `check_claims` gives 26 where a claim is false; clearing comes before, so zeros stay. Assumes nothing.
 use mathlib.Core.Path.{sym, _∙_, ap}
 use borrow.Author.Needs.{needs}
-use Rattle.refusal.specs.Refusal.{falseClaim}
-use Rattle.workspace.specs.Space.{zeros}
+use Rattle.call.specs.Refusal.{falseClaim}
+use Rattle.call.specs.Space.{zeros}
 use Rattle.symbol.proofs.Order.{refuse-at, accept-at}
 use Rattle.towers.specs.Tower.{claimFails}
 use Rattle.towers.proofs.check_claims.Statement.{statement}

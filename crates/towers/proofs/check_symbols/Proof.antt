@@ -5,7 +5,7 @@ use native.Mathlib.Omega.{arith}
 use native.Mathlib.Numerals.{add-one}
 use lib.Dec.{eqb}
 use borrow.Author.Needs.{needs}
-use Rattle.refusal.specs.declared.Checked.the-variants.{Accepted}
+use Rattle.call.specs.declared.refusal.Checked.the-variants.{Accepted}
 use Rattle.towers.specs.Tower.{symbolsCheck, entryCheck, fromEntry}
 use Rattle.towers.proofs.Checks.{symbols-none, symbols-more, whole-passed, check-stops, entry-read}
 use Rattle.towers.proofs.check_symbols.Statement.{statement}
@@ -62,7 +62,8 @@ returns c =
     let l = k .before .before .before .before in
     let s = l .before in
     c .enum-told2 .given .1
-    ∙ check-stops (s .args .n) (s .args .t .now) (s .args .n) (l .loop .i) (c .enum-told2 .given .0 .0) (omega arith) (l .loop .inv .1) (sym (said k) ∙ c .enum-told2 .given .1)
+    ∙ check-stops (s .args .n) (s .args .t .now) (s .args .n) (l .loop .i) (c .enum-told2 .given .0 .0) (omega arith) (l .loop .inv .1)
+    (sym (said k) ∙ c .enum-told2 .given .1)
 
 add-i : tie.Need-add-i Inv-loop μ-loop
 add-i c = search needs

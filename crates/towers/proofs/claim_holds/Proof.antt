@@ -10,7 +10,7 @@ use mir.Syntax.{w64}
 use mir.Val.{toZ, ofZ}
 use Rattle.matrix.specs.Matrix.{nth}
 use Rattle.matrix.proofs.Bounds.{kept}
-use Rattle.subgroup_pairs.specs.Symbols.{contained}
+use Rattle.containment.specs.TwoSymbols.{contained}
 use Rattle.towers.specs.Tower.{orZero, namedAt, verticesAt, tableAt}
 use Rattle.towers.proofs.Entries.{whole-symbols, two-here, named-here}
 use Rattle.towers.proofs.Checks.{negative-holds, natural-holds, named-below}
@@ -24,7 +24,8 @@ mul-x : tie.Need-mul-x
 mul-x c = let s = c .before .before in let h = two-here (s .args .n) (c .start-of .ensures) (s .pre .0 .symbols (s .args .e) (s .pre .1)) in search needs
 
 shared-slice-copy-out-x : tie.Need-shared-slice-copy-out-x
-shared-slice-copy-out-x c = let s = c .before .before in let h = two-here (s .args .n) (c .start-of .ensures) (s .pre .0 .symbols (s .args .e) (s .pre .1)) in search needs
+shared-slice-copy-out-x c = let s = c .before .before in let h = two-here (s .args .n) (c .start-of .ensures) (s .pre .0 .symbols (s .args .e) (s .pre .1)) in
+    search needs
 
 -- the number that was read is the name
 module _ (c : tie.After-x) where
@@ -38,7 +39,8 @@ returns : tie.Need-returns
 returns c =
     let x = c .before in
     let s = st x in
-    negative-holds (s .args .n) (s .args .t .now) (s .args .e) (namedAt (s .args .t .now) (s .args .e)) (sym (ap (λ (z : ℤ). ltZ z (pos 0)) (read x)) ∙ c .if1 .taken)
+    negative-holds (s .args .n) (s .args .t .now) (s .args .e) (namedAt (s .args .t .now) (s .args .e))
+    (sym (ap (λ (z : ℤ). ltZ z (pos 0)) (read x)) ∙ c .if1 .taken)
 
 or-zero-requires : tie.Need-or-zero-requires
 or-zero-requires c κs = search needs

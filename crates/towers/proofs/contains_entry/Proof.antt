@@ -14,7 +14,8 @@ start-of-requires : tie.Need-start-of-requires
 start-of-requires c κs = let s = c .before in whole-symbols (s .args .n) (s .args .t .now) (s .pre .0 .symbols) (s .args .j) (omega (arith, s .pre .1))
 
 start-of-requires-2 : tie.Need-start-of-requires-2
-start-of-requires-2 c κs = let s = c .before .before in whole-symbols (s .args .n) (s .args .t .now) (s .pre .0 .symbols) (s .args .e) (omega (arith, s .pre .2))
+start-of-requires-2 c κs = let s = c .before .before in
+    whole-symbols (s .args .n) (s .args .t .now) (s .pre .0 .symbols) (s .args .e) (omega (arith, s .pre .2))
 
 -- both entries are inside the table
 module _ (c : tie.After-start-of2) where
@@ -124,8 +125,11 @@ part-contains-accepted-end-2 c = let h = part-e (c .before) .room in search need
 contains-accepted-requires : tie.Need-contains-accepted-requires
 contains-accepted-requires c κs =
     let a = c .before .before .before in
-    let s = st (b a) in
-    (part-symbol (part-j a) (s .pre .0 .symbols (s .args .j) (s .pre .1)), part-symbol (part-e a) (s .pre .0 .symbols (s .args .e) (s .pre .2)), s .pre .0 .work)
+    let s = st (b a) in (
+      part-symbol (part-j a) (s .pre .0 .symbols (s .args .j) (s .pre .1)),
+      part-symbol (part-e a) (s .pre .0 .symbols (s .args .e) (s .pre .2)),
+      s .pre .0 .work,
+    )
 
 same-length : tie.Need-same-length
 same-length c = search needs

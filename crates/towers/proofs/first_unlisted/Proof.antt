@@ -35,7 +35,8 @@ room c =
 
 -- whether the name that was read is listed
 read : (c : tie.After-is-listed Inv-loop μ-loop) → c .is-listed .result ≡ listedBefore
-    (namedAt (c .before .before .before .before .before .args .t .now) (c .before .before .before .before .loop .i)) (c .before .before .before .before .loop .i)
+    (namedAt (c .before .before .before .before .before .args .t .now) (c .before .before .before .before .loop .i))
+    (c .before .before .before .before .loop .i)
 read c =
     let p = c .before .before in
     let l = p .before .before in

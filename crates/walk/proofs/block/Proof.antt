@@ -72,7 +72,8 @@ sub-t26 c =
 
 sub-t27 : tie.Need-sub-t27
 sub-t27 c =
-    let s = c .before .before .before .before .before .before .before .before .before .before .before .before .before .before .before .before .before in
+    let earlier = c .before .before .before .before .before .before .before .before .before .before in
+    let s = earlier .before .before .before .before .before .before .before in
     let f = formOf (s .args .way) in
     rows-Q (swap f) (unimodular-swap f (s .pre .1 .apart)) (swap-proper f (s .pre .2))
     (c .before .before .before .before .before .before .before .before .before .before .if1 .taken) .1
@@ -82,21 +83,23 @@ same-length c = search needs
 
 returns : tie.Need-returns
 returns c =
-    let s = c .before .before .before .before .before .before .before .before .before .before .before .before .before .before .before .before .before in
+    let earlier = c .before .before .before .before .before .before .before .before .before .before in
+    let s = earlier .before .before .before .before .before .before .before in
     let v = s .args .v in
     let t = s .args .t .now in
     let all = positions (s .pre .0 .prepared .tables .symbol) in
     let g = all .polygon in
     let p = s .args .way .at in
-    let l = c .before .before .before .before .before .before .before .before .before .before .before .before .before .before .before .letter in
+    let l = earlier .before .before .before .before .before .letter in
     let k = toZ-ofZ {w = w16} {z = l .result} (record { sfits = l .ok }) in
     let m = c .before .before .before .before .before .before .before .before .letter-q in
     let n = toZ-ofZ {w = w16} {z = m .result} (record { sfits = m .ok }) in
     let to = c .before .before .before .before .before .before .before .before .before .forth .ensures in
-    let first = stepped {a = s .args .way} {b = crossing v t (s .args .way) (c .before .before .before .before .before .before .put .result)} (toZ w16 (ofZ w16 (l .result)))
+    let first = stepped {a = s .args .way} {b = crossing v t (s .args .way) (c .before .before .before .before .before .before .put .result)}
+    (toZ w16 (ofZ w16 (l .result)))
     (ap lettersOf k ∙ l .ensures) refl (c .before .before .before .before .before .before .put .ensures) refl (all .steps S p (s .pre .1 .real)) in
-    let r = c .before .before .before .before .before .before .before .before .before .before .before .before .before .times in
-    let x = c .before .before .before .before .before .before .before .before .before .before .before .before .before .before .sign-of-s in
+    let r = earlier .before .before .before .times in
+    let x = earlier .before .before .before .before .sign-of-s in
     let writes = ap lettersOf n ∙ m .ensures .0 ∙ ap (written v t Q) to ∙ all .turn-writes (stepS v t p) in
     strode-Q g (s .pre .1) (s .pre .2) first (c .before .before .before .before .before .before .before .before .before .before .if1 .taken)
     (stepped (toZ w16 (ofZ w16 (m .result))) writes to (c .before .before .before .put2 .ensures)
@@ -138,7 +141,8 @@ sub-t20 c =
 
 sub-t21 : tie.Need-sub-t21
 sub-t21 c =
-    let s = c .before .before .before .before .before .before .before .before .before .before .before .before .before .before .before .before .before in
+    let earlier = c .before .before .before .before .before .before .before .before .before .before in
+    let s = earlier .before .before .before .before .before .before .before in
     let f = formOf (s .args .way) in
     rows-P (swap f) (unimodular-swap f (s .pre .1 .apart)) (swap-proper f (s .pre .2))
     (c .before .before .before .before .before .before .before .before .before .before .if1 .left) .1
@@ -148,21 +152,23 @@ same-length-2 c = search needs
 
 returns-2 : tie.Need-returns-2
 returns-2 c =
-    let s = c .before .before .before .before .before .before .before .before .before .before .before .before .before .before .before .before .before in
+    let earlier = c .before .before .before .before .before .before .before .before .before .before in
+    let s = earlier .before .before .before .before .before .before .before in
     let v = s .args .v in
     let t = s .args .t .now in
     let all = positions (s .pre .0 .prepared .tables .symbol) in
     let g = all .polygon in
     let p = s .args .way .at in
-    let l = c .before .before .before .before .before .before .before .before .before .before .before .before .before .before .before .letter in
+    let l = earlier .before .before .before .before .before .letter in
     let k = toZ-ofZ {w = w16} {z = l .result} (record { sfits = l .ok }) in
     let m = c .before .before .before .before .before .before .before .before .letter-q2 in
     let n = toZ-ofZ {w = w16} {z = m .result} (record { sfits = m .ok }) in
     let to = c .before .before .before .before .before .before .before .before .before .back .ensures in
-    let first = stepped {a = s .args .way} {b = crossing v t (s .args .way) (c .before .before .before .before .before .before .put3 .result)} (toZ w16 (ofZ w16 (l .result)))
+    let first = stepped {a = s .args .way} {b = crossing v t (s .args .way) (c .before .before .before .before .before .before .put3 .result)}
+    (toZ w16 (ofZ w16 (l .result)))
     (ap lettersOf k ∙ l .ensures) refl (c .before .before .before .before .before .before .put3 .ensures) refl (all .steps S p (s .pre .1 .real)) in
-    let r = c .before .before .before .before .before .before .before .before .before .before .before .before .before .times in
-    let x = c .before .before .before .before .before .before .before .before .before .before .before .before .before .before .sign-of-s in
+    let r = earlier .before .before .before .times in
+    let x = earlier .before .before .before .before .sign-of-s in
     let writes = ap lettersOf n ∙ m .ensures .0 ∙ ap (written v t P) to ∙ all .back-writes (stepS v t p) in
     strode-P g (s .pre .1) (s .pre .2) first (c .before .before .before .before .before .before .before .before .before .before .if1 .left)
     (stepped (toZ w16 (ofZ w16 (m .result))) writes to (c .before .before .before .put4 .ensures)

@@ -29,7 +29,8 @@ same-length c = search needs
 returns-2 : tie.Need-returns-2
 returns-2 c =
     let s = c .before .before in
-    put-in (s .args .start) (s .args .limit) (s .args .count) (s .args .letter) (s .args .out .now) _ (toZ-ofZ (s .fits .letter)) (c .before .if1 .left) (c .if2 .taken)
+    put-in (s .args .start) (s .args .limit) (s .args .count) (s .args .letter) (s .args .out .now) _ (toZ-ofZ (s .fits .letter)) (c .before .if1 .left)
+    (c .if2 .taken)
 
 add-result-2 : tie.Need-add-result-2
 add-result-2 c = search needs

@@ -73,7 +73,8 @@ same-length c = search needs
 returns : tie.Need-returns Inv-loop μ-loop
 returns c =
     let s = c .before .before .before .before .before .before .before .before .before .before in
-    walked (positions (s .pre .0 .prepared .tables .symbol)) (s .pre .2) (s .pre .1) (c .before .before .before .before .before .before .before .begin .ensures .0) (c .before .before .before .before .before .loop .inv .0)
+    walked (positions (s .pre .0 .prepared .tables .symbol)) (s .pre .2) (s .pre .1)
+    (c .before .before .before .before .before .before .before .begin .ensures .0) (c .before .before .before .before .before .loop .inv .0)
     (c .before .finish .ensures)
 
 pub walk-spec : {M : Type 1} → statement M

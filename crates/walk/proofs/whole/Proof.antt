@@ -49,7 +49,8 @@ returns c =
     let m = c .before .before .before .before .before .before .before .before .before .args .t1 in (
       form-eq (c .before .before .before .before .before .before .before .magnitude .ensures
           ∙ ap natAbs (kept (nth m 0) (c .before .before .before .before .before .before .before .before .magnitude-arg .given)))
-          (c .before .before .before .before .before .magnitude2 .ensures ∙ ap natAbs (kept (nth m 1) (c .before .before .before .before .before .before .magnitude-arg2 .given)))
+          (c .before .before .before .before .before .magnitude2 .ensures
+          ∙ ap natAbs (kept (nth m 1) (c .before .before .before .before .before .before .magnitude-arg2 .given)))
           (c .before .before .before .magnitude3 .ensures ∙ ap natAbs (kept (nth m 2) (c .before .before .before .before .magnitude-arg3 .given)))
           (c .before .magnitude4 .ensures ∙ ap natAbs (kept (nth m 3) (c .before .before .magnitude-arg4 .given))),
       refl,

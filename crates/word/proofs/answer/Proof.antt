@@ -1,6 +1,6 @@
 -- `answer` builds the tables of steps, answers by them (`pair-ready`) and clears the work space. Assumes nothing.
 use mathlib.Core.Path.{_∙_, ap}
-use Rattle.workspace.specs.Space.{zeros}
+use Rattle.call.specs.Space.{zeros}
 use Rattle.word.proofs.Finding.{pair-ready}
 use borrow.Author.Needs.{needs}
 use Rattle.word.proofs.answer.Statement.{statement}
@@ -23,14 +23,10 @@ same-length-2 : tie.Need-same-length-2
 same-length-2 c = search needs
 
 returns : tie.Need-returns
-returns c =
-    let f = c .before .before .before .before .before .answer-ready .ensures in (
-      f .0,
-      (
-        f .1,
-        c .before .before .clear .ensures ∙ ap zeros (c .before .before .before .before .before .before .before .before .before .before .build .ensures .1),
-      ),
-    )
+returns c = (
+  c .before .before .before .before .before .answer-ready .ensures,
+  c .before .before .clear .ensures ∙ ap zeros (c .before .before .before .before .before .before .before .before .before .before .build .ensures .1),
+)
 
 pub answer-spec : {M : Type 1} → statement M
 answer-spec =

@@ -2,13 +2,10 @@
 -- with its length; it fits, and the second walk stores it (`placed-out`). Assumes nothing.
 use mathlib.Core.Path.{sym, _∙_, ap}
 use native.Mathlib.Omega.{arith}
-use Prim.Native.Nat.{ℕ}
 use lib.ListN.{length}
 use Rattle.matrix.specs.Matrix.{ofList}
-use Rattle.refusal.specs.Refusal.{tooShort}
-use Rattle.word.specs.Inner.Ready.{lettersAlong}
-use Rattle.word.specs.declared.Queried.the-variants as queried
-use Rattle.word.proofs.Finding.{setting, result, kept-out, placed-out, not-home, too-far, too-long, fitting}
+use Rattle.word.specs.Inner.Ready.{lettersAlong, signAlongWalk, homeAlong}
+use Rattle.word.proofs.Finding.{setting, result, kept-out, placed-out, not-home, too-far, too-long, fitting, away, at-home}
 use borrow.Author.Needs.{needs}
 use Rattle.word.proofs.find.Statement.{statement}
 use Rattle.word.proofs.find.Tie as tie
@@ -30,10 +27,11 @@ returns c =
     let t = s .args .t .now in
     let m = ofList (s .args .m) in
     let start = s .args .start in
-    let room = length (s .args .out .now) in
+    let out = s .args .out .now in
     let end = w .walk .result in
     let r = result q (w .walk .ensures) in
-    (not-home v t m start room (end .at) (r .at) (λ z. c .if1 .taken (z ∙ sym (q .start))), kept-out r)
+    let e = kept-out r in
+    not-home (homeAlong v t m) (lettersAlong v t m) out _ start (signAlongWalk v t m) (away v t m (r .at) (λ z. c .if1 .taken (z ∙ sym (q .start)))) e
 
 same-length-2 : tie.Need-same-length-2
 same-length-2 c = search needs
@@ -47,14 +45,13 @@ returns-2 c =
     let t = s .args .t .now in
     let m = ofList (s .args .m) in
     let start = s .args .start in
-    let room = length (s .args .out .now) in
+    let out = s .args .out .now in
     let end = w .walk .result in
     let r = result q (w .walk .ensures) in
-    let e = kept-out r in (
-      ap (λ (i : ℕ). queried.Refused (tooShort i)) (r .count)
-          ∙ too-far v t m start room (end .at) (r .at) (c .before .if1 .left ∙ q .start) (omega (arith, ap length e, c .if2 .taken)),
-      e,
-    )
+    let e = kept-out r in
+    too-far (homeAlong v t m) (lettersAlong v t m) out _ start (signAlongWalk v t m) (at-home v t m (r .at) (c .before .if1 .left ∙ q .start)) (end .count)
+    (r .count)
+    (omega (arith, ap length e, c .if2 .taken)) e
 
 sub-if3 : tie.Need-sub-if3
 sub-if3 c = search needs
@@ -71,15 +68,13 @@ returns-3 c =
     let t = s .args .t .now in
     let m = ofList (s .args .m) in
     let start = s .args .start in
-    let room = length (s .args .out .now) in
+    let out = s .args .out .now in
     let end = w .walk .result in
     let r = result q (w .walk .ensures) in
-    let e = kept-out r in (
-      ap (λ (i : ℕ). queried.Refused (tooShort i)) (r .count)
-          ∙ too-long v t m start room (end .at) (r .at) (c .before .before .if1 .left ∙ q .start) (omega (arith, ap length e, c .before .if2 .left))
-          (omega (arith, ap length e, c .if3 .taken, r .count)),
-      e,
-    )
+    let e = kept-out r in
+    too-long (homeAlong v t m) (lettersAlong v t m) out _ start (signAlongWalk v t m) (at-home v t m (r .at) (c .before .before .if1 .left ∙ q .start))
+    (end .count) (r .count)
+    (omega (arith, ap length e, c .before .if2 .left)) (omega (arith, ap length e, c .if3 .taken)) e
 
 walk-requires-2 : tie.Need-walk-requires-2
 walk-requires-2 c κs =
@@ -99,17 +94,16 @@ returns-4 c =
     let t = s .args .t .now in
     let m = ofList (s .args .m) in
     let start = s .args .start in
-    let room = length (s .args .out .now) in
+    let out = s .args .out .now in
     let end = w .walk .result in
     let r = result q (w .walk .ensures) in
     let e = kept-out r in
     let in-room = c .before .before .before .before .if2 .left in
-    let enough = c .before .before .before .if3 .left in (
-      ap (λ (i : ℕ). queried.Word start i (end .sign)) (r .count) ∙ ap (queried.Word start (length (lettersAlong v t m))) (r .sign)
-          ∙ fitting v t m start room (end .at) (r .at) (c .before .before .before .before .before .if1 .left ∙ q .start)
-          (omega (arith, ap length e, in-room)) (omega (arith, ap length e, enough, r .count)),
-      placed-out e (r .count) (omega (arith, ap length e, in-room)) (omega (arith, ap length e, enough)) (result q (c .before .walk2 .ensures)),
-    )
+    let enough = c .before .before .before .if3 .left in
+    fitting (homeAlong v t m) (lettersAlong v t m) out _ start (signAlongWalk v t m)
+    (at-home v t m (r .at) (c .before .before .before .before .before .if1 .left ∙ q .start)) (end .count) (r .count)
+    (end .sign) (r .sign) (omega (arith, ap length e, in-room)) (omega (arith, ap length e, enough))
+    (placed-out e (r .count) (omega (arith, ap length e, in-room)) (omega (arith, ap length e, enough)) (result q (c .before .walk2 .ensures)))
 
 pub find-spec : {M : Type 1} → statement M
 find-spec =

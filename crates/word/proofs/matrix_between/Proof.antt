@@ -43,7 +43,8 @@ turned-is c = ap ofList (c .inverse2 .ensures ∙ ap (λ (l : List ℤ). toList 
 -- b a⁻¹ S
 right-is : (c : tie.After-product2) → ofList (c .product2 .result) ≡ x (c .before .before .before .before .before) ⊗ matS
 right-is c =
-    ap ofList (c .product2 .ensures ∙ ap (λ (l : List ℤ). toList (ofList (c .before .before .before .before .before .product .result) ⊗ ofList l)) (c .before .before .matrix-s .ensures))
+    ap ofList (c .product2 .ensures ∙ ap (λ (l : List ℤ). toList (ofList (c .before .before .before .before .before .product .result) ⊗ ofList l))
+    (c .before .before .matrix-s .ensures))
     ∙ ap (λ (m : Mat). m ⊗ matS) (x-is (c .before .before .before .before .before))
 
 is-turned-requires : tie.Need-is-turned-requires

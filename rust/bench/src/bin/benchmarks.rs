@@ -2,9 +2,9 @@
 //!
 //!     benchmarks FOLDER [RUNS]
 //!
-//! FOLDER has the engine's programs `listing`, `query`, `import`, `import_wide`
-//! and `named`. Each job is run RUNS times (200 unless given) by the engine and
-//! by the plain program, by turns.
+//! FOLDER has the engine's programs `listing`, `query` and `farey`, which has the
+//! jobs `import`, `import-wide` and `named`. Each job is run RUNS times (200 unless
+//! given) by the engine and by the plain program, by turns.
 
 use std::path::Path;
 use std::{env, fs, io, process};
@@ -28,9 +28,15 @@ fn main() -> io::Result<()> {
         let text = texts.join(input.name);
         fs::write(&text, &input.text)?;
         let job = input.name.split('-').next().unwrap_or_default();
+        let job = job.replace('_', "-");
+        let (engine, argument) = match &job[..] {
+            "listing" | "query" => (&job[..], None),
+            _ => ("farey", Some(&job[..])),
+        };
         let all = Comparison::of(
-            &Path::new(programs).join(job),
-            &here.with_file_name(format!("plain-{}", job.replace('_', "-"))),
+            &Path::new(programs).join(engine),
+            argument,
+            &here.with_file_name(format!("plain-{job}")),
             &here.with_file_name("plain-nothing"),
             &text,
             runs,

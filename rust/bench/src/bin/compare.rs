@@ -2,7 +2,7 @@
 //!
 //!     compare ENGINE PLAIN TEXT [RUNS]
 //!
-//! Medians and fastest runs of RUNS runs (200 unless given) are printed with
+//! ENGINE is a program, or in one word a program, a space and its job. Medians and fastest runs of RUNS runs (200 unless given) are printed with
 //! their ratios. On a machine that is busy with other things the fastest runs
 //! say more. From them the time of a program that does nothing is taken off as
 //! well, where enough remains to form a ratio of it.
@@ -23,8 +23,12 @@ fn main() -> io::Result<()> {
         _ => return Err(io::Error::other("usage: compare ENGINE PLAIN TEXT [RUNS]")),
     };
     let nothing = env::current_exe()?.with_file_name("plain-nothing");
+    let (engine, job) = match engine.split_once(' ') {
+        Some((engine, job)) => (engine, Some(job)),
+        None => (&engine[..], None),
+    };
     let (engine, plain) = (Path::new(engine), Path::new(plain));
-    let all = Comparison::of(engine, plain, &nothing, Path::new(text), runs)?;
+    let all = Comparison::of(engine, job, plain, &nothing, Path::new(text), runs)?;
     println!("{text}, {runs} runs each, milliseconds:");
     for (name, runs) in [
         ("engine", &all.engine),

@@ -1,4 +1,4 @@
-//! The program `import_wide` in plain Rust.
+//! The job `import-wide` in plain Rust.
 
 fn main() -> std::io::Result<()> {
     bench::run(bench::plain_import_wide)

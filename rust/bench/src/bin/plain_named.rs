@@ -1,4 +1,4 @@
-//! The program `named` in plain Rust.
+//! The job `named` in plain Rust.
 
 fn main() -> std::io::Result<()> {
     bench::run(bench::plain_named)

@@ -208,7 +208,7 @@ pub fn import_case(seed: u64, case: u64) -> Vec<u8> {
     }
 }
 
-/// The text of one case for the program `same`: first each symbol of the list
+/// The text of one case for the job `same`: first each symbol of the list
 /// with each.
 pub fn same_case(seed: u64, case: u64) -> Vec<u8> {
     let (one, other) = (case as usize / SYMBOLS.len(), case as usize % SYMBOLS.len());

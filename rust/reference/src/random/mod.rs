@@ -8,6 +8,7 @@
 //! | `faults`   | symbols with faults 1 and 3 to 7, texts with fault 19      |
 //! | `matrices` | matrices of determinant 1, pairs with and without a word   |
 //! | `pairs`    | permutation pairs, with faults 12 to 15                    |
+//! | `deep`     | permutation pairs of long rows of triangles and of trees   |
 //! | `cycles`   | texts in cycle notation, right and damaged                 |
 //! | `twins`    | a second symbol, of the same group or of another           |
 //! | `towers`   | two symbols, subgroups and towers of them                  |
@@ -15,6 +16,7 @@
 
 pub mod cases;
 pub mod cycles;
+pub mod deep;
 pub mod drafts;
 pub mod faults;
 pub mod matrices;

@@ -1,10 +1,18 @@
 //! Runs one of the engine's programs as a child process: a text in, what it
 //! prints and its exit status out.
 //!
-//! The programs, and the script `./farey`, are named by environment variables, as
-//! paths that are absolute or start at the root of the repository. A test whose program isn't named
-//! fails. Only SKIP_PROGRAMS, which lists the variables to be left out or is 1
-//! for all of them, lets it pass, and then it says so.
+//! | variable              | its program                                           |
+//! |-----------------------|-------------------------------------------------------|
+//! | `LISTING_PROGRAM`     | `listing`                                             |
+//! | `QUERY_PROGRAM`       | `query`                                               |
+//! | `INDEX_TABLE_PROGRAM` | `index_table`                                         |
+//! | `JOB_PROGRAM`         | `farey`, which does the job that its argument names   |
+//! | `FAREY_PROGRAM`       | the script `./farey`                                  |
+//!
+//! These environment variables hold paths that are absolute or start at the root of
+//! the repository. A test whose program isn't named fails. Only SKIP_PROGRAMS, which
+//! lists the variables to be left out or is 1 for all of them, lets it pass, and then
+//! it says so.
 
 // Each test file that takes this module in uses a part of it.
 #![allow(dead_code)]
@@ -23,10 +31,11 @@ const TIME_LIMIT: Duration = Duration::from_secs(60);
 /// How much of a text or an answer is shown when they differ.
 const SHOWN: usize = 500;
 
-/// One of the engine's programs.
+/// One of the engine's programs, or one of its jobs.
 pub struct Program {
-    variable: &'static str,
+    name: String,
     path: PathBuf,
+    job: Option<String>,
 }
 
 /// What a run brought about.
@@ -41,7 +50,7 @@ pub struct Answer {
 /// proved already: it may ask for that, but nothing is proved anew.
 pub fn farey() -> Option<Program> {
     static PROVED: OnceLock<()> = OnceLock::new();
-    let script = Program::named_by("FAREY_PROGRAM")?;
+    let script = Program::named_by("FAREY_PROGRAM", "./farey", None)?;
     PROVED.get_or_init(|| {
         for words in [
             &["listing"][..],
@@ -77,9 +86,20 @@ pub fn repository() -> PathBuf {
 }
 
 impl Program {
+    /// The program of this name, or `farey` with the job of this name; `None` if the
+    /// test is to be left out.
+    pub fn of(name: &str) -> Option<Program> {
+        match name {
+            "listing" => Program::named_by("LISTING_PROGRAM", name, None),
+            "query" => Program::named_by("QUERY_PROGRAM", name, None),
+            "index_table" => Program::named_by("INDEX_TABLE_PROGRAM", name, None),
+            _ => Program::named_by("JOB_PROGRAM", name, Some(name)),
+        }
+    }
+
     /// The program that the variable names; `None` if the test is to be left
     /// out.
-    pub fn named_by(variable: &'static str) -> Option<Program> {
+    fn named_by(variable: &str, name: &str, job: Option<&str>) -> Option<Program> {
         let Some(named) = env::var_os(variable).filter(|path| !path.is_empty()) else {
             let left_out = env::var("SKIP_PROGRAMS").unwrap_or_default();
             if left_out == "1" || left_out.split(' ').any(|name| name == variable) {
@@ -97,12 +117,18 @@ impl Program {
             "{variable}: there is no program {}",
             path.display()
         );
-        Some(Program { variable, path })
+        Some(Program {
+            name: name.to_string(),
+            path,
+            job: job.map(str::to_string),
+        })
     }
 
-    /// The program, to be started otherwise than here.
+    /// The program with its job, to be started otherwise than here.
     pub fn command(&self) -> Command {
-        Command::new(&self.path)
+        let mut command = Command::new(&self.path);
+        command.args(&self.job);
+        command
     }
 
     /// Runs the program over a text.
@@ -139,7 +165,7 @@ impl Program {
                 let _ = child.wait();
                 panic!(
                     "{} doesn't end within {TIME_LIMIT:?} on\n{}",
-                    self.variable,
+                    self.name,
                     shown(text)
                 );
             }
@@ -164,7 +190,7 @@ impl Program {
         assert!(
             answer.status == Some(0),
             "{}: exit status {:?}, standard error {} on\n{}",
-            self.variable,
+            self.name,
             answer.status,
             shown(&answer.stderr),
             shown(text)
@@ -172,7 +198,7 @@ impl Program {
         String::from_utf8(answer.stdout).unwrap_or_else(|e| {
             panic!(
                 "{}: no text, but {} on\n{}",
-                self.variable,
+                self.name,
                 shown(e.as_bytes()),
                 shown(text)
             )
@@ -198,7 +224,7 @@ impl Program {
             "{} differs from byte {first} on, in line {}.\n\
              The text:\n{}\nExpected:\n{}\nWhat came:\n{}\n\
              Expected there:\n{}\nWhat came there:\n{}",
-            self.variable,
+            self.name,
             line + 1,
             shown(text),
             shown(expected.as_bytes()),

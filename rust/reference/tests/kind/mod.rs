@@ -71,8 +71,9 @@ impl Kind {
         }
     }
 
-    pub fn by_the_program(&self, variable: &'static str) {
-        let Some(program) = Program::named_by(variable) else {
+    /// By the program or the job of this name.
+    pub fn by_the_program(&self, name: &str) {
+        let Some(program) = Program::of(name) else {
             return;
         };
         for example in self.examples() {

@@ -41,7 +41,8 @@ module _ (r : tie.After-fill-r) where
   all : MapsFilled (stepS (st .args .v) (st .args .t .now)) (stepR (st .args .v) (st .args .t .now)) (places (st .args .v)) (r .fill-r .last .1 .0)
   all = filled (f .fill-s .ensures .0) (r .fill-r .ensures)
 
-  its : Maps (stepS (st .args .v) (st .args .t .now)) (stepR (st .args .v) (st .args .t .now)) (originOf (st .args .v) (st .args .t .now)) (places (st .args .v))
+  its : Maps (stepS (st .args .v) (st .args .t .now)) (stepR (st .args .v) (st .args .t .now)) (originOf (st .args .v) (st .args .t .now))
+      (places (st .args .v))
   its = maps (st .args .v) (st .args .t .now) (polygon (st .args .v) (st .args .t .now) (st .pre .0))
 
 sub-tables : tie.Need-sub-tables

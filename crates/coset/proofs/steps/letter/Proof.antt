@@ -22,7 +22,12 @@ mul-decoded c =
 shared-slice-read-decoded : tie.Need-shared-slice-read-decoded
 shared-slice-read-decoded c =
     let s = c .before .before in
-    omega (arith, real-in (s .args .v) (s .args .t .now) (s .pre .0 .tables .symbol) (s .args .p) (s .pre .1), s .pre .0 .tables .symbol .most, s .pre .0 .tables .long)
+    omega (
+      arith,
+      real-in (s .args .v) (s .args .t .now) (s .pre .0 .tables .symbol) (s .args .p) (s .pre .1),
+      s .pre .0 .tables .symbol .most,
+      s .pre .0 .tables .long,
+    )
 
 decoded-requires : tie.Need-decoded-requires
 decoded-requires c κs =

@@ -19,7 +19,12 @@ mul-index c =
 shared-slice-read-index : tie.Need-shared-slice-read-index
 shared-slice-read-index c =
     let s = c .before .before in
-    omega (arith, real-in (s .args .v) (s .args .t .now) (s .pre .0 .tables .symbol) (s .args .p) (s .pre .1), s .pre .0 .tables .symbol .most, s .pre .0 .tables .long)
+    omega (
+      arith,
+      real-in (s .args .v) (s .args .t .now) (s .pre .0 .tables .symbol) (s .args .p) (s .pre .1),
+      s .pre .0 .tables .symbol .most,
+      s .pre .0 .tables .long,
+    )
 
 index-requires : tie.Need-index-requires
 index-requires c κs = search needs

@@ -130,7 +130,8 @@ returns c =
     let e = toZ-ofZ {w = w16} {z = l .result} (record { sfits = l .ok }) in
     let told = ap (λ (z : ℤ). frameSign (s .args .v) (s .args .p) · frameSign (s .args .v) (to .result)
     · crossingSign (lettersOf z) (leftToRight (s .args .v) (s .args .p))) e in (
-      prepared-more (s .pre .0) (s .pre .1) (to .result) (y .result) (f .result) (b .result) (l .result) (to .ensures) (omega (arith, y .ensures .0, k .ensures .0))
+      prepared-more (s .pre .0) (s .pre .1) (to .result) (y .result) (f .result) (b .result) (l .result) (to .ensures)
+          (omega (arith, y .ensures .0, k .ensures .0))
           (ap (λ (n : ℕ). pos n -ℤ pos 1024) (y .ensures .0) ∙ k .ensures .1 ∙ e) (l .ensures)
           (y .ensures .1 ∙ x .ensures ∙ told ∙ sign-step (s .args .v) (s .args .t .now) (s .args .p) (to .result) (l .result) (to .ensures) (l .ensures))
           (f .ensures) (b .ensures),

@@ -43,8 +43,12 @@ loop-less : tie.Need-loop-less Inv-loop μ-loop
 loop-less c = search needs
 
 loop-again : tie.Need-loop-again Inv-loop μ-loop
-loop-again c =
-    (c .before .before .note-place .ensures .0, omega arith, c .before .before .note-place .ensures .1 ∙ c .before .before .before .before .before .loop .inv .2)
+loop-again c = (
+  c .before .before .note-place .ensures .0,
+  omega arith,
+  c .before .before .note-place .ensures .1
+      ∙ c .before .before .before .before .before .loop .inv .2,
+)
 
 same-length : tie.Need-same-length Inv-loop μ-loop
 same-length c = search needs

@@ -10,7 +10,8 @@ is-left-to-right-requires : tie.Need-is-left-to-right-requires
 is-left-to-right-requires c κs = search needs
 
 returns : tie.Need-returns
-returns c = let s = c .before .before in c .is-left-to-right .ensures ∙ crossing-none (s .fits .letter) (leftToRight (s .args .v) (s .args .p)) (c .before .if1 .taken)
+returns c = let s = c .before .before in
+    c .is-left-to-right .ensures ∙ crossing-none (s .fits .letter) (leftToRight (s .args .v) (s .args .p)) (c .before .if1 .taken)
 
 returns-2 : tie.Need-returns-2
 returns-2 c = let s = c .before in crossing-some (s .fits .letter) (leftToRight (s .args .v) (s .args .p)) (c .if1 .left)

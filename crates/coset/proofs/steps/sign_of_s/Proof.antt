@@ -20,7 +20,12 @@ mul-result c =
 shared-slice-read-result : tie.Need-shared-slice-read-result
 shared-slice-read-result c =
     let s = c .before in
-    omega (arith, real-in (s .args .v) (s .args .t .now) (s .pre .0 .tables .symbol) (s .args .p) (s .pre .1), s .pre .0 .tables .symbol .most, s .pre .0 .tables .long)
+    omega (
+      arith,
+      real-in (s .args .v) (s .args .t .now) (s .pre .0 .tables .symbol) (s .args .p) (s .pre .1),
+      s .pre .0 .tables .symbol .most,
+      s .pre .0 .tables .long,
+    )
 
 returns : tie.Need-returns
 returns c =

@@ -26,7 +26,8 @@ returns c = let a = c .before .before .before .before .before .args in
     let e = sym (c .before .before .digit .ensures) ∙ c .before .if1 .taken in record {
       piece = number (runValue 0 (drop (a .at) t));
       kind = ap number (d .value-is);
-      here = number-left t (a .at) (omega arith) e ∙ ap (λ k. record { at = a .at; piece = number (runValue 0 (drop (a .at) t)) } ∷ piecesLeft t k) (sym (d .to-is));
+      here = number-left t (a .at) (omega arith) e ∙ ap (λ k. record { at = a .at; piece = number (runValue 0 (drop (a .at) t)) } ∷ piecesLeft t k)
+          (sym (d .to-is));
       onward = omega (arith, d .to-is, digits-more t (a .at) (omega arith) e);
       inside = omega (arith, d .to-is, run-inside t (a .at) (omega arith));
     }

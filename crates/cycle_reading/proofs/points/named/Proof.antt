@@ -22,10 +22,12 @@ mul-table : tie.Need-mul-table
 mul-table c = let h = c .before .before .pre in omega (arith, c .last-or .ensures, pick-low (c .before .before .args .part .going) _ _ 3066 (h .0 .low) (h .1))
 
 element-write-table : tie.Need-element-write-table
-element-write-table c = let h = c .before .before .pre in omega (arith, c .last-or .ensures, pick-low (c .before .before .args .part .going) _ _ 3066 (h .0 .low) (h .1))
+element-write-table c = let h = c .before .before .pre in
+    omega (arith, c .last-or .ensures, pick-low (c .before .before .args .part .going) _ _ 3066 (h .0 .low) (h .1))
 
 cast-table-2 : tie.Need-cast-table-2
-cast-table-2 c = let h = c .before .before .pre in omega (arith, c .before .first-or .ensures, pick-low (c .before .before .args .part .going) _ _ 3066 (h .0 .first-low) (h .1))
+cast-table-2 c = let h = c .before .before .pre in
+    omega (arith, c .before .first-or .ensures, pick-low (c .before .before .args .part .going) _ _ 3066 (h .0 .first-low) (h .1))
 
 mul-table-2 : tie.Need-mul-table-2
 mul-table-2 c = search needs

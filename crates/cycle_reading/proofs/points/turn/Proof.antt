@@ -64,31 +64,38 @@ in-phase-requires-5 : tie.Need-in-phase-requires-5
 in-phase-requires-5 c κs = search needs
 
 returns : tie.Need-returns
-returns c = let a = c .before .before .before .before .before .before .before .args in told (hand (a .part) (a .marks .now) (a .table .now)) _ _ _ (a .semi) (a .n) (c .before .before .before .before .piece .given .1)
+returns c = let a = c .before .before .before .before .before .before .before .args in
+    told (hand (a .part) (a .marks .now) (a .table .now)) _ _ _ (a .semi) (a .n) (c .before .before .before .before .piece .given .1)
     (c .name-point .ensures)
 
 returns-2 : tie.Need-returns-2
-returns-2 c = let a = c .before .before .before .before .before .args in told (hand (a .part) (a .marks .now) (a .table .now)) _ _ _ (a .semi) (a .n) (c .before .before .enum-told .given .1)
+returns-2 c = let a = c .before .before .before .before .before .args in
+    told (hand (a .part) (a .marks .now) (a .table .now)) _ _ _ (a .semi) (a .n) (c .before .before .enum-told .given .1)
     (record { part-is = c .in-phase .ensures ∙ ap (inPhase (a .part)) (c .before .behind-blank .ensures); marks-are = refl; table-is = refl })
 
 returns-3 : tie.Need-returns-3
-returns-3 c = let a = c .before .before .before .before .before .args in told (hand (a .part) (a .marks .now) (a .table .now)) _ _ _ (a .semi) (a .n) (c .before .before .enum-told2 .given .1)
+returns-3 c = let a = c .before .before .before .before .before .args in
+    told (hand (a .part) (a .marks .now) (a .table .now)) _ _ _ (a .semi) (a .n) (c .before .before .enum-told2 .given .1)
     (record { part-is = c .in-phase2 .ensures ∙ ap (inPhase (a .part)) (c .before .behind-opening .ensures); marks-are = refl; table-is = refl })
 
 returns-4 : tie.Need-returns-4
-returns-4 c = let a = c .before .before .before .before .before .args in told (hand (a .part) (a .marks .now) (a .table .now)) _ _ _ (a .semi) (a .n) (c .before .before .enum-told3 .given .1)
+returns-4 c = let a = c .before .before .before .before .before .args in
+    told (hand (a .part) (a .marks .now) (a .table .now)) _ _ _ (a .semi) (a .n) (c .before .before .enum-told3 .given .1)
     (record { part-is = c .shut .ensures ∙ ap (shutPart (a .part)) (c .before .behind-closing .ensures); marks-are = refl; table-is = refl })
 
 returns-5 : tie.Need-returns-5
-returns-5 c = let a = c .before .before .before .before .before .args in told (hand (a .part) (a .marks .now) (a .table .now)) _ _ _ (a .semi) (a .n) (c .before .before .enum-told4 .given .1)
+returns-5 c = let a = c .before .before .before .before .before .args in
+    told (hand (a .part) (a .marks .now) (a .table .now)) _ _ _ (a .semi) (a .n) (c .before .before .enum-told4 .given .1)
     (record { part-is = c .in-phase3 .ensures ∙ ap (inPhase (a .part)) (c .before .behind-comma .ensures); marks-are = refl; table-is = refl })
 
 returns-6 : tie.Need-returns-6
-returns-6 c = let a = c .before .before .before .before .before .args in told (hand (a .part) (a .marks .now) (a .table .now)) _ _ _ (a .semi) (a .n) (c .before .before .enum-told5 .given .1)
+returns-6 c = let a = c .before .before .before .before .before .args in
+    told (hand (a .part) (a .marks .now) (a .table .now)) _ _ _ (a .semi) (a .n) (c .before .before .enum-told5 .given .1)
     (record { part-is = c .in-phase4 .ensures ∙ ap (inPhase (a .part)) (c .before .behind-semicolon .ensures); marks-are = refl; table-is = refl })
 
 returns-7 : tie.Need-returns-7
-returns-7 c = let a = c .before .before .before .before .args in told (hand (a .part) (a .marks .now) (a .table .now)) _ _ _ (a .semi) (a .n) (c .before .enum-told6 .given .1)
+returns-7 c = let a = c .before .before .before .before .args in
+    told (hand (a .part) (a .marks .now) (a .table .now)) _ _ _ (a .semi) (a .n) (c .before .enum-told6 .given .1)
     (record { part-is = c .in-phase5 .ensures; marks-are = refl; table-is = refl })
 
 pub turn-spec : {M : Type 1} → statement M

@@ -1,7 +1,7 @@
 -- `bytes::put_cycle` meets its contract: two points behind x decide which cycle it is. Assumes nothing.
 use native.Mathlib.Omega.{arith}
 use Rattle.cycle_writing.proofs.Sizes.{low-a, low-b, two-here, three-here, two-sized, three-sized}
-use Rattle.text_line.proofs.Placing.{puts-as}
+use Rattle.text.proofs.Placing.{puts-as}
 use borrow.Author.Needs.{needs}
 use Rattle.cycle_writing.proofs.bytes.put_cycle.Statement.{statement}
 use Rattle.cycle_writing.proofs.bytes.put_cycle.Tie as tie
@@ -23,7 +23,12 @@ add-put-two-2 c =
 put-two-requires : tie.Need-put-two-requires
 put-two-requires c κs =
     let s = c .before .before .before .before .before .before in
-    omega (arith, s .pre .1, two-sized (s .args .t .now) (s .args .x) _ _ (s .pre .0) (c .before .before .before .image .ensures) (c .before .before .image2 .ensures) (c .before .if1 .taken))
+    omega (
+      arith,
+      s .pre .1,
+      two-sized (s .args .t .now) (s .args .x) _ _ (s .pre .0) (c .before .before .before .image .ensures) (c .before .before .image2 .ensures)
+          (c .before .if1 .taken),
+    )
 
 same-length : tie.Need-same-length
 same-length c = search needs
@@ -31,7 +36,8 @@ same-length c = search needs
 returns : tie.Need-returns
 returns c =
     let s = c .before .before .before .before .before .before .before .before .before in
-    puts-as (two-here (s .args .t .now) (s .args .x) _ _ (s .pre .0) (c .before .before .before .before .before .before .image .ensures) (c .before .before .before .before .before .image2 .ensures) (c .before .before .before .before .if1 .taken)) (c .before .before .put-two .ensures)
+    puts-as (two-here (s .args .t .now) (s .args .x) _ _ (s .pre .0) (c .before .before .before .before .before .before .image .ensures)
+    (c .before .before .before .before .before .image2 .ensures) (c .before .before .before .before .if1 .taken)) (c .before .before .put-two .ensures)
 
 add-put-three : tie.Need-add-put-three
 add-put-three c = search needs
@@ -49,7 +55,12 @@ add-put-three-3 c =
 put-three-requires : tie.Need-put-three-requires
 put-three-requires c κs =
     let s = c .before .before .before .before .before .before in
-    omega (arith, s .pre .1, three-sized (s .args .t .now) (s .args .x) _ _ (s .pre .0) (c .before .before .before .image .ensures) (c .before .before .image2 .ensures) (c .before .if1 .left))
+    omega (
+      arith,
+      s .pre .1,
+      three-sized (s .args .t .now) (s .args .x) _ _ (s .pre .0) (c .before .before .before .image .ensures) (c .before .before .image2 .ensures)
+          (c .before .if1 .left),
+    )
 
 same-length-2 : tie.Need-same-length-2
 same-length-2 c = search needs
@@ -57,7 +68,8 @@ same-length-2 c = search needs
 returns-2 : tie.Need-returns-2
 returns-2 c =
     let s = c .before .before .before .before .before .before .before .before .before in
-    puts-as (three-here (s .args .t .now) (s .args .x) _ _ (s .pre .0) (c .before .before .before .before .before .before .image .ensures) (c .before .before .before .before .before .image2 .ensures) (c .before .before .before .before .if1 .left)) (c .before .before .put-three .ensures)
+    puts-as (three-here (s .args .t .now) (s .args .x) _ _ (s .pre .0) (c .before .before .before .before .before .before .image .ensures)
+    (c .before .before .before .before .before .image2 .ensures) (c .before .before .before .before .if1 .left)) (c .before .before .put-three .ensures)
 
 pub put-cycle-spec : {M : Type 1} → statement M
 put-cycle-spec =

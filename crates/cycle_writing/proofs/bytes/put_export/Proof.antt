@@ -13,38 +13,49 @@ slice-aggregate-put : tie.Need-slice-aggregate-put
 slice-aggregate-put c = search needs
 
 put-requires : tie.Need-put-requires
-put-requires c κs = let s = c .before .before .before .before .before .before .before .before .before in omega (arith, s .pre .2, export-size (s .args .s .now) (s .args .r .now), c .before .before .before .before .put-number .ensures .end-is)
+put-requires c κs = let s = c .before .before .before .before .before .before .before .before .before in
+    omega (arith, s .pre .2, export-size (s .args .s .now) (s .args .r .now), c .before .before .before .before .put-number .ensures .end-is)
 
 put-permutation-requires : tie.Need-put-permutation-requires
 put-permutation-requires c κs =
-    let s = c .before .before .before .before .before .before .before .before .before .before .before .before .before in
-    (s .pre .0, omega (arith, s .pre .2, export-size (s .args .s .now) (s .args .r .now), c .before .before .before .before .before .before .before .before .put-number .ensures .end-is, c .before .before .before .put .ensures .end-is))
+    let s = c .before .before .before .before .before .before .before .before .before .before .before .before .before in (
+      s .pre .0,
+      omega (
+        arith,
+        s .pre .2,
+        export-size (s .args .s .now) (s .args .r .now),
+        c .before .before .before .before .before .before .before .before .put-number .ensures .end-is,
+        c .before .before .before .put .ensures .end-is,
+      ),
+    )
 
 slice-aggregate-put-2 : tie.Need-slice-aggregate-put-2
 slice-aggregate-put-2 c = search needs
 
 put-requires-2 : tie.Need-put-requires-2
 put-requires-2 c κs =
-    let s = c .before .before .before .before .before .before .before .before .before .before .before .before .before .before .before .before .before .before in
+    let earlier = c .before .before .before .before .before .before .before .before .before .before in
+    let s = earlier .before .before .before .before .before .before .before .before in
     omega (
       arith,
       s .pre .2,
       export-size (s .args .s .now) (s .args .r .now),
-      c .before .before .before .before .before .before .before .before .before .before .before .before .before .put-number .ensures .end-is,
+      earlier .before .before .before .put-number .ensures .end-is,
       c .before .before .before .before .before .before .before .before .put .ensures .end-is,
       c .before .before .before .before .put-permutation .ensures .end-is,
     )
 
 put-permutation-requires-2 : tie.Need-put-permutation-requires-2
 put-permutation-requires-2 c κs =
-    let s = c .before .before .before .before .before .before .before .before .before .before .before .before .before .before .before .before .before .before .before .before .before .before in (
+    let earlier = c .before .before .before .before .before .before .before .before .before .before in
+    let s = earlier .before .before .before .before .before .before .before .before .before .before .before .before in (
       s .pre .1,
       omega (
         arith,
         s .pre .2,
         export-size (s .args .s .now) (s .args .r .now),
-        c .before .before .before .before .before .before .before .before .before .before .before .before .before .before .before .before .before .put-number .ensures .end-is,
-        c .before .before .before .before .before .before .before .before .before .before .before .before .put .ensures .end-is,
+        earlier .before .before .before .before .before .before .before .put-number .ensures .end-is,
+        earlier .before .before .put .ensures .end-is,
         c .before .before .before .before .before .before .before .before .put-permutation .ensures .end-is,
         c .before .before .before .put2 .ensures .end-is,
       ),
@@ -55,8 +66,11 @@ same-length c = search needs
 
 returns : tie.Need-returns
 returns c =
-    let s = c .before .before .before .before .before .before .before .before .before .before .before .before .before .before .before .before .before .before .before .before .before .before .before .before .before in
-    export-put (s .args .s .now) (s .args .r .now) (c .before .before .before .before .before .before .before .before .before .before .before .before .before .before .before .before .before .before .before .before .put-number .ensures) (c .before .before .before .before .before .before .before .before .before .before .before .before .before .before .before .put .ensures) (c .before .before .before .before .before .before .before .before .before .before .before .put-permutation .ensures)
+    let earlier = c .before .before .before .before .before .before .before .before .before .before in
+    let s = earlier .before .before .before .before .before .before .before .before .before .before .before .before .before .before .before in
+    export-put (s .args .s .now) (s .args .r .now)
+    (earlier .before .before .before .before .before .before .before .before .before .before .put-number .ensures)
+    (earlier .before .before .before .before .before .put .ensures) (earlier .before .put-permutation .ensures)
     (c .before .before .before .before .before .before .put2 .ensures) (c .before .before .put-permutation2 .ensures)
 
 pub put-export-spec : {M : Type 1} → statement M

@@ -2,7 +2,7 @@
 use mathlib.Core.Path.{_≡_, _∙_}
 use native.Mathlib.Omega.{arith}
 use lib.ListN.{length}
-use Rattle.text_line.proofs.Placing.{puts-as}
+use Rattle.text.proofs.Placing.{puts-as}
 use Rattle.cycle_writing.specs.Inner.Short.{bytesBelow}
 use Rattle.cycle_writing.proofs.Sizes.{cycles-are}
 use Rattle.cycle_writing.proofs.Placed.{empty-put, permutation-room, empty-room}
@@ -30,7 +30,8 @@ same-length c = search needs
 returns : tie.Need-returns
 returns c =
     let s = c .before .before .before .before .before .before .before .before .before .before .before .before in
-    empty-put (s .args .t .now) (c .before .before .before .before .before .before .before .before .put-cycles .ensures) (c .before .before .before .before .before .if1 .taken) (c .before .before .put .ensures) (omega (arith, s .pre .1))
+    empty-put (s .args .t .now) (c .before .before .before .before .before .before .before .before .put-cycles .ensures)
+    (c .before .before .before .before .before .if1 .taken) (c .before .before .put .ensures) (omega (arith, s .pre .1))
 
 same-length-2 : tie.Need-same-length-2
 same-length-2 c = search needs

@@ -34,8 +34,10 @@ same-length c = search needs
 
 returns : tie.Need-returns
 returns c =
-    let s = c .before .before .before .before .before .before .before .before .before .before .before .before .before .before .before .before .before .before .before .before .before in
-    three-put (s .args .a) (s .args .b) (c .before .before .before .before .before .before .before .before .before .before .before .before .before .before .before .before .before .put-behind .ensures) (c .before .before .before .before .before .before .before .before .before .before .before .before .put-behind2 .ensures) (omega (arith, s .pre)) (s .args .d)
+    let earlier = c .before .before .before .before .before .before .before .before .before .before in
+    let s = earlier .before .before .before .before .before .before .before .before .before .before .before in
+    three-put (s .args .a) (s .args .b) (earlier .before .before .before .before .before .before .before .put-behind .ensures)
+    (earlier .before .before .put-behind2 .ensures) (omega (arith, s .pre)) (s .args .d)
     (c .before .before .before .before .before .before .before .put-behind3 .ensures) (c .before .before .put .ensures)
 
 pub put-three-spec : {M : Type 1} → statement M

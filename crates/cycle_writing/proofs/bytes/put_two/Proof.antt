@@ -28,8 +28,10 @@ same-length c = search needs
 
 returns : tie.Need-returns
 returns c =
-    let s = c .before .before .before .before .before .before .before .before .before .before .before .before .before .before .before .before in
-    two-put (s .args .a) (s .args .b) (c .before .before .before .before .before .before .before .before .before .before .before .before .put-behind .ensures) (c .before .before .before .before .before .before .before .put-behind2 .ensures) (omega (arith, s .pre)) (c .before .before .put .ensures)
+    let earlier = c .before .before .before .before .before .before .before .before .before .before in
+    let s = earlier .before .before .before .before .before .before in
+    two-put (s .args .a) (s .args .b) (earlier .before .before .put-behind .ensures)
+    (c .before .before .before .before .before .before .before .put-behind2 .ensures) (omega (arith, s .pre)) (c .before .before .put .ensures)
 
 pub put-two-spec : {M : Type 1} → statement M
 put-two-spec =

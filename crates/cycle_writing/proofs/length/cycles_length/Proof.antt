@@ -33,8 +33,11 @@ loop-less c = search needs
 loop-again : tie.Need-loop-again Inv-loop μ-loop
 loop-again c =
     let q = c .before .before .loop in
-    let e = c .length-at .ensures in
-    (omega (arith, q .inv .0, e .0, size-more (c .before .before .before .before .args .t .now) (q .x)), omega (arith, q .inv .1, e .1), omega (arith, c .before .loop-test .taken))
+    let e = c .length-at .ensures in (
+      omega (arith, q .inv .0, e .0, size-more (c .before .before .before .before .args .t .now) (q .x)),
+      omega (arith, q .inv .1, e .1),
+      omega (arith, c .before .loop-test .taken),
+    )
 
 returns : tie.Need-returns Inv-loop μ-loop
 returns c =

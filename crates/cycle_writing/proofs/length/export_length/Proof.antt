@@ -26,7 +26,13 @@ add-result-3 c = search needs
 returns : tie.Need-returns
 returns c =
     let s = c .before .before .before .before .before in
-    omega (arith, export-size (s .args .s .now) (s .args .r .now), c .permutation-length2 .ensures, c .before .permutation-length .ensures, c .before .before .digit-count .ensures)
+    omega (
+      arith,
+      export-size (s .args .s .now) (s .args .r .now),
+      c .permutation-length2 .ensures,
+      c .before .permutation-length .ensures,
+      c .before .before .digit-count .ensures,
+    )
 
 pub export-length-spec : {M : Type 1} → statement M
 export-length-spec =

@@ -19,7 +19,8 @@ image-requires-2 c κs = search needs
 returns-2 : tie.Need-returns-2
 returns-2 c =
     let s = c .before .before .before .before in
-    start-test (s .args .t .now) (s .pre .0) (s .args .x) _ (s .pre .1) (c .before .before .image .ensures) (omega (arith, c .before .if1 .left)) _ (c .image2 .ensures)
+    start-test (s .args .t .now) (s .pre .0) (s .args .x) _ (s .pre .1) (c .before .before .image .ensures) (omega (arith, c .before .if1 .left)) _
+    (c .image2 .ensures)
 
 pub is-start-spec : {M : Type 1} → statement M
 is-start-spec = tie.close (tie.spec image-requires returns image-requires-2 returns-2)

@@ -1,10 +1,9 @@
--- `farey_same_coset` meets its contract: the number of the answer and 1 or 0, what the call leaves, and what that means. Assumes nothing.
-use mathlib.Core.Path.{_≡_, sym, ap, subst, _∙_}
-use Prim.Native.Nat.{ℕ}
-use lib.ListN.{length}
-use Rattle.same_coset.specs.Answer.{sameCosetOf, sharedRefusal, sharedPlace, CosetMeans, SharedSays}
-use Rattle.same_coset.specs.declared.Shared.{Shared}
-use Rattle.same_coset.proofs.Single.{says}
+-- `farey_same_coset` meets its contract: what its call promises, what the answer means (`means`) and what its numbers say (`says`). Assumes nothing.
+use mathlib.Core.Path.{refl}
+use Rattle.matrix.specs.Matrix.{ofList}
+use Rattle.call.proofs.Laws.{call-decided}
+use Rattle.word.specs.Answer.{closes}
+use Rattle.same_coset.proofs.Single.{means, says}
 use borrow.Author.Needs.{needs}
 use Rattle.engine.proofs.cosets.farey_same_coset.Statement.{statement}
 use Rattle.engine.proofs.cosets.farey_same_coset.Tie as tie
@@ -12,8 +11,8 @@ use Rattle.engine.proofs.cosets.farey_same_coset.Tie as tie
 same-coset-requires : tie.Need-same-coset-requires
 same-coset-requires c κs = search needs
 
-of-shared-requires : tie.Need-of-shared-requires
-of-shared-requires c κs = search needs
+of-decision-requires : tie.Need-of-decision-requires
+of-decision-requires c κs = search needs
 
 same-length : tie.Need-same-length
 same-length c = search needs
@@ -21,28 +20,13 @@ same-length c = search needs
 returns : tie.Need-returns
 returns c =
     let q = c .before .before .before .same-coset in
-    let s = c .before .before .before .before .before .before .before .before in
-    let v = s .args .v in
-    let t = s .args .t .now in
-    let a = s .args .a .now in
-    let b = s .args .b .now in
-    let w = s .args .w .now in
-    let e = q .ensures .0 in
-    let number = c .of-shared .ensures .0 ∙ ap (λ (r : Shared). sharedRefusal r .number) e in
-    let place = c .of-shared .ensures .1 ∙ ap sharedPlace e in
-    let r = sameCosetOf v t a b (length w) in (
-      number,
-      (
-        place,
-        (
-          q .ensures .1 .0,
-          (
-            subst (CosetMeans v t a b w) e (q .ensures .1 .1),
-            subst (λ (n : ℕ). SharedSays v t a b w n (c .of-shared .result .place)) (sym number) (subst (SharedSays v t a b w (sharedRefusal r .number)) (sym place) (says v t a b w)),
-          ),
-        ),
-      ),
-    )
+    let s = c .before .before .before .before .before .before .before .before .args in
+    let v = s .v in
+    let t = s .t .now in
+    let a = s .a .now in
+    let b = s .b .now in
+    call-decided _ (means v t a b (s .w .now), says v t a b (s .w .now)) (closes v t (ofList a) (ofList b)) refl (q .ensures)
+    (c .of-decision .ensures .0) (c .of-decision .ensures .1)
 
 pub farey-same-coset-spec : {M : Type 1} → statement M
-farey-same-coset-spec = tie.close (tie.spec same-coset-requires of-shared-requires same-length returns)
+farey-same-coset-spec = tie.close (tie.spec same-coset-requires of-decision-requires same-length returns)

@@ -1,11 +1,6 @@
--- `farey_same_cosets` meets its contract: the number and the count of the answer, what the call leaves, and what that means. Assumes nothing.
-use mathlib.Core.Path.{ap, subst, _∙_}
-use lib.ListN.{length}
-use Rattle.refusal.specs.Refusal.{filledRefusal}
-use Rattle.refusal.specs.declared.Filled.{Filled}
-use Rattle.sheets.specs.Sheet.{pairsIn}
-use Rattle.same_coset.specs.Pairs.{cosetLines, cosetsLeft, CosetsMean}
-use Rattle.engine.specs.Exported.{filledPlace}
+-- `farey_same_cosets` meets its contract: what its call promises, and what a number 0 says (`cosets-say`). Assumes nothing.
+use Rattle.call.proofs.Laws.{call-made}
+use Rattle.same_coset.proofs.Whole.{cosets-say}
 use borrow.Author.Needs.{needs}
 use Rattle.engine.proofs.cosets.farey_same_cosets.Statement.{statement}
 use Rattle.engine.proofs.cosets.farey_same_cosets.Tie as tie
@@ -25,24 +20,10 @@ same-length-2 c = search needs
 returns : tie.Need-returns
 returns c =
     let q = c .before .before .before .before .same-cosets in
-    let s = c .before .before .before .before .before .before .before .before in
-    let v = s .args .v in
-    let t = s .args .t .now in
-    let p = s .args .p .now in
-    let w = s .args .w .now in
-    let e = q .ensures .0 in (
-      c .of-filled .ensures .0 ∙ ap (λ (r : Filled). filledRefusal r .number) e,
-      (
-        c .of-filled .ensures .1 ∙ ap filledPlace e,
-        (
-          q .ensures .1 .0,
-          (
-            q .ensures .1 .1 .0 ∙ ap (λ (r : Filled). cosetsLeft r (cosetLines v t p (length w) (pairsIn p)) (s .args .lines .now)) e,
-            subst (CosetsMean v t p w) e (q .ensures .1 .1 .1),
-          ),
-        ),
-      ),
-    )
+    let s = c .before .before .before .before .before .before .before .before .args in
+    call-made _
+    (cosets-say (s .v) (s .t .now) (s .p .now) (s .w .now) (q .last .1 .1 .1 .0) (s .lines .now) (q .last .1 .1 .1 .1 .0))
+    (q .ensures) (c .of-filled .ensures .0) (c .of-filled .ensures .1)
 
 pub farey-same-cosets-spec : {M : Type 1} → statement M
 farey-same-cosets-spec = tie.close (tie.spec same-cosets-requires of-filled-requires same-length same-length-2 returns)

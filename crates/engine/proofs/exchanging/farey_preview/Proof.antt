@@ -1,25 +1,21 @@
--- `farey_preview` meets its contract: in each arm, what the answer says gives the number, the place, the eight numbers, the genus
--- among them, and the widths. Assumes nothing.
-use mathlib.Core.Path.{_≡_, sym, ap, subst, _∙_}
-use mathlib.Core.List.{List}
-use Prim.Native.Nat.{ℕ, _<_}
-use native.Mathlib.Omega.{arith}
-use lib.ListN.{length, getD}
+-- `farey_preview` meets its contract: in each arm the answer tells the verdict of the checks (`run-figured`, `run-unfigured`), by which number, place, the
+-- widths and the eight numbers are those of the contract. Assumes nothing.
+use mathlib.Core.Path.{sym, ap, _∙_}
+use lib.ListN.{length}
 use mir.Facts.{toZ-ofZ}
-use Rattle.coset.specs.Answer.{figuredRefusal}
-use Rattle.coset.specs.declared.Figured.{Figured}
+use Rattle.call.specs.Refusal.{checkedRefusal}
+use Rattle.call.specs.declared.refusal.Checked.{Checked}
+use Rattle.figures.specs.declared.FigureRecord.{FigureRecord}
+use Rattle.call.specs.Call.{ifAccepted}
+use Rattle.call.proofs.Laws.{call}
+use Rattle.coset.specs.Answer.{widthsOf, figuresOf, figureNumbers}
+use Rattle.coset.proofs.Answer.{run-figured, run-unfigured, figures-are}
 use Rattle.partner_exchange.specs.Exchange.{exchanged}
-use Rattle.partner_exchange.specs.Answer.{PreviewMeaning}
-use Rattle.engine.specs.Exported.{figuresLeft, previewPlace}
-use Rattle.engine.proofs.Zero.{AboveFigured, genus-given}
-use Rattle.engine.proofs.Exchanged.{preview-above}
+use Rattle.partner_exchange.proofs.Answered.{preview-says}
 use borrow.Author.Needs.{needs}
+use Rattle.engine.proofs.Lent.{lentTo}
 use Rattle.engine.proofs.exchanging.farey_preview.Statement.{statement}
 use Rattle.engine.proofs.exchanging.farey_preview.Tie as tie
-
--- a number that is above 0 is not 0: apart, so that `omega` sees no more than this
-above-zero : {n : ℕ} → 0 < n → n ≡ 0 → ⊥
-above-zero h z = omega arith
 
 preview-requires : tie.Need-preview-requires
 preview-requires c κs = search needs
@@ -48,16 +44,14 @@ returns c =
     let t = s .args .t .now in
     let x = s .args .x in
     let y = s .args .y in
-    let work = length (s .args .w .now) in
-    let p = rw (toZ-ofZ (s .fits .x), toZ-ofZ (s .fits .y)) at (q .ensures) in
-    let k = sym (told .1) ∙ p .0 in
-    let above = subst AboveFigured (sym k) (preview-above v t x y work (length (s .args .widths .now))) in (
-      ap (λ (r : Figured). figuredRefusal r .number) k,
-      (
-        ap previewPlace k,
-        (p .1 .0, (p .1 .1 .0, (ap (λ (r : Figured). figuresLeft r (s .args .out .now)) k, (λ z. absurd (above-zero above z), λ z. absurd (above-zero above z))))),
-      ),
-    )
+    let u = exchanged v t x y in
+    let g = rw (toZ-ofZ (s .fits .x), toZ-ofZ (s .fits .y)) at (q .ensures) in
+    let e = run-unfigured g (told .0 .0) (told .1) .is in
+    let left = ap (λ (a : Checked). ifAccepted a (figureNumbers (figuresOf v u)) (s .args .out .now)) (sym e) in
+    let says = preview-says v t x y (lentTo (s .args .w) _) (lentTo (s .args .widths) _) (lentTo (s .args .out) _)
+    (g .leaves .0, (g .leaves .1 .0, (left, tt))) in
+    call _ says (g .leaves .0, (g .leaves .1 .0, (left, tt)))
+    (ap (λ (a : Checked). checkedRefusal a .number) (sym e)) (ap (λ (a : Checked). ifAccepted a (length (widthsOf v u)) (checkedRefusal a .place)) (sym e))
 
 same-length-3 : tie.Need-same-length-3
 same-length-3 c = search needs
@@ -74,31 +68,17 @@ returns-2 c =
     let t = s .args .t .now in
     let x = s .args .x in
     let y = s .args .y in
-    let work = length (s .args .w .now) in
-    let p = rw (toZ-ofZ (s .fits .x), toZ-ofZ (s .fits .y)) at (q .ensures) in
-    let k = sym (told .1) ∙ p .0 in
-    let f = told .0 .0 in
-    let means = p .1 .1 .1 f (told .1) in
-    let given = genus-given v (exchanged v t x y) work f (sym (told .1) ∙ means .as-asked) (means .means) in
-    let all = c .of-figures .ensures in (
-      ap (λ (r : Figured). figuredRefusal r .number) k,
-      (
-        ap previewPlace k,
-        (
-          p .1 .0,
-          (
-            p .1 .1 .0,
-            (
-              all ∙ ap (λ (r : Figured). figuresLeft r (s .args .out .now)) k,
-              (
-                λ z. subst (λ (r : Figured). PreviewMeaning v t x y work r) (p .0) means,
-                λ z. ap (λ (l : List ℕ). getD l 4 18) all ∙ given,
-              ),
-            ),
-          ),
-        ),
-      ),
-    )
+    let u = exchanged v t x y in
+    let g = rw (toZ-ofZ (s .fits .x), toZ-ofZ (s .fits .y)) at (q .ensures) in
+    let e = run-figured g (told .0 .0) (told .1) .is in
+    let same = figures-are g (told .0 .0) (told .1) in
+    let left = c .of-figures .ensures ∙ ap figureNumbers same
+    ∙ ap (λ (a : Checked). ifAccepted a (figureNumbers (figuresOf v u)) (s .args .out .now)) (sym e) in
+    let says = preview-says v t x y (lentTo (s .args .w) _) (lentTo (s .args .widths) _) (lentTo (s .args .out) _)
+    (g .leaves .0, (g .leaves .1 .0, (left, tt))) in
+    call _ says (g .leaves .0, (g .leaves .1 .0, (left, tt)))
+    (ap (λ (a : Checked). checkedRefusal a .number) (sym e))
+    (ap (λ (f : FigureRecord). f .cusps) same ∙ ap (λ (a : Checked). ifAccepted a (length (widthsOf v u)) (checkedRefusal a .place)) (sym e))
 
 pub farey-preview-spec : {M : Type 1} → statement M
 farey-preview-spec =

@@ -2,8 +2,8 @@
 use mathlib.Core.Path.{sym, ap, subst, _∙_}
 use lib.ListN.{length}
 use Rattle.coset.specs.Answer.{columnLeft}
-use Rattle.refusal.specs.Refusal.{filledRefusal}
-use Rattle.refusal.specs.declared.Filled.{Filled}
+use Rattle.call.specs.Refusal.{filledRefusal}
+use Rattle.call.specs.declared.refusal.Filled.{Filled}
 use Rattle.cycle_reading.specs.Reading.{readS, readR, ReadCyclesMean}
 use Rattle.engine.specs.Exported.{filledPlace}
 use Rattle.engine.proofs.CycleCalls.{read-says}

@@ -1,10 +1,7 @@
--- `farey_contains` meets its contract: the number and the count of the answer, what the call leaves, and what that means. Assumes nothing.
-use mathlib.Core.Path.{sym, ap, _∙_}
-use lib.ListN.{length}
-use Rattle.inclusion.specs.Answer.{inclusionRefusal}
-use Rattle.inclusion.specs.declared.Inclusion.{Inclusion}
-use Rattle.engine.specs.Exported.{inclusionPlace}
-use Rattle.engine.proofs.Compared.{inclusion-says}
+-- `farey_contains` meets its contract: it tells the decision of `contains`. Assumes nothing.
+use mathlib.Core.Path.{refl}
+use Rattle.call.proofs.Laws.{call-decided}
+use Rattle.containment.proofs.InclusionMeans.{contains-says}
 use borrow.Author.Needs.{needs}
 use Rattle.engine.proofs.subgroups.farey_contains.Statement.{statement}
 use Rattle.engine.proofs.subgroups.farey_contains.Tie as tie
@@ -12,27 +9,17 @@ use Rattle.engine.proofs.subgroups.farey_contains.Tie as tie
 contains-requires : tie.Need-contains-requires
 contains-requires c κs = search needs
 
-of-inclusion-requires : tie.Need-of-inclusion-requires
-of-inclusion-requires c κs = search needs
+of-decision-requires : tie.Need-of-decision-requires
+of-decision-requires c κs = search needs
 
 same-length : tie.Need-same-length
 same-length c = search needs
 
 returns : tie.Need-returns
 returns c =
-    let q = c .before .before .before .contains in
     let s = c .before .before .before .before .before .before in
-    let e = q .ensures .0 in (
-      c .of-inclusion .ensures .0 ∙ ap (λ (r : Inclusion). inclusionRefusal r .number) e,
-      (
-        c .of-inclusion .ensures .1 ∙ ap inclusionPlace e,
-        (
-          q .ensures .1 .0,
-          λ z. inclusion-says (s .args .v) (s .args .t .now) (s .args .m) (s .args .u .now) (length (s .args .w .now)) (q .result) e (q .ensures .1 .1)
-              (c .of-inclusion .ensures .1) (sym (c .of-inclusion .ensures .0) ∙ z),
-        ),
-      ),
-    )
+    call-decided _ (contains-says (s .args .v) (s .args .t .now) (s .args .m) (s .args .u .now) (record { entry = s .args .w; exit = s .args .w })) _ refl
+    (c .before .before .before .contains .ensures) (c .of-decision .ensures .0) (c .of-decision .ensures .1)
 
 pub farey-contains-spec : {M : Type 1} → statement M
-farey-contains-spec = tie.close (tie.spec contains-requires of-inclusion-requires same-length returns)
+farey-contains-spec = tie.close (tie.spec contains-requires of-decision-requires same-length returns)

@@ -1,10 +1,7 @@
--- `farey_tower` meets its contract: the number and the place of the answer, what the call leaves, and what that means. Assumes nothing.
-use mathlib.Core.Path.{_≡_, sym, ap, subst, _∙_}
-use Prim.Native.Nat.{ℕ}
-use lib.ListN.{length}
-use Rattle.refusal.specs.Refusal.{checkedRefusal}
-use Rattle.refusal.specs.declared.Refusal.{Refusal}
-use Rattle.towers.specs.Meaning.{TowerSays}
+-- `farey_tower` meets its contract: it tells the answer of `tower`. Assumes nothing.
+use mathlib.Core.Path.{refl, ap}
+use Rattle.call.specs.declared.refusal.Refusal.{Refusal}
+use Rattle.call.proofs.Laws.{call-checked}
 use Rattle.towers.proofs.Says.{tower-says}
 use borrow.Author.Needs.{needs}
 use Rattle.engine.proofs.subgroups.farey_tower.Statement.{statement}
@@ -23,16 +20,8 @@ returns : tie.Need-returns
 returns c =
     let q = c .before .before .before .tower in
     let s = c .before .before .before .before .before .before in
-    let n = s .args .count in
-    let t = s .args .t .now in
-    let work = length (s .args .w .now) in
-    let e = sym (c .checked-refusal .ensures ∙ ap checkedRefusal (q .ensures .0)) in (
-      ap (λ (f : Refusal). f .number) (sym e),
-      (
-        ap (λ (f : Refusal). f .place) (sym e),
-        (q .ensures .1 .0, subst (λ (f : Refusal). TowerSays n t work (f .number) (f .place)) e (tower-says n t work)),
-      ),
-    )
+    call-checked _ (tower-says (s .args .count) (s .args .t .now) (s .args .w .now) (q .last .1 .1 .0)) refl (q .ensures)
+    (ap (λ (f : Refusal). f .number) (c .checked-refusal .ensures)) (ap (λ (f : Refusal). f .place) (c .checked-refusal .ensures))
 
 pub farey-tower-spec : {M : Type 1} → statement M
 farey-tower-spec = tie.close (tie.spec tower-requires checked-refusal-requires same-length returns)

@@ -1,6 +1,6 @@
 -- `lines::cusp_lines` meets its contract: three lines, one after another. Assumes nothing.
 use native.Mathlib.Omega.{arith}
-use Rattle.text_line.proofs.Placing.{puts-then}
+use Rattle.text.proofs.Placing.{puts-then}
 use Rattle.listing_text.specs.Listing.{cuspLines}
 use borrow.Author.Needs.{needs}
 use Rattle.listing_text.proofs.lines.cusp_lines.Statement.{statement}
@@ -30,11 +30,14 @@ same-length c = search needs
 returns : tie.Need-returns
 unfolding cuspLines
 returns c =
+    let earlier = c .before .before .before .before .before .before .before .before .before .before in
     let third = c .before .before .figure-line2 .ensures in
     let second = c .before .before .before .before .before .before .before .figure-line .ensures in
-    let first = c .before .before .before .before .before .before .before .before .before .before .before .before .table-line .ensures in
-    let s = c .before .before .before .before .before .before .before .before .before .before .before .before .before .before .before .before .before in
-    (puts-then (puts-then (first .0) (second .0) (omega (arith, s .pre .1))) (third .0) (omega (arith, s .pre .1)), omega (arith, first .1, second .1, third .1))
+    let first = earlier .before .before .table-line .ensures in
+    let s = earlier .before .before .before .before .before .before .before in (
+      puts-then (puts-then (first .0) (second .0) (omega (arith, s .pre .1))) (third .0) (omega (arith, s .pre .1)),
+      omega (arith, first .1, second .1, third .1),
+    )
 
 pub cusp-lines-spec : {M : Type 1} → statement M
 cusp-lines-spec =

@@ -1,6 +1,6 @@
 -- `lines::table_lines` meets its contract: three lines, one after another. Assumes nothing.
 use native.Mathlib.Omega.{arith}
-use Rattle.text_line.proofs.Placing.{puts-then}
+use Rattle.text.proofs.Placing.{puts-then}
 use Rattle.listing_text.specs.Listing.{tableLines}
 use borrow.Author.Needs.{needs}
 use Rattle.listing_text.proofs.lines.table_lines.Statement.{statement}
@@ -30,10 +30,11 @@ same-length c = search needs
 returns : tie.Need-returns
 unfolding tableLines
 returns c =
+    let earlier = c .before .before .before .before .before .before .before .before .before .before in
     let third = (c .before .before) .table-line3 .ensures in
     let second = (c .before .before .before .before .before .before .before) .table-line2 .ensures in
-    let first = (c .before .before .before .before .before .before .before .before .before .before .before .before) .table-line .ensures in
-    let s = c .before .before .before .before .before .before .before .before .before .before .before .before .before .before .before .before .before in
+    let first = (earlier .before .before) .table-line .ensures in
+    let s = earlier .before .before .before .before .before .before .before in
     puts-then (puts-then (first .0) (second .0) (omega (arith, s .pre .2))) (third .0) (omega (arith, s .pre .2))
 
 pub table-lines-spec : {M : Type 1} → statement M

@@ -132,13 +132,15 @@ returns : tie.Need-returns
 returns c =
     let r = c .before .before .before in
     let a = r .before .before in
-    c .even .ensures ∙ ap (λ (x : Side). toList (carried (frame x) matS (frame x))) (a .at .ensures) ∙ ap toList (sym (made r Even (c .before .enum-told .given .1)))
+    c .even .ensures ∙ ap (λ (x : Side). toList (carried (frame x) matS (frame x))) (a .at .ensures)
+    ∙ ap toList (sym (made r Even (c .before .enum-told .given .1)))
 
 returns-2 : tie.Need-returns-2
 returns-2 c =
     let r = c .before .before .before in
     let a = r .before .before in
-    c .odd .ensures ∙ ap (λ (x : Side). toList (carried (frame x) matQ (frame x))) (a .at .ensures) ∙ ap toList (sym (made r Odd (c .before .enum-told2 .given .1)))
+    c .odd .ensures ∙ ap (λ (x : Side). toList (carried (frame x) matQ (frame x))) (a .at .ensures)
+    ∙ ap toList (sym (made r Odd (c .before .enum-told2 .given .1)))
 
 returns-3 : tie.Need-returns-3
 returns-3 c =
@@ -150,7 +152,8 @@ returns-3 c =
     let s = a .before .before in
     c .free .ensures
     ∙ ap (λ (x : Side). toList (carried (frame x) matS (frame (a .at .result)))) (b .at2 .ensures ∙ ap (sideAt (s .args .v) (s .args .t .now)) (partner-read i))
-    ∙ ap (λ (x : Side). toList (carried (frameAt (s .args .v) (s .args .t .now) (partner (s .args .v) (s .args .t .now) (s .args .i))) matS (frame x))) (a .at .ensures)
+    ∙ ap (λ (x : Side). toList (carried (frameAt (s .args .v) (s .args .t .now) (partner (s .args .v) (s .args .t .now) (s .args .i))) matS (frame x)))
+    (a .at .ensures)
     ∙ ap toList (sym (made r (Free (e .enum-told3 .given .0 .0)) (e .enum-told3 .given .1)))
 
 returns-4 : tie.Need-returns-4

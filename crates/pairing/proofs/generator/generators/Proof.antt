@@ -1,13 +1,12 @@
--- `generators` meets its contract: a call that is not admitted leaves everything as it was; for one that is, the table is a symbol
--- (`admitted`), and the answer is that of `list_accepted`. Assumes nothing.
+-- `generators` meets its contract: a call that is not admitted leaves everything as it was (`admit-stop`); for one that is, the table is a symbol
+-- (`admitted`), and the answer is that of `list_accepted` (`admit-pass`). Assumes nothing.
 use mathlib.Core.Path.{_≡_, refl, sym, _∙_}
 use lib.ListN.{length}
-use Rattle.pairing.specs.Generator.{leaders, roomOf}
+use Rattle.call.specs.declared.refusal.Checked.the-variants.{Accepted}
+use Rattle.call.proofs.Laws.{admit-stop, admit-pass, fills-as, ran}
+use Rattle.symbol.specs.Check.{symbolCheck}
 use Rattle.pairing.specs.Inner.Admitted.{admittedOf}
-use Rattle.refusal.specs.declared.Checked.the-variants.{Accepted, Refused}
-use Rattle.refusal.proofs.Apart.{refused-made}
-use Rattle.pairing.proofs.Meaning.{generates}
-use Rattle.pairing.proofs.Admitted.{admitted, filled-by, work-by}
+use Rattle.pairing.proofs.Admitted.{admitted}
 use borrow.Author.Needs.{needs}
 use Rattle.pairing.proofs.generator.generators.Statement.{statement}
 use Rattle.pairing.proofs.generator.generators.Tie as tie
@@ -43,9 +42,7 @@ returns c =
     let v = s .args .v in
     let t = s .args .t .now in
     let w = s .args .w .now in
-    let r = Refused (k .0 .0) in
-    let no = sym (k .1) ∙ a .admit .ensures in
-    (filled-by v t w r no (roomOf (length (leaders v t)) (length (s .args .out .now))), (work-by v t w r no, (refl, λ n e. refused-made e)))
+    fills-as (admit-stop w _ (symbolCheck v t) w (k .0 .0) (sym (k .1) ∙ a .admit .ensures) refl (refl, tt)) refl
 
 same-length : tie.Need-same-length
 same-length c = search needs
@@ -62,8 +59,7 @@ returns-2 c =
     let t = s .args .t .now in
     let w = s .args .w .now in
     let made = l .list-accepted .ensures in
-    let answer = made .0 ∙ filled-by v t w Accepted (ok e) (roomOf (length (leaders v t)) (length (s .args .out .now))) in
-    (answer, (made .1 .0 ∙ work-by v t w Accepted (ok e), (made .1 .1, λ k h. generates v t (admitted v t (length w) (ok e) .0))))
+    fills-as (admit-pass w _ (symbolCheck v t) _ (ok e) (made .1) (ran (made .0))) (made .0 .answer)
 
 pub generators-spec : {M : Type 1} → statement M
 generators-spec =

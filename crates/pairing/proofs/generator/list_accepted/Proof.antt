@@ -2,8 +2,8 @@
 -- clears again. Assumes nothing.
 use mathlib.Core.Path.{_≡_, _∙_, ap}
 use lib.ListN.{length}
-use Rattle.workspace.specs.Space.{zeros}
-use Rattle.workspace.proofs.Zeros.{length-zeros}
+use Rattle.call.specs.Space.{zeros}
+use Rattle.call.proofs.Zeros.{length-zeros}
 use Rattle.symbol.specs.Table.{pairingEntries}
 use Rattle.symbol.proofs.Order.{behind}
 use Rattle.pairing.proofs.Partners.{paired-none}
@@ -68,7 +68,7 @@ returns c =
     let s = k .before .before .before .before in
     let same : length (q .pair-sides .last .1 .1 .0) ≡ length (s .args .w .now) = q .pair-sides .ensures .1 ∙ ap length (k .clear .ensures)
     ∙ length-zeros (length (s .args .w .now)) in
-    (m .list-if-room .ensures .0, (z .clear2 .ensures ∙ ap zeros same, m .list-if-room .ensures .1))
+    (m .list-if-room .ensures, z .clear2 .ensures ∙ ap zeros same)
 
 pub list-accepted-spec : {M : Type 1} → statement M
 list-accepted-spec =

@@ -1,18 +1,15 @@
 -- `list_if_room` lists the generators where they fit. Why: the sides counted are the leading ones (`prepared-count`), and each gives a row
 -- of five numbers. Assumes nothing.
 use mathlib.Core.Path.{_≡_, refl, sym, _∙_, ap}
-use mathlib.Core.List.{_++_}
+use mathlib.Core.List.{[], _++_}
 use Prim.Native.Nat.{ℕ, _+_, _*_}
 use native.Mathlib.Omega.{arith}
-use lib.Dec.{ltb}
 use lib.ListN.{length, drop}
-use borrow.Author.Tests.{lt-ltb, le-ltb}
 use Rattle.pairing.specs.Generator.{isLeaderIn, isLeader, leaders, generatorTable}
-use Rattle.refusal.specs.Refusal.{tooShort}
-use Rattle.refusal.specs.declared.Filled.the-variants as filled
-use Rattle.basics.proofs.Choice.{pick-true, pick-false}
+use Rattle.call.specs.declared.refusal.Filled.the-variants as filled
+use Rattle.call.proofs.Laws.{run-end, run-write, short-write, fills-as}
 use Rattle.basics.proofs.Count.{count-le, length-those}
-use Rattle.pairing.proofs.Rows.{prepared-long, prepared-count}
+use Rattle.pairing.proofs.Rows.{prepared-long, prepared-count, length-rows}
 use borrow.Author.Needs.{needs}
 use Rattle.pairing.proofs.generator.list_if_room.Statement.{statement}
 use Rattle.pairing.proofs.generator.list_if_room.Tie as tie
@@ -29,17 +26,19 @@ mul-needed c =
     let s = c .before .before in
     omega (arith, c .count-leaders .ensures, count-le (isLeaderIn (s .args .v) (s .args .p .now)) (s .args .v + 1), s .pre .symbol .most)
 
+-- each has a row of five numbers
+rows-long : (c : tie.After-count-leaders) → length (generatorTable (c .before .before .args .v) (c .before .before .args .t .now))
+    ≡ 5 * c .count-leaders .result
+rows-long c =
+    let s = c .before .before in
+    length-rows (s .args .v) (s .args .t .now) (leaders (s .args .v) (s .args .t .now)) ∙ ap (λ (k : ℕ). 5 * k) (sym (number c))
+
 returns : tie.Need-returns
 returns c =
     let a = c .before in
     let s = a .before .before in
-    let n = length (leaders (s .args .v) (s .args .t .now)) in
-    let room = length (s .args .out .now) in (
-      ap (λ (k : ℕ). filled.Refused (tooShort (5 * k))) (number a)
-          ∙ sym (pick-true (ltb room (5 * n)) (filled.Refused (tooShort (5 * n))) (filled.Made n)
-          (lt-ltb room (5 * n) (omega (arith, number a, c .if1 .taken)))),
-      refl,
-    )
+    fills-as
+    (short-write (generatorTable (s .args .v) (s .args .t .now)) (s .args .out .now) (5 * a .count-leaders .result) (rows-long a) [] (c .if1 .taken) tt) refl
 
 list-all-requires : tie.Need-list-all-requires
 list-all-requires c κs =
@@ -59,12 +58,10 @@ returns-2 c =
     let v = s .args .v in
     let t = s .args .t .now in
     let out = s .args .out .now in
-    let n = length (leaders v t) in
-    let room = length out in (
-      ap filled.Made (number a) ∙ sym (pick-false (ltb room (5 * n)) (filled.Refused (tooShort (5 * n))) (filled.Made n)
-          (le-ltb room (5 * n) (omega (arith, number a, d .if1 .left)))),
-      e .list-all .ensures ∙ ap (λ (k : ℕ). generatorTable v t ++ drop (5 * k) out) (sym (length-those (isLeader v t) (v + 1)) ∙ sym (number a)),
-    )
+    fills-as
+    (run-write (generatorTable v t) out (5 * a .count-leaders .result) (rows-long a) [] _ (d .if1 .left)
+    (e .list-all .ensures ∙ ap (λ (k : ℕ). generatorTable v t ++ drop (5 * k) out) (sym (length-those (isLeader v t) (v + 1)) ∙ sym (number a))) run-end)
+    (ap filled.Made (number a))
 
 pub list-if-room-spec : {M : Type 1} → statement M
 list-if-room-spec =

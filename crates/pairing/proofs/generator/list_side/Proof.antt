@@ -70,7 +70,8 @@ returns-2 : tie.Need-returns-2
 returns-2 c =
     let s = c .before .before .before in
     record {
-      more = λ o r. rw add-one (rows-no (s .args .v) (s .args .t .now) (s .args .i) (s .args .n) o (s .args .out .now) r (sym (leading (c .before)) ∙ c .if1 .left));
+      more = λ o r. rw add-one
+          (rows-no (s .args .v) (s .args .t .now) (s .args .i) (s .args .n) o (s .args .out .now) r (sym (leading (c .before)) ∙ c .if1 .left));
       long = refl;
     }
 

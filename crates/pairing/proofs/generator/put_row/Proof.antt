@@ -76,7 +76,13 @@ returns c =
     let c1 = c2 .before in
     let s = c1 .before in
     let m = s .args .t4 in
-    rw (toZ-ofZ (s .fits .kind), kept (nth m 0) (c1 .out .given), kept (nth m 1) (c2 .out2 .given), kept (nth m 2) (c3 .out3 .given), kept (nth m 3) (c .out4 .given))
+    rw (
+      toZ-ofZ (s .fits .kind),
+      kept (nth m 0) (c1 .out .given),
+      kept (nth m 1) (c2 .out2 .given),
+      kept (nth m 2) (c3 .out3 .given),
+      kept (nth m 3) (c .out4 .given),
+    )
     (five-stores (s .args .out .now) (s .args .n) (s .args .kind) (nth m 0) (nth m 1) (nth m 2) (nth m 3) (s .pre .1))
 
 pub put-row-spec : {M : Type 1} → statement M

@@ -25,7 +25,8 @@ kind : (c : tie.After-read-pairing) (q : Pairing) → c .read-pairing .result �
     → pos (kindOf (pairingOf (c .before .before .args .v) (nth (c .before .before .args .p .now) (c .before .before .args .i)))) ≡ pos (kindOf q)
 kind c q e =
     let s = c .before .before in
-    ap (λ (r : Pairing). pos (kindOf r)) (sym (rw (kept (nth (s .args .p .now) (s .args .i)) (c .before .read-pairing-arg .given)) at (c .read-pairing .ensures)) ∙ e)
+    ap (λ (r : Pairing). pos (kindOf r))
+    (sym (rw (kept (nth (s .args .p .now) (s .args .i)) (c .before .read-pairing-arg .given)) at (c .read-pairing .ensures)) ∙ e)
 
 enum-told : tie.Need-enum-told
 enum-told c = search needs

@@ -74,7 +74,8 @@ mul-w-3 : tie.Need-mul-w-3
 mul-w-3 c = search needs
 
 slice-write-w-3 : tie.Need-slice-write-w-3
-slice-write-w-3 c = simp length-set (let a = c .before in omega (arith, a .index .ensures, a .before .before .before .pre .2, a .before .before .before .pre .3))
+slice-write-w-3 c = simp length-set (let a = c .before in
+    omega (arith, a .index .ensures, a .before .before .before .pre .2, a .before .before .before .pre .3))
 
 same-length-2 : tie.Need-same-length-2
 same-length-2 c = search needs

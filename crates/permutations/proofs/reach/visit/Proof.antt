@@ -27,7 +27,8 @@ enter-requires : tie.Need-enter-requires
 enter-requires c κs =
     let s = c .before .before .before .before .before .before .before .before in
     let z = s .pre in
-    let xl = visit-low (s .args .n) _ (s .args .i) _ (s .args .seen .now) (s .args .queue .now) (z .1) (z .2) (c .before .before .before .before .index .ensures) in
+    let xl = visit-low (s .args .n) _ (s .args .i) _ (s .args .seen .now) (s .args .queue .now) (z .1) (z .2)
+    (c .before .before .before .before .index .ensures) in
     let al = entries-low _ (z .0 .S) _ _ xl (c .before .before .before .image .ensures) in
     (z .1, al)
 

@@ -44,11 +44,13 @@ same-length : tie.Need-same-length
 same-length c = search needs
 
 returns : tie.Need-returns
-returns c = let s = c .before .before .before .before .before .before .before .before .before .before .before .before .before .before .before .before in
+returns c =
+    let earlier = c .before .before .before .before .before .before .before .before .before .before in
+    let s = earlier .before .before .before .before .before .before in
     let ok = s .pre .0 in
-    let z = c .before .before .before .before .before .before .before .before .before .before .before .before .before .before .zero-vertex .ensures in
+    let z = earlier .before .before .before .before .zero-vertex .ensures in
     cut-left (s .args .t .now) (s .args .v) _ (s .args .w .now) _ _ _ _ _ _ (ok .most)
-    (c .before .before .before .before .before .before .before .before .before .before .before .before .clear-flips .ensures)
+    (earlier .before .before .clear-flips .ensures)
     (c .before .before .before .before .before .before .before .before .scan-vertices .ensures) z
     (omega (arith, z, zeroth-below (s .args .v) (s .args .t .now) ok)) (c .before .before .before .before .top-handle .ensures)
     (c .before .before .link .ensures)

@@ -27,8 +27,14 @@ denominator-requires c κs =
 
 denominator-requires-2 : tie.Need-denominator-requires-2
 denominator-requires-2 c κs =
-    let s = c .before .before .before .before .before in
-    (s .pre .0, omega (arith, c .before .top-vertex2 .ensures, below-low (s .args .v) (s .args .w .now) (s .args .n) (s .args .n - 1) (s .pre .1) (omega arith)))
+    let s = c .before .before .before .before .before in (
+      s .pre .0,
+      omega (
+        arith,
+        c .before .top-vertex2 .ensures,
+        below-low (s .args .v) (s .args .w .now) (s .args .n) (s .args .n - 1) (s .pre .1) (omega arith),
+      ),
+    )
 
 denominator-requires-3 : tie.Need-denominator-requires-3
 denominator-requires-3 c κs = search needs

@@ -45,8 +45,13 @@ loop-holds c =
 
 ready-requires : tie.Need-ready-requires Inv-loop μ-loop
 ready-requires c κs = let l = c .before in
-    let s = l .before .before in
-    (s .pre .symbol, l .loop .inv .cells, omega (arith, s .pre .next), omega (arith, l .loop .inv .count, l .loop .inv .most, l .loop .inv .next), l .loop .inv .long)
+    let s = l .before .before in (
+      s .pre .symbol,
+      l .loop .inv .cells,
+      omega (arith, s .pre .next),
+      omega (arith, l .loop .inv .count, l .loop .inv .most, l .loop .inv .next),
+      l .loop .inv .long,
+    )
 
 sub-top : tie.Need-sub-top Inv-loop μ-loop
 sub-top c = some c
@@ -72,8 +77,11 @@ add-link c = search needs
 link-requires : tie.Need-link-requires Inv-loop μ-loop
 link-requires c κs = let l = c .before .before .before .before .before .before in
     let k = some (c .before .before .before) in
-    let d = l .loop .inv in
-    (omega (arith, d .count, d .most, d .next), omega (arith, c .before .index .ensures, d .cells .handles (l .loop .n - 1) (omega arith), d .most, d .next), d .long)
+    let d = l .loop .inv in (
+      omega (arith, d .count, d .most, d .next),
+      omega (arith, c .before .index .ensures, d .cells .handles (l .loop .n - 1) (omega arith), d .most, d .next),
+      d .long,
+    )
 
 mul-link-2 : tie.Need-mul-link-2 Inv-loop μ-loop
 mul-link-2 c = search needs

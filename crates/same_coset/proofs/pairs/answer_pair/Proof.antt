@@ -1,26 +1,27 @@
--- `answer_pair` has three ways out: 8, 9, or yes or no by the places (`by-large`, `by-determinant`, `by-walk`). Assumes nothing.
+-- `answer_pair` makes the checks 8 and 9, and then it says yes or no by the places (`found-is`). Assumes nothing.
 use mathlib.Core.Path.{_≡_, sym, _∙_, ap, subst}
 use mathlib.Core.List.{List}
-use Prim.Native.Nat.{ℕ, _-_}
-use native.Mathlib.Omega.{arith}
+use Prim.Native.Nat.{ℕ}
 use lib.IntN.{ℤ}
-use Rattle.refusal.specs.Refusal.{matrixEntry, badDeterminant}
-use Rattle.word.specs.Answer.{four, foundOf}
+use Rattle.matrix.specs.Matrix.{ofList}
+use Rattle.call.specs.Refusal.{_orElse_}
+use Rattle.call.specs.declared.refusal.Checked.{Checked}
+use Rattle.call.specs.declared.refusal.Checked.the-variants.{Accepted}
+use Rattle.call.specs.Inner.Fills.{decided}
+use Rattle.word.specs.Answer.{four, matricesCheck, closes}
 use Rattle.word.proofs.Pair.{unit-is}
 use Rattle.word.proofs.Order.{passed-small, asked}
 use Rattle.word.proofs.Refused.{Passed, passed-by}
-use Rattle.sheets.proofs.Single.{by-large, by-determinant, by-walk}
-use Rattle.same_coset.specs.Answer.{sharedBy, enough}
-use Rattle.same_coset.specs.Inner.Ready.{pairShared, LineFits}
-use Rattle.t_runs.specs.Inner.Rows.{OneMatrix}
-use Rattle.same_coset.proofs.Single.{other, found-is}
+use Rattle.sheets.proofs.Single.{SmallRefusal, pair-small}
+use Rattle.same_coset.specs.Inner.Ready.{yesNo, pairShared, LineFits}
+use Rattle.same_coset.proofs.Single.{found-is}
 use Rattle.same_coset.proofs.Lines.{fits-yes-no, fits-refused}
 use borrow.Author.Needs.{needs}
 use Rattle.same_coset.proofs.pairs.answer_pair.Statement.{statement}
 use Rattle.same_coset.proofs.pairs.answer_pair.Tie as tie
 
 -- the pair that was read
-module _ (j : tie.After-judge) where
+module _ (j : tie.After-pair-check) where
   abbrev st : tie.Start
   st = j .before .before .before .before
 
@@ -35,58 +36,65 @@ module _ (j : tie.After-judge) where
       ap (λ (x : List ℤ). pairShared v t x b) (j .before .before .four-at .ensures)
       ∙ ap (pairShared v t (four (st .args .pair .now) 0)) (j .before .four-at2 .ensures)
 
+  -- the answer by the verdict of 8 and 9
+  by-verdict : (v : ℕ) (t : List ℤ) (c : Checked) → matricesCheck a b ≡ c → decided (closes v t (ofList a) (ofList b)) (c orElse Accepted) ≡ pairShared v t a b
+  by-verdict v t c e = ap (λ (x : Checked). decided (closes v t (ofList a) (ofList b)) (x orElse Accepted)) (sym e)
+
 four-at-requires : tie.Need-four-at-requires
 four-at-requires c κs = search needs
 
 four-at-requires-2 : tie.Need-four-at-requires-2
 four-at-requires-2 c κs = search needs
 
-judge-requires : tie.Need-judge-requires
-judge-requires c κs = search needs
+pair-check-requires : tie.Need-pair-check-requires
+pair-check-requires c κs = search needs
 
-returns : tie.Need-returns
-returns c =
-    let j = c .before in
-    let s = st j in
-    let k = j .judge .result in (
-      (λ v t w₀ ok g. sym (other (matrixEntry k) (λ z. omega (arith, z)))
-          ∙ ap sharedBy (by-large (a j) (b j) (s .args .w .now) (foundOf v t (a j) (b j) 0 (enough v t (a j) (b j))) (s .pre .0 .long) k (j .judge .ensures) (c .if1 .taken))
-          ∙ read j v t),
-      fits-refused (matrixEntry k) (omega arith) (omega (arith, c .if1 .taken)),
-    )
+enum-known-paired : tie.Need-enum-known-paired
+enum-known-paired c = search needs
 
-returns-2 : tie.Need-returns-2
-returns-2 c =
-    let j = c .before .before in
-    let s = st j in
-    let k = j .judge .result in (
-      (λ v t w₀ ok g. sym (other (badDeterminant (k - 8)) (λ z. omega (arith, z)))
-          ∙ ap sharedBy (by-determinant (a j) (b j) (s .args .w .now) (foundOf v t (a j) (b j) 0 (enough v t (a j) (b j))) (s .pre .0 .long) k (j .judge .ensures)
-          (c .before .if1 .left) (c .if2 .taken)) ∙ read j v t),
-      fits-refused (badDeterminant (k - 8)) (omega arith) (omega (arith, c .if2 .taken)),
-    )
+enum-told : tie.Need-enum-told
+enum-told c = search needs
+
+-- the pair passed
+module _ (d : tie.After-enum-told) where
+  abbrev made : tie.After-pair-check
+  made = d .before .before
+
+  passing : matricesCheck (a made) (b made) ≡ Accepted
+  passing = sym (made .pair-check .ensures) ∙ d .enum-told .given .1
+
+  passed : Passed (a made) (b made)
+  passed = passed-by (a made) (b made) passing
 
 share-requires : tie.Need-share-requires
 share-requires c κs =
-    let j = c .before .before in
-    let p = passed-by (a j) (b j) (j .judge .result) (j .judge .ensures) (c .if2 .left) in
+    let d = c in
+    let j = made d in
+    let p = passed d in
     let m = passed-small (a j) (b j) (p .entries) in
     (st j .pre .0, record { entries = m .0; unit = unit-is (a j) (p .A) }, record { entries = m .1; unit = unit-is (b j) (p .B) })
 
 yes-or-no-requires : tie.Need-yes-or-no-requires
 yes-or-no-requires c κs = search needs
 
-returns-3 : tie.Need-returns-3
-returns-3 c =
-    let j = c .before .before .before .before in
+returns : tie.Need-returns
+returns c =
+    let j = c .before .before .before in
+    let f = c .before .paired .given .0 .0 in
+    let is = sym (j .pair-check .ensures) ∙ c .before .paired .given .1 in (
+      (λ v t w₀ ok g. by-verdict j v t _ is ∙ read j v t),
+      fits-refused f (subst SmallRefusal is (pair-small (a j) (b j))),
+    )
+
+returns-2 : tie.Need-returns-2
+returns-2 c =
+    let d = c .before .before in
+    let j = made d in
     let s = st j in
-    let k = j .judge .result in
-    let left = c .before .before .if2 .left in
-    let p = passed-by (a j) (b j) k (j .judge .ensures) left in
     let h = c .before .share in (
-      (λ v t w₀ ok g. c .yes-or-no .ensures ∙ found-is {w = s .args .w .now} (asked (a j) (b j) ok (s .pre .0 .long) p) (h .result) (h .ensures v t w₀ ok g)
-          ∙ ap sharedBy (by-walk (a j) (b j) (s .args .w .now) (foundOf v t (a j) (b j) 0 (enough v t (a j) (b j))) (s .pre .0 .long) k (j .judge .ensures) left)
-          ∙ read j v t),
+      (λ v t w₀ ok g. c .yes-or-no .ensures
+          ∙ ap yesNo (found-is {w = s .args .w .now} (asked (a j) (b j) ok (s .pre .0 .long) (passed d)) (h .result) (h .ensures v t w₀ ok g))
+          ∙ by-verdict j v t Accepted (passing d) ∙ read j v t),
       subst LineFits (sym (c .yes-or-no .ensures)) (fits-yes-no (h .result)),
     )
 
@@ -96,9 +104,10 @@ answer-pair-spec =
     (tie.spec
     four-at-requires
     four-at-requires-2
-    judge-requires
-    returns
-    returns-2
+    pair-check-requires
+    enum-known-paired
+    enum-told
     share-requires
     yes-or-no-requires
-    returns-3)
+    returns
+    returns-2)

@@ -65,7 +65,8 @@ loop-again c =
     let s = l .before .before in
     let k = 8 * l .loop .i in
     let p = s .args .p .now in (
-      pairs-more (s .args .n) (s .args .w .now) p (s .args .lines .now) (l .loop .i) (l .loop .inv .0) (ap (λ (j : ℕ). take j (drop k p)) (add-sub-cancel-left k 8))
+      pairs-more (s .args .n) (s .args .w .now) p (s .args .lines .now) (l .loop .i) (l .loop .inv .0)
+          (ap (λ (j : ℕ). take j (drop k p)) (add-sub-cancel-left k 8))
           (a .answer-pair .ensures .0) (c .before .write-line .ensures),
       omega (arith, a .before .before .loop-test .taken),
       c .lines .given ∙ l .loop .inv .2,

@@ -1,13 +1,14 @@
 -- `fill` has two ways out: a line table that is too short, and the answers for all pairs. Assumes nothing.
 use mathlib.Core.Path.{refl, _∙_, ap}
 use mathlib.Core.List.{_++_}
-use Prim.Native.Nat.{ℕ, _*_, _/_}
+use Prim.Native.Nat.{ℕ, _*_}
 use native.Mathlib.Omega.{arith}
 use lib.ListN.{length, drop}
-use Rattle.workspace.specs.Space.{zeros}
-use Rattle.coset.proofs.Answer.{one-short, one-room}
+use Rattle.call.specs.Space.{zeros}
+use Rattle.call.proofs.Laws.{fills-as}
 use Rattle.sheets.specs.Sheet.{pairsIn}
 use Rattle.same_coset.specs.Pairs.{cosetLines}
+use Rattle.same_coset.proofs.Whole.{no-room, in-room}
 use borrow.Author.Needs.{needs}
 use Rattle.same_coset.proofs.pairs.fill.Statement.{statement}
 use Rattle.same_coset.proofs.pairs.fill.Tie as tie
@@ -20,8 +21,10 @@ same-length c = search needs
 
 returns : tie.Need-returns
 returns c =
-    let s = c .before .before .before .before .before .before in
-    (one-short (pairsIn (s .args .p .now)) (length (s .args .lines .now) / 2) (c .before .before .before .before .if1 .taken), (c .before .before .clear .ensures, refl))
+    let g = c .before .before .before .before .before .before .args in (
+      fills-as (no-room (g .v) (g .t .now) (g .p .now) (length (g .w .now)) (g .lines .now) (c .before .before .before .before .if1 .taken)) refl,
+      c .before .before .clear .ensures,
+    )
 
 prepare-requires : tie.Need-prepare-requires
 prepare-requires c κs = let s = c .before .before .before in (s .pre .symbol, s .pre .work)
@@ -49,11 +52,11 @@ returns-2 c =
     let t = s .args .t .now in
     let p = s .args .p .now in
     let n = pairsIn p in (
-      one-room n (length (s .args .lines .now) / 2) (c .before .before .before .before .before .before .before .before .before .before .before .before .if1 .left),
-      (
-        c .before .before .clear2 .ensures ∙ ap zeros (g .same),
-        a v t (s .args .w .now) (s .pre .symbol) g ∙ ap (λ (k : ℕ). cosetLines v t p k n ++ drop (2 * n) (s .args .lines .now)) (g .same),
-      ),
+      fills-as
+          (in-room v t p (length (s .args .w .now)) (s .args .lines .now) _
+          (c .before .before .before .before .before .before .before .before .before .before .before .before .if1 .left)
+          (a v t (s .args .w .now) (s .pre .symbol) g ∙ ap (λ (k : ℕ). cosetLines v t p k n ++ drop (2 * n) (s .args .lines .now)) (g .same))) refl,
+      c .before .before .clear2 .ensures ∙ ap zeros (g .same),
     )
 
 pub fill-spec : {M : Type 1} → statement M

@@ -1,13 +1,14 @@
--- `same_cosets` meets its contract. Its ways out are the cases of `sameCosetsOf` in order (`by-ragged`, `by-symbol`, `by-work`, `by-fill`). Assumes nothing.
-use mathlib.Core.Path.{_≡_, refl, sym, _∙_}
-use mathlib.Core.Bool.{false}
-use Prim.Native.Nat.{_/_}
+-- `same_cosets` meets its contract: its ways out are those of its steps in order (`by-first`, `by-second`, `by-short`, `by-long`). Assumes nothing.
+use mathlib.Core.Path.{_≡_, refl, sym, _∙_, ap}
+use mathlib.Core.Bool.{Bool, false}
 use lib.ListN.{length}
-use Rattle.refusal.specs.declared.Checked.the-variants.{Accepted}
-use Rattle.symbol.specs.Check.{symbolCheck}
-use Rattle.symbol.proofs.Accepted.{accepted}
-use Rattle.same_coset.specs.Pairs.{ragged}
-use Rattle.same_coset.proofs.Whole.{by-ragged, by-symbol, by-work, by-fill, many-refused, many-mean}
+use Rattle.call.specs.Refusal.{tooShort}
+use Rattle.call.specs.declared.refusal.Checked.the-variants.{Accepted}
+use Rattle.call.proofs.Laws.{fills-as, ran}
+use Rattle.symbol.specs.Check.{refuse, symbolCheck}
+use Rattle.symbol.proofs.Accepted.{accepted, pass}
+use Rattle.word.proofs.Refused.{by-first, by-second, by-short, by-long}
+use Rattle.same_coset.specs.Pairs.{ragged, wholePairs, wholeCheck}
 use borrow.Author.Needs.{needs}
 use Rattle.same_coset.proofs.pairs.same_cosets.Statement.{statement}
 use Rattle.same_coset.proofs.pairs.same_cosets.Tie as tie
@@ -19,6 +20,9 @@ module _ (e : tie.After-enum-told) where
 
   counted : ragged (length (st .args .p .now)) ≡ false
   counted = sym (e .before .before .before .before .is-ragged .ensures) ∙ e .before .before .before .if1 .left
+
+  whole : wholeCheck (length (st .args .p .now)) ≡ Accepted
+  whole = pass (ragged (length (st .args .p .now))) (tooShort (wholePairs (length (st .args .p .now)))) counted
 
   ok : symbolCheck (st .args .v) (st .args .t .now) ≡ Accepted
   ok = sym (e .before .before .check .ensures .returned) ∙ e .enum-told .given .1
@@ -35,8 +39,9 @@ mul-t13 c = search needs
 returns : tie.Need-returns
 returns c =
     let a = c .before .before .before .args in
-    let k = by-ragged (a .v) (a .t .now) (length (a .p .now)) (a .w .now) (length (a .lines .now)) (sym (c .before .is-ragged .ensures) ∙ c .if1 .taken) in
-    (k .0, (k .1, (refl, many-refused (a .v) (a .t .now) (a .p .now) (a .w .now) _)))
+    let needed = tooShort (wholePairs (length (a .p .now))) in
+    fills-as (by-first (wholeCheck (length (a .p .now))) (symbolCheck (a .v) (a .t .now)) (a .w .now) _ needed
+    (ap (λ (b : Bool). refuse b needed) (sym (c .before .is-ragged .ensures) ∙ c .if1 .taken)) (refl, tt)) refl
 
 check-requires : tie.Need-check-requires
 check-requires c κs = search needs
@@ -51,8 +56,7 @@ returns-2 : tie.Need-returns-2
 returns-2 c =
     let e = c .before in
     let a = st e .args in
-    let k = by-work (a .v) (a .t .now) (length (a .p .now)) (a .w .now) (length (a .lines .now)) (counted e) (ok e) (c .if2 .taken) in
-    (k .0, (k .1, (refl, many-refused (a .v) (a .t .now) (a .p .now) (a .w .now) _)))
+    fills-as (by-short (wholeCheck (length (a .p .now))) (symbolCheck (a .v) (a .t .now)) (a .w .now) _ (whole e) (ok e) (c .if2 .taken) (refl, tt)) refl
 
 fill-requires : tie.Need-fill-requires
 fill-requires c κs =
@@ -65,9 +69,11 @@ returns-3 c =
     let k = c .before .checked .given in
     let h = c .before .before .before in
     let a = h .before .before .before .before .args in
-    let b = by-symbol (a .v) (a .t .now) (length (a .p .now)) (a .w .now) (length (a .lines .now)) (sym (h .before .before .is-ragged .ensures) ∙ h .before .if1 .left)
-    (k .0 .0) (sym (h .check .ensures .returned) ∙ k .1) in
-    (b .0, (b .1, (refl, many-refused (a .v) (a .t .now) (a .p .now) (a .w .now) _)))
+    let n = length (a .p .now) in
+    fills-as
+    (by-second (wholeCheck (length (a .p .now))) (symbolCheck (a .v) (a .t .now)) (a .w .now) _
+    (pass (ragged n) (tooShort (wholePairs n)) (sym (h .before .before .is-ragged .ensures) ∙ h .before .if1 .left)) (k .0 .0)
+    (sym (h .check .ensures .returned) ∙ k .1) (refl, tt)) refl
 
 same-length : tie.Need-same-length
 same-length c = search needs
@@ -77,13 +83,12 @@ same-length-2 c = search needs
 
 returns-4 : tie.Need-returns-4
 returns-4 c =
-    let f = c .before .before .before .fill in
+    let f = c .before .before .before .fill .ensures in
     let h = c .before .before .before .before .before .before in
     let e = h .before in
     let a = st e .args in
-    let k = by-fill (a .v) (a .t .now) (length (a .p .now)) (a .w .now) (length (a .lines .now)) (counted e) (ok e) (h .if2 .left) in
-    let g = f .ensures in
-    (g .0 ∙ k .0, (g .1 .0 ∙ k .1, (g .1 .1, many-mean (a .v) (a .t .now) (a .p .now) (a .w .now) (length (a .lines .now) / 2) (f .result) (g .0))))
+    fills-as (by-long (wholeCheck (length (a .p .now))) (symbolCheck (a .v) (a .t .now)) (a .w .now) _ (whole e) (ok e) _ (h .if2 .left) (f .1) (ran (f .0)))
+    (f .0 .answer)
 
 pub same-cosets-spec : {M : Type 1} → statement M
 same-cosets-spec =

@@ -1,7 +1,7 @@
 -- `write_line` puts the line of each answer, whose numbers fit. Assumes nothing.
 use mathlib.Core.Path.{_∙_}
 use Rattle.matrix.proofs.Bounds.{kept}
-use Rattle.same_coset.specs.declared.Shared.the-variants as shared
+use Rattle.call.specs.declared.Decision.the-variants as decision
 use Rattle.same_coset.proofs.Lines.{line-is, line-refused}
 use borrow.Author.Needs.{needs}
 use Rattle.same_coset.proofs.pairs.write_line.Statement.{statement}
@@ -37,7 +37,7 @@ same-length c = search needs
 returns : tie.Need-returns
 returns c =
     let st = c .before .before .before .before .before in
-    c .before .put-two .ensures ∙ line-is (st .args .i) (st .args .lines .now) (st .args .answer) shared.Yes (c .before .before .before .enum-told .given .1)
+    c .before .put-two .ensures ∙ line-is (st .args .i) (st .args .lines .now) (st .args .answer) decision.Yes (c .before .before .before .enum-told .given .1)
 
 same-length-2 : tie.Need-same-length-2
 same-length-2 c = search needs
@@ -45,7 +45,7 @@ same-length-2 c = search needs
 returns-2 : tie.Need-returns-2
 returns-2 c =
     let st = c .before .before .before .before .before in
-    c .before .put-two2 .ensures ∙ line-is (st .args .i) (st .args .lines .now) (st .args .answer) shared.No (c .before .before .before .enum-told2 .given .1)
+    c .before .put-two2 .ensures ∙ line-is (st .args .i) (st .args .lines .now) (st .args .answer) decision.No (c .before .before .before .enum-told2 .given .1)
 
 same-length-3 : tie.Need-same-length-3
 same-length-3 c = search needs

@@ -1,0 +1,64 @@
+-- `contains` meets its contract: where `admit_both` refuses, all is as it was (`refused-both`); else both tables are symbols, the one is followed in the other,
+-- and the work space is cleared (`decided-both`). Assumes nothing.
+use mathlib.Core.Path.{refl, sym, _∙_}
+use lib.ListN.{length}
+use Rattle.pairing.proofs.Both.{both-admitted, refused-both, decided-both}
+use Rattle.containment.specs.TwoSymbols.{contained}
+use borrow.Author.Needs.{needs}
+use Rattle.containment.proofs.inclusion.contains.Statement.{statement}
+use Rattle.containment.proofs.inclusion.contains.Tie as tie
+
+admit-both-requires : tie.Need-admit-both-requires
+admit-both-requires c κs = search needs
+
+enum-known-admitted : tie.Need-enum-known-admitted
+enum-known-admitted c = search needs
+
+enum-told : tie.Need-enum-told
+enum-told c = search needs
+
+contains-accepted-requires : tie.Need-contains-accepted-requires
+contains-accepted-requires c κs =
+    let e = c .before in
+    let k = e .before .before in
+    let s = k .before .before in
+    both-admitted (s .args .v) (s .args .t .now) (s .args .n) (s .args .u .now) (length (s .args .w .now))
+    (sym (e .enum-told .given .1) ∙ k .admit-both .ensures)
+
+yes-or-no-requires : tie.Need-yes-or-no-requires
+yes-or-no-requires c κs = search needs
+
+returns : tie.Need-returns
+returns c =
+    let e = c .before in
+    let k = e .before .before in
+    let s = k .before .before in
+    refused-both (s .args .v) (s .args .t .now) (s .args .n) (s .args .u .now) (s .args .w .now) _
+    (contained (s .args .n) (s .args .u .now) (s .args .v) (s .args .t .now))
+    (e .admitted .given .0 .0) (sym (e .admitted .given .1) ∙ k .admit-both .ensures) refl
+
+same-length : tie.Need-same-length
+same-length c = search needs
+
+returns-2 : tie.Need-returns-2
+returns-2 c =
+    let m = c .before .before .before in
+    let e = m .before .before in
+    let k = e .before .before in
+    let s = k .before .before in
+    let w = s .args .w .now in
+    decided-both (s .args .v) (s .args .t .now) (s .args .n) (s .args .u .now) w _ _ (sym (e .enum-told .given .1) ∙ k .admit-both .ensures)
+    (m .contains-accepted .ensures .1) (m .contains-accepted .ensures .0) (c .yes-or-no .ensures)
+
+pub contains-spec : {M : Type 1} → statement M
+contains-spec =
+    tie.close
+    (tie.spec
+    admit-both-requires
+    enum-known-admitted
+    enum-told
+    contains-accepted-requires
+    yes-or-no-requires
+    returns
+    same-length
+    returns-2)

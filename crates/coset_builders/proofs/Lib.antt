@@ -1,3 +1,0 @@
--- Why every builder keeps the standing rule, and why every genus is a number.
-pub mod Builders
-pub mod Genus

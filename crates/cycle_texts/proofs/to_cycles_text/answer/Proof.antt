@@ -1,0 +1,60 @@
+-- `answer` meets its contract. An input that was read: the arrays are long enough, and the bytes mean what they
+-- should (`print-means`). One that could not be read: nothing is done. Assumes nothing.
+use mathlib.Core.Path.{refl}
+use native.Mathlib.Omega.{arith}
+use Rattle.text.proofs.InputText.{when-read, when-failed}
+use Rattle.text.proofs.Placing.{puts-within, puts-front}
+use Rattle.cycle_texts.proofs.ToCyclesPrinting.{print-means}
+use borrow.Author.Needs.{needs}
+use Rattle.cycle_texts.proofs.to_cycles_text.answer.Statement.{statement}
+use Rattle.cycle_texts.proofs.to_cycles_text.answer.Tie as tie
+
+enum-known-input : tie.Need-enum-known-input
+enum-known-input c = search needs
+
+enum-told : tie.Need-enum-told
+enum-told c = search needs
+
+returns : tie.Need-returns
+returns c = (omega arith, when-failed (c .enum-told .given .1) (refl, refl))
+
+text-end-requires : tie.Need-text-end-requires
+text-end-requires c κs = search needs
+
+slice-aggregate-to-cycles-text : tie.Need-slice-aggregate-to-cycles-text
+slice-aggregate-to-cycles-text c = c .before .text-end .ensures .long
+
+slice-aggregate-to-cycles-text-2 : tie.Need-slice-aggregate-to-cycles-text-2
+slice-aggregate-to-cycles-text-2 c = search needs
+
+slice-aggregate-to-cycles-text-3 : tie.Need-slice-aggregate-to-cycles-text-3
+slice-aggregate-to-cycles-text-3 c = search needs
+
+slice-aggregate-to-cycles-text-4 : tie.Need-slice-aggregate-to-cycles-text-4
+slice-aggregate-to-cycles-text-4 c = search needs
+
+to-cycles-text-requires : tie.Need-to-cycles-text-requires
+to-cycles-text-requires c κs = (omega arith, omega arith, omega arith, omega arith)
+
+returns-2 : tie.Need-returns-2
+returns-2 c =
+    let ended = c .before .before .before .before .before .before .before .before .before in
+    let p = c .before .before .before .to-cycles-text .ensures in (
+      omega (arith, puts-within p (omega arith) (omega arith)),
+      when-read (ended .before .before .input .given .1) (ended .text-end .ensures) (p, print-means _ _ _ (puts-front p)),
+    )
+
+pub answer-spec : {M : Type 1} → statement M
+answer-spec =
+    tie.close
+    (tie.spec
+    enum-known-input
+    enum-told
+    returns
+    text-end-requires
+    slice-aggregate-to-cycles-text
+    slice-aggregate-to-cycles-text-2
+    slice-aggregate-to-cycles-text-3
+    slice-aggregate-to-cycles-text-4
+    to-cycles-text-requires
+    returns-2)

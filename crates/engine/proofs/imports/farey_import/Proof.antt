@@ -1,0 +1,30 @@
+-- `farey_import` meets its contract (`call-made`, `import-says`). Assumes nothing.
+use Rattle.import_rule.specs.Order.{leftmost}
+use Rattle.call.proofs.Laws.{call-made}
+use Rattle.permutations.proofs.Means.{import-says}
+use borrow.Author.Needs.{needs}
+use Rattle.engine.proofs.imports.farey_import.Statement.{statement}
+use Rattle.engine.proofs.imports.farey_import.Tie as tie
+
+import-requires : tie.Need-import-requires
+import-requires c κs = search needs
+
+of-filled-requires : tie.Need-of-filled-requires
+of-filled-requires c κs = search needs
+
+same-length : tie.Need-same-length
+same-length c = search needs
+
+same-length-2 : tie.Need-same-length-2
+same-length-2 c = search needs
+
+returns : tie.Need-returns
+returns c =
+    let q = c .before .before .before .before .import in
+    let s = c .before .before .before .before .before .before .before .before .before .before in
+    let k = c .of-filled .ensures in
+    call-made _ (import-says leftmost (s .args .s .now) (s .args .r .now) (s .args .w .now) (s .args .out .now)) (q .ensures) (k .0) (k .1)
+
+pub farey-import-spec : {M : Type 1} → statement M
+farey-import-spec =
+    tie.close (tie.spec import-requires of-filled-requires same-length same-length-2 returns)

@@ -1,0 +1,33 @@
+-- `farey_named_query` meets its contract: what its query promises (`named-call`). Assumes nothing.
+use Rattle.import_rule.specs.Order.{leftmost}
+use Rattle.named_groups.specs.Answer.{namedRule, ruledSign}
+use Rattle.engine.proofs.Said.{call-word, named-call}
+use borrow.Author.Needs.{needs}
+use Rattle.engine.proofs.named.farey_named_query.Statement.{statement}
+use Rattle.engine.proofs.named.farey_named_query.Tie as tie
+
+named-query-requires : tie.Need-named-query-requires
+named-query-requires c κs = search needs
+
+of-query-requires : tie.Need-of-query-requires
+of-query-requires c κs = search needs
+
+same-length : tie.Need-same-length
+same-length c = search needs
+
+same-length-2 : tie.Need-same-length-2
+same-length-2 c = search needs
+
+returns : tie.Need-returns
+returns c =
+    let q = c .before .before .before .before .named-query in
+    let s = c .before .before .before .before .before .before .before .before .before .before .args in
+    let k = c .of-query .ensures in
+    call-word _ (s .start) (ruledSign (namedRule leftmost (s .family) (s .n)) (s .a .now) (s .b .now))
+    (named-call leftmost (s .family) (s .n) (s .a .now) (s .b .now) (s .w .now) (q .last .1 .1 .1 .1 .0) (s .out .now) (q .last .1 .1 .1 .1 .1 .0) (s .start)
+    (q .ensures .leaves))
+    (q .ensures .leaves) (q .ensures .answer) (k .0) (k .1)
+
+pub farey-named-query-spec : {M : Type 1} → statement M
+farey-named-query-spec =
+    tie.close (tie.spec named-query-requires of-query-requires same-length same-length-2 returns)

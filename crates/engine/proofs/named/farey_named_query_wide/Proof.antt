@@ -1,0 +1,33 @@
+-- `farey_named_query_wide` meets its contract: what its query promises (`named-call`). Assumes nothing.
+use Rattle.import_rule.specs.Order.{longestOpen}
+use Rattle.named_groups.specs.Answer.{namedRule, ruledSign}
+use Rattle.engine.proofs.Said.{call-word, named-call}
+use borrow.Author.Needs.{needs}
+use Rattle.engine.proofs.named.farey_named_query_wide.Statement.{statement}
+use Rattle.engine.proofs.named.farey_named_query_wide.Tie as tie
+
+named-query-wide-requires : tie.Need-named-query-wide-requires
+named-query-wide-requires c κs = search needs
+
+of-query-requires : tie.Need-of-query-requires
+of-query-requires c κs = search needs
+
+same-length : tie.Need-same-length
+same-length c = search needs
+
+same-length-2 : tie.Need-same-length-2
+same-length-2 c = search needs
+
+returns : tie.Need-returns
+returns c =
+    let q = c .before .before .before .before .named-query-wide in
+    let s = c .before .before .before .before .before .before .before .before .before .before .args in
+    let k = c .of-query .ensures in
+    call-word _ (s .start) (ruledSign (namedRule longestOpen (s .family) (s .n)) (s .a .now) (s .b .now))
+    (named-call longestOpen (s .family) (s .n) (s .a .now) (s .b .now) (s .w .now) (q .last .1 .1 .1 .1 .0) (s .out .now) (q .last .1 .1 .1 .1 .1 .0)
+    (s .start) (q .ensures .leaves))
+    (q .ensures .leaves) (q .ensures .answer) (k .0) (k .1)
+
+pub farey-named-query-wide-spec : {M : Type 1} → statement M
+farey-named-query-wide-spec =
+    tie.close (tie.spec named-query-wide-requires of-query-requires same-length same-length-2 returns)

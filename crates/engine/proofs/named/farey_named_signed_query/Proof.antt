@@ -1,0 +1,53 @@
+-- `farey_named_signed_query` meets its contract: what its query promises (`named-signed-call`), with the sign. Assumes nothing.
+use mathlib.Core.Path.{ap, _∙_}
+use mir.Facts.{toZ-ofZ}
+use mir.Syntax.{w64}
+use lib.ListN.{length}
+use Rattle.call.specs.Call.{verdict}
+use Rattle.matrix.proofs.Bounds.{kept}
+use Rattle.import_rule.specs.Order.{leftmost}
+use Rattle.named_groups.specs.Answer.{namedRule, ruledWord, ruledSign}
+use Rattle.named_groups.proofs.Asking.{namedRun}
+use Rattle.engine.specs.Exported.{signWritten}
+use Rattle.engine.proofs.Said.{call-word, sign-left, named-signed-call}
+use borrow.Author.Needs.{needs}
+use Rattle.engine.proofs.named.farey_named_signed_query.Statement.{statement}
+use Rattle.engine.proofs.named.farey_named_signed_query.Tie as tie
+
+named-query-requires : tie.Need-named-query-requires
+named-query-requires c κs = search needs
+
+sign-written-requires : tie.Need-sign-written-requires
+sign-written-requires c κs = search needs
+
+of-query-requires : tie.Need-of-query-requires
+of-query-requires c κs = search needs
+
+same-length : tie.Need-same-length
+same-length c = search needs
+
+same-length-2 : tie.Need-same-length-2
+same-length-2 c = search needs
+
+returns : tie.Need-returns
+returns c =
+    let q = c .before .before .before .before .before .before .named-query in
+    let s = c .before .before .before .before .before .before .before .before .before .before .before .before .args in
+    let k = c .of-query .ensures in
+    let x = c .before .sign-written in
+    let told = toZ-ofZ {w = w64} {z = x .result} (record { sfits = x .ok }) ∙ x .ensures ∙ ap (signWritten (q .result))
+    (kept (s .sign .now) (c .before .before .sign-written-arg .given)) in
+    let sign = sign-left (s .start) (length (ruledWord (namedRule leftmost (s .family) (s .n)) (s .a .now) (s .b .now)))
+    (ruledSign (namedRule leftmost (s .family) (s .n)) (s .a .now) (s .b .now))
+    (verdict (namedRun leftmost (s .family) (s .n) (s .a .now) (s .b .now) (s .w .now) (q .last .1 .1 .1 .1 .0) (s .out .now) (q .last .1 .1 .1 .1 .1 .0)
+    (s .start)))
+    (q .ensures .answer) (s .sign .now) told in
+    call-word _ (s .start) (ruledSign (namedRule leftmost (s .family) (s .n)) (s .a .now) (s .b .now))
+    (named-signed-call leftmost (s .family) (s .n) (s .a .now) (s .b .now) (s .w .now) (q .last .1 .1 .1 .1 .0) (s .out .now) (q .last .1 .1 .1 .1 .1 .0)
+    (s .start) (q .ensures .leaves)
+    _ (s .sign .now) sign)
+    (q .ensures .leaves .0, (q .ensures .leaves .1 .0, (sign, tt))) (q .ensures .answer) (k .0) (k .1)
+
+pub farey-named-signed-query-spec : {M : Type 1} → statement M
+farey-named-signed-query-spec =
+    tie.close (tie.spec named-query-requires sign-written-requires of-query-requires same-length same-length-2 returns)

@@ -1,2 +1,0 @@
--- Laws of the lines of an exchange and of what is left.
-pub mod Printing

@@ -1,0 +1,2 @@
+-- Laws of the program `farey` that belong to no one function.
+pub mod Names

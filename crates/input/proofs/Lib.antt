@@ -1,2 +1,0 @@
--- The laws of an input's text.
-pub mod Text

@@ -1,2 +1,0 @@
--- Why each of the starred instances holds.
-pub mod Instances

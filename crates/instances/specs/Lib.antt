@@ -1,2 +1,0 @@
--- What a reader of the crate `instances` must believe.
-pub mod Instances

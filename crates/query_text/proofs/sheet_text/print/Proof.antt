@@ -1,0 +1,64 @@
+-- `print` meets its contract. An input that was read: the arrays are long enough, and the bytes mean what the claims say
+-- (`print-means`). One that could not be read: nothing is done. Assumes nothing.
+use mathlib.Core.Path.{refl}
+use native.Mathlib.Omega.{arith}
+use Rattle.text.proofs.InputText.{when-read, when-failed}
+use Rattle.text.proofs.Placing.{puts-within, puts-front}
+use Rattle.query_text.proofs.SheetAnswers.{print-means}
+use borrow.Author.Needs.{needs}
+use Rattle.query_text.proofs.sheet_text.print.Statement.{statement}
+use Rattle.query_text.proofs.sheet_text.print.Tie as tie
+
+enum-known-input : tie.Need-enum-known-input
+enum-known-input c = search needs
+
+enum-told : tie.Need-enum-told
+enum-told c = search needs
+
+returns : tie.Need-returns
+returns c = (omega arith, when-failed (c .enum-told .given .1) (refl, refl))
+
+text-end-requires : tie.Need-text-end-requires
+text-end-requires c κs = search needs
+
+slice-aggregate-print-text : tie.Need-slice-aggregate-print-text
+slice-aggregate-print-text c = search needs
+
+slice-aggregate-print-text-2 : tie.Need-slice-aggregate-print-text-2
+slice-aggregate-print-text-2 c = search needs
+
+slice-aggregate-print-text-3 : tie.Need-slice-aggregate-print-text-3
+slice-aggregate-print-text-3 c = search needs
+
+slice-aggregate-print-text-4 : tie.Need-slice-aggregate-print-text-4
+slice-aggregate-print-text-4 c = search needs
+
+slice-aggregate-print-text-5 : tie.Need-slice-aggregate-print-text-5
+slice-aggregate-print-text-5 c = search needs
+
+print-text-requires : tie.Need-print-text-requires
+print-text-requires c κs = search needs
+
+returns-2 : tie.Need-returns-2
+returns-2 c =
+    let ended = c .before .before .before .before .before .before .before .before .before .before .before in
+    let p = c .before .before .before .before .print-text .ensures in (
+      omega (arith, puts-within p (omega arith) (omega arith)),
+      when-read (ended .before .before .input .given .1) (ended .text-end .ensures) (p, print-means _ _ (puts-front p)),
+    )
+
+pub print-spec : {M : Type 1} → statement M
+print-spec =
+    tie.close
+    (tie.spec
+    enum-known-input
+    enum-told
+    returns
+    text-end-requires
+    slice-aggregate-print-text
+    slice-aggregate-print-text-2
+    slice-aggregate-print-text-3
+    slice-aggregate-print-text-4
+    slice-aggregate-print-text-5
+    print-text-requires
+    returns-2)

@@ -1,0 +1,64 @@
+-- The lines.
+--     yes-line, no-line, refused-line     the line for an answer of `same`
+--     rest-part                           the numbers behind v, as the code lends them
+--     numbers-line                        the line for two symbols' numbers
+--     print-means                         what the bytes mean
+-- Assumes nothing.
+use mathlib.Core.Path.{_≡_, sym, ap, _∙_}
+use mathlib.Core.Bool.{Bool}
+use mathlib.Core.List.{List, [], _∷_}
+use Prim.Native.Nat.{ℕ, _-_, _≤_}
+use lib.IntN.{ℤ}
+use lib.ListN.{length, take, drop, length-drop}
+use lib.Seq.{take-length}
+use Rattle.call.specs.Refusal.{_orElse_}
+use Rattle.call.specs.declared.refusal.Refusal.{Refusal}
+use Rattle.call.specs.Space.{workLength}
+use Rattle.call.specs.Call.{Asks, Clears, lengthCheck}
+use Rattle.call.specs.Inner.Fills.{Fills, decided}
+use Rattle.call.specs.declared.Decision.{Decision}
+use Rattle.call.specs.declared.Decision.the-variants as decision
+use Rattle.text.specs.Line.{spaced, line, refusalLine}
+use Rattle.symbol.specs.Check.{symbolCheck}
+use Rattle.pairing.proofs.Both.{with-space}
+use Rattle.containment.specs.Group.{sameTables}
+use Rattle.containment.proofs.Means.{decides-same, decides-different}
+use Rattle.subgroup_texts.specs.SameAnswer.{sameLine, countedIn, tableIn, two, twoLines, sameBytes, SamePrintMeans}
+
+pub yes-line : (a : Decision) → a ≡ decision.Yes → 115 ∷ 97 ∷ 109 ∷ 101 ∷ 10 ∷ [] ≡ sameLine a
+unfolding line spaced
+yes-line a e = sym (ap sameLine e)
+
+pub no-line : (a : Decision) → a ≡ decision.No → 100 ∷ 105 ∷ 102 ∷ 102 ∷ 101 ∷ 114 ∷ 101 ∷ 110 ∷ 116 ∷ 10 ∷ [] ≡ sameLine a
+unfolding line spaced
+no-line a e = sym (ap sameLine e)
+
+pub refused-line : (a : Decision) (f : Refusal) → a ≡ decision.Refused f → refusalLine f ≡ sameLine a
+refused-line a f e = sym (ap sameLine e)
+
+pub rest-part : {A : Type 0} (k : ℕ) (l : List A) → take (length l - k) (drop k l) ≡ drop k l
+rest-part {A} k l = ap (λ (n : ℕ). take n (drop k l)) (sym (length-drop k l)) ∙ take-length (drop k l)
+
+-- two tables by equals
+both-as : {X : Type 0} {v v' n n' : ℕ} {t t' u u' : List ℤ} (f : ℕ → List ℤ → ℕ → List ℤ → X) → v ≡ v' → t ≡ t' → n ≡ n' → u ≡ u' → f v t n u ≡ f v' t' n' u'
+both-as f e g h k = cc
+
+abbrev answered : (v : ℕ) (t : List ℤ) (n : ℕ) (u : List ℤ) → Decision
+answered v t n u = decided (sameTables v t n u) (symbolCheck v t orElse symbolCheck n u)
+
+-- in a work space that is long enough
+pub numbers-line : (one other : List ℤ) {v n : ℕ} {t u : List ℤ} → v ≡ countedIn one → t ≡ tableIn one → n ≡ countedIn other → u ≡ tableIn other
+    → {a : Decision} {w w' : List ℕ}
+    → Fills (Asks (symbolCheck v t) ∷ Asks (symbolCheck n u) ∷ Asks (lengthCheck workLength (length w)) ∷ Clears w w' ∷ []) (decided (sameTables v t n u)) a
+    → workLength ≤ length w → sameLine a ≡ twoLines (two one other)
+numbers-line one other {v} {n} {t} {u} e g h k {a} {w} is l =
+    ap sameLine
+    (is .answer ∙ ap (decided (sameTables v t n u)) (with-space (symbolCheck v t) (symbolCheck n u) (length w) l) ∙ both-as answered e g h k)
+
+pub print-means : (longer : Bool) (t bytes : List ℕ) → bytes ≡ sameBytes longer t → SamePrintMeans longer t bytes
+unfolding sameBytes
+print-means longer t bytes e ns ms g = record {
+  line = e ∙ ap twoLines g;
+  same = decides-same (countedIn ns) (tableIn ns) (countedIn ms) (tableIn ms);
+  different = decides-different (countedIn ns) (tableIn ns) (countedIn ms) (tableIn ms);
+}

@@ -1,0 +1,48 @@
+-- `answer` meets its contract. An input that was read: the bytes are the line of the answer of `same`, which means what it
+-- says (`print-means`). One that could not be read: nothing is done. Assumes nothing.
+use mathlib.Core.Path.{refl}
+use native.Mathlib.Omega.{arith}
+use Rattle.text.proofs.InputText.{when-read, when-failed}
+use Rattle.text.proofs.Placing.{puts-within, puts-front}
+use Rattle.subgroup_texts.proofs.SameLines.{print-means}
+use borrow.Author.Needs.{needs}
+use Rattle.subgroup_texts.proofs.same_text.answer.Statement.{statement}
+use Rattle.subgroup_texts.proofs.same_text.answer.Tie as tie
+
+enum-known-input : tie.Need-enum-known-input
+enum-known-input c = search needs
+
+enum-told : tie.Need-enum-told
+enum-told c = search needs
+
+returns : tie.Need-returns
+returns c = (omega arith, when-failed (c .enum-told .given .1) (refl, refl))
+
+text-end-requires : tie.Need-text-end-requires
+text-end-requires c κs = search needs
+
+slice-aggregate-same-input : tie.Need-slice-aggregate-same-input
+slice-aggregate-same-input c = c .before .text-end .ensures .long
+
+same-input-requires : tie.Need-same-input-requires
+same-input-requires c κs = search needs
+
+returns-2 : tie.Need-returns-2
+returns-2 c =
+    let ended = c .before .before .before in
+    let p = c .same-input .ensures in (
+      omega (arith, puts-within p (omega arith) (omega arith)),
+      when-read (ended .before .before .input .given .1) (ended .text-end .ensures) (p, print-means _ _ _ (puts-front p)),
+    )
+
+pub answer-spec : {M : Type 1} → statement M
+answer-spec =
+    tie.close
+    (tie.spec
+    enum-known-input
+    enum-told
+    returns
+    text-end-requires
+    slice-aggregate-same-input
+    same-input-requires
+    returns-2)

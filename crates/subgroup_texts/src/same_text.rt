@@ -1,0 +1,149 @@
+// What the program `same` writes for a text: all of it, byte for byte, as specs/SameAnswer.antt says.
+use call::Decision;
+use call::refusal::BAD_TEXT;
+use call::refusal::BAD_VERTEX_COUNT;
+use call::refusal::Refusal;
+use containment::sameness::same;
+use text::Format;
+use text::Reading;
+use text::TEXT_MOST;
+use text::input::Input;
+use text::input::text_end;
+use text::line::put;
+use text::line::refusal_line;
+use text::part::part_end;
+use text::read;
+use text::vertex_count;
+ghost use mathlib.Core.Path.{_≡_};
+ghost use mathlib.Core.Bool.{false};
+ghost use Prim.Native.Nat.{_+_, _≤_};
+ghost use lib.ListN.{length, take};
+ghost use Rattle.text.specs.Input.{ForInput};
+ghost use Rattle.text.specs.Line.{Puts};
+ghost use Rattle.subgroup_texts.specs.SameAnswer.{sameLine, inWhole, two, twoLines, sameBytes, SamePrintMeans};
+ghost use Rattle.subgroup_texts.specs.Inner.TwoTexts.{ReadsTwo};
+
+// What reading two symbols' texts gives.
+pub enum TwoReading {
+    // So many numbers of the first stand at the front of its slice, and so many of the second at the front of the
+    // other.
+    Numbers(usize, usize),
+    Refused(Refusal),
+}
+
+// The line for an answer.
+fn same_line(answer: Decision, out: &mut [u8]) -> usize
+    requires { ⌜ 50 ≤ length (now out) ⌝ }
+    ensures { λ e. ⌜ Puts (sameLine answer) 0 e (now (out .entry)) (now (out .exit)) ⌝ }
+{
+    match answer {
+        Decision::Yes => put(b"same\n", out, 0),
+        Decision::No => put(b"different\n", out, 0),
+        Decision::Refused(refusal) => refusal_line(refusal, out),
+    }
+}
+
+// The line for the numbers of two symbols' texts.
+fn same_numbers(one: &[i64], other: &[i64], out: &mut [u8]) -> usize
+    requires { ⌜ (1 ≤ length (now one)) × (1 ≤ length (now other)) × (50 ≤ length (now out)) ⌝ }
+    ensures { λ e. ⌜ Puts (twoLines (two (now (one .entry)) (now (other .entry)))) 0 e (now (out .entry))
+        (now (out .exit)) ⌝ }
+{
+    let mut w = [0u16; 32768];
+    let v = vertex_count(one[0]);
+    let n = vertex_count(other[0]);
+    let answer = same(v, &one[1..], n, &other[1..], &mut w);
+    same_line(answer, out)
+}
+
+// A refusal of the second text, which begins at the byte `at`.
+fn moved(refusal: Refusal, at: usize) -> Refusal
+    requires { ⌜ at + refusal .place ≤ 131072 ⌝ }
+    ensures { λ r. ⌜ r ≡ inWhole at refusal ⌝ }
+{
+    Refusal {
+        number: BAD_TEXT,
+        place: at + refusal.place,
+    }
+}
+
+// What a text that isn't too long gives.
+fn read_texts(text: &[u8], one: &mut [i64], other: &mut [i64]) -> TwoReading
+    requires { ⌜ (length (now text) ≤ 65536) × (length (now one) ≡ 3071) × (length (now other) ≡ 3071) ⌝ }
+    ensures { λ r. ⌜ ReadsTwo false (now (text .entry)) r (now (one .exit)) (now (other .exit)) ⌝ }
+{
+    let format = Format {
+        least: 1,
+        most: 1023,
+        each: 3,
+        more: 2,
+    };
+    let at = part_end(text, format);
+    let first = read(&text[..at], format, one);
+    match first {
+        Reading::Refused(refusal) => TwoReading::Refused(refusal),
+        Reading::Numbers(k) => {
+            if k < 2 {
+                return TwoReading::Refused(Refusal {
+                    number: BAD_VERTEX_COUNT,
+                    place: 0,
+                });
+            }
+            let second = read(&text[at..], format, other);
+            match second {
+                Reading::Refused(refusal) => TwoReading::Refused(moved(refusal, at)),
+                Reading::Numbers(j) => TwoReading::Numbers(k, j),
+            }
+        }
+    }
+}
+
+// What any text gives, where `longer` says that more was sent than the program's buffer holds. For every program that
+// reads two symbols.
+pub fn read_two(text: &[u8], longer: bool, one: &mut [i64], other: &mut [i64]) -> TwoReading
+    requires { ⌜ (length (now one) ≡ 3071) × (length (now other) ≡ 3071) ⌝ }
+    ensures { λ r. ⌜ ReadsTwo longer (now (text .entry)) r (now (one .exit)) (now (other .exit)) ⌝ }
+{
+    let refused = Refusal {
+        number: BAD_TEXT,
+        place: TEXT_MOST,
+    };
+    if longer {
+        return TwoReading::Refused(refused);
+    }
+    if TEXT_MOST < text.len() {
+        return TwoReading::Refused(refused);
+    }
+    read_texts(text, one, other)
+}
+
+// The line for a text.
+fn same_input(text: &[u8], longer: bool, out: &mut [u8]) -> usize
+    requires { ⌜ 50 ≤ length (now out) ⌝ }
+    ensures { λ e. ⌜ Puts (sameBytes longer (now (text .entry))) 0 e (now (out .entry)) (now (out .exit)) ⌝ }
+{
+    let mut one = [0i64; 3071];
+    let mut other = [0i64; 3071];
+    let reading = read_two(text, longer, &mut one, &mut other);
+    match reading {
+        TwoReading::Refused(refusal) => refusal_line(refusal, out),
+        TwoReading::Numbers(k, j) => same_numbers(&one[..k], &other[..j], out),
+    }
+}
+
+// What the program writes for an input, whose bytes stand at the front of the buffer, from the front of `out`; where
+// it ends: at 0, with nothing changed, where the input could not be read.
+pub fn answer(buffer: &[u8], input: Input, out: &mut [u8; 64]) -> usize
+    ensures { λ e. ⌜ e ≤ length (now (out .exit)) ⌝ }
+    ensures { λ e. ⌜ ForInput (now (buffer .entry))
+        (λ longer text. Puts (sameBytes longer text) 0 e (now (out .entry)) (now (out .exit))
+        × SamePrintMeans longer text (take e (now (out .exit))))
+        ((e ≡ 0) × (now (out .exit) ≡ now (out .entry)))
+        input ⌝ }
+{
+    let Input::Read(n, longer) = input else {
+        return 0;
+    };
+    let end = text_end(buffer, n);
+    same_input(&buffer[..end], longer, out)
+}

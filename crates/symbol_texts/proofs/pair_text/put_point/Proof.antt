@@ -1,0 +1,43 @@
+-- `put_point` meets its contract: a space, and then the digits. Assumes nothing.
+use native.Mathlib.Omega.{arith}
+use Rattle.text.specs.Decimal.{decimalOf}
+use Rattle.text.proofs.Placing.{puts-then}
+use borrow.Author.Needs.{needs}
+use Rattle.symbol_texts.proofs.pair_text.put_point.Statement.{statement}
+use Rattle.symbol_texts.proofs.pair_text.put_point.Tie as tie
+
+slice-aggregate-put : tie.Need-slice-aggregate-put
+slice-aggregate-put c = search needs
+
+put-requires : tie.Need-put-requires
+put-requires c κs = search needs
+
+wide-requires : tie.Need-wide-requires
+wide-requires c κs = search needs
+
+put-digits-requires : tie.Need-put-digits-requires
+put-digits-requires c κs = search needs
+
+same-length : tie.Need-same-length
+same-length c = search needs
+
+returns : tie.Need-returns
+unfolding decimalOf
+returns c =
+    let d = c .before .before in
+    let w = d .before .before in
+    let p = w .before .before .before in
+    let s = p .before .before .before .before in
+    let e = rw (w .wide .ensures) at (d .put-digits .ensures) in
+    (puts-then (p .put .ensures) (e .0) (omega (arith, s .pre)), omega (arith, p .put .ensures .end-is, e .1))
+
+pub put-point-spec : {M : Type 1} → statement M
+put-point-spec =
+    tie.close
+    (tie.spec
+    slice-aggregate-put
+    put-requires
+    wide-requires
+    put-digits-requires
+    same-length
+    returns)

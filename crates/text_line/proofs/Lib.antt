@@ -1,3 +1,0 @@
--- The laws behind the proofs.
-pub mod Placing
-pub mod Spacing

@@ -1,2 +1,0 @@
--- Laws of the line that is printed.
-pub mod Printing

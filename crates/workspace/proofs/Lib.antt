@@ -1,2 +1,0 @@
--- Laws of a cleared work space.
-pub mod Zeros
