@@ -1,49 +1,45 @@
--- The tables that were read, checked and put into the result spaces, and what the answer means.
+-- The tables that were read, checked and put into the result spaces.
 --     copied-more, copied-all             a table copied entry by entry
---     given-refused .. given-both         what `give` answers and leaves
+--     tableSteps, givenRun, readRun       the steps of `give` and `read_cycles`, by what stands in the result spaces before and after
+--     given-refused .. given-both         the steps of `give`, run
 --     reads-in, front-long, reads-even    a text that was read has an index up to 3,066, and tables of one length
---     cycles-left, cycles-out, cycles-read    what `read_cycles` answers and leaves, by what was said of the text
+--     cycles-left, cycles-out             the steps of `read_cycles`, run, where the text is not right
 -- Assumes nothing.
 use mathlib.Core.Path.{_≡_, refl, sym, ap, subst, _∙_}
-use mathlib.Core.Logic.{_⊎_, inl, inr}
 use mathlib.Core.Bool.{Bool, true, false, _&&_}
 use mathlib.Core.List.{List, [], _∷_, _++_, append-assoc}
 use Prim.Native.Nat.{ℕ, suc, _+_, _≤_, _<_}
 use native.Mathlib.Omega.{arith}
 use native.Mathlib.Numerals.{add-one}
-use native.Mathlib.Decide.{decLt}
 use lib.Dec.{leb, ltb}
 use lib.ListN.{length, getD, take, drop, set}
-use lib.Seq.{take-suc, drop-cons, set-at, length-take-le, take-all, take-at}
-use borrow.Author.Tests.{lt-ltb, le-ltb, leb-true}
-use Rattle.basics.specs.Choice.{pick}
+use lib.Seq.{take-suc, drop-cons, set-at, length-take-le, take-all}
+use borrow.Author.Tests.{leb-true}
 use Rattle.basics.specs.Count.{first}
-use Rattle.basics.proofs.Choice.{pick-true, pick-false, and-left, and-right}
-use Rattle.call.specs.Refusal.{_orElse_, tooShort, pointCount, badCycles, tableEntry, wrongOrder, unreached, filledBy}
+use Rattle.basics.proofs.Choice.{and-left, and-right}
+use Rattle.call.specs.Refusal.{_orElse_, tooShort, pointCount, badCycles, tableEntry, wrongOrder, unreached}
 use Rattle.call.specs.declared.refusal.Refusal.{Refusal}
 use Rattle.call.specs.declared.refusal.Checked.{Checked}
 use Rattle.call.specs.declared.refusal.Checked.the-variants as checked
 use Rattle.call.specs.declared.refusal.Filled.{Filled}
 use Rattle.call.specs.declared.refusal.Filled.the-variants as filled
-use Rattle.symbol.specs.Check.{refuse, refuseAt}
-use Rattle.coset.specs.Answer.{roomTwo, columnLeft}
-use Rattle.permutations.specs.Check.{badEntry, check13, check14, check15, twiceMoved, thriceMoved, notReached, pairCheck, Passport}
-use Rattle.permutations.proofs.Accepted.{accepted}
+use Rattle.call.specs.Call.{Step, Asks, Gives, lengthCheck, atFront}
+use Rattle.call.specs.Inner.Fills.{Fills, madeIf}
+use Rattle.call.proofs.Laws.{run-end, run-stop, run-pass, run-write, run-hold, short-write, fills-as}
+use Rattle.symbol.specs.Check.{refuse}
+use Rattle.permutations.specs.Check.{badEntry, check13, check14, check15, twiceMoved, thriceMoved, notReached, pairCheck}
 use Rattle.permutations.proofs.Answering.{count-passed}
-use Rattle.cycle_notation.specs.Form.{inRange, Right}
-use Rattle.cycle_notation.specs.Place.{WrongAt}
+use Rattle.cycle_notation.specs.Form.{inRange}
 use Rattle.cycle_notation.specs.Verdict.{Read, Verdict, reads, index-out, leaves, VerdictMeans, right, no-index, wrong}
-use Rattle.cycle_notation.specs.Table.{imageBy, cycleTable}
 use Rattle.cycle_notation.specs.Inner.Reader.{verdictOf}
 use Rattle.cycle_notation.specs.Inner.Stores.{identity}
 use Rattle.cycle_notation.proofs.Wrong.{verdict-means}
-use Rattle.cycle_notation.proofs.Stores.{stored-table, length-stored, length-tabled}
+use Rattle.cycle_notation.proofs.Stores.{length-stored, length-tabled}
 use Rattle.cycle_reading.specs.declared.Judged.{Judged}
 use Rattle.cycle_reading.specs.declared.Judged.the-variants as judged
-use Rattle.cycle_reading.specs.Reading as reading
-use Rattle.cycle_reading.specs.Reading.{tableOfS, tableOfR, answerBy, readCyclesOf, readTable, readS, readR, PairFault, RightAs, GoodPair, ReadCyclesMean}
+use Rattle.cycle_reading.specs.Reading.{checkBy, cyclesCheck, readS, readR, RightAs}
 use Rattle.cycle_reading.specs.Inner.PartRun.{made}
-use Rattle.cycle_reading.specs.Inner.Front.{judgedBy, VerdictRead, tablesAnswer}
+use Rattle.cycle_reading.specs.Inner.Front.{judgedBy, VerdictRead}
 
 clash : {X : Type 0} → _≡_ {A = ℕ} 0 1 → X
 clash e = absurd (omega arith)
@@ -62,43 +58,37 @@ copied-all t out out' j h k e =
 
 -- ---- tables given
 
+abbrev pub tableSteps : (a b s r s' r' : List ℕ) → List Step
+tableSteps a b s r s' r' =
+    Asks (lengthCheck (length a) (length s)) ∷ Gives (atFront a s) s s' ∷ Asks (lengthCheck (length b) (length r)) ∷ Gives (atFront b r) r r' ∷ []
+
+abbrev pub givenRun : (a b s r s' r' : List ℕ) → List Step
+givenRun a b s r s' r' = Asks (pairCheck a b) ∷ tableSteps a b s r s' r'
+
 module _ (a b s r : List ℕ) where
-  pub record Given (f : Filled) (s' r' : List ℕ) : Type 0 where
-    pub returned : f ≡ tablesAnswer a b (length s) (length r)
-    pub S-left : s' ≡ columnLeft f a s
-    pub R-left : r' ≡ columnLeft f b r
+  abbrev second : List ℕ → List Step
+  second r' = Asks (lengthCheck (length b) (length r)) ∷ Gives (atFront b r) r r' ∷ []
 
-  checked-as : (c : Checked) → pairCheck a b ≡ c → tablesAnswer a b (length s) (length r) ≡ filledBy c (roomTwo (length a) (length s) (length r))
-  checked-as c e = ap (λ (c : Checked). filledBy c (roomTwo (length a) (length s) (length r))) e
-
-  pub given-refused : (f : Refusal) → pairCheck a b ≡ checked.Refused f → Given (filled.Refused f) s r
-  given-refused f e = record { returned = sym (checked-as (checked.Refused f) e); S-left = refl; R-left = refl }
+  pub given-refused : (f : Refusal) → pairCheck a b ≡ checked.Refused f → Fills (givenRun a b s r s r) (madeIf (length a)) (filled.Refused f)
+  given-refused f e = fills-as (run-stop f (pairCheck a b) (tableSteps a b s r s r) e (refl, (refl, tt))) refl
 
   module _ (e : pairCheck a b ≡ checked.Accepted) where
-    pub given-short-S : length s < length a → Given (filled.Refused (tooShort (length a))) s r
-    given-short-S h = record {
-      returned = sym (checked-as checked.Accepted e ∙ pick-true (ltb (length s) (length a)) _ _ (lt-ltb (length s) (length a) h));
-      S-left = refl;
-      R-left = refl;
-    }
+    pub given-short-S : length s < length a → Fills (givenRun a b s r s r) (madeIf (length a)) (filled.Refused (tooShort (length a)))
+    given-short-S h =
+        fills-as (run-pass (pairCheck a b) (tableSteps a b s r s r) e (short-write a s (length a) refl (second r) h (refl, tt))) refl
 
-    pub given-short-R : length a ≤ length s → length r < length a → Given (filled.Refused (tooShort (length a))) s r
-    given-short-R h k = record {
-      returned = sym (checked-as checked.Accepted e ∙ pick-false (ltb (length s) (length a)) _ _ (le-ltb (length s) (length a) h)
-          ∙ pick-true (ltb (length r) (length a)) _ _ (lt-ltb (length r) (length a) k));
-      S-left = refl;
-      R-left = refl;
-    }
+    module _ (even : length b ≡ length a) (h : length a ≤ length s) where
+      pub given-short-R : length r < length a → Fills (givenRun a b s r s r) (madeIf (length a)) (filled.Refused (tooShort (length a)))
+      given-short-R k =
+          fills-as (run-pass (pairCheck a b) (tableSteps a b s r s r) e
+          (run-hold a s (length a) refl (second r) (tooShort (length a)) h (short-write b r (length a) even [] k tt))) refl
 
-    pub given-both : length b ≡ length a → length a ≤ length s → length a ≤ length r → (s' r' : List ℕ) → s' ≡ a ++ drop (length a) s → r'
-        ≡ b ++ drop (length b) r
-        → Given (filled.Made (length a)) s' r'
-    given-both even h k s' r' es er = record {
-      returned = sym (checked-as checked.Accepted e ∙ pick-false (ltb (length s) (length a)) _ _ (le-ltb (length s) (length a) h)
-          ∙ pick-false (ltb (length r) (length a)) _ _ (le-ltb (length r) (length a) k));
-      S-left = es;
-      R-left = er ∙ ap (λ (n : ℕ). b ++ drop n r) even;
-    }
+      pub given-both : length a ≤ length r → (s' r' : List ℕ) → s' ≡ a ++ drop (length a) s → r' ≡ b ++ drop (length b) r
+          → Fills (givenRun a b s r s' r') (madeIf (length a)) (filled.Made (length a))
+      given-both k s' r' es er =
+          fills-as (run-pass (pairCheck a b) (tableSteps a b s r s' r') e
+          (run-write a s (length a) refl (second r') s' h es
+          (run-write b r (length a) even [] r' k (er ∙ ap (λ (n : ℕ). b ++ drop n r) even) run-end))) refl
 
 -- ---- the fault of a pair of tables of one length in range is one of 13 to 15
 
@@ -133,6 +123,9 @@ pair-fault s r a b e =
     (fault-else (check14 thriceMoved r) (check15 s r) (fault-14 r thriceMoved) (fault-15 s r)))))
 
 -- ---- what was read
+
+abbrev pub readRun : (t s r s' r' : List ℕ) → List Step
+readRun t s r s' r' = Asks (cyclesCheck t) ∷ tableSteps (readS t) (readR t) s r s' r'
 
 pub in-range : (n : ℕ) → inRange n ≡ true → (1 ≤ n) × (n ≤ 3066)
 in-range n e = (leb-true 1 n (and-left _ _ e), leb-true n 3066 (and-right (leb 1 n) _ e))
@@ -188,35 +181,24 @@ module _ (t : List ℕ) (A B : List ℕ) (o : Judged) (read : VerdictRead (verdi
   reads-even n e = let h = front-long n e in sym (h .1) ∙ h .0
 
   module _ (s r : List ℕ) where
-    pub record Answers (f : Filled) (s' r' : List ℕ) : Type 0 where
-      pub returned : f ≡ readCyclesOf t (length s) (length r)
-      pub S-left : s' ≡ columnLeft f (readS t) s
-      pub R-left : r' ≡ columnLeft f (readR t) r
-      pub means : ReadCyclesMean t (length s) (length r) s' r' f
-
-    pub cycles-left : (place : ℕ) → o ≡ judged.Leaves place → Answers (filled.Refused (badCycles place)) s r
+    pub cycles-left : (place : ℕ) → o ≡ judged.Leaves place → Fills (readRun t s r s r) (madeIf (length (readS t))) (filled.Refused (badCycles place))
     cycles-left place e = go (verdictOf t) refl (verdict-means t) read
       where
-        go : (v : Verdict) → verdictOf t ≡ v → VerdictMeans t v → VerdictRead v o A B → Answers (filled.Refused (badCycles place)) s r
+        go : (v : Verdict) → verdictOf t ≡ v → VerdictMeans t v → VerdictRead v o A B
+            → Fills (readRun t s r s r) (madeIf (length (readS t))) (filled.Refused (badCycles place))
         go v w (right q h) k = let z = sym e ∙ k .returned in clash (cc)
         go v w (no-index i) k = let z = sym e ∙ k .returned in clash (cc)
         go v w (wrong p i u) k =
-            let z : place ≡ p = leaves-same (sym e ∙ k .returned) in record {
-              returned = ap (λ (x : ℕ). filled.Refused (badCycles x)) z ∙ sym (ap (λ (x : Verdict). answerBy x (length s) (length r)) w);
-              S-left = refl;
-              R-left = refl;
-              means = reading.leaves-form place i (subst (λ (x : ℕ). WrongAt t x) (sym z) u);
-            }
+            let z : place ≡ p = leaves-same (sym e ∙ k .returned) in
+            fills-as (run-stop (badCycles place) (cyclesCheck t) (tableSteps (readS t) (readR t) s r s r)
+            (ap checkBy w ∙ ap (λ (x : ℕ). checked.Refused (badCycles x)) (sym z)) (refl, (refl, tt))) refl
 
-    pub cycles-out : o ≡ judged.IndexOut → Answers (filled.Refused pointCount) s r
+    pub cycles-out : o ≡ judged.IndexOut → Fills (readRun t s r s r) (madeIf (length (readS t))) (filled.Refused pointCount)
     cycles-out e = go (verdictOf t) refl (verdict-means t) read
       where
-        go : (v : Verdict) → verdictOf t ≡ v → VerdictMeans t v → VerdictRead v o A B → Answers (filled.Refused pointCount) s r
+        go : (v : Verdict) → verdictOf t ≡ v → VerdictMeans t v → VerdictRead v o A B
+            → Fills (readRun t s r s r) (madeIf (length (readS t))) (filled.Refused pointCount)
         go v w (right q h) k = let z = sym e ∙ k .returned in clash (cc)
         go v w (wrong p i u) k = let z = sym e ∙ k .returned in clash (cc)
-        go v w (no-index i) k = record {
-          returned = sym (ap (λ (x : Verdict). answerBy x (length s) (length r)) w);
-          S-left = refl;
-          R-left = refl;
-          means = reading.no-index i;
-        }
+        go v w (no-index i) k =
+            fills-as (run-stop pointCount (cyclesCheck t) (tableSteps (readS t) (readR t) s r s r) (ap checkBy w) (refl, (refl, tt))) refl

@@ -18,15 +18,17 @@ ghost use mathlib.Core.Bool.{true, false, not};
 ghost use mathlib.Core.List.{[], _++_};
 ghost use Prim.Native.Nat.{_+_, _<_, _≤_};
 ghost use lib.ListN.{length, getD, drop};
-ghost use Rattle.coset.specs.Answer.{columnLeft};
+ghost use Rattle.call.specs.Call.{asks, stores};
+ghost use Rattle.call.specs.Inner.Fills.{Fills, madeIf};
+ghost use Rattle.permutations.specs.Check.{pairCheck};
 ghost use Rattle.cycle_notation.specs.Piece.{digitByte};
 ghost use Rattle.cycle_notation.specs.Inner.Reader.{verdictOf};
 ghost use Rattle.cycle_notation.specs.Inner.Stores.{identity};
-ghost use Rattle.cycle_reading.specs.Reading.{readCyclesOf, readS, readR, ReadCyclesMean};
+ghost use Rattle.cycle_reading.specs.Reading.{readS, readSteps};
 ghost use Rattle.cycle_reading.specs.Inner.Hand.{piecesLeft};
 ghost use Rattle.cycle_reading.specs.Inner.PartRun.{partRun, PartRead, beginAt, FreshPart, Start};
 ghost use Rattle.cycle_reading.specs.Inner.Alone.{fails, aloneOf, AloneRead, SecondRead};
-ghost use Rattle.cycle_reading.specs.Inner.Front.{BlanksTo, eitherAlone, VerdictRead, tablesAnswer};
+ghost use Rattle.cycle_reading.specs.Inner.Front.{BlanksTo, eitherAlone, VerdictRead};
 
 mod phases;
 pub mod pieces;
@@ -325,10 +327,8 @@ fn copy_table(t: &[u32], out: &mut [u32])
 // The tables a and b, checked and put at the front of s and r, where these have room.
 fn give(a: &[u32], b: &[u32], s: &mut [u32], r: &mut [u32]) -> Filled
     requires { ⌜ length (now b) ≡ length (now a) ⌝ }
-    ensures { λ f. ⌜ f ≡ tablesAnswer (now (a .entry)) (now (b .entry)) (length (now (s .entry)))
-        (length (now (r .entry))) ⌝ }
-    ensures { λ f. ⌜ now (s .exit) ≡ columnLeft f (now (a .entry)) (now (s .entry)) ⌝ }
-    ensures { λ f. ⌜ now (r .exit) ≡ columnLeft f (now (b .entry)) (now (r .entry)) ⌝ }
+    ensures { λ f. ⌜ Fills (asks (pairCheck (now (a .entry)) (now (b .entry))) ++ stores (now (a .entry)) s
+        ++ stores (now (b .entry)) r) (madeIf (length (now (a .entry)))) f ⌝ }
 {
     let checked = permutations::check(a, b);
     match checked {
@@ -356,11 +356,7 @@ fn give(a: &[u32], b: &[u32], s: &mut [u32], r: &mut [u32]) -> Filled
 
 // The tables of S and R from a text in cycle notation, at the front of s and r; the number of points.
 pub fn read_cycles(text: &[u8], s: &mut [u32], r: &mut [u32]) -> Filled
-    ensures { λ f. ⌜ f ≡ readCyclesOf (now (text .entry)) (length (now (s .entry))) (length (now (r .entry))) ⌝ }
-    ensures { λ f. ⌜ now (s .exit) ≡ columnLeft f (readS (now (text .entry))) (now (s .entry)) ⌝ }
-    ensures { λ f. ⌜ now (r .exit) ≡ columnLeft f (readR (now (text .entry))) (now (r .entry)) ⌝ }
-    ensures { λ f. ⌜ ReadCyclesMean (now (text .entry)) (length (now (s .entry))) (length (now (r .entry)))
-        (now (s .exit)) (now (r .exit)) f ⌝ }
+    ensures { λ f. ⌜ Fills (readSteps (now (text .entry)) s r) (madeIf (length (readS (now (text .entry))))) f ⌝ }
 {
     let mut a = [0u32; 3066];
     let mut b = [0u32; 3066];

@@ -6,7 +6,7 @@
 --     read-as, tables-left              the answer of `read_cycles` and what it leaves, in tables of the program's length
 --     answer-cut, answer-whole          the answer to an input that goes on, and to one that does not
 -- Assumes nothing.
-use mathlib.Core.Path.{_≡_, refl, sym, ap, subst, _∙_}
+use mathlib.Core.Path.{_≡_, sym, ap, _∙_}
 use mathlib.Core.Logic.{_≢_}
 use mathlib.Core.Bool.{Bool, true, false}
 use mathlib.Core.List.{List, [], _∷_, _++_}
@@ -20,16 +20,20 @@ use Rattle.basics.specs.Choice.{pick}
 use Rattle.basics.proofs.Choice.{pick-true, pick-false}
 use Rattle.call.specs.Refusal.{badCycles}
 use Rattle.call.specs.declared.refusal.Refusal.{Refusal}
+use Rattle.call.specs.declared.refusal.Checked.{Checked}
 use Rattle.call.specs.declared.refusal.Filled.{Filled}
-use Rattle.coset.specs.Answer.{columnLeft}
+use Rattle.call.specs.Call.{ifAccepted, atFront}
+use Rattle.call.specs.Inner.Fills.{Fills, madeIf}
 use Rattle.text.specs.Reading.{textMost}
 use Rattle.cycle_notation.specs.Piece.{digitByte, runValue}
-use Rattle.cycle_reading.specs.Reading.{readCyclesOf, readS, readR}
+use Rattle.cycle_reading.specs.Reading.{cyclesCheck, readS, readR}
+use Rattle.cycle_reading.proofs.Filling.{readRun}
+use Rattle.cycle_reading.proofs.Answered.{enough-room}
 use Rattle.cycle_reading.specs.Inner.Hand.{DigitsRead}
 use Rattle.cycle_reading.specs.declared.Digits.{Digits}
 use Rattle.cycle_texts.specs.Cut.{withoutRun, lastRun, overMost, judgedText}
-use Rattle.cycle_texts.specs.CyclesAnswer.{cyclesRead, cyclesAnswer, CyclesLeave}
-use Rattle.cycle_texts.specs.Inner.Ends.{RunBegins, JudgedTo, cutRefusal, cutAnswer}
+use Rattle.cycle_texts.specs.CyclesAnswer.{cyclesRead, cyclesAnswer}
+use Rattle.cycle_texts.specs.Inner.Ends.{RunBegins, JudgedTo, cutRefusal, cutAnswer, CyclesLeave}
 use Rattle.cycle_texts.proofs.CyclesRuns.{split-run, digit-more, other-more}
 
 -- ---- back over the digits
@@ -120,16 +124,20 @@ module _ (end : ℕ) (f : Refusal) where
 
 -- ---- the answer
 
-pub read-as : (text : List ℕ) {t : List ℕ} {a b : ℕ} {f : Filled} → t ≡ text → a ≡ 3066 → b ≡ 3066 → f ≡ readCyclesOf t a b → f ≡ cyclesRead text
-read-as text {t} {a} {b} et ea eb e =
-    e ∙ ap (λ (x : List ℕ). readCyclesOf x a b) et ∙ ap (λ (x : ℕ). readCyclesOf text x b) ea ∙ ap (readCyclesOf text 3066) eb
+module _ (text s r s' r' : List ℕ) {t : List ℕ} {f : Filled} (et : t ≡ text) (es : length s ≡ 3066) (er : length r ≡ 3066)
+    (g : Fills (readRun t s r s' r') (madeIf (length (readS t))) f) where
+  pub read-as : f ≡ cyclesRead text
+  read-as = g .answer ∙ ap (madeIf (length (readS t))) (enough-room t s r s' r' (omega arith) (omega arith)) ∙ ap cyclesRead et
 
-pub tables-left : (longer : Bool) (text : List ℕ) {t s r s' r' : List ℕ} {f : Filled} → t ≡ judgedText longer text → f ≡ cyclesRead (judgedText longer text)
-    → s' ≡ columnLeft f (readS t) s → r' ≡ columnLeft f (readR t) r → CyclesLeave longer text s r s' r'
-tables-left longer text {t} {s} {r} {s'} {r'} {f} et e a b = record {
-  S-left = a ∙ ap (λ (x : List ℕ). columnLeft f (readS x) s) et ∙ ap (λ (x : Filled). columnLeft x (readS (judgedText longer text)) s) e;
-  R-left = b ∙ ap (λ (x : List ℕ). columnLeft f (readR x) r) et ∙ ap (λ (x : Filled). columnLeft x (readR (judgedText longer text)) r) e;
-}
+  pub tables-left : (longer : Bool) (whole : List ℕ) → text ≡ judgedText longer whole → CyclesLeave longer whole s r s' r'
+  tables-left longer whole e =
+      let c = enough-room t s r s' r' (omega arith) (omega arith) in
+      record {
+        S-left = g .leaves .0 ∙ ap (λ (x : Checked). ifAccepted x (atFront (readS t) s) s) c
+            ∙ ap (λ (x : List ℕ). ifAccepted (cyclesCheck x) (atFront (readS x) s) s) (et ∙ e);
+        R-left = g .leaves .1 .0 ∙ ap (λ (x : Checked). ifAccepted x (atFront (readR t) r) r) c
+            ∙ ap (λ (x : List ℕ). ifAccepted (cyclesCheck x) (atFront (readR x) r) r) (et ∙ e);
+      }
 
 pub answer-whole : (longer : Bool) (text : List ℕ) (a : Filled) → a ≡ cyclesRead (judgedText longer text) → longer ≡ false → a ≡ cyclesAnswer longer text
 answer-whole longer text a e h = e ∙ sym (pick-false longer _ _ h)

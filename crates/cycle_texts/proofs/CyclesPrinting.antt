@@ -1,5 +1,4 @@
 -- The lines for a text in cycle notation.
---     room-enough       the program's tables have room for every index
 --     Made, made-pair   where tables come out: they are a pair of permutations of as many points as the answer says
 --     answer-cut        the answer to an input that goes on, as the code makes it
 --     front-of          the tables stand at the front of the lent ones
@@ -10,33 +9,33 @@
 use mathlib.Core.Path.{_≡_, refl, sym, ap, subst, _∙_}
 use mathlib.Core.Bool.{Bool, true, false}
 use mathlib.Core.List.{List, [], _++_, append-nil}
-use Prim.Native.Nat.{ℕ, suc, _-_, _<_}
+use Prim.Native.Nat.{ℕ, _<_}
 use lib.Dec.{ltb}
 use lib.ListN.{length, take, drop}
 use lib.Seq.{take-at}
 use borrow.Author.Tests.{lt-ltb, le-ltb, ltb-true}
 use Rattle.basics.specs.Choice.{pick}
 use Rattle.basics.proofs.Choice.{pick-true, pick-false}
-use Rattle.call.specs.Refusal.{filledBy, pointCount, badCycles}
+use Rattle.call.specs.Refusal.{pointCount, badCycles}
 use Rattle.call.specs.declared.refusal.Refusal.{Refusal}
 use Rattle.call.specs.declared.refusal.Checked.{Checked}
 use Rattle.call.specs.declared.refusal.Checked.the-variants as checked
 use Rattle.call.specs.declared.refusal.Filled.{Filled}
 use Rattle.call.specs.declared.refusal.Filled.the-variants as filled
 use Rattle.call.proofs.Apart.{refused-accepted, refused-made}
-use Rattle.coset.specs.Answer.{roomTwo, columnLeft}
+use Rattle.call.specs.Call.{ifAccepted, atFront}
+use Rattle.call.specs.Inner.Fills.{madeIf}
 use Rattle.text.specs.Reading.{textMost}
 use Rattle.text.specs.Line.{refusalLine}
 use Rattle.permutations.specs.Check.{pairCheck, Passport}
 use Rattle.permutations.proofs.Accepted.{accepted}
 use Rattle.cycle_notation.specs.Piece.{runValue}
 use Rattle.cycle_notation.specs.Verdict.{Read, Verdict, reads, index-out, leaves, VerdictMeans, right, no-index, wrong}
-use Rattle.cycle_notation.specs.Table.{imageBy}
 use Rattle.cycle_notation.specs.Inner.Reader.{verdictOf}
-use Rattle.cycle_notation.proofs.Stores.{length-tabled}
 use Rattle.cycle_notation.proofs.Wrong.{verdict-means}
-use Rattle.cycle_reading.specs.Reading.{tableOfS, tableOfR, answerBy, readTable, readS, readR, RightAs}
-use Rattle.cycle_reading.proofs.Filling.{FaultNumber, pair-fault, in-range}
+use Rattle.cycle_reading.specs.Reading.{tableOfS, tableOfR, checkBy, cyclesCheck, readTable, readS, readR, RightAs}
+use Rattle.cycle_reading.proofs.Filling.{FaultNumber}
+use Rattle.cycle_reading.proofs.Answered.{even, fault}
 use Rattle.symbol_texts.specs.Pair.{PairFits, pairText, pairLinesBy}
 use Rattle.symbol_texts.proofs.PairLines.{pair-fits}
 use Rattle.symbol_texts.proofs.PairReadBack.{pair-read-back}
@@ -48,57 +47,30 @@ use Rattle.cycle_texts.proofs.CyclesRuns.{pieces-split}
 use Rattle.cycle_texts.proofs.Onward.{Fate, out-already, lost-already, open-short, open-right, fate, Sealed, sealed-out, sealed-at, sealed-by-run}
 use Rattle.cycle_texts.proofs.Cutting.{pair-cut}
 
--- ---- a text that is right
-
-module _ (text : List ℕ) (q : Read) (h : RightAs text q) where
-  long-S : length (tableOfS q) ≡ q .index
-  long-S = length-tabled (λ (i : ℕ). imageBy (q .ofS) (suc i) - 1) (q .index)
-
-  long-R : length (tableOfR q) ≡ q .index
-  long-R = length-tabled (λ (i : ℕ). imageBy (q .ofR) (suc i) - 1) (q .index)
-
-  room-enough : roomTwo (q .index) 3066 3066 ≡ filled.Made (q .index)
-  room-enough =
-      let most = in-range (q .index) (h .index) .1 in
-      pick-false (ltb 3066 (q .index)) _ _ (le-ltb 3066 (q .index) most) ∙ pick-false (ltb 3066 (q .index)) _ _ (le-ltb 3066 (q .index) most)
-
-  fault : FaultNumber (pairCheck (tableOfS q) (tableOfR q))
-  fault = let i = in-range (q .index) (h .index) in pair-fault (tableOfS q) (tableOfR q) (rw long-S (i .0)) (rw long-S (i .1)) (long-R ∙ sym long-S)
-
 -- ---- where tables come out
 
 pub record Made (text : List ℕ) (n : ℕ) : Type 0 where
-  pub read : cyclesRead text ≡ filled.Made n
+  pub check : cyclesCheck text ≡ checked.Accepted
   pub S-long : length (readS text) ≡ n
   pub R-long : length (readR text) ≡ n
   pub passport : Passport (readS text) (readR text)
 
-made-index : {m n : ℕ} → filled.Made m ≡ filled.Made n → m ≡ n
-made-index e = cc
-
-pub made-read : (text : List ℕ) (n : ℕ) → cyclesRead text ≡ filled.Made n → Made text n
-made-read text n e = go (verdictOf text) refl (verdict-means text)
+made-read : (text : List ℕ) (n : ℕ) → cyclesRead text ≡ filled.Made n → Made text n
+made-read text n e =
+    let x = ok (cyclesCheck text) e in
+    record { check = x .0; S-long = x .1; R-long = even text ∙ x .1; passport = good (verdictOf text) (x .0) }
   where
-    by-check : (q : Read) → verdictOf text ≡ reads q → RightAs text q → (c : Checked) → pairCheck (tableOfS q) (tableOfR q) ≡ c → Made text n
-    by-check q w h (checked.Refused f) k =
-        refused-made (sym (ap (λ (c : Checked). filledBy c (roomTwo (q .index) 3066 3066)) k) ∙ sym (ap (λ (v : Verdict). answerBy v 3066 3066) w) ∙ e)
-    by-check q w h checked.Accepted k =
-        let m : q .index ≡ n =
-        made-index (sym (ap (λ (c : Checked). filledBy c (roomTwo (q .index) 3066 3066)) k ∙ room-enough text q h)
-        ∙ sym (ap (λ (v : Verdict). answerBy v 3066 3066) w) ∙ e) in
-        let S-is = ap (readTable tableOfS) w in
-        let R-is = ap (readTable tableOfR) w in
-        record {
-          read = e;
-          S-long = ap length S-is ∙ long-S text q h ∙ m;
-          R-long = ap length R-is ∙ long-R text q h ∙ m;
-          passport = subst (λ (v : Verdict). Passport (readTable tableOfS v) (readTable tableOfR v)) (sym w) (accepted (tableOfS q) (tableOfR q) .0 k);
-        }
+    made-index : {k m : ℕ} → filled.Made k ≡ filled.Made m → k ≡ m
+    made-index e = cc
 
-    go : (v : Verdict) → verdictOf text ≡ v → VerdictMeans text v → Made text n
-    go (leaves place) w m = refused-made (sym (ap (λ (v : Verdict). answerBy v 3066 3066) w) ∙ e)
-    go index-out w m = refused-made (sym (ap (λ (v : Verdict). answerBy v 3066 3066) w) ∙ e)
-    go (reads q) w (right _ h) = by-check q w h (pairCheck (tableOfS q) (tableOfR q)) refl
+    ok : (c : Checked) → madeIf (length (readS text)) c ≡ filled.Made n → (c ≡ checked.Accepted) × (length (readS text) ≡ n)
+    ok checked.Accepted z = (refl, made-index z)
+    ok (checked.Refused f) z = refused-made z
+
+    good : (v : Verdict) → checkBy v ≡ checked.Accepted → Passport (readTable tableOfS v) (readTable tableOfR v)
+    good (leaves place) z = refused-accepted z
+    good index-out z = refused-accepted z
+    good (reads q) z = accepted (tableOfS q) (tableOfR q) .0 z
 
 cut-never : {X : Type 0} (end : ℕ) (v : Verdict) (n : ℕ) → cutBy end v ≡ filled.Made n → X
 cut-never end (leaves place) n e = refused-made e
@@ -110,7 +82,8 @@ made-pair true text n e = cut-never (length (judgedText true text)) (verdictOf (
 made-pair false text n e = made-read (judgedText false text) n e
 
 -- what the code makes of the answer to the part that is judged
-cut-verdict : (end : ℕ) (t : List ℕ) (v : Verdict) → VerdictMeans t v → cutAnswer end (answerBy v 3066 3066) ≡ cutBy end v
+cut-verdict : (end : ℕ) (t : List ℕ) (v : Verdict) → VerdictMeans t v
+    → cutAnswer end (madeIf (length (readTable tableOfS v)) (checkBy v)) ≡ cutBy end v
 cut-verdict end t (leaves place) m = by-place (ltb place end)
   where
     by-place : (b : Bool) → filled.Refused (pick b (badCycles place) (badCycles textMost)) ≡ filled.Refused (badCycles (pick b place textMost))
@@ -120,11 +93,11 @@ cut-verdict end t index-out m = refl
 cut-verdict end t (reads q) (right _ h) = go (pairCheck (tableOfS q) (tableOfR q)) refl
   where
     go : (c : Checked) → pairCheck (tableOfS q) (tableOfR q) ≡ c
-        → cutAnswer end (filledBy c (roomTwo (q .index) 3066 3066)) ≡ filled.Refused (badCycles textMost)
+        → cutAnswer end (madeIf (length (tableOfS q)) c) ≡ filled.Refused (badCycles textMost)
     go (checked.Refused f) e =
         let k : FaultNumber (checked.Refused f) = subst FaultNumber e (fault t q h) in
         ap filled.Refused (pair-cut end f (k .0) (k .1))
-    go checked.Accepted e = ap (cutAnswer end) (room-enough t q h)
+    go checked.Accepted e = refl
 
 pub answer-cut : (longer : Bool) (text : List ℕ) (end : ℕ) (a : Filled) → end ≡ length (judgedText longer text) → a ≡ cyclesRead (judgedText longer text)
     → longer ≡ true
@@ -136,9 +109,10 @@ answer-cut longer text end a n e h =
     ∙ sym (pick-true longer _ _ h)
 
 -- the table at the front of what is left
-pub front-of : (a : Filled) (n : ℕ) (t out out' : List ℕ) → a ≡ filled.Made n → length t ≡ n → out' ≡ columnLeft a t out → take n out' ≡ t
-front-of a n t out out' e l h =
-    ap (take n) (h ∙ ap (λ (x : Filled). columnLeft x t out) e) ∙ take-at t (drop n out) n l
+pub front-of : (c : Checked) (n : ℕ) (t out out' : List ℕ) → c ≡ checked.Accepted → length t ≡ n → out' ≡ ifAccepted c (atFront t out) out
+    → take n out' ≡ t
+front-of c n t out out' e l h =
+    ap (take n) (h ∙ ap (λ (x : Checked). ifAccepted x (atFront t out) out) e) ∙ take-at t (drop (length t) out) n l
 
 pub pair-as : {s s' r r' : List ℕ} → s ≡ s' → r ≡ r' → pairText s r ≡ pairText s' r'
 pair-as e f = cc
@@ -160,7 +134,7 @@ module _ (text : List ℕ) where
   -- of a text
 
   abbrev checkedLines : Read → Checked → List ℕ
-  checkedLines q c = pairLinesBy (filledBy c (roomTwo (q .index) 3066 3066)) (tableOfS q) (tableOfR q)
+  checkedLines q c = pairLinesBy (madeIf (length (tableOfS q)) c) (tableOfS q) (tableOfR q)
 
   by-check : (q : Read) → RightAs text q → (c : Checked) → pairCheck (tableOfS q) (tableOfR q) ≡ c → CyclesPrinted text false (checkedLines q c)
   by-check q h (checked.Refused f) e =
@@ -173,11 +147,10 @@ module _ (text : List ℕ) where
       })
   by-check q h checked.Accepted e =
       let p = accepted (tableOfS q) (tableOfR q) .0 e in
-      as-printed (ap (λ (a : Filled). pairLinesBy a (tableOfS q) (tableOfR q)) (room-enough text q h))
-      (answer.pair-printed q (record { right = h; passport = p }) (pair-read-back (tableOfS q) (tableOfR q) (pair-fits (tableOfS q) (tableOfR q) p)))
+      answer.pair-printed q (record { right = h; passport = p }) (pair-read-back (tableOfS q) (tableOfR q) (pair-fits (tableOfS q) (tableOfR q) p))
 
   by-verdict : (v : Verdict) → VerdictMeans text v
-      → CyclesPrinted text false (pairLinesBy (answerBy v 3066 3066) (readTable tableOfS v) (readTable tableOfR v))
+      → CyclesPrinted text false (pairLinesBy (madeIf (length (readTable tableOfS v)) (checkBy v)) (readTable tableOfS v) (readTable tableOfR v))
   by-verdict (leaves place) (wrong _ n w) = answer.leaves-form place n w
   by-verdict index-out (no-index o) = answer.no-index o
   by-verdict (reads q) (right _ h) = by-check q h (pairCheck (tableOfS q) (tableOfR q)) refl
@@ -187,18 +160,18 @@ module _ (text : List ℕ) where
   abbrev cutLines : List ℕ → Verdict → List ℕ
   cutLines t v = pairLinesBy (cutBy (length t) v) (readS t) (readR t)
 
-  follows : {v : Verdict} (f : Refusal) → ((a b : ℕ) → answerBy v a b ≡ filled.Refused f) → ((rest : List ℕ) → verdictOf (text ++ rest) ≡ v)
+  follows : {v : Verdict} (f : Refusal) → checkBy v ≡ checked.Refused f → ((rest : List ℕ) → verdictOf (text ++ rest) ≡ v)
       → CyclesPrinted text true (refusalLine f)
-  follows {v} f said all = answer.whatever-follows f (λ rest a b. ap (λ (x : Verdict). answerBy x a b) (all rest) ∙ said a b)
+  follows {v} f said all = answer.whatever-follows f (λ rest. ap checkBy (all rest) ∙ said)
 
   by-place : (t : List ℕ) (place : ℕ) → place < length t → ((rest : List ℕ) → verdictOf (text ++ rest) ≡ leaves place)
       → CyclesPrinted text true (cutLines t (leaves place))
   by-place t place l all =
       as-printed (ap (λ (k : ℕ). refusalLine (badCycles k)) (pick-true (ltb place (length t)) place textMost (lt-ltb place (length t) l)))
-      (follows (badCycles place) (λ a b. refl) all)
+      (follows (badCycles place) refl all)
 
   by-fate : (v : Verdict) → Fate (withoutRun text) v → CyclesPrinted text true (cutLines (withoutRun text) v)
-  by-fate v (out-already all) = follows pointCount (λ a b. refl) (λ rest. all (text ++ rest) _ (pieces-split text rest))
+  by-fate v (out-already all) = follows pointCount refl (λ rest. all (text ++ rest) _ (pieces-split text rest))
   by-fate v (lost-already place l all) = by-place (withoutRun text) place l (λ rest. all (text ++ rest) _ (pieces-split text rest))
   by-fate v (open-short place l c) =
       as-printed (ap (λ (k : ℕ). refusalLine (badCycles k))
@@ -207,7 +180,7 @@ module _ (text : List ℕ) where
   by-fate v (open-right q c) = answer.goes-on c
 
   by-seal : (v : Verdict) → Sealed text v → CyclesPrinted text true (cutLines text v)
-  by-seal v (sealed-out all) = follows pointCount (λ a b. refl) all
+  by-seal v (sealed-out all) = follows pointCount refl all
   by-seal v (sealed-at place l all) = by-place text place l all
 
   seal-said : (v : Verdict) → Sealed text v → v ≡ verdictOf text

@@ -1,5 +1,5 @@
--- WHAT THE PROGRAM `cycles` WRITES, byte for byte, and what the call leaves in the lent tables. `longer`: the input
--- goes on behind the text, which is the 65,536 bytes that fit into the buffer.
+-- WHAT THE PROGRAM `cycles` WRITES, byte for byte. `longer`: the input goes on behind the text, which is the 65,536
+-- bytes that fit into the buffer.
 --
 --   cyclesRead text           the answer of `read_cycles` in the program's own tables, which have room for every pair
 --   cutBy end v               the answer to an input that goes on, by what is said of the part that is judged, which
@@ -7,7 +7,6 @@
 --                             part, and else 27 with the place 65,536
 --   cyclesAnswer longer text  the answer to an input
 --   cyclesText longer text    the bytes for an input
---   CyclesLeave ..            what the call leaves in the tables of S and R, s and r before and s' and r' after
 --   CyclesPrinted text longer bytes   what the bytes mean. Of a text: the place where it leaves the form; a number that
 --                             is no index; a text of the form, whose tables have a fault, or which the import reads
 --                             from the bytes as a pair of permutations. Of an input that goes on behind the text: the
@@ -24,7 +23,8 @@ use Rattle.call.specs.Refusal.{pointCount, badCycles}
 use Rattle.call.specs.declared.refusal.Refusal.{Refusal}
 use Rattle.call.specs.declared.refusal.Filled.{Filled}
 use Rattle.call.specs.declared.refusal.Filled.the-variants as filled
-use Rattle.coset.specs.Answer.{columnLeft}
+use Rattle.call.specs.declared.refusal.Checked.the-variants as checked
+use Rattle.call.specs.Inner.Fills.{madeIf}
 use Rattle.text.specs.Reading.{textMost}
 use Rattle.text.specs.Line.{refusalLine}
 use Rattle.cycle_notation.specs.Piece.{cyclePieces, withoutOffsets}
@@ -32,12 +32,12 @@ use Rattle.cycle_notation.specs.Form.{Completes}
 use Rattle.cycle_notation.specs.Place.{WrongAt}
 use Rattle.cycle_notation.specs.Verdict.{Read, Verdict, reads, index-out, leaves, IndexOut}
 use Rattle.cycle_notation.specs.Inner.Reader.{verdictOf}
-use Rattle.cycle_reading.specs.Reading.{readCyclesOf, readS, readR, tableOfS, tableOfR, RightAs, GoodPair, PairFault}
+use Rattle.cycle_reading.specs.Reading.{cyclesCheck, readS, readR, tableOfS, tableOfR, RightAs, GoodPair, PairFault}
 use Rattle.symbol_texts.specs.Pair.{pairText, PairReadBack, pairLinesBy}
 use Rattle.cycle_texts.specs.Cut.{withoutRun, judgedText}
 
 abbrev pub cyclesRead : List ℕ → Filled
-cyclesRead text = readCyclesOf text 3066 3066
+cyclesRead text = madeIf (length (readS text)) (cyclesCheck text)
 
 abbrev pub cutBy : ℕ → Verdict → Filled
 cutBy end (leaves place) = filled.Refused (badCycles (pick (ltb place end) place textMost))
@@ -54,10 +54,6 @@ cyclesText longer text =
     let t = judgedText longer text in
     pairLinesBy (cyclesAnswer longer text) (readS t) (readR t)
 
-pub record CyclesLeave (longer : Bool) (text s r s' r' : List ℕ) : Type 0 where
-  pub S-left : s' ≡ columnLeft (cyclesRead (judgedText longer text)) (readS (judgedText longer text)) s
-  pub R-left : r' ≡ columnLeft (cyclesRead (judgedText longer text)) (readR (judgedText longer text)) r
-
 -- ---- what it means
 
 pub data CyclesPrinted (text : List ℕ) : Bool → List ℕ → Type 0 where
@@ -69,7 +65,7 @@ pub data CyclesPrinted (text : List ℕ) : Bool → List ℕ → Type 0 where
   pair-printed : (q : Read) → GoodPair text q
       → PairReadBack (tableOfS q) (tableOfR q) (pairText (tableOfS q) (tableOfR q))
       → CyclesPrinted text false (pairText (tableOfS q) (tableOfR q))
-  whatever-follows : (f : Refusal) → ((rest : List ℕ) (a b : ℕ) → readCyclesOf (text ++ rest) a b ≡ filled.Refused f)
+  whatever-follows : (f : Refusal) → ((rest : List ℕ) → cyclesCheck (text ++ rest) ≡ checked.Refused f)
       → CyclesPrinted text true (refusalLine f)
   goes-on : Completes (withoutOffsets (cyclePieces (withoutRun text)))
       → CyclesPrinted text true (refusalLine (badCycles textMost))

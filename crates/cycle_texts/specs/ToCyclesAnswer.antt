@@ -1,5 +1,5 @@
 -- WHAT THE PROGRAM `to_cycles` WRITES, byte for byte: the text is read as `import` reads it
--- (import_text/specs/Answer.antt, `requestOf`).
+-- (symbol_texts/specs/ImportAnswer.antt, `requestOf`).
 --
 --   exportLineBy c bs       the bytes bs of an export and a line end where the checks accept the pair, or the refusal's
 --                           number and place in a line

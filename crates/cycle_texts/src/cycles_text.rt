@@ -16,8 +16,8 @@ ghost use Prim.Native.Nat.{_≤_};
 ghost use lib.ListN.{length, take};
 ghost use Rattle.text.specs.Input.{ForInput};
 ghost use Rattle.text.specs.Line.{Puts};
-ghost use Rattle.cycle_texts.specs.CyclesAnswer.{cyclesAnswer, cyclesText, CyclesLeave, CyclesPrinted};
-ghost use Rattle.cycle_texts.specs.Inner.Ends.{RunBegins, JudgedTo, cutRefusal, cutAnswer};
+ghost use Rattle.cycle_texts.specs.CyclesAnswer.{cyclesAnswer, cyclesText, CyclesPrinted};
+ghost use Rattle.cycle_texts.specs.Inner.Ends.{RunBegins, JudgedTo, cutRefusal, cutAnswer, CyclesLeave};
 
 // Where the run of digits at the end of a text begins; at the end where it has none.
 fn last_run(text: &[u8]) -> usize
@@ -101,8 +101,6 @@ fn read_tables(text: &[u8], longer: bool, s: &mut [u32], r: &mut [u32]) -> Fille
 fn cycles_text(text: &[u8], longer: bool, s: &mut [u32], r: &mut [u32], out: &mut [u8]) -> usize
     requires { ⌜ (length (now s) ≡ 3066) × (length (now r) ≡ 3066) × (65536 ≤ length (now out)) ⌝ }
     ensures { λ e. ⌜ Puts (cyclesText longer (now (text .entry))) 0 e (now (out .entry)) (now (out .exit)) ⌝ }
-    ensures { λ _. ⌜ CyclesLeave longer (now (text .entry)) (now (s .entry)) (now (r .entry))
-        (now (s .exit)) (now (r .exit)) ⌝ }
 {
     let read = read_tables(text, longer, s, r);
     match read {
@@ -112,27 +110,20 @@ fn cycles_text(text: &[u8], longer: bool, s: &mut [u32], r: &mut [u32], out: &mu
 }
 
 // What the program writes for an input, whose bytes stand at the front of the buffer, from the front of `out`; where
-// it ends: at 0, with nothing changed, where the input could not be read. The arrays are the program's own, and what
-// stands in them at the start is free.
-pub fn answer(
-    buffer: &[u8],
-    input: Input,
-    s: &mut [u32; 3066],
-    r: &mut [u32; 3066],
-    out: &mut [u8; 65536],
-) -> usize
+// it ends: at 0, with nothing changed, where the input could not be read.
+pub fn answer(buffer: &[u8], input: Input, out: &mut [u8; 65536]) -> usize
     ensures { λ e. ⌜ e ≤ length (now (out .exit)) ⌝ }
     ensures { λ e. ⌜ ForInput (now (buffer .entry))
         (λ longer text. Puts (cyclesText longer text) 0 e (now (out .entry)) (now (out .exit))
-        × CyclesLeave longer text (now (s .entry)) (now (r .entry)) (now (s .exit)) (now (r .exit))
         × CyclesPrinted text longer (take e (now (out .exit))))
-        ((e ≡ 0) × (now (s .exit) ≡ now (s .entry)) × (now (r .exit) ≡ now (r .entry))
-        × (now (out .exit) ≡ now (out .entry)))
+        ((e ≡ 0) × (now (out .exit) ≡ now (out .entry)))
         input ⌝ }
 {
     let Input::Read(n, longer) = input else {
         return 0;
     };
     let end = text_end(buffer, n);
-    cycles_text(&buffer[..end], longer, s, r, out)
+    let mut s = [0u32; 3066];
+    let mut r = [0u32; 3066];
+    cycles_text(&buffer[..end], longer, &mut s, &mut r, out)
 }

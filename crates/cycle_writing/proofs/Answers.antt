@@ -1,65 +1,76 @@
--- The answers of the call from what its parts answer.
---     too-short, all-there    what an accepted pair is answered by the room, with the result space
---     refused, accepted       the whole answer with what it means
+-- The steps of the call, run.
+--     putSteps, exportRun     the steps of `write_accepted` and of `write_cycles`, by what stands in the result space before and after
+--     too-short, all-there    an accepted pair, by the room
+--     refused, accepted       the whole call, by the checks
+--     export-means            where nothing is refused, an export stands at the front of the result space
 --     enough-room             a result space of 65,536 bytes is enough for every passport
 -- Assumes nothing.
-use mathlib.Core.Path.{_≡_, refl, sym, ap, _∙_}
-use mathlib.Core.List.{List, _++_}
+use mathlib.Core.Path.{_≡_, refl, sym, ap, subst, _∙_}
+use mathlib.Core.List.{List, [], _∷_, _++_}
 use Prim.Native.Nat.{ℕ, _+_, _≤_, _<_}
 use native.Mathlib.Omega.{arith}
-use lib.Dec.{ltb}
-use lib.ListN.{length, drop}
-use borrow.Author.Tests.{lt-ltb, le-ltb}
-use Rattle.basics.proofs.Choice.{pick-true, pick-false}
-use Rattle.call.specs.Refusal.{tooShort, filledBy}
+use lib.ListN.{length, take, drop}
+use lib.Seq.{take-at}
+use Rattle.call.specs.Refusal.{_orElse_, tooShort}
 use Rattle.call.specs.declared.refusal.Refusal.{Refusal}
 use Rattle.call.specs.declared.refusal.Checked.{Checked}
 use Rattle.call.specs.declared.refusal.Checked.the-variants as checked
 use Rattle.call.specs.declared.refusal.Filled.{Filled}
 use Rattle.call.specs.declared.refusal.Filled.the-variants.{Made, Refused}
+use Rattle.call.specs.Call.{Step, Asks, Gives, lengthCheck, atFront, verdict, ifAccepted, Leaves}
+use Rattle.call.specs.Inner.Fills.{Fills, madeIf}
+use Rattle.call.proofs.Answers.{both-pass, pass-both}
+use Rattle.call.proofs.Laws.{Numbered, run-end, run-stop, run-pass, run-write, short-write, room-long, fills-as, ran, above-room, above-among}
 use Rattle.permutations.specs.Check.{pairCheck, Passport}
 use Rattle.permutations.proofs.Accepted.{accepted as passes}
+use Rattle.permutations.proofs.Answering.{passport-of}
+use Rattle.permutations.proofs.Numbers.{pairs-among}
 use Rattle.text.specs.Writing.{bytesPlaced}
 use Rattle.text.specs.Line.{Puts}
 use Rattle.cycle_writing.specs.Bytes.{exportOf}
-use Rattle.cycle_writing.specs.Export.{exportWithin, writeCyclesOf, exportLeft, WriteMeans}
-use Rattle.cycle_writing.proofs.Theorem.{exported, write-means}
+use Rattle.cycle_writing.specs.Export.{Exported}
+use Rattle.cycle_writing.proofs.Theorem.{exported}
+
+module _ (s r out out' : List ℕ) where
+  abbrev pub putSteps : List Step
+  putSteps = Asks (lengthCheck (length (exportOf s r)) (length out)) ∷ Gives (atFront (exportOf s r) out) out out' ∷ []
+
+  abbrev pub exportRun : List Step
+  exportRun = Asks (pairCheck s r) ∷ putSteps
+
+  pub numbered : Numbered exportRun
+  numbered = (above-among 12 15 (pairCheck s r) (omega arith) (pairs-among s r), (above-room (length (exportOf s r)) (length out), tt))
+
+  pub accepted : pairCheck s r ≡ checked.Accepted → {a : Filled} → Fills putSteps (madeIf (length (exportOf s r))) a
+      → Fills exportRun (madeIf (length (exportOf s r))) a
+  accepted e g = fills-as (run-pass (pairCheck s r) putSteps e (ran g)) (g .answer)
+
+  pub export-means : Leaves exportRun → verdict exportRun ≡ checked.Accepted → Exported s r (take (length (exportOf s r)) out')
+  export-means l e =
+      let left : out' ≡ atFront (exportOf s r) out = l .0 ∙ ap (λ (c : Checked). ifAccepted c (atFront (exportOf s r) out) out) e in
+      let front = ap (take (length (exportOf s r))) left ∙ take-at (exportOf s r) (drop (length (exportOf s r)) out) (length (exportOf s r)) refl in
+      subst (λ (t : List ℕ). Exported s r t) (sym front)
+      (exported s r (passport-of s r (both-pass (pairCheck s r) (verdict putSteps) e .0)))
 
 module _ (s r out : List ℕ) where
-  pub too-short : (n : ℕ) → n ≡ length (exportOf s r) → length out < n → Refused (tooShort n) ≡ exportWithin s r (length out)
-  too-short n e h =
-      ap (λ (k : ℕ). Refused (tooShort k)) e
-      ∙ sym (pick-true (ltb (length out) (length (exportOf s r))) _ _ (lt-ltb (length out) (length (exportOf s r)) (omega arith)))
+  pub too-short : (n : ℕ) → n ≡ length (exportOf s r) → length out < n
+      → Fills (putSteps s r out out) (madeIf (length (exportOf s r))) (Refused (tooShort n))
+  too-short n e h = fills-as (short-write (exportOf s r) out n (sym e) [] h tt) refl
 
-  pub record Left (a : Filled) (out' : List ℕ) : Type 0 where
-    pub returned : a ≡ exportWithin s r (length out)
-    pub result : out' ≡ exportLeft a (exportOf s r) out
-
-  pub all-there : {e : ℕ} {out' : List ℕ} → Puts (exportOf s r) 0 e out out' → length (exportOf s r) ≤ length out → Left (Made e) out'
+  pub all-there : {e : ℕ} {out' : List ℕ} → Puts (exportOf s r) 0 e out out' → length (exportOf s r) ≤ length out
+      → Fills (putSteps s r out out') (madeIf (length (exportOf s r))) (Made e)
   unfolding bytesPlaced
   all-there {e} {out'} p h =
-      let q : e ≡ length (exportOf s r) = omega (arith, p .end-is) in record {
-        returned = ap Made q ∙ sym (pick-false (ltb (length out) (length (exportOf s r))) _ _ (le-ltb (length out) (length (exportOf s r)) h));
-        result = p .left ∙ ap (λ (k : ℕ). exportOf s r ++ drop k out) (sym (p .end-is));
-      }
+      let q : e ≡ length (exportOf s r) = omega (arith, p .end-is) in
+      let z : 0 + length (exportOf s r) ≡ length (exportOf s r) = omega arith in
+      let l = p .left ∙ ap (λ (k : ℕ). exportOf s r ++ drop k out) z in
+      fills-as (run-write (exportOf s r) out (length (exportOf s r)) refl [] out' h l run-end) (ap Made q)
 
-  pub record Answered (a : Filled) (out' : List ℕ) : Type 0 where
-    pub returned : a ≡ writeCyclesOf s r (length out)
-    pub result : out' ≡ exportLeft a (exportOf s r) out
-    pub means : WriteMeans s r a out'
+  pub refused : (f : Refusal) → pairCheck s r ≡ checked.Refused f → Fills (exportRun s r out out) (madeIf (length (exportOf s r))) (Refused f)
+  refused f e = fills-as (run-stop f (pairCheck s r) (putSteps s r out out) e (refl, tt)) refl
 
-  answer : (a : Filled) (out' : List ℕ) → a ≡ writeCyclesOf s r (length out) → out' ≡ exportLeft a (exportOf s r) out → Answered a out'
-  answer a out' p q = record { returned = p; result = q; means = write-means s r out a out' p q }
-
-  pub refused : (f : Refusal) → pairCheck s r ≡ checked.Refused f → Answered (Refused f) out
-  refused f e = answer (Refused f) out (sym (ap (λ (c : Checked). filledBy c (exportWithin s r (length out))) e)) refl
-
-  pub accepted : pairCheck s r ≡ checked.Accepted → (a : Filled) (out' : List ℕ) → a ≡ exportWithin s r (length out) → out' ≡ exportLeft a (exportOf s r) out
-      → Answered a out'
-  accepted e a out' p q = answer a out' (p ∙ sym (ap (λ (c : Checked). filledBy c (exportWithin s r (length out))) e)) q
-
-pub enough-room : (s r : List ℕ) (room : ℕ) → Passport s r → 65536 ≤ room → writeCyclesOf s r room ≡ Made (length (exportOf s r))
-enough-room s r room p h =
-    let m = exported s r p .most in
-    ap (λ (c : Checked). filledBy c (exportWithin s r room)) (passes s r .1 p)
-    ∙ pick-false (ltb room (length (exportOf s r))) _ _ (le-ltb room (length (exportOf s r)) (omega arith))
+  pub enough-room : (out' : List ℕ) → Passport s r → 65536 ≤ length out → verdict (exportRun s r out out') ≡ checked.Accepted
+  enough-room out' p h =
+      let m = exported s r p .most in
+      pass-both (pairCheck s r) (verdict (putSteps s r out out')) (passes s r .1 p)
+      (ap (λ (c : Checked). c orElse checked.Accepted) (room-long (length (exportOf s r)) (length out) (omega arith)))

@@ -1,31 +1,21 @@
 -- Reading an export returns the tables.
 --     short-S, short-R    the tables of a passport have short cycles
 --     exported            the export is right, its cycles make the tables, and the reader says just this
---     write-means         so an answer that is no refusal means this
 -- Assumes nothing.
 use mathlib.Core.Path.{_≡_, refl, sym, ap, subst, _∙_}
 use mathlib.Core.Logic.{inl, inr}
-use mathlib.Core.Bool.{Bool, true, false, _&&_}
+use mathlib.Core.Bool.{true, _&&_}
 use mathlib.Core.List.{List, [], _∷_, _++_}
 use Prim.Native.Nat.{ℕ, suc, _≤_, _<_}
 use native.Mathlib.Omega.{arith}
-use lib.Dec.{leb, ltb}
-use lib.ListN.{length, take, drop}
-use lib.Seq.{take-at}
+use lib.Dec.{leb}
+use lib.ListN.{length}
 use borrow.Author.Tests.{le-leb}
-use Rattle.basics.specs.Choice.{pick}
 use Rattle.basics.specs.Count.{those}
-use Rattle.call.specs.Refusal.{tooShort, filledBy}
-use Rattle.call.specs.declared.refusal.Checked.{Checked}
-use Rattle.call.specs.declared.refusal.Checked.the-variants as checked
-use Rattle.call.specs.declared.refusal.Filled.{Filled}
-use Rattle.call.specs.declared.refusal.Filled.the-variants.{Made, Refused}
-use Rattle.call.proofs.Apart.{refused-made}
 use Rattle.numbering.specs.Table.{imageAt}
 use Rattle.figures.specs.Cusps.{stepsTo, width, iterates}
 use Rattle.import_rule.specs.Fixed.{image}
-use Rattle.permutations.specs.Check.{pairCheck, Passport}
-use Rattle.permutations.proofs.Answering.{passport-of}
+use Rattle.permutations.specs.Check.{Passport}
 use Rattle.cycle_notation.specs.Piece.{cyclePieces, withoutOffsets}
 use Rattle.cycle_notation.specs.Form.{pointsOf, Disjoint, inRange, Reading, Right}
 use Rattle.cycle_notation.specs.Table.{cycleTable}
@@ -34,7 +24,7 @@ use Rattle.cycle_notation.specs.Inner.Reader.{verdictOf}
 use Rattle.cycle_notation.proofs.Only.{verdict-only}
 use Rattle.cycle_writing.specs.Cycles.{beginsCycle, pointsFromOne, cyclesBelow, cyclesOf}
 use Rattle.cycle_writing.specs.Bytes.{exportOf}
-use Rattle.cycle_writing.specs.Export.{writeCyclesOf, exportLeft, Exported, WriteMeans}
+use Rattle.cycle_writing.specs.Export.{Exported}
 use Rattle.cycle_writing.specs.Inner.Short.{ShortTable}
 use Rattle.cycle_writing.proofs.Right.{whole-reading}
 use Rattle.cycle_writing.proofs.Short.{image-is}
@@ -98,21 +88,3 @@ module _ (s r : List ℕ) (p : Passport s r) where
     reads-back = sym (verdict-only (exportOf s r) (verdict.reads (record { index = length s; ofS = cyclesOf s; ofR = cyclesOf r }))
         (verdict.right (record { index = length s; ofS = cyclesOf s; ofR = cyclesOf r }) export-right));
   }
-
--- ---- the answer
-
-made-same : {m n : ℕ} → Made m ≡ Made n → m ≡ n
-made-same e = cc
-
-pub write-means : (s r out : List ℕ) (a : Filled) (out' : List ℕ) → a ≡ writeCyclesOf s r (length out) → out' ≡ exportLeft a (exportOf s r) out
-    → WriteMeans s r a out'
-write-means s r out a out' e l n m = go (pairCheck s r) refl (ltb (length out) (length (exportOf s r))) (sym m ∙ e)
-  where
-    front : n ≡ length (exportOf s r) → take n out' ≡ exportOf s r
-    front q = ap (take n) (l ∙ ap (λ (x : Filled). exportLeft x (exportOf s r) out) m) ∙ take-at (exportOf s r) (drop n out) n (sym q)
-
-    go : (c : Checked) → pairCheck s r ≡ c → (b : Bool)
-        → Made n ≡ filledBy c (pick b (Refused (tooShort (length (exportOf s r)))) (Made (length (exportOf s r)))) → Exported s r (take n out')
-    go (checked.Refused f) f-is b q = refused-made (sym q)
-    go checked.Accepted ok true q = refused-made (sym q)
-    go checked.Accepted ok false q = subst (λ (t : List ℕ). Exported s r t) (sym (front (made-same q))) (exported s r (passport-of s r ok))

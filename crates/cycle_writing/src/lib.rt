@@ -1,16 +1,17 @@
 // Permutation pairs written in cycle notation: specs/Cycles.antt and specs/Bytes.antt say which text an export is,
-// specs/Export.antt what the call answers, and that reading an export returns the tables.
+// specs/Export.antt the steps of the call, and that reading an export returns the tables.
 use bytes::put_export;
 use call::refusal::Checked;
 use call::refusal::Filled;
 use call::refusal::Refusal;
 use call::refusal::TOO_SHORT;
 use length::export_length;
-ghost use mathlib.Core.Path.{_≡_};
 ghost use lib.ListN.{length};
+ghost use Rattle.call.specs.Call.{stores};
+ghost use Rattle.call.specs.Inner.Fills.{Fills, madeIf};
 ghost use Rattle.permutations.specs.Check.{Passport};
 ghost use Rattle.cycle_writing.specs.Bytes.{exportOf};
-ghost use Rattle.cycle_writing.specs.Export.{exportWithin, writeCyclesOf, exportLeft, WriteMeans};
+ghost use Rattle.cycle_writing.specs.Export.{exportSteps};
 
 mod bytes;
 mod length;
@@ -19,8 +20,8 @@ mod start;
 // The export of an accepted pair, where the result space has room for it.
 fn write_accepted(s: &[u32], r: &[u32], out: &mut [u8]) -> Filled
     requires { ⌜ Passport (now s) (now r) ⌝ }
-    ensures { λ a. ⌜ a ≡ exportWithin (now (s .entry)) (now (r .entry)) (length (now (out .entry))) ⌝ }
-    ensures { λ a. ⌜ now (out .exit) ≡ exportLeft a (exportOf (now (s .entry)) (now (r .entry))) (now (out .entry)) ⌝ }
+    ensures { λ a. ⌜ Fills (stores (exportOf (now (s .entry)) (now (r .entry))) out)
+        (madeIf (length (exportOf (now (s .entry)) (now (r .entry))))) a ⌝ }
 {
     let n = export_length(s, r);
     if out.len() < n {
@@ -36,9 +37,8 @@ fn write_accepted(s: &[u32], r: &[u32], out: &mut [u8]) -> Filled
 // The tables of S and R as text in cycle notation, at the front of the result space: the length of the text; or 12 to
 // 15, then 11 with that length.
 pub fn write_cycles(s: &[u32], r: &[u32], out: &mut [u8]) -> Filled
-    ensures { λ a. ⌜ a ≡ writeCyclesOf (now (s .entry)) (now (r .entry)) (length (now (out .entry))) ⌝ }
-    ensures { λ a. ⌜ now (out .exit) ≡ exportLeft a (exportOf (now (s .entry)) (now (r .entry))) (now (out .entry)) ⌝ }
-    ensures { λ a. ⌜ WriteMeans (now (s .entry)) (now (r .entry)) a (now (out .exit)) ⌝ }
+    ensures { λ a. ⌜ Fills (exportSteps (now (s .entry)) (now (r .entry)) out)
+        (madeIf (length (exportOf (now (s .entry)) (now (r .entry))))) a ⌝ }
 {
     let checked = permutations::check(s, r);
     match checked {

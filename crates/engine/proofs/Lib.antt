@@ -1,5 +1,4 @@
 -- What the proofs of the exported functions share.
-pub mod Zero
 pub mod Said
 pub mod Lent
 pub mod Drawn

@@ -24,14 +24,14 @@ use Rattle.import_rule.specs.Order.{Order}
 use Rattle.named_groups.specs.Answer.{namedRule, ruledWord, ruledSign}
 use Rattle.named_groups.proofs.Asking.{namedRun, claimed}
 use Rattle.named_groups.specs.Claim.{NamedClaim, NamedQuerySays, NamedSignSays}
-use Rattle.word.specs.Answer.{queryRefusal, foundWord, foundSign, signNumber, partOf, wordIf}
-use Rattle.word.specs.Claim.{NormalWord, Answered, Claim, QuerySays, scaled, SignSays}
+use Rattle.word.specs.Answer.{queryRefusal, queryPlace, foundWord, foundSign, signNumber, partOf, wordIf}
+use Rattle.word.specs.Claim.{NormalWord, Answered, Claim, QuerySays, scaled, SignSays, Tells}
 use Rattle.word.specs.declared.Queried.{Queried}
 use Rattle.word.specs.declared.Queried.the-variants as queried
 use Rattle.word.proofs.Claim.{same-number}
 use Rattle.word.proofs.Order.{refusal-if, left-if, queryRun, claim}
 use Rattle.sheets.proofs.Said.{unit-of, with-scaled, ten-none, zero, eleven}
-use Rattle.engine.specs.Exported.{queryPlace, signWritten}
+use Rattle.engine.specs.Exported.{signWritten}
 
 -- under a number 0 the word stands where the answer says
 module _ {v : ℕ} {t : List ℤ} {A B : Mat} {word : List ℤ} {sign : Bool} {out : List ℤ} {start : ℕ} {r : Queried} {out' : List ℤ}
@@ -158,12 +158,17 @@ module _ (v : ℕ) (t a b : List ℤ) (w w' : List ℕ) (out out' : List ℤ) (s
   all : Claim v t a b w out start (wordIf start n q c) out'
   all = claim refl (l .1 .0 ∙ left-if start n q c (foundWord v t (ofList a) (ofList b)) out)
 
-  pub query-call : Claim v t a b w out start (wordIf start n q c) out' × QuerySays v t a b w start number place out'
-  query-call = (all, query-says all number place (number-if start n q c) (sym (place-if start n q c)))
+  told : Tells (wordIf start n q c) number place
+  told = (number-if start n q c, sym (place-if start n q c))
 
-  pub signed-call : (x y : ℤ) → x ≡ ifAccepted c (signNumber q) y
-      → (Claim v t a b w out start (wordIf start n q c) out' × QuerySays v t a b w start number place out') × SignSays v t a b start number place x out'
-  signed-call x y f = (query-call, sign-says all number place x y (number-if start n q c) (sym (place-if start n q c)) (f ∙ sym (sign-if start n q c y)))
+  abbrev Said : Type 0
+  Said = Tells (wordIf start n q c) number place × Claim v t a b w out start (wordIf start n q c) out' × QuerySays v t a b w start number place out'
+
+  pub query-call : Said
+  query-call = (told, all, query-says all number place (told .0) (told .1))
+
+  pub signed-call : (x y : ℤ) → x ≡ ifAccepted c (signNumber q) y → Said × SignSays v t a b start number place x out'
+  signed-call x y f = (query-call, sign-says all number place x y (told .0) (told .1) (f ∙ sym (sign-if start n q c y)))
 
 -- the same on a group with a name, under each order
 module _ (order : Order) (k m : ℕ) (a b : List ℤ) (w w' : List ℕ) (out out' : List ℤ) (start : ℕ)
@@ -184,14 +189,19 @@ module _ (order : Order) (k m : ℕ) (a b : List ℤ) (w w' : List ℕ) (out out
   place' = ifAccepted c' n' (checkedRefusal c' .place)
 
   abbrev Named : Type 0
-  Named = NamedClaim order k m a b w out start (wordIf start n' q' c') out' × NamedQuerySays order k m a b w start number' place' out'
+  Named =
+      Tells (wordIf start n' q' c') number' place' × NamedClaim order k m a b w out start (wordIf start n' q' c') out'
+      × NamedQuerySays order k m a b w start number' place' out'
+
+  told' : Tells (wordIf start n' q' c') number' place'
+  told' = (number-if start n' q' c', sym (place-if start n' q' c'))
 
   every : NamedClaim order k m a b w out start (wordIf start n' q' c') out'
   every = claimed order k m a b w w' out out' start l
 
   pub named-call : Named
-  named-call = (every, named-says every number' place' (number-if start n' q' c') (sym (place-if start n' q' c')))
+  named-call = (told', every, named-says every number' place' (told' .0) (told' .1))
 
   pub named-signed-call : (x y : ℤ) → x ≡ ifAccepted c' (signNumber q') y → Named × NamedSignSays order k m a b start number' place' x out'
   named-signed-call x y f =
-      (named-call, named-sign-says every number' place' x y (number-if start n' q' c') (sym (place-if start n' q' c')) (f ∙ sym (sign-if start n' q' c' y)))
+      (named-call, named-sign-says every number' place' x y (told' .0) (told' .1) (f ∙ sym (sign-if start n' q' c' y)))

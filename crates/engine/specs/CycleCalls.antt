@@ -1,28 +1,32 @@
 -- CYCLE NOTATION BY WHAT THE EXPORTED CALLS RETURN AND WRITE.
 --
---   OneAnswer                 [means-only] what an answer of reading means, by the grammar alone, allows one answer for
---                             each text; proofs/CycleCalls.antt has the proof
 --   ReadPair t s r n          the text t is right, its tables are a pair of permutations as wanted, and they are the
 --                             first n numbers of s and of r
 --   CyclesSay t s r n place   what the number n and the place of `farey_read_cycles` say, where s and r have been left
 --                             in the result spaces: 0, that there is such a pair, and the place is its number of
 --                             points; 12, that the number written at the front is no index; 27, that the text leaves
 --                             the form at the place
+--   MeansInSpaces t s r n place   what number and place mean by the grammar alone (cycle_reading, `ReadCyclesMean`),
+--                             for the lent result spaces s and r
+--   readCyclesCall t s r      `farey_read_cycles`: number and place mean this, and say what `CyclesSay` has
+--   OneAnswer                 [means-only] what number and place mean, by the grammar alone, allows one number and one
+--                             place for each text; proofs/CycleCalls.antt has the proof
 --   ExportReadBack s r t      READING AN EXPORT RETURNS THE TABLES: the text t is read as the tables s and r, wherever
 --                             there is room for them
+--   writeCyclesCall s r out   `farey_write_cycles`: 0 says that an export stands at the front of the result space, of
+--                             as many bytes as the place says
 use mathlib.Core.Path.{_≡_}
 use mathlib.Core.List.{List}
 use Prim.Native.Nat.{ℕ, _≤_}
 use lib.ListN.{length, take}
-use Rattle.call.specs.declared.refusal.Filled.{Filled}
-use Rattle.call.specs.declared.refusal.Filled.the-variants as filled
+use Rattle.call.specs.Call.{Lent, verdict, Contract, numberOf, placeOf}
+use Rattle.call.specs.declared.refusal.Checked.the-variants.{Accepted}
 use Rattle.cycle_notation.specs.Piece.{cyclePieces, withoutOffsets}
 use Rattle.cycle_notation.specs.Place.{WrongAt}
 use Rattle.cycle_notation.specs.Verdict.{Read, IndexOut}
-use Rattle.cycle_reading.specs.Reading.{tableOfS, tableOfR, readCyclesOf, readS, readR, GoodPair, ReadCyclesMean}
-
-abbrev pub OneAnswer : Type 0
-OneAnswer = (t : List ℕ) (a b : ℕ) (s r : List ℕ) (f : Filled) → ReadCyclesMean t a b s r f → f ≡ readCyclesOf t a b
+use Rattle.cycle_reading.specs.Reading.{tableOfS, tableOfR, readS, readR, readSteps, GoodPair, ReadCyclesMean}
+use Rattle.cycle_writing.specs.Bytes.{exportOf}
+use Rattle.cycle_writing.specs.Export.{exportSteps, Exported}
 
 pub record ReadPair (t s r : List ℕ) (n : ℕ) : Type 0 where
   pub reading : Read
@@ -36,7 +40,31 @@ pub record CyclesSay (t s r : List ℕ) (number place : ℕ) : Type 0 where
   pub no-index : number ≡ 12 → IndexOut (withoutOffsets (cyclePieces t))
   pub wrong : number ≡ 27 → WrongAt t place
 
+abbrev pub MeansInSpaces : List ℕ → (s r : Lent (List ℕ)) → (number place : ℕ) → Type 0
+MeansInSpaces t s r number place =
+    ReadCyclesMean t (length (s .entry .now)) (length (r .entry .now)) (s .exit .now) (r .exit .now) number place
+
+abbrev pub readCyclesCall : List ℕ → (s r : Lent (List ℕ)) → Contract
+readCyclesCall t s r = record {
+  steps = readSteps t s r;
+  count = length (readS t);
+  Says = λ number place. MeansInSpaces t s r number place × CyclesSay t (s .exit .now) (r .exit .now) number place;
+}
+
+abbrev pub OneAnswer : Type 0
+OneAnswer = (t : List ℕ) (s r : Lent (List ℕ)) (number place : ℕ) → MeansInSpaces t s r number place
+    → (number ≡ numberOf (readCyclesCall t s r)) × (place ≡ placeOf (readCyclesCall t s r))
+
 pub record ExportReadBack (s r t : List ℕ) : Type 0 where
-  pub answer : (a b : ℕ) → length s ≤ a → length s ≤ b → readCyclesOf t a b ≡ filled.Made (length s)
+  pub answer : (a b : Lent (List ℕ)) → length s ≤ length (a .entry .now) → length s ≤ length (b .entry .now)
+      → verdict (readSteps t a b) ≡ Accepted
   pub S-is : readS t ≡ s
   pub R-is : readR t ≡ r
+
+abbrev pub writeCyclesCall : (s r : List ℕ) → Lent (List ℕ) → Contract
+writeCyclesCall s r out = record {
+  steps = exportSteps s r out;
+  count = length (exportOf s r);
+  Says = λ number place. number ≡ 0
+      → Exported s r (take place (out .exit .now)) × ExportReadBack s r (take place (out .exit .now));
+}

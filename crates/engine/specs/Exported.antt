@@ -5,7 +5,6 @@
 --
 --   filledPlace                     place, or how many things were made: cosets, vertices, numbers of a table
 --   checkCall v t                   `farey_check`: the checks 1 to 7, and 0 says exactly that t has a symbol
---   queryPlace                      place, or how many letters the word has
 --   signWritten                     the sign of a word, 1 or -1, or what stood there where the call refuses
 use mathlib.Core.Path.{_≡_}
 use mathlib.Core.Logic.{_↔_}
@@ -26,10 +25,6 @@ checkCall v t = record {
   count = 0;
   Says = λ number place. (number ≡ 0) ↔ IsSymbol v t;
 }
-
-abbrev pub queryPlace : Queried → ℕ
-queryPlace (queried.Word start n sign) = n
-queryPlace (queried.Refused f) = f .place
 
 abbrev pub signWritten : Queried → ℤ → ℤ
 signWritten (queried.Word start n sign) before = signNumber sign

@@ -8,10 +8,10 @@ use word::Queried;
 use word::sign_number;
 ghost use mathlib.Core.Path.{_≡_};
 ghost use Rattle.call.specs.Refusal.{filledRefusal};
-ghost use Rattle.word.specs.Answer.{queryRefusal};
+ghost use Rattle.word.specs.Answer.{queryRefusal, queryPlace};
 ghost use Rattle.call.specs.Inner.Fills.{decisionRefusal, decisionPlace};
 ghost use Rattle.coset.specs.Answer.{figureNumber, figureValue, figureNumbers};
-ghost use Rattle.engine.specs.Exported.{filledPlace, queryPlace, signWritten};
+ghost use Rattle.engine.specs.Exported.{filledPlace, signWritten};
 
 // A refusal's number and place, or 0 and a count.
 pub(crate) struct Said {

@@ -2,8 +2,8 @@
 // one name each.
 //
 // An exported function returns 0, or the number of a refusal. Through `place` it writes the refusal's place or, where
-// it returns 0, a count. What it writes elsewhere, and what that means, is the promise of the call beneath it
-// (specs/Exported.antt has the numbers). include/farey.h says all of it in words.
+// it returns 0, a count. Its contract is the call's plan: its steps in the order of its refusals, which say what it
+// leaves in every space, and what number and place mean. include/farey.h says all of it in words.
 mod answers;
 pub mod cosets;
 pub mod exchanging;

@@ -1,6 +1,5 @@
-// The jobs of the program: each lends a text's crate the arrays that it asks for, and writes what that made. They have
-// no contract of their own: what is made is in that of `answer`, or `print`, which each of them calls, and no contract
-// can say what is written.
+// The jobs of the program: each asks a text's crate for its answer and writes that. They have no contract of their own:
+// what is made is in that of `answer`, or `print`, which each of them calls, and no contract can say what is written.
 ghost use Prim.Native.Nat.{_≤_};
 ghost use lib.ListN.{length};
 use text::input::Input;
@@ -63,10 +62,8 @@ pub fn tower(text: &[u8], input: Input) {
 
 // The tables of S and R, of a permutation pair in cycle notation.
 pub fn cycles(text: &[u8], input: Input) {
-    let mut s = [0u32; 3066];
-    let mut r = [0u32; 3066];
     let mut out = [0u8; 65536];
-    let end = cycle_texts::cycles_text::answer(text, input, &mut s, &mut r, &mut out);
+    let end = cycle_texts::cycles_text::answer(text, input, &mut out);
     write_text(&out, end);
 }
 

@@ -37,7 +37,7 @@ use Rattle.import_rule.specs.Order.{Order}
 use Rattle.import_rule.specs.Symbol.{made, over}
 use Rattle.call.specs.Call.{Lent, resultIn, Contract}
 use Rattle.word.specs.Answer.{foundWord, foundSign, partOf, queryRefusal, signNumber}
-use Rattle.word.specs.Claim.{Found, NormalWord, Answered, ShortWork, SignSays}
+use Rattle.word.specs.Claim.{Found, NormalWord, Answered, ShortWork, SignSays, Tells}
 use Rattle.word.specs.declared.Queried.{Queried}
 use Rattle.named_groups.specs.Group.{familyOf, NamedGroup}
 use Rattle.named_groups.specs.Answer.{namedRule, NamedSymbol, ruledWord, ruledSign, namedQuerySteps, namedQueryBy}
@@ -100,8 +100,8 @@ namedQueryCall order k n a b w out start = record {
   steps = namedQuerySteps order k n a b w out start;
   count = length (ruledWord (namedRule order k n) a b);
   Says = λ number place.
-      NamedClaim order k n a b (w .entry .now) (out .entry .now) start
-      (namedQueryBy order k n a b (length (w .entry .now)) (length (out .entry .now)) start) (out .exit .now)
+      let r = namedQueryBy order k n a b (length (w .entry .now)) (length (out .entry .now)) start in
+      Tells r number place × NamedClaim order k n a b (w .entry .now) (out .entry .now) start r (out .exit .now)
       × NamedQuerySays order k n a b (w .entry .now) start number place (out .exit .now);
 }
 

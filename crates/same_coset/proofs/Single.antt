@@ -24,7 +24,7 @@ use Rattle.call.specs.declared.refusal.Checked.{Checked}
 use Rattle.call.specs.declared.refusal.Checked.the-variants.{Accepted, Refused}
 use Rattle.call.proofs.Apart.{refused-accepted}
 use Rattle.call.specs.Call.{Step, Asks, Clears, lengthCheck, ifAccepted, bit}
-use Rattle.call.specs.Inner.Fills.{decided}
+use Rattle.call.specs.Inner.Fills.{decided, decisionRefusal, decisionPlace}
 use Rattle.call.specs.declared.Decision.{Decision}
 use Rattle.call.specs.declared.Decision.the-variants as decision
 use Rattle.call.proofs.Laws.{above-room, above-among, accepted-by}
@@ -226,6 +226,15 @@ module _ (v : ℕ) (t a b : List ℤ) (w : List ℕ) where
 
   abbrev told : ℕ
   told = ifAccepted all (bit found) (checkedRefusal all .place)
+
+  pub tells : (checkedRefusal all .number ≡ decisionRefusal (decided found all) .number) × (told ≡ decisionPlace (decided found all))
+  tells = go found all
+    where
+      go : (b : Bool) (c : Checked) → (checkedRefusal c .number ≡ decisionRefusal (decided b c) .number)
+          × (ifAccepted c (bit b) (checkedRefusal c .place) ≡ decisionPlace (decided b c))
+      go true Accepted = (refl, refl)
+      go false Accepted = (refl, refl)
+      go b (Refused f) = (refl, refl)
 
   told-is : all ≡ Accepted → told ≡ bit found
   told-is e = ap (λ (c : Checked). ifAccepted c (bit found) (checkedRefusal c .place)) e

@@ -22,7 +22,7 @@ use Rattle.matrix.specs.Matrix.{ofList}
 use Rattle.call.specs.Space.{workLength}
 use Rattle.call.specs.Refusal.{noRefusal, noWord}
 use Rattle.call.specs.Call.{Lent, Step, asks, work, lengthCheck, verdict, bit, Contract}
-use Rattle.call.specs.Inner.Fills.{decided}
+use Rattle.call.specs.Inner.Fills.{decided, decisionRefusal, decisionPlace}
 use Rattle.call.specs.declared.Decision.{Decision}
 use Rattle.call.specs.declared.Decision.the-variants as decision
 use Rattle.symbol.specs.Check.{symbolCheck}
@@ -59,6 +59,7 @@ sameCosetCall v t a b w = record {
   steps = sameCosetSteps v t a b w;
   count = bit (closes v t (ofList a) (ofList b));
   Says = λ number place.
-      CosetMeans v t a b (w .entry .now) (sameCosetOf v t a b (length (w .entry .now)))
+      let r = sameCosetOf v t a b (length (w .entry .now)) in
+      (number ≡ decisionRefusal r .number) × (place ≡ decisionPlace r) × CosetMeans v t a b (w .entry .now) r
       × SharedSays v t a b (w .entry .now) number place;
 }

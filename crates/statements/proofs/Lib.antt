@@ -3,3 +3,4 @@ pub mod Builders
 pub mod Genus
 -- Why each of the starred instances holds.
 pub mod Instances
+pub mod Calls

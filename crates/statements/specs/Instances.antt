@@ -36,7 +36,7 @@ use Rattle.symbol.specs.Check as symbol
 use Rattle.symbol.specs.Check.{eqZ}
 use Rattle.call.specs.Call.{Lent, Step, lengthCheck, asks, stores, atFront, verdict, ifAccepted}
 use Rattle.pairing.specs.Generator.{generatorTable}
-use Rattle.call.specs.Refusal.{_orElse_, checkedRefusal, filledRefusal}
+use Rattle.call.specs.Refusal.{checkedRefusal}
 use Rattle.call.specs.declared.refusal.Refusal.{Refusal}
 use Rattle.coset.specs.Tables.{tableS, tableR, tableT}
 use Rattle.coset.specs.Answer.{figuresOf}
@@ -48,7 +48,6 @@ use Rattle.signs.specs.Sign.{plus, minus}
 use Rattle.word.specs.Answer.{queryOf, queryRefusal, foundWord, signNumber, wordLeft, partOf}
 use Rattle.word.specs.declared.Queried.{Queried}
 use Rattle.word.specs.declared.Queried.the-variants as queried
-use Rattle.call.specs.Call.{lengthCheck, atFront, ifAccepted}
 use Rattle.import_rule.specs.Order.{Order, leftmost, longestOpen}
 use Rattle.import_rule.specs.Symbol.{ruledBy}
 use Rattle.import_symbol.specs.Answer.{check16, ruledTable}
@@ -121,8 +120,8 @@ signGiven (queried.Refused f) = []
 abbrev pub importSays : Order → (s r : List ℕ) (work : ℕ) (out : List ℤ) → Answer
 importSays order s r work out =
     let g = ruledBy order s r in
-    let c = pairCheck s r orElse lengthCheck workLength work orElse lengthCheck (neededLength r) (length out)
-    orElse check16 g in
+    let c = verdict (asks (pairCheck s r) ++ asks (lengthCheck workLength work)
+    ++ asks (lengthCheck (neededLength r) (length out)) ++ asks (check16 g)) in
     let vertices = pos (neededVertices r) ∷ [] in
     says (checkedRefusal c) (ifAccepted c vertices [] ∷ ifAccepted c (atFront (ruledTable g) out) out ∷ [])
 
@@ -154,8 +153,8 @@ answerTo (query v t a b work out start) =
     let left = wordLeft r (foundWord v t (ofList a) (ofList b)) out in
     says (queryRefusal r) (signGiven r ∷ wordIn r left ∷ left ∷ [])
 answerTo (same v t v' t' work) =
-    let checks = symbol.symbolCheck v t orElse symbol.symbolCheck v' t' orElse lengthCheck workLength work in
-    let a = decided (sameTables v t v' t') checks in
+    let c = verdict (asks (symbol.symbolCheck v t) ++ symbolSteps v' t' work) in
+    let a = decided (sameTables v t v' t') c in
     says (decisionRefusal a) (yesIn a ∷ [])
 answerTo (import s r work out) = importSays leftmost s r work out
 answerTo (importWide s r work out) = importSays longestOpen s r work out

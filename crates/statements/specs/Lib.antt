@@ -4,3 +4,4 @@ pub mod Builders
 pub mod Genus
 -- The starred instances: evidence, not a promise.
 pub mod Instances
+pub mod Calls

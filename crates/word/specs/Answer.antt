@@ -2,6 +2,7 @@
 --
 --   Queried                     the answer of `query`
 --   queryRefusal                the refusal that the answer is, noRefusal for a word
+--   queryPlace                  the number of its letters for a word, the place of the refusal otherwise
 --   four ns i                   the four numbers of ns from the number i on: a matrix, row by row
 --   entryAt a b i               the entry i of the pair: 0 to 3 in A, 4 to 7 in B
 --   large a b i                 whether it is beyond 1,000,000 in size
@@ -47,6 +48,10 @@ use Rattle.word.specs.declared.Queried.the-variants as queried
 abbrev pub queryRefusal : Queried → Refusal
 queryRefusal (queried.Word start n sign) = noRefusal
 queryRefusal (queried.Refused f) = f
+
+abbrev pub queryPlace : Queried → ℕ
+queryPlace (queried.Word start n sign) = n
+queryPlace (queried.Refused f) = f .place
 
 -- ---- the pair
 

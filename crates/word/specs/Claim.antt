@@ -48,6 +48,7 @@
 --   scaled z m              the matrix m with every entry multiplied by z
 --   SignSays                what the exported call with a sign says of it where it returns 0: it is 1 or -1, and those
 --                           letters times A are that times B
+--   Tells r number place    number and place are those of the answer r
 --   queryCall               THE EXPORTED CALL: the steps of a query, the number of letters, and what it says
 --   signedQueryCall         the same with the sign as one more result
 use mathlib.Core.Path.{_≡_}
@@ -69,7 +70,8 @@ use Rattle.coset.specs.Positions.{SameCoset, startOf, followed, walkEnds, withS
 use Rattle.coset.specs.Tables.{tableS, tableR}
 use Rattle.right_cosets.specs.Leads.{leads}
 use Rattle.call.specs.Call.{Lent, resultIn, Contract}
-use Rattle.word.specs.Answer.{placed, queryRefusal, foundWord, foundSign, querySteps, queryOf, partOf, signNumber}
+use Rattle.word.specs.Answer.{placed, queryRefusal, queryPlace, foundWord, foundSign, querySteps, queryOf, partOf}
+use Rattle.word.specs.Answer.{signNumber}
 use Rattle.word.specs.declared.Queried.{Queried}
 use Rattle.word.specs.declared.Queried.the-variants as queried
 
@@ -147,13 +149,16 @@ pub record SignSays (v : ℕ) (t a b : List ℤ) (start n place : ℕ) (sign : �
 
 -- ---- the calls
 
+abbrev pub Tells : Queried → (number place : ℕ) → Type 0
+Tells r number place = (number ≡ queryRefusal r .number) × (place ≡ queryPlace r)
+
 abbrev pub queryCall : (v : ℕ) (t a b : List ℤ) → Lent (List ℕ) → Lent (List ℤ) → (start : ℕ) → Contract
 queryCall v t a b w out start = record {
   steps = querySteps v t a b w out start;
   count = length (foundWord v t (ofList a) (ofList b));
   Says = λ number place.
-      Claim v t a b (w .entry .now) (out .entry .now) start
-      (queryOf v t a b (length (w .entry .now)) (length (out .entry .now)) start) (out .exit .now)
+      let r = queryOf v t a b (length (w .entry .now)) (length (out .entry .now)) start in
+      Tells r number place × Claim v t a b (w .entry .now) (out .entry .now) start r (out .exit .now)
       × QuerySays v t a b (w .entry .now) start number place (out .exit .now);
 }
 

@@ -316,7 +316,7 @@ fn plans_name_each_lent_space() {
     assert_eq!(wrong, Vec::<String>::new());
     let planned = functions.iter().filter(|f| f.plan.is_some()).count();
     println!("{planned} of {} contracts are plans", functions.len());
-    assert!(planned >= 28);
+    assert!(planned >= 30);
 }
 
 /// Contracts that promise nothing of a space are found.

@@ -18,13 +18,13 @@ enum-told c = search needs
 returns : tie.Need-returns
 returns c = let a = c .before .before .before .before .before .before .before .before .args in
     let e = sym (c .before .before .before .check .ensures .returned) ∙ c .before .enum-told .given .1 in
-    let g = given-short-S (a .a .now) (a .b .now) (a .s .now) (a .r .now) e (c .if1 .taken) in (g .returned, (g .S-left, g .R-left))
+    given-short-S (a .a .now) (a .b .now) (a .s .now) (a .r .now) e (c .if1 .taken)
 
 returns-2 : tie.Need-returns-2
 returns-2 c = let a = c .before .before .before .before .before .before .before .before .before .args in
     let e = sym (c .before .before .before .before .check .ensures .returned) ∙ c .before .before .enum-told .given .1 in
-    let g = given-short-R (a .a .now) (a .b .now) (a .s .now) (a .r .now) e (omega (arith, c .before .if1 .left)) (c .if2 .taken) in
-    (g .returned, (g .S-left, g .R-left))
+    given-short-R (a .a .now) (a .b .now) (a .s .now) (a .r .now) e (c .before .before .before .before .before .before .before .before .before .pre)
+    (omega (arith, c .before .if1 .left)) (c .if2 .taken)
 
 copy-table-requires : tie.Need-copy-table-requires
 copy-table-requires c κs = search needs
@@ -44,16 +44,15 @@ returns-3 c =
     let a = earlier .before .before .before .before .before .before .before .args in
     let e = sym (earlier .before .before .check .ensures .returned)
     ∙ c .before .before .before .before .before .before .before .before .before .before .enum-told .given .1 in
-    let g = given-both (a .a .now) (a .b .now) (a .s .now) (a .r .now) e (earlier .before .before .before .before .before .before .before .pre)
+    given-both (a .a .now) (a .b .now) (a .s .now) (a .r .now) e (earlier .before .before .before .before .before .before .before .pre)
     (omega (arith, c .before .before .before .before .before .before .before .before .before .if1 .left))
     (omega (arith, c .before .before .before .before .before .before .before .before .if2 .left)) _ _
-    (c .before .before .before .before .before .before .copy-table .ensures) (c .before .before .copy-table2 .ensures) in
-    (g .returned, (g .S-left, g .R-left))
+    (c .before .before .before .before .before .before .copy-table .ensures) (c .before .before .copy-table2 .ensures)
 
 returns-4 : tie.Need-returns-4
 returns-4 c = let a = c .before .before .before .before .before .before .before .before .args in
     let e = sym (c .before .before .before .check .ensures .returned) ∙ c .before .checked .given .1 in
-    let g = given-refused (a .a .now) (a .b .now) (a .s .now) (a .r .now) _ e in (g .returned, (g .S-left, g .R-left))
+    given-refused (a .a .now) (a .b .now) (a .s .now) (a .r .now) _ e
 
 pub give-spec : {M : Type 1} → statement M
 give-spec =

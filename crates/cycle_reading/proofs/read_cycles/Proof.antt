@@ -41,13 +41,11 @@ give-requires c κs =
 
 returns : tie.Need-returns
 returns c = let a = c .before .before .before .before .before .before .before .before .before .args in
-    let g = cycles-left (a .text .now) _ _ _ (c .before .before .before .read-text .ensures) (a .s .now) (a .r .now) _ (c .before .judged .given .1) in
-    (g .returned, (g .S-left, (g .R-left, g .means)))
+    cycles-left (a .text .now) _ _ _ (c .before .before .before .read-text .ensures) (a .s .now) (a .r .now) _ (c .before .judged .given .1)
 
 returns-2 : tie.Need-returns-2
 returns-2 c = let a = c .before .before .before .before .before .before .before .before .args in
-    let g = cycles-out (a .text .now) _ _ _ (c .before .before .read-text .ensures) (a .s .now) (a .r .now) (c .enum-told .given .1) in
-    (g .returned, (g .S-left, (g .R-left, g .means)))
+    cycles-out (a .text .now) _ _ _ (c .before .before .read-text .ensures) (a .s .now) (a .r .now) (c .enum-told .given .1)
 
 same-length : tie.Need-same-length
 same-length c = search needs
@@ -58,10 +56,10 @@ same-length-2 c = search needs
 returns-3 : tie.Need-returns-3
 returns-3 c =
     let earlier = c .before .before .before .before .before .before .before .before .before .before in
-    let a = earlier .before .before .before .before .before .before .before .before .args in let x = c .before .before .before .before .give .ensures in
-    let g = cycles-read (a .text .now) _ _ _ (earlier .before .before .read-text .ensures) (a .s .now) (a .r .now) _
-    (c .before .before .before .before .before .before .before .before .before .before .judged2 .given .1) _ _ _
-    (record { returned = x .0; S-left = x .1 .0; R-left = x .1 .1 }) in (g .returned, (g .S-left, (g .R-left, g .means)))
+    let a = earlier .before .before .before .before .before .before .before .before .args in
+    cycles-read (a .text .now) _ _ _ (earlier .before .before .read-text .ensures) (a .s .now) (a .r .now) _
+    (c .before .before .before .before .before .before .before .before .before .before .judged2 .given .1)
+    (c .before .before .before .before .give .ensures)
 
 pub read-cycles-spec : {M : Type 1} → statement M
 read-cycles-spec =

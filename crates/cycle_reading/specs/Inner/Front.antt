@@ -5,7 +5,6 @@
 --     BlanksTo t at       and there is no further blank
 --     eitherAlone n a b   the verdict by what the readers with and without a semicolon say, behind the index n
 --     VerdictRead v o s r the code answers o for the verdict v, and s and r hold the tables of a text that is right
---     tablesAnswer s r a b    what is said of tables of S and R, with result spaces of length a and b
 -- Assumes nothing.
 use mathlib.Core.Path.{_≡_}
 use mathlib.Core.Bool.{Bool}
@@ -13,9 +12,6 @@ use mathlib.Core.List.{List}
 use Prim.Native.Nat.{ℕ, _≤_, _<_}
 use lib.Dec.{ltb}
 use lib.ListN.{length, getD}
-use Rattle.call.specs.Refusal.{filledBy}
-use Rattle.call.specs.declared.refusal.Filled.{Filled}
-use Rattle.permutations.specs.Check.{pairCheck}
 use Rattle.basics.specs.Choice.{pick}
 use Rattle.cycle_notation.specs.Piece.{withoutOffsets}
 use Rattle.cycle_notation.specs.Verdict.{Verdict, reads, index-out, leaves}
@@ -23,7 +19,6 @@ use Rattle.cycle_notation.specs.Inner.Reader.{front, readAll, badIndex}
 use Rattle.cycle_reading.specs.Inner.Hand.{piecesLeft}
 use Rattle.cycle_reading.specs.declared.Judged.{Judged}
 use Rattle.cycle_reading.specs.declared.Judged.the-variants as judged
-use Rattle.coset.specs.Answer.{roomTwo}
 use Rattle.cycle_reading.specs.Inner.PartRun.{made}
 use Rattle.cycle_reading.specs.Inner.Alone.{Alone, fails, through, died}
 
@@ -56,6 +51,3 @@ KeptRead (leaves place) s r = Unit {0}
 pub record VerdictRead (v : Verdict) (o : Judged) (s r : List ℕ) : Type 0 where
   pub returned : o ≡ judgedBy v
   pub kept : KeptRead v s r
-
-abbrev pub tablesAnswer : (s r : List ℕ) (a b : ℕ) → Filled
-tablesAnswer s r a b = filledBy (pairCheck s r) (roomTwo (length s) a b)

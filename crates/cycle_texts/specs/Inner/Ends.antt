@@ -5,6 +5,7 @@
 --   cutRefusal end f     the refusal of an input that goes on, by that of the part that is judged, f, which ends before
 --                        `end`: 12 stays, and 27 with a place inside that part; any other is 27 with the place 65,536
 --   cutAnswer end a      the answer to such an input: the same, and 27 with that place where there are tables
+--   CyclesLeave ..       what is left in the tables of S and R, s and r before and s' and r' after
 -- Assumes nothing.
 use mathlib.Core.Path.{_≡_}
 use mathlib.Core.Bool.{Bool}
@@ -17,7 +18,9 @@ use Rattle.call.specs.Refusal.{badCycles}
 use Rattle.call.specs.declared.refusal.Refusal.{Refusal}
 use Rattle.call.specs.declared.refusal.Filled.{Filled}
 use Rattle.call.specs.declared.refusal.Filled.the-variants as filled
+use Rattle.call.specs.Call.{ifAccepted, atFront}
 use Rattle.text.specs.Reading.{textMost}
+use Rattle.cycle_reading.specs.Reading.{cyclesCheck, readS, readR}
 use Rattle.cycle_texts.specs.Cut.{withoutRun, judgedText}
 
 pub record RunBegins (t : List ℕ) (e : ℕ) : Type 0 where
@@ -37,3 +40,7 @@ cutRefusal end f =
 abbrev pub cutAnswer : ℕ → Filled → Filled
 cutAnswer end (filled.Made n) = filled.Refused (badCycles textMost)
 cutAnswer end (filled.Refused f) = filled.Refused (cutRefusal end f)
+
+pub record CyclesLeave (longer : Bool) (text s r s' r' : List ℕ) : Type 0 where
+  pub S-left : s' ≡ ifAccepted (cyclesCheck (judgedText longer text)) (atFront (readS (judgedText longer text)) s) s
+  pub R-left : r' ≡ ifAccepted (cyclesCheck (judgedText longer text)) (atFront (readR (judgedText longer text)) r) r

@@ -1,5 +1,4 @@
 -- `write_accepted` refuses a result space that is too short (`too-short`), and fills another (`all-there`). Assumes nothing.
-use mathlib.Core.Path.{refl, sym}
 use native.Mathlib.Omega.{arith}
 use Rattle.cycle_writing.proofs.Theorem.{short-S, short-R}
 use Rattle.cycle_writing.proofs.Answers.{too-short, all-there}
@@ -15,7 +14,7 @@ export-length-requires c κs =
 returns : tie.Need-returns
 returns c =
     let s = c .before .before .before .before .before in
-    (too-short (s .args .s .now) (s .args .r .now) (s .args .out .now) _ (c .before .export-length .ensures) (c .if1 .taken), refl)
+    too-short (s .args .s .now) (s .args .r .now) (s .args .out .now) _ (c .before .export-length .ensures) (c .if1 .taken)
 
 put-export-requires : tie.Need-put-export-requires
 put-export-requires c κs =
@@ -31,9 +30,8 @@ same-length c = search needs
 returns-2 : tie.Need-returns-2
 returns-2 c =
     let s = c .before .before .before .before .before .before .before .before .before in
-    let a = all-there (s .args .s .now) (s .args .r .now) (s .args .out .now) (c .before .before .put-export .ensures)
-    (omega (arith, c .before .before .before .before .if1 .left, c .before .before .before .before .before .export-length .ensures)) in
-    (a .returned, a .result)
+    all-there (s .args .s .now) (s .args .r .now) (s .args .out .now) (c .before .before .put-export .ensures)
+    (omega (arith, c .before .before .before .before .if1 .left, c .before .before .before .before .before .export-length .ensures))
 
 pub write-accepted-spec : {M : Type 1} → statement M
 write-accepted-spec =

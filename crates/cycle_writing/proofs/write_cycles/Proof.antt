@@ -23,9 +23,8 @@ write-accepted-requires c κs =
 returns : tie.Need-returns
 returns c =
     let s = c .before .before .before .before .before .before .before in
-    let b = refused (s .args .s .now) (s .args .r .now) (s .args .out .now) _
-    (sym (c .before .before .before .check .ensures .returned) ∙ c .before .checked .given .1) in
-    (b .returned, (b .result, b .means))
+    refused (s .args .s .now) (s .args .r .now) (s .args .out .now) _
+    (sym (c .before .before .before .check .ensures .returned) ∙ c .before .checked .given .1)
 
 same-length : tie.Need-same-length
 same-length c = search needs
@@ -33,11 +32,9 @@ same-length c = search needs
 returns-2 : tie.Need-returns-2
 returns-2 c =
     let s = c .before .before .before .before .before .before .before .before .before .before in
-    let a = c .before .before .write-accepted .ensures in
-    let b = accepted (s .args .s .now) (s .args .r .now) (s .args .out .now)
-    (sym (c .before .before .before .before .before .before .check .ensures .returned) ∙ c .before .before .before .before .enum-told .given .1) _ _ (a .0)
-    (a .1) in
-    (b .returned, (b .result, b .means))
+    accepted (s .args .s .now) (s .args .r .now) (s .args .out .now) _
+    (sym (c .before .before .before .before .before .before .check .ensures .returned) ∙ c .before .before .before .before .enum-told .given .1)
+    (c .before .before .write-accepted .ensures)
 
 pub write-cycles-spec : {M : Type 1} → statement M
 write-cycles-spec =

@@ -4,7 +4,7 @@
 --    4096   LABEL   nothing: it is for the writing of the pairings
 --    8192   HELD    at the points of the sides that are there one more than the side's cell, and else 0
 --   12288   DONE    at the end the sides, from the left: five numbers for each
---           (crates/import_walk/specs/Inner/Work.antt)
+--           (Inner/Work.antt)
 --   20480   TODO    the cells of the sides that are there, in the order in which they were first used: five numbers for
 --           each
 --   26624   LINK    for each cell one more than the cell of the side to the left, and 0 for the leftmost side's

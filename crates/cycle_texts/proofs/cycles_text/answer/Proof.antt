@@ -1,4 +1,4 @@
--- `answer` meets its contract. An input that was read: the arrays are long enough, and the bytes mean what they
+-- `answer` meets its contract. An input that was read: the spaces are long enough, and the bytes mean what they
 -- should (`printed`). One that could not be read: nothing is done. Assumes nothing.
 use mathlib.Core.Path.{refl}
 use native.Mathlib.Omega.{arith}
@@ -16,7 +16,7 @@ enum-told : tie.Need-enum-told
 enum-told c = search needs
 
 returns : tie.Need-returns
-returns c = (omega arith, when-failed (c .enum-told .given .1) (refl, refl, refl, refl))
+returns c = (omega arith, when-failed (c .enum-told .given .1) (refl, refl))
 
 text-end-requires : tie.Need-text-end-requires
 text-end-requires c κs = search needs
@@ -24,16 +24,21 @@ text-end-requires c κs = search needs
 slice-aggregate-cycles-text : tie.Need-slice-aggregate-cycles-text
 slice-aggregate-cycles-text c = c .before .text-end .ensures .long
 
+slice-aggregate-cycles-text-2 : tie.Need-slice-aggregate-cycles-text-2
+slice-aggregate-cycles-text-2 c = search needs
+
+slice-aggregate-cycles-text-3 : tie.Need-slice-aggregate-cycles-text-3
+slice-aggregate-cycles-text-3 c = search needs
+
 cycles-text-requires : tie.Need-cycles-text-requires
 cycles-text-requires c κs = (omega arith, omega arith, omega arith)
 
 returns-2 : tie.Need-returns-2
 returns-2 c =
-    let ended = c .before .before .before .before .before in
-    let p = c .cycles-text .ensures in (
-      omega (arith, puts-within (p .0) (omega arith) (omega arith)),
-      when-read (ended .before .before .input .given .1) (ended .text-end .ensures)
-          (p .0, p .1, printed _ _ _ (puts-front (p .0))),
+    let ended = c .before .before .before .before .before .before .before in
+    let p = c .before .before .cycles-text .ensures in (
+      omega (arith, puts-within p (omega arith) (omega arith)),
+      when-read (ended .before .before .input .given .1) (ended .text-end .ensures) (p, printed _ _ _ (puts-front p)),
     )
 
 pub answer-spec : {M : Type 1} → statement M
@@ -45,5 +50,7 @@ answer-spec =
     returns
     text-end-requires
     slice-aggregate-cycles-text
+    slice-aggregate-cycles-text-2
+    slice-aggregate-cycles-text-3
     cycles-text-requires
     returns-2)

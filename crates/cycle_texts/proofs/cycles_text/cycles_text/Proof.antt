@@ -37,10 +37,10 @@ module _ (k : tie.After-read) where
   stood-R = called .read-tables .last .1 .1 .1 .0
 
   front-S : take n stood-S ≡ readS text
-  front-S = front-of _ n (readS text) (start .args .s .now) stood-S (made .read) (made .S-long) (called .read-tables .ensures .1 .S-left)
+  front-S = front-of _ n (readS text) (start .args .s .now) stood-S (made .check) (made .S-long) (called .read-tables .ensures .1 .S-left)
 
   front-R : take n stood-R ≡ readR text
-  front-R = front-of _ n (readR text) (start .args .r .now) stood-R (made .read) (made .R-long) (called .read-tables .ensures .1 .R-left)
+  front-R = front-of _ n (readR text) (start .args .r .now) stood-R (made .check) (made .R-long) (called .read-tables .ensures .1 .R-left)
 
 read-tables-requires : tie.Need-read-tables-requires
 read-tables-requires c κs = search needs
@@ -87,12 +87,9 @@ same-length-3 c = search needs
 returns : tie.Need-returns
 returns c =
     let k = c .before .before .before .before .before .before .before in
-    let m = called k in (
-      puts-as (pair-as (front-S k) (front-R k)
-          ∙ lines-by (start k .args .longer) (start k .args .text .now) _ (sym (k .read .given .1) ∙ m .read-tables .ensures .0))
-          (c .before .before .pair-lines .ensures),
-      m .read-tables .ensures .1,
-    )
+    puts-as (pair-as (front-S k) (front-R k)
+    ∙ lines-by (start k .args .longer) (start k .args .text .now) _ (sym (k .read .given .1) ∙ called k .read-tables .ensures .0))
+    (c .before .before .pair-lines .ensures)
 
 same-length-4 : tie.Need-same-length-4
 same-length-4 c = search needs
@@ -107,11 +104,9 @@ returns-2 : tie.Need-returns-2
 returns-2 c =
     let k = c .before .before .before .before .before in
     let m = k .before .before .before .before .before .before in
-    let s = m .before .before .before .before .before .before .before in (
-      puts-as (lines-by (s .args .longer) (s .args .text .now) _ (sym (k .read2 .given .1) ∙ m .read-tables .ensures .0))
-          (c .before .before .refusal-line .ensures),
-      m .read-tables .ensures .1,
-    )
+    let s = m .before .before .before .before .before .before .before in
+    puts-as (lines-by (s .args .longer) (s .args .text .now) _ (sym (k .read2 .given .1) ∙ m .read-tables .ensures .0))
+    (c .before .before .refusal-line .ensures)
 
 pub cycles-text-spec : {M : Type 1} → statement M
 cycles-text-spec =

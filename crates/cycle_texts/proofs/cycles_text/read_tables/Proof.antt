@@ -1,11 +1,12 @@
 -- `read_tables` meets its contract: the answer of `read_cycles` to the part that is judged, cut where the input goes on; it leaves
 -- the tables of that part. Assumes nothing.
-use mathlib.Core.Path.{_≡_, ap, _∙_}
+use mathlib.Core.Path.{_≡_, refl, ap, _∙_}
 use mathlib.Core.List.{List}
+use Prim.Native.Nat.{ℕ}
 use lib.ListN.{length, take}
 use Rattle.cycle_texts.specs.Cut.{judgedText}
-use Rattle.cycle_texts.specs.CyclesAnswer.{cyclesRead, CyclesLeave}
-use Rattle.cycle_texts.specs.Inner.Ends.{JudgedTo}
+use Rattle.cycle_texts.specs.CyclesAnswer.{cyclesRead}
+use Rattle.cycle_texts.specs.Inner.Ends.{JudgedTo, CyclesLeave}
 use Rattle.cycle_texts.proofs.Cutting.{read-as, tables-left, answer-whole}
 use Rattle.cycle_texts.proofs.CyclesPrinting.{answer-cut}
 use borrow.Author.Needs.{needs}
@@ -20,11 +21,22 @@ module _ (m : tie.After-read-cycles) where
   abbrev begun : tie.Start
   begun = ended .before .before .before .before
 
+  abbrev S' : List ℕ
+  S' = m .read-cycles .last .1 .0
+
+  abbrev R' : List ℕ
+  R' = m .read-cycles .last .1 .1 .0
+
   part : JudgedTo (begun .args .longer) (begun .args .text .now) (ended .judged-end .result)
   part = ended .judged-end .ensures
 
   told : m .read-cycles .result ≡ cyclesRead (judgedText (begun .args .longer) (begun .args .text .now))
-  told = read-as _ (part .same) (begun .pre .0) (begun .pre .1) (m .read-cycles .ensures .0)
+  told = read-as _ (begun .args .s .now) (begun .args .r .now) S' R' (part .same) (begun .pre .0) (begun .pre .1) (m .read-cycles .ensures)
+
+  left : CyclesLeave (begun .args .longer) (begun .args .text .now) (begun .args .s .now) (begun .args .r .now) S' R'
+  left =
+      tables-left _ (begun .args .s .now) (begun .args .r .now) S' R' (part .same) (begun .pre .0) (begun .pre .1) (m .read-cycles .ensures)
+      (begun .args .longer) (begun .args .text .now) refl
 
 judged-end-requires : tie.Need-judged-end-requires
 judged-end-requires c κs = search needs
@@ -47,12 +59,11 @@ same-length-2 c = search needs
 returns : tie.Need-returns
 returns c =
     let m = c .before .before .before .before .before .before in
-    let s = begun m in
-    let e = m .read-cycles .ensures in (
+    let s = begun m in (
       c .cut-answer .ensures
           ∙ answer-cut (s .args .longer) (s .args .text .now) (ended m .judged-end .result) (m .read-cycles .result)
           (part m .long ∙ ap length (part m .same)) (told m) (c .before .if1 .taken),
-      tables-left (s .args .longer) (s .args .text .now) (part m .same) (told m) (e .1 .0) (e .1 .1 .0),
+      left m,
     )
 
 same-length-3 : tie.Need-same-length-3
@@ -64,10 +75,9 @@ same-length-4 c = search needs
 returns-2 : tie.Need-returns-2
 returns-2 c =
     let m = c .before .before .before .before .before in
-    let s = begun m in
-    let e = m .read-cycles .ensures in (
+    let s = begun m in (
       answer-whole (s .args .longer) (s .args .text .now) (m .read-cycles .result) (told m) (c .if1 .left),
-      tables-left (s .args .longer) (s .args .text .now) (part m .same) (told m) (e .1 .0) (e .1 .1 .0),
+      left m,
     )
 
 pub read-tables-spec : {M : Type 1} → statement M

@@ -3,7 +3,7 @@ use mathlib.Core.Path.{refl}
 use Rattle.matrix.specs.Matrix.{ofList}
 use Rattle.call.proofs.Laws.{call-decided}
 use Rattle.word.specs.Answer.{closes}
-use Rattle.same_coset.proofs.Single.{means, says}
+use Rattle.same_coset.proofs.Single.{means, tells, says}
 use borrow.Author.Needs.{needs}
 use Rattle.engine.proofs.cosets.farey_same_coset.Statement.{statement}
 use Rattle.engine.proofs.cosets.farey_same_coset.Tie as tie
@@ -25,7 +25,9 @@ returns c =
     let t = s .t .now in
     let a = s .a .now in
     let b = s .b .now in
-    call-decided _ (means v t a b (s .w .now), says v t a b (s .w .now)) (closes v t (ofList a) (ofList b)) refl (q .ensures)
+    let told = tells v t a b (s .w .now) in
+    call-decided _ (told .0, told .1, means v t a b (s .w .now), says v t a b (s .w .now)) (closes v t (ofList a) (ofList b)) refl
+    (q .ensures)
     (c .of-decision .ensures .0) (c .of-decision .ensures .1)
 
 pub farey-same-coset-spec : {M : Type 1} → statement M

@@ -1,6 +1,6 @@
--- `farey_write_cycles` meets its contract: the number and the count of the answer, what the call leaves, and what that means (`export-says`).
--- Assumes nothing.
-use Rattle.engine.proofs.Written.{export-says}
+-- `farey_write_cycles` meets its contract (`call-made`, `write-says`). Assumes nothing.
+use Rattle.call.proofs.Laws.{call-made}
+use Rattle.engine.proofs.Written.{write-says}
 use borrow.Author.Needs.{needs}
 use Rattle.engine.proofs.notation.farey_write_cycles.Statement.{statement}
 use Rattle.engine.proofs.notation.farey_write_cycles.Tie as tie
@@ -19,7 +19,7 @@ returns c =
     let q = c .before .before .before .write-cycles in
     let st = c .before .before .before .before .before .before .before .before in
     let k = c .of-filled .ensures in
-    export-says (st .args .s .now) (st .args .r .now) (st .args .out .now) _ (q .result) _ _ (q .ensures .0) (q .ensures .1 .0) (q .ensures .1 .1) (k .0) (k .1)
+    call-made _ (write-says (st .args .s .now) (st .args .r .now) (st .args .out .now) _ (q .ensures .leaves)) (q .ensures) (k .0) (k .1)
 
 pub farey-write-cycles-spec : {M : Type 1} → statement M
 farey-write-cycles-spec = tie.close (tie.spec write-cycles-requires of-filled-requires same-length returns)
