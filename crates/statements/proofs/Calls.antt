@@ -1,7 +1,9 @@
 -- The instances are of the calls: `of-the-calls`.
 -- Why: the table asks what the plans ask, in their order; an answer that decides or finds a word has the refusal of its checks.
 -- Assumes nothing.
-use mathlib.Core.Path.{_≡_, refl}
+use mathlib.Core.Path.{_≡_, refl, sym, ap, _∙_}
+use mathlib.Core.List.{List, [], _∷_, map}
+use lib.IntN.{ℤ, pos}
 use mathlib.Core.Bool.{Bool, true, false}
 use Prim.Native.Nat.{ℕ}
 use lib.ListN.{length}
@@ -15,6 +17,7 @@ use Rattle.containment.specs.Group.{sameTables}
 use Rattle.containment.specs.Same.{sameCall}
 use Rattle.word.specs.Answer.{queryRefusal, foundWord, foundSign, wordIf}
 use Rattle.word.specs.Claim.{queryCall}
+use Rattle.word.proofs.Order.{left-if}
 use Rattle.statements.specs.Calls.{OfTheCalls}
 
 decides : (b : Bool) (c : Checked) → decisionRefusal (decided b c) ≡ checkedRefusal c
@@ -26,6 +29,12 @@ finds : (start n : ℕ) (sign : Bool) (c : Checked) → queryRefusal (wordIf sta
 finds start n sign Accepted = refl
 finds start n sign (Refused f) = refl
 
+three : {x x' y y' z z' : List ℕ} → x ≡ x' → y ≡ y' → z ≡ z'
+    → _≡_ {A = List (List ℤ)} (map pos x ∷ map pos y ∷ map pos z ∷ []) (map pos x' ∷ map pos y' ∷ map pos z' ∷ [])
+three {x} {x'} {y} {y'} {z} p q r =
+    ap (λ (l : List ℕ). map pos l ∷ map pos y ∷ map pos z ∷ []) p ∙ ap (λ (l : List ℕ). map pos x' ∷ map pos l ∷ map pos z ∷ []) q
+    ∙ ap (λ (l : List ℕ). map pos x' ∷ map pos y' ∷ map pos l ∷ []) r
+
 pub of-the-calls : OfTheCalls
 of-the-calls = record {
   of-figures = λ v t w out. refl;
@@ -36,4 +45,14 @@ of-the-calls = record {
   of-same = λ v t v' t' w. decides (sameTables v t v' t') (verdict (sameCall v t v' t' w .steps));
   of-import = λ s r w out. refl;
   of-import-wide = λ s r w out. refl;
+  generators-left = λ v t w out l. ap (λ (y : List ℤ). y ∷ []) (sym (l .1 .0));
+  tables-left = λ v t w s r u l.
+      three (sym (l .1 .0)) (sym (l .1 .1 .0)) (sym (l .1 .1 .1 .0));
+  import-left = λ s r w out l. ap (λ (y : List ℤ). y ∷ []) (sym (l .1 .0));
+  import-wide-left = λ s r w out l. ap (λ (y : List ℤ). y ∷ []) (sym (l .1 .0));
+  query-left = λ v t a b w out start l.
+      let word = foundWord v t (ofList a) (ofList b) in
+      let c = verdict (queryCall v t a b w out start .steps) in
+      ap (λ (y : List ℤ). y ∷ [])
+      (sym (l .1 .0 ∙ left-if start (length word) (foundSign v t (ofList a) (ofList b)) c word (out .entry .now)));
 }

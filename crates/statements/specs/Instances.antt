@@ -67,7 +67,7 @@ pub data Question : Type 0 where
   tables : (v : ℕ) (t : List ℤ) (work : ℕ) (s r u : List ℕ) → Question
   -- word's `query`: the sign, and `word_part` of what it answers
   query : (v : ℕ) (t a b : List ℤ) (work : ℕ) (out : List ℤ) (start : ℕ) → Question
-  -- sameness's `same`
+  -- containment's `same`
   same : (v : ℕ) (t : List ℤ) (v' : ℕ) (t' : List ℤ) (work : ℕ) → Question
   -- permutations' `import`, and `import_wide`
   import importWide : (s r : List ℕ) (work : ℕ) (out : List ℤ) → Question
