@@ -17,6 +17,8 @@ S = (0, -1, 1, 0)
 T = (1, 1, 0, 1)
 R = (0, -1, 1, 1)
 Q = (0, -1, 1, -1)
+#: The vertices and pairings of a symbol of Γ0(2).
+GAMMA0_2 = ([(0, 1), (1, 1)], [1, -2, 1])
 
 
 def product(*matrices):

@@ -9,7 +9,7 @@ import farey
 from farey import Refusal, Symbol, cycles, library
 
 from . import reckoning as by_hand
-from .test_pages import blocks
+from .pages import blocks
 from .test_systems import DATA, HANDBOOK, Systems, then
 
 CYCLE = rb"\([0-9]+(?:,[0-9]+)*\)"

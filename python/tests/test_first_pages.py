@@ -22,7 +22,7 @@ import zipfile
 from farey import Symbol, library
 
 from . import reckoning as by_hand
-from .test_pages import Session, blocks, page
+from .pages import Session, blocks, page
 from .test_systems import L, R, S2, S3
 
 PAGES = ["README.md", *(f"docs/{name}.md" for name in ("TUTORIAL", "HANDBOOK", "C-CALLS", "INDEX-TABLE", "ASSUMPTIONS"))]

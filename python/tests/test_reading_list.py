@@ -21,7 +21,7 @@ class Shelves(unittest.TestCase):
         code, line = said(by_hand.REPOSITORY)
         self.assertEqual(code, 0, line)
         counts = [int(count.replace(",", "")) for count in re.findall(r": ([\d,]+) lines", line)]
-        self.assertEqual(len(counts), 3, line)
+        self.assertEqual(len(counts), 4, line)
 
     def test_faults_are_named(self):
         """In a copy: a file that is gone, one that is new, a definition that the first shelf takes from another, a line more."""
@@ -34,7 +34,7 @@ class Shelves(unittest.TestCase):
                 shutil.copytree(specs, copy / "crates" / specs.parent.name / "specs")
             self.assertEqual(said(copy)[0], 0)
             shelves = [part.split("\nshelf ")[0] for part in (copy / "docs/reading-list.txt").read_text("utf-8").split(": what ")[1:]]
-            first, second = [self.whole_files(copy, shelf) for shelf in shelves[:2]]
+            first, jobs, pinned = [self.whole_files(copy, shelf) for shelf in shelves[:3]]
             path, text = first[0], first[0].read_text("utf-8")
 
             path.unlink()
@@ -50,12 +50,12 @@ class Shelves(unittest.TestCase):
             self.assert_names(copy, f"{new.relative_to(copy)}: it stands 0 times")
             new.unlink()
 
-            pinned = next(file for file in second if file.stem == "Runs" or "abbrev pub" in file.read_text("utf-8"))
-            name = re.search(r"^(?:abbrev|unfoldable) pub (\w+) :", pinned.read_text("utf-8"), re.M)[1]
-            crate = pinned.parents[1].name
-            taken = f"use Rattle.{crate}.specs.{pinned.stem}.{{{name}}}\n{text}\nabbrev pub one-more : Type 0\none-more = {name}\n"
-            path.write_text(taken, "utf-8")
-            self.assert_names(copy, f"{path.relative_to(copy)} names of {pinned.relative_to(copy)} (shelf 2): {name}")
+            for number, files in ((2, jobs), (3, pinned)):
+                other = next(file for file in files if "abbrev pub" in file.read_text("utf-8"))
+                name = re.search(r"^(?:abbrev|unfoldable) pub (\w+) :", other.read_text("utf-8"), re.M)[1]
+                taken = f"use Rattle.{other.parents[1].name}.specs.{other.stem}.{{{name}}}\n{text}\nabbrev pub one-more : Type 0\none-more = {name}\n"
+                path.write_text(taken, "utf-8")
+                self.assert_names(copy, f"{path.relative_to(copy)} names of {other.relative_to(copy)} (shelf {number}): {name}")
 
     def assert_names(self, folder, fault):
         code, lines = said(folder)

@@ -21,7 +21,7 @@ import unittest
 from farey import Refusal, Symbol, cycles, library, systems
 
 from . import reckoning as by_hand
-from .test_pages import blocks
+from .pages import blocks
 
 HANDBOOK = (by_hand.REPOSITORY / "docs/HANDBOOK.md").read_text("utf-8")
 DATA = by_hand.REPOSITORY / "python/tests/data"

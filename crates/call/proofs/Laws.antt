@@ -251,12 +251,13 @@ checked-place : (c : Checked) → checkedRefusal c .place ≡ ifAccepted c 0 (ch
 checked-place Accepted = refl
 checked-place (Refused f) = refl
 
--- `says` is shown of the contract alone, for every input
-module _ (p : Contract) (says : p .Says (numberOf p) (placeOf p)) {number place : ℕ} where
+-- `says` is shown of the contract alone, for every input, and so is that its refusals have numbers above 0
+module _ (p : Contract) (numbered : Numbered (p .steps)) (says : p .Says (numberOf p) (placeOf p)) {number place : ℕ} where
   pub call : Leaves (p .steps) → number ≡ numberOf p → place ≡ placeOf p → Call p number place
   call l n k = record {
     number-is = n;
     place-is = k;
+    zero-accepts = λ z. accepted-by (p .steps) numbered (sym n ∙ z);
     leaves = l;
     says = subst (λ (x : ℕ). p .Says x place) (sym n) (subst (λ (x : ℕ). p .Says (numberOf p) x) (sym k) says);
   }

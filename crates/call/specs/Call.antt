@@ -15,10 +15,11 @@
 --   storesRows k n l out    the same of n rows of k entries: 11 with n where out doesn't hold as many whole rows
 --   verdict steps       the first refusal of the steps, or that none refuses
 --   ifAccepted c x y    x where the checks c accept, else y
---   Leaves steps        what the steps leave in their spaces
+--   LeavesFrom, Leaves steps    what the steps leave in their spaces
 --   Contract            a call: its steps, the count that it tells, and what its number and place say of the input
 --   numberOf, placeOf   what the call tells: 0 and the count, or the number and the place of the refusal
---   Call p number place THE PROMISE OF AN EXPORTED CALL that returns the number and writes the place
+--   Call p number place THE PROMISE OF AN EXPORTED CALL that returns the number and writes the place; a number 0 says
+--                       that no step refuses
 --   filledPlace a       what a call that fills a space tells as its place: how many things it made, or the refusal's
 --   bit b               1 for yes, 0 for no
 use mathlib.Core.Path.{_≡_}
@@ -109,6 +110,7 @@ placeOf p = ifAccepted (verdict (p .steps)) (p .count) (checkedRefusal (verdict 
 pub record Call (p : Contract) (number place : ℕ) : Type 0 where
   pub number-is : number ≡ numberOf p
   pub place-is : place ≡ placeOf p
+  pub zero-accepts : number ≡ 0 → verdict (p .steps) ≡ Accepted
   pub leaves : Leaves (p .steps)
   pub says : p .Says number place
 

@@ -28,7 +28,8 @@ use Rattle.right_cosets.proofs.Place.{det-R}
 use Rattle.right_cosets.proofs.Unique.{to, to-unit, to-leads}
 use Rattle.containment.specs.Pairs.{pairsReached}
 use Rattle.containment.specs.Contained.{LiesIn, Follows, Followed, OnePartner, Containing, Containings}
-use Rattle.containment.proofs.Pairs.{first-of, first-low, zero-pair-is, S-low, R-low, Q-low, some-points, one-home, numbers, pair-in, LedTo, pair-led}
+use Rattle.right_cosets.proofs.Tabled.{S-low, R-low, Q-low, one-home, some-points}
+use Rattle.containment.proofs.Pairs.{first-of, first-low, zero-pair-is, numbers, pair-in, LedTo, pair-led}
 
 -- ---- a list of at most n entries that has all numbers below n has no repeats: with a place that isn't the first of its entry there would be more
 

@@ -1,7 +1,6 @@
--- Why the theorems of the crate `containment` hold, in reading order: the subgroup that matrices generate is a condition; the tables of a symbol are those of
--- its right cosets; symbols that differ in their labels only; the theorems; what the answer means; and comparing tables, for the code.
+-- Why the theorems of the crate `containment` hold, in reading order: the subgroup that matrices generate is a condition; symbols that differ in their
+-- labels only; the theorems; what the answer means; and comparing tables, for the code.
 pub mod Generated
-pub mod Symbols
 pub mod Sides
 pub mod Relabel
 pub mod Theorem

@@ -21,10 +21,11 @@ use Rattle.numbering.proofs.Find.{getD-find, getD-in}
 use Rattle.numbering.proofs.Order.{numbering}
 use Rattle.numbering.proofs.Table.{renaming, undone, permutes}
 use Rattle.numbering.proofs.Numbered.{numbered}
-use Rattle.right_cosets.specs.Leads.{byTableQ, leads, Led}
+use Rattle.right_cosets.specs.Leads.{byTableQ, leads, IsReached}
 use Rattle.right_cosets.specs.Condition.{Unit}
 use Rattle.right_cosets.specs.Cosets.{CosetsOf}
-use Rattle.right_cosets.proofs.Place.{adj-𝟙, det-R}
+use Rattle.right_cosets.proofs.Place.{det-R}
+use Rattle.right_cosets.proofs.Tabled.{S-low, R-low, one-home, some-points}
 use Rattle.containment.specs.Pairs.{both, pairByS, pairByR, pairsReached, pairsS, pairsR, pairsT, _and_, Intersection, Intersections}
 
 -- ---- a pair and its number
@@ -57,24 +58,6 @@ both-at k f g c = refl
 -- a step that stays inside both stays inside the pairs
 both-low : (n k : ℕ) (f g : ℕ → ℕ) → 0 < k → ((x : ℕ) → x < n → f x < n) → ((y : ℕ) → y < k → g y < k) → (c : ℕ) → c < n * k → both k f g c < n * k
 both-low n k f g some a b c h = rw (both-at k f g c) (pair-low n k (f (c / k)) (g (c % k)) (a (c / k) (first-low n k c some h)) (b (c % k) (mod-lt c some)))
-
--- ---- the points of the tables
-
-module _ {C : Mat → Type 0} {n : ℕ} {s r : List ℕ} (a : CosetsOf C n s r) where
-  pub S-low : (x : ℕ) → x < n → imageAt s x < n
-  S-low x h = rw (a .size-S) at (a .permutes-S .low x (rw (a .size-S) h))
-
-  pub R-low : (x : ℕ) → x < n → imageAt r x < n
-  R-low x h = rw (a .size-R) at (a .permutes-R .low x (rw (a .size-R) h))
-
-  pub Q-low : (x : ℕ) → x < n → byTableQ s r x < n
-  Q-low x h = S-low (imageAt r (imageAt r (imageAt s x))) (R-low (imageAt r (imageAt s x)) (R-low (imageAt s x) (S-low x h)))
-
-  pub one-home : leads s r 𝟙 ≡ 0
-  one-home = a .fixes 𝟙 det-𝟙 .1 (rw (adj-𝟙 𝟙) at (a .cosets 𝟙 𝟙 det-𝟙 det-𝟙 .0 refl))
-
-  pub some-points : 0 < n
-  some-points = let h = a .low 𝟙 det-𝟙 in omega arith
 
 -- ---- the pairs
 
@@ -348,7 +331,7 @@ module _ {C D : Mat → Type 0} {n k : ℕ} {s r s' r' : List ℕ} (a : CosetsOf
   pub pair-led : (c : ℕ) → c ∈ order → LedTo c
   pair-led c h = led c (numbers .only c h)
 
-  all-led : (j : ℕ) → j < length order → Led pS pR j
+  all-led : (j : ℕ) → j < length order → IsReached pS pR j
   all-led j h =
       let e = pair-led (getD order j 0) (getD-in order j h) in
       record { matrix = e .matrix; unit = e .unit; is = leads-is (e .matrix) ∙ ap number (e .is) ∙ numbers .once .place j h }

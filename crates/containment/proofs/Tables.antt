@@ -25,12 +25,11 @@ use Rattle.numbering.proofs.Order.{Grows, visit-grows, All, add-all, to-more, t
 use Rattle.numbering.proofs.Numbered.{upTo-length, upTo-at}
 use Rattle.coset.specs.Tables.{tableS, tableR, indexOf}
 use Rattle.coset.specs.Inner.Work.{Arranged}
-use Rattle.coset.proofs.Answer.{Made, made}
+use Rattle.coset.proofs.Answer.{Made, made, symbol-cosets}
 use Rattle.right_cosets.specs.Cosets.{CosetsOf}
-use Rattle.containment.proofs.Symbols.{symbol-cosets}
+use Rattle.right_cosets.proofs.Tabled.{S-low, R-low, some-points}
 use Rattle.containment.specs.Contained.{Follows}
 use Rattle.containment.specs.TwoSymbols.{contained}
-use Rattle.containment.proofs.Pairs.{S-low, R-low, some-points}
 use Rattle.containment.proofs.TwoSymbols.{containment}
 use Rattle.containment.specs.Inner.Marks.{Reaches, followedS, followedR, Follower, Decided}
 
@@ -151,10 +150,10 @@ module _ {v : ℕ} {t : List ℤ} {v' : ℕ} {t' : List ℤ} {k m : ℕ} {w w' :
   other = made ok' a'
 
   cosetsOne : CosetsOf (InH (generators v t)) (indexOf v t) (tableS v t) (tableR v t)
-  cosetsOne = symbol-cosets v t ok
+  cosetsOne = symbol-cosets ok
 
   cosetsOther : CosetsOf (InH (generators v' t')) m (followedS w' m) (followedR w' m)
-  cosetsOther = cosets-at (other .index) (other .S-is) (other .R-is) (symbol-cosets v' t' ok')
+  cosetsOther = cosets-at (other .index) (other .S-is) (other .R-is) (symbol-cosets ok')
 
   s-is : (y : ℕ) → getD s y 0 ≡ getD (tableS v t) y 0
   s-is y = ap (λ (l : List ℕ). getD l y 0) eS ∙ padded (entries S-TABLE k w) (drop k empty) (dropped-at empty none k) y

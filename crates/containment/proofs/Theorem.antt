@@ -19,11 +19,12 @@ use Rattle.pairing.specs.Generator.{generators}
 use Rattle.pairing.specs.Subgroup.{InH}
 use Rattle.polygon.proofs.Promise.{units}
 use Rattle.coset.specs.Tables.{tableS, tableR, indexOf}
+use Rattle.coset.proofs.Answer.{symbol-cosets}
 use Rattle.right_cosets.specs.Leads.{leads}
+use Rattle.right_cosets.proofs.Tabled.{cosets-as}
 use Rattle.right_cosets.proofs.Theorem.{one-table}
 use Rattle.containment.specs.Group.{SameGroup, EachOther, equalTables, sameTables, OneGroup, SameSymbols}
 use Rattle.containment.proofs.Generated.{generated, own-in, all-in}
-use Rattle.containment.proofs.Symbols.{symbol-cosets, cosets-as}
 
 -- ---- equal tables
 
@@ -66,14 +67,14 @@ module _ (v : ℕ) (t : List ℤ) (v' : ℕ) (t' : List ℤ) (ok : IsSymbol v t)
 
   one-subgroup : SameGroup gens gens' → (tableS v t ≡ tableS v' t') × (tableR v t ≡ tableR v' t')
   one-subgroup e =
-      let a = cosets-as gens gens' e (symbol-cosets v t ok) in
+      let a = cosets-as e (symbol-cosets ok) in
       one-table (InH gens') (generated gens') (indexOf v t) (indexOf v' t') (tableS v t) (tableR v t) (tableS v' t') (tableR v' t') a
-      (symbol-cosets v' t' ok') .1
+      (symbol-cosets ok') .1
 
   units-by-tables : tableS v t ≡ tableS v' t' → tableR v t ≡ tableR v' t' → (m : Mat) → det m ≡ pos 1 → InH gens m ↔ InH gens' m
   units-by-tables e f m u =
-      let a = symbol-cosets v t ok .fixes m u in
-      let b = symbol-cosets v' t' ok' .fixes m u in
+      let a = symbol-cosets ok .fixes m u in
+      let b = symbol-cosets ok' .fixes m u in
       let k : leads (tableS v t) (tableR v t) m ≡ leads (tableS v' t') (tableR v' t') m =
       ap (λ (x : List ℕ). leads x (tableR v t) m) e ∙ ap (λ (x : List ℕ). leads (tableS v' t') x m) f in
       (λ h. b .0 (sym k ∙ a .1 h), λ h. a .0 (k ∙ b .1 h))

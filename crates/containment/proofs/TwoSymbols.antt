@@ -20,10 +20,10 @@ use Rattle.pairing.specs.Subgroup.{InH}
 use Rattle.polygon.proofs.Promise.{units}
 use Rattle.numbering.proofs.Find.{none-below}
 use Rattle.coset.specs.Tables.{tableS, tableR, indexOf}
+use Rattle.coset.proofs.Answer.{symbol-cosets}
 use Rattle.right_cosets.specs.Leads.{leads}
 use Rattle.containment.specs.Group.{EachIn}
 use Rattle.containment.proofs.Generated.{own-in, all-in}
-use Rattle.containment.proofs.Symbols.{symbol-cosets}
 use Rattle.containment.specs.Contained.{LiesIn}
 use Rattle.containment.specs.TwoSymbols.{commonCosets, commonS, commonR, commonT, Contained, eachFixes, contained, CommonSubgroup, Containment}
 use Rattle.containment.specs.TwoSymbols.{SymbolPairs}
@@ -54,7 +54,7 @@ module _ (v : ℕ) (t : List ℤ) (v' : ℕ) (t' : List ℤ) (ok : IsSymbol v t)
   pub common-subgroup : CommonSubgroup v t v' t'
   unfolding commonCosets commonS commonR commonT
   common-subgroup =
-      let i = intersection (symbol-cosets v t ok) (symbol-cosets v' t' ok') in
+      let i = intersection (symbol-cosets ok) (symbol-cosets ok') in
       record { cosets = i .cosets; T-is = i .T-is }
 
   words-all : EachIn gens gens' → Contained gens gens'
@@ -72,16 +72,16 @@ module _ (v : ℕ) (t : List ℤ) (v' : ℕ) (t' : List ℤ) (ok : IsSymbol v t)
 
   decided-words : contained v t v' t' ≡ true → EachIn gens gens'
   unfolding contained
-  decided-words e j h = symbol-cosets v' t' ok' .fixes (getD gens j 𝟙) (units v t ok j) .0 (fixes-each (tableS v' t') (tableR v' t') gens e j h)
+  decided-words e j h = symbol-cosets ok' .fixes (getD gens j 𝟙) (units v t ok j) .0 (fixes-each (tableS v' t') (tableR v' t') gens e j h)
 
   words-decided : EachIn gens gens' → contained v t v' t' ≡ true
   unfolding contained
-  words-decided e = each-fixes (tableS v' t') (tableR v' t') gens (λ j h. symbol-cosets v' t' ok' .fixes (getD gens j 𝟙) (units v t ok j) .1 (e j h))
+  words-decided e = each-fixes (tableS v' t') (tableR v' t') gens (λ j h. symbol-cosets ok' .fixes (getD gens j 𝟙) (units v t ok j) .1 (e j h))
 
   pub containment : Containment v t v' t'
   unfolding commonCosets
   containment =
-      let c = containing (symbol-cosets v t ok) (symbol-cosets v' t' ok') in
+      let c = containing (symbol-cosets ok) (symbol-cosets ok') in
       let g = inside-all in
       record {
         decided = (λ e. words-all (decided-words e), λ h. words-decided (all-words h));

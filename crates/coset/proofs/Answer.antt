@@ -1,35 +1,34 @@
--- Laws for the public calls: the result spaces in their order (`one-…`, `room-…`, `copied`, `stored-as`), the tables that were arranged (`Made`, `made`),
--- what they mean (`meaning`), how long they are (`sizes`, `few-cosets`), what the numbers of the calls say (`symbol-says`, `tables-says`, `widths-says`,
--- `figures-says`), the figures (`surveyed`), and what an answer of `figures` tells (`run-figured`, `run-unfigured`, `figures-are`).
+-- Laws for the public calls: the tables that were arranged (`Made`, `made`), what they mean (`meaning`, `symbol-cosets`), how long they are (`sizes`,
+-- `few-cosets`, `widths-count`), what the numbers and places of the calls say (`symbol-says`, `tables-says`, `widths-says`, `figures-says`), the figures
+-- (`surveyed`), and what an answer of `figures` tells (`run-figured`, `run-unfigured`, `figures-are`).
 -- Assumes nothing.
-use mathlib.Core.Path.{_≡_, refl, sym, _∙_, ap, subst}
-use mathlib.Core.Bool.{Bool, true, false}
-use mathlib.Core.List.{List, [], _∷_, _++_}
-use Prim.Native.Nat.{ℕ, _+_, _≤_, _<_}
+use mathlib.Core.Path.{_≡_, refl, sym, _∙_, ap}
+use mathlib.Core.Logic.{inl, inr}
+use mathlib.Core.List.{List, [], _∷_}
+use Prim.Native.Nat.{ℕ, _+_, _≤_}
 use native.Mathlib.Omega.{arith}
-use lib.Dec.{ltb}
-use lib.ListN.{length, length-map, drop, getD}
+use lib.ListN.{length, length-map, getD}
 use lib.IntN.{ℤ}
-use borrow.Author.Tests.{lt-ltb, le-ltb}
 use Rattle.basics.proofs.Count.{length-those}
-use Rattle.call.specs.Space.{workLength, entries}
-use Rattle.call.specs.Refusal.{tooShort, _orElse_, checkedRefusal}
+use Rattle.call.specs.Space.{entries}
+use Rattle.call.specs.Refusal.{_orElse_, checkedRefusal}
 use Rattle.call.specs.declared.refusal.Refusal.{Refusal}
 use Rattle.call.specs.declared.refusal.Checked.{Checked}
 use Rattle.call.specs.declared.refusal.Checked.the-variants.{Accepted, Refused}
-use Rattle.call.specs.declared.refusal.Filled.{Filled}
-use Rattle.call.specs.declared.refusal.Filled.the-variants as filled
 use Rattle.call.proofs.Answers.{pass-both}
-use Rattle.call.specs.Call.{Lent, Step, Asks, Gives, lengthCheck, verdict, ifAccepted, Leaves, numberOf, placeOf}
-use Rattle.call.specs.Inner.Fills.{Fills, madeIf}
+use Rattle.call.specs.Call.{Lent, Step, Asks, lengthCheck, verdict, ifAccepted, Leaves, numberOf, placeOf}
+use Rattle.call.specs.Inner.Fills.{Fills}
 use Rattle.call.proofs.Laws.{Run, Numbered, above-room, room-long}
 use Rattle.call.proofs.Answered.{run-told}
 use Rattle.symbol.specs.Symbol.{IsSymbol}
-use Rattle.pairing.proofs.Admitted.{symbolVerdict, symbol-passed, symbol-zero}
+use Rattle.pairing.specs.Generator.{generators}
+use Rattle.pairing.specs.Subgroup.{InH}
+use Rattle.pairing.proofs.Admitted.{symbolVerdict, symbol-passed, symbol-short, symbol-behind, symbol-zero}
 use Rattle.polygon.specs.Step.{oddAt}
 use Rattle.polygon.proofs.SymbolFacts.{count-most}
 use Rattle.polygon.proofs.Polygon.{polygon}
 use Rattle.numbering.specs.Inner.Space.{S-TABLE, R-TABLE, T-TABLE}
+use Rattle.right_cosets.specs.Cosets.{CosetsOf}
 use Rattle.figures.specs.Cusps.{smallest, width, cusps, widths}
 use Rattle.figures.specs.declared.FigureRecord.{FigureRecord}
 use Rattle.figures.specs.Inner.Scan.{Permuted, FiguresOf}
@@ -37,11 +36,12 @@ use Rattle.figures.proofs.Filled.{filled-permuted, S-stays, R-stays, T-stays}
 use Rattle.figures.proofs.Cusps.{cusps-are}
 use Rattle.coset.specs.Tables.{cosets, tableS, tableR, tableT, indexOf, mostCosets}
 use Rattle.coset.specs.Inner.Work.{Arranged}
-use Rattle.coset.specs.Answer.{roomFor, roomOne, columnLeft, widthsOf, figuresOf, figureNumber, figureNumbers, Meaning, Ample, SymbolSays}
+use Rattle.coset.specs.Answer.{widthsOf, figuresOf, figureNumber, figureNumbers, Meaning, Ample, SymbolSays}
 use Rattle.coset.specs.Answer.{tablesCall, widthsCall, figuresCall}
 use Rattle.coset.specs.Inner.Survey.{Surveyed, figuredIf}
 use Rattle.coset.specs.declared.Figured.{Figured}
 use Rattle.coset.specs.declared.Figured.the-variants as figured
+use Rattle.coset.proofs.Stored.{told, room-told}
 use Rattle.coset.proofs.TableFigures.{table-figures}
 use Rattle.coset.proofs.OddSides.{odd-sides}
 use Rattle.coset.proofs.EvenSides.{even-sides}
@@ -49,62 +49,7 @@ use Rattle.coset.proofs.Genus.{symbol-genus}
 use Rattle.coset.proofs.Positions.{positions}
 use Rattle.coset.proofs.Theorem.{size-is, cosets-are, maps, injective-S, injective-R}
 
--- ---- the result spaces
-
-module _ (n a : ℕ) where
-  pub one-short : a < n → filled.Refused (tooShort n) ≡ roomOne n a
-  one-short h = rw (lt-ltb a n h)
-
-  pub one-room : n ≤ a → filled.Made n ≡ roomOne n a
-  one-room h = rw (le-ltb a n h)
-
-module _ (n a b c : ℕ) where
-  pub room-first : a < n → filled.Refused (tooShort n) ≡ roomFor n a b c
-  room-first h = rw (lt-ltb a n h)
-
-  pub room-second : n ≤ a → b < n → filled.Refused (tooShort n) ≡ roomFor n a b c
-  room-second h k = rw (le-ltb a n h, lt-ltb b n k)
-
-  pub room-third : n ≤ a → n ≤ b → c < n → filled.Refused (tooShort n) ≡ roomFor n a b c
-  room-third h k l = rw (le-ltb a n h, le-ltb b n k, lt-ltb c n l)
-
-  pub room-all : n ≤ a → n ≤ b → n ≤ c → filled.Made n ≡ roomFor n a b c
-  room-all h k l = rw (le-ltb a n h, le-ltb b n k, le-ltb c n l)
-
--- what `copy_tables` answers and leaves, for tables of n entries
-module _ (n : ℕ) (x y z s r u : List ℕ) (lx : length x ≡ n) (ly : length y ≡ n) (lz : length z ≡ n) where
-  abbrev three : (s' r' u' : List ℕ) → List Step
-  three s' r' u' =
-      Asks (lengthCheck (length x) (length s)) ∷ Gives (x ++ drop (length x) s) s s' ∷ Asks (lengthCheck (length y) (length r))
-      ∷ Gives (y ++ drop (length y) r) r r' ∷ Asks (lengthCheck (length z) (length u)) ∷ Gives (z ++ drop (length z) u) u u' ∷ []
-
-  pub copied : {s' r' u' : List ℕ} {a : Filled} → a ≡ roomFor n (length s) (length r) (length u) → s' ≡ columnLeft a x s → r' ≡ columnLeft a y r
-      → u' ≡ columnLeft a z u → Fills (three s' r' u') (madeIf n) a
-  copied {s'} {r'} {u'} {a} e f g h = go (ltb (length s) n) (ltb (length r) n) (ltb (length u) n) refl refl refl
-    where
-      go : (b c d : Bool) → ltb (length s) n ≡ b → ltb (length r) n ≡ c → ltb (length u) n ≡ d → Fills (three s' r' u') (madeIf n) a
-      go true c d i j k = record { answer = rw (e, lx, i) refl; leaves = (rw (f, e, lx, i) refl, (rw (g, e, lx, i) refl, (rw (h, e, lx, i) refl, tt))) }
-      go false true d i j k =
-          record {
-            answer = rw (e, lx, ly, i, j) refl;
-            leaves = (rw (f, e, lx, ly, i, j) refl, (rw (g, e, lx, ly, i, j) refl, (rw (h, e, lx, ly, i, j) refl, tt)));
-          }
-      go false false true i j k = record {
-        answer = rw (e, lx, ly, lz, i, j, k) refl;
-        leaves = (rw (f, e, lx, ly, lz, i, j, k) refl, (rw (g, e, lx, ly, lz, i, j, k) refl, (rw (h, e, lx, ly, lz, i, j, k) refl, tt)));
-      }
-      go false false false i j k = record {
-        answer = rw (e, lx, ly, lz, i, j, k) refl;
-        leaves = (rw (f, e, lx, ly, lz, i, j, k) refl, (rw (g, e, lx, ly, lz, i, j, k) refl, (rw (h, e, lx, ly, lz, i, j, k) refl, tt)));
-      }
-
--- a list in a space, as another that it is
-pub stored-as : (x y out : List ℕ) {out' : List ℕ} {n m : ℕ} {a : Filled}
-    → Fills (Asks (lengthCheck (length x) (length out)) ∷ Gives (x ++ drop (length x) out) out out' ∷ []) (madeIf n) a → x ≡ y → n ≡ m
-    → Fills (Asks (lengthCheck (length y) (length out)) ∷ Gives (y ++ drop (length y) out) out out' ∷ []) (madeIf m) a
-stored-as x y out {out'} {n} {m} {a} g e f =
-    subst (λ (k : ℕ). Fills (Asks (lengthCheck (length y) (length out)) ∷ Gives (y ++ drop (length y) out) out out' ∷ []) (madeIf k) a) f
-    (subst (λ (l : List ℕ). Fills (Asks (lengthCheck (length l) (length out)) ∷ Gives (l ++ drop (length l) out) out out' ∷ []) (madeIf n) a) e g)
+-- ---- the tables
 
 -- what was arranged: so many cosets as the index says, and their tables
 pub record Made (t : List ℤ) (v : ℕ) (w : List ℕ) (n : ℕ) : Type 0 where
@@ -137,7 +82,7 @@ pub meaning : {v : ℕ} {t : List ℤ} → IsSymbol v t → Meaning v t
 meaning {v} {t} ok =
     let g = polygon v t ok in
     let c = cosets-are v t g in
-    let k = cusps-are (c .permutations .T) in
+    let k = cusps-are (c .permutes-T) in
     record {
       symbol = ok;
       positions = positions ok;
@@ -145,11 +90,15 @@ meaning {v} {t} ok =
       few = few-cosets ok;
       cusps = k;
       figures =
-          table-figures (indexOf v t) (tableS v t) (tableR v t) (tableT v t) (sym (c .size-S)) (c .permutations .T) k;
+          table-figures (indexOf v t) (tableS v t) (tableR v t) (tableT v t) (sym (c .of-H .size-S)) (c .permutes-T) k;
       even-sides = even-sides v t ok g;
       odd-sides = odd-sides v t g;
       genus = symbol-genus v t g;
     }
+
+-- the tables of S and R are those of the right cosets of H
+pub symbol-cosets : {v : ℕ} {t : List ℤ} → IsSymbol v t → CosetsOf (InH (generators v t)) (indexOf v t) (tableS v t) (tableR v t)
+symbol-cosets ok = meaning ok .cosets .of-H
 
 -- the tables have as many entries as there are cosets
 pub record Sizes (v : ℕ) (t : List ℤ) : Type 0 where
@@ -158,20 +107,26 @@ pub record Sizes (v : ℕ) (t : List ℤ) : Type 0 where
   pub T-long : length (tableT v t) ≡ indexOf v t
 
 pub sizes : {v : ℕ} {t : List ℤ} → IsSymbol v t → Sizes v t
-sizes {v} {t} ok = let c = cosets-are v t (polygon v t ok) in record { S-long = c .size-S; R-long = c .size-R; T-long = c .size-T }
+sizes {v} {t} ok = let c = cosets-are v t (polygon v t ok) in record { S-long = c .of-H .size-S; R-long = c .of-H .size-R; T-long = c .size-T }
 
 -- there are no more cusps than cosets
 few-widths : (u : List ℕ) → length (widths u) ≤ length u
 few-widths u = omega (arith, length-map (cusps u) (width u), length-those (smallest u) (length u), count-most (smallest u) (length u))
 
--- ---- what the numbers say
+-- there is one width for each cusp
+widths-count : {v : ℕ} {t : List ℤ} → IsSymbol v t → length (widthsOf v t) ≡ figuresOf v t .cusps
+widths-count ok = let f = meaning ok .figures in f .as-many ∙ sym (f .cusp-count)
+
+-- ---- what the numbers and the places say
 
 -- a call that asks for a symbol and for the work space, and then has the steps l
-pub symbol-says : {M : Type 0} (v : ℕ) (t : List ℤ) (w : Lent (List ℕ)) (outs : List (Lent (List ℕ))) (l : List Step) → Numbered l
-    → (IsSymbol v t → symbolVerdict v t (w .entry .now) l ≡ Accepted → M) → (IsSymbol v t → Ample outs → verdict l ≡ Accepted)
-    → SymbolSays M v t w outs (checkedRefusal (symbolVerdict v t (w .entry .now) l) .number)
-symbol-says v t w outs l n m h = record {
-  means = λ z. let p = symbol-passed v t (w .entry .now) l n z in m (p .0) (p .1);
+pub symbol-says : {M : Type 0} (v : ℕ) (t : List ℤ) (w : Lent (List ℕ)) (count n : ℕ) (outs : List (Lent (List ℕ))) (l : List Step) → Numbered l
+    → (IsSymbol v t → M) → (IsSymbol v t → told count (verdict l) ≡ n) → (IsSymbol v t → Ample outs → verdict l ≡ Accepted)
+    → let c = symbolVerdict v t (w .entry .now) l in SymbolSays M v t w n outs (checkedRefusal c .number) (told count c)
+symbol-says v t w count n outs l above m k h = record {
+  symbol = λ z. elim z [ inl e ↦ symbol-passed v t (w .entry .now) l above e .0 | inr e ↦ symbol-short v t (w .entry .now) l e ];
+  means = m;
+  place-is = λ ok long. ap (told count) (symbol-behind v t (w .entry .now) l ok long) ∙ k ok;
   enough = λ ok long ample. symbol-zero v t (w .entry .now) l ok long (h ok ample);
 }
 
@@ -181,11 +136,17 @@ module _ (v : ℕ) (t : List ℤ) (w : Lent (List ℕ)) where
       let a = lengthCheck (length (tableS v t)) (length (s .entry .now)) in
       let b = lengthCheck (length (tableR v t)) (length (r .entry .now)) in
       let c = lengthCheck (length (tableT v t)) (length (u .entry .now)) in
-      symbol-says v t w (s ∷ r ∷ u ∷ []) (Asks a ∷ Asks b ∷ Asks c ∷ []) (
+      let N = indexOf v t in
+      symbol-says v t w N N (s ∷ r ∷ u ∷ []) (Asks a ∷ Asks b ∷ Asks c ∷ []) (
         above-room (length (tableS v t)) (length (s .entry .now)),
         (above-room (length (tableR v t)) (length (r .entry .now)), (above-room (length (tableT v t)) (length (u .entry .now)), tt)),
       )
-      (λ ok all. meaning ok) (λ ok ample.
+      meaning (λ ok.
+      let n = sizes ok in
+      room-told N (length (tableS v t)) (length (s .entry .now)) N (b orElse c orElse Accepted) (n .S-long)
+      (room-told N (length (tableR v t)) (length (r .entry .now)) N (c orElse Accepted) (n .R-long)
+      (room-told N (length (tableT v t)) (length (u .entry .now)) N Accepted (n .T-long) refl)))
+      (λ ok ample.
       let n = sizes ok in
       let few = few-cosets ok in
       pass-both a (b orElse c orElse Accepted) (room-long (length (tableS v t)) (length (s .entry .now)) (omega (arith, n .S-long, few, ample .0)))
@@ -196,20 +157,22 @@ module _ (v : ℕ) (t : List ℤ) (w : Lent (List ℕ)) where
   widths-says out =
       let n = length (widthsOf v t) in
       let a = lengthCheck n (length (out .entry .now)) in
-      symbol-says v t w (out ∷ []) (Asks a ∷ []) (above-room n (length (out .entry .now)), tt) (λ ok all. meaning ok)
+      symbol-says v t w n (figuresOf v t .cusps) (out ∷ []) (Asks a ∷ []) (above-room n (length (out .entry .now)), tt) meaning
+      (λ ok. room-told n n (length (out .entry .now)) (figuresOf v t .cusps) Accepted (widths-count ok) (widths-count ok))
       (λ ok ample. pass-both a Accepted
       (room-long n (length (out .entry .now)) (omega (arith, few-widths (tableT v t), sizes ok .T-long, few-cosets ok, ample .0))) refl)
 
   -- from what it leaves, too: the genus stands there
   pub figures-says : (out : Lent (List ℕ)) → Leaves (figuresCall v t w out .steps)
       → figuresCall v t w out .Says (numberOf (figuresCall v t w out)) (placeOf (figuresCall v t w out))
-  figures-says out left =
-      symbol-says v t w [] [] tt (λ ok all.
-      let m = meaning ok in
-      let numbers = figureNumbers (figuresOf v t) in
-      let there = left .1 .0 ∙ ap (λ (c : Checked). ifAccepted c numbers (out .entry .now)) all in
-      (m, ap (λ (l : List ℕ). getD l 4 18) there ∙ ap figureNumber (m .genus .is)))
-      (λ ok ample. refl)
+  figures-says out left = (
+    symbol-says v t w 0 0 [] [] tt meaning (λ ok. refl) (λ ok ample. refl),
+    λ z.
+        let p = symbol-passed v t (w .entry .now) [] tt z in
+        let numbers = figureNumbers (figuresOf v t) in
+        let there = left .1 .0 ∙ ap (λ (c : Checked). ifAccepted c numbers (out .entry .now)) (p .1) in
+        ap (λ (l : List ℕ). getD l 4 18) there ∙ ap figureNumber (meaning (p .0) .genus .is),
+  )
 
 -- ---- figures
 

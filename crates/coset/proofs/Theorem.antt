@@ -1,44 +1,47 @@
 -- THE THEOREM on the coset tables: `cosets-are`, for every accepted symbol.
 --
 -- In order: the maps (`maps`, S and R undone by themselves); Q from S and R; the numbered positions are the real ones (`listed-real`,
--- `size-is`); a word followed in the tables is the number of where it leads (`run-is`, `leads-is`); the numbering of the tables
--- (`in-order`); the theorem.
+-- `size-is`); a word followed in the tables is the number of where it leads (`run-is`, `leads-is`); S twice and R three times (`S-twice`, `R-thrice`);
+-- the points are the right cosets of H, and point 0 is H (`one-coset`, `home`); the numbering of the tables (`in-order`); the theorem.
 -- Assumes nothing.
 use mathlib.Core.Path.{_≡_, refl, sym, _∙_, ap}
 use mathlib.Core.Logic.{inl, inr, _↔_}
 use mathlib.Core.Bool.{Bool, true, false, _||_}
 use mathlib.Core.List.{List, [], _∷_}
-use Prim.Native.Nat.{ℕ, zero, suc, _-_, _<_}
+use Prim.Native.Nat.{ℕ, _-_, _<_}
 use native.Mathlib.Omega.{arith}
 use lib.Dec.{ltb}
-use lib.ListN.{length, getD, length-append}
+use lib.ListN.{length, getD}
 use lib.IntN.{ℤ, pos}
-use Rattle.matrix.specs.Matrix.{Mat, _⊗_, 𝟙, det, matS, matP, matR, matT}
+use Rattle.matrix.specs.Matrix.{Mat, _⊗_, 𝟙, adj, det, matS, matP, matR, matT}
 use Rattle.matrix.specs.Words.{Letter, S, Q, P, value}
 use Rattle.matrix.specs.Euclid.{wordOf}
 use Rattle.matrix.specs.Action as action
 use Rattle.matrix.specs.Theorems.{Acts}
-use Rattle.matrix.proofs.Matrix.{T-is, R-is, ⊗-idr, det-letter}
+use Rattle.matrix.proofs.Matrix.{T-is, R-is, ⊗-idr, det-𝟙, det-letter}
 use Rattle.matrix.proofs.Action.{acts}
 use Rattle.matrix.proofs.Sign.{det-value}
-use Rattle.basics.specs.Count.{count, those}
 use Rattle.pairing.specs.Generator.{generators}
+use Rattle.pairing.specs.Subgroup.{InH}
 use Rattle.basics.proofs.Choice.{either, clash}
 use Rattle.polygon.specs.Cut.{corners, places}
 use Rattle.polygon.specs.Step.{oddAt, real, Real, stepS, turnQ, turned, startOf, originOf}
 use Rattle.polygon.specs.Walk.{goes, ends, arrives}
-use Rattle.polygon.specs.Theorem.{Polygon, SameCoset}
+use Rattle.polygon.specs.Theorem.{Polygon}
+use Rattle.polygon.proofs.OneCoset.{from-coset, to-coset}
 use Rattle.numbering.specs.Find.{find, _∈_}
 use Rattle.numbering.specs.Order.{orderOf, upTo, Maps, Reached, here, by-σ, by-ρ, Numbering}
-use Rattle.numbering.specs.Table.{imageAt, Injective, Renaming, Permutations}
+use Rattle.numbering.specs.Table.{imageAt, _thenTable_, Injective, Renaming, Permutations}
 use Rattle.numbering.proofs.Find.{getD-find, getD-in}
 use Rattle.numbering.proofs.Order.{numbering}
-use Rattle.numbering.proofs.Table.{undone, renaming, permutations}
+use Rattle.numbering.proofs.Table.{undone, renaming, permutations, then-at, natural-then, natural-fixed}
 use Rattle.basics.proofs.Count.{length-those}
 use Rattle.numbering.proofs.Filled.{order-count}
 use Rattle.numbering.proofs.Numbered.{numbered}
 use Rattle.coset.specs.Tables.{stepR, cosets, tableS, tableR, tableT, indexOf}
-use Rattle.right_cosets.specs.Leads.{byTableQ, leads, Led}
+use Rattle.right_cosets.specs.Leads.{byTableQ, leads, IsReached}
+use Rattle.right_cosets.specs.Cosets.{CosetsOf}
+use Rattle.right_cosets.proofs.Place.{adj-𝟙}
 use Rattle.coset.specs.Theorem.{Cosets}
 
 module _ (v : ℕ) (t : List ℤ) (g : Polygon v t) where
@@ -260,14 +263,37 @@ module _ (v : ℕ) (t : List ℤ) (g : Polygon v t) where
   unfolding cosets tableS tableR tableT
   permuted = permutations σ ρ origin (places v) maps injective-S injective-R
 
-  same-coset : (m n : Mat) → det m ≡ pos 1 → det n ≡ pos 1 → (leads s r m ≡ leads s r n) ↔ SameCoset (generators v t) m n
-  same-coset m n d e =
-      let c = g .cosets m n d e in (
-        (λ z. c .0 (number-one (arrives v t origin m) (arrives v t origin n) (arrives-real m) (arrives-real n) (sym (leads-is m) ∙ z ∙ leads-is n))),
-        (λ k. leads-is m ∙ ap number (c .1 k) ∙ sym (leads-is n)),
+  -- S twice and R three times lead from a position back to it, and so from its number to itself
+  S-twice : (j : ℕ) → j < length (cosets v t) → imageAt s (imageAt s j) ≡ j
+  S-twice j h =
+      let S = names .S in
+      sym (then-at s s j (omega (arith, S .long))) ∙ natural-fixed (numbers .once) (natural-then S S) j h (g .involution (getD (cosets v t) j 0))
+
+  R-thrice : (j : ℕ) → j < length (cosets v t) → imageAt r (imageAt r (imageAt r j)) ≡ j
+  R-thrice j h =
+      let R = names .R in
+      let rr = r thenTable r in
+      let RR = natural-then R R in
+      ap (imageAt r) (sym (then-at r r j (omega (arith, R .long)))) ∙ sym (then-at rr r j (omega (arith, RR .long)))
+      ∙ natural-fixed (numbers .once) (natural-then RR R) j h (ρ-three (getD (cosets v t) j 0))
+
+  zero-leads : leads s r 𝟙 ≡ 0
+  zero-leads = leads-is 𝟙 ∙ ap number (a .identity origin) ∙ zero-is
+
+  one-coset : (m n : Mat) → det m ≡ pos 1 → det n ≡ pos 1 → (leads s r m ≡ leads s r n) ↔ InH (generators v t) (m ⊗ adj n)
+  one-coset m n d e =
+      let c = g .cosets n m e d in (
+        (λ z. from-coset (generators v t) n m e (c .0
+            (number-one (arrives v t origin n) (arrives v t origin m) (arrives-real n) (arrives-real m) (sym (leads-is n) ∙ sym z ∙ leads-is m)))),
+        (λ k. leads-is m ∙ ap number (sym (c .1 (to-coset (generators v t) n m e k))) ∙ sym (leads-is n)),
       )
 
-  all-led : (j : ℕ) → j < length (cosets v t) → Led s r j
+  home : (m : Mat) → det m ≡ pos 1 → (leads s r m ≡ 0) ↔ InH (generators v t) m
+  home m d =
+      let c = one-coset m 𝟙 d det-𝟙 in
+      (λ h. rw (adj-𝟙 m) at (c .0 (h ∙ sym zero-leads)), λ h. c .1 (rw (adj-𝟙 m) h) ∙ zero-leads)
+
+  all-led : (j : ℕ) → j < length (cosets v t) → IsReached s r j
   all-led j h =
       let p = getD (cosets v t) j 0 in
       let k = listed-real p (numbers .only p (getD-in (cosets v t) j h)) in
@@ -282,21 +308,28 @@ module _ (v : ℕ) (t : List ℤ) (g : Polygon v t) where
   unfolding cosets tableS tableR
   in-order = rw (sym size-is) (numbered σ ρ origin (places v) maps)
 
+  of-H : CosetsOf (InH (generators v t)) (indexOf v t) s r
+  of-H = record {
+    size-S = names .S .long ∙ size-is;
+    size-R = names .R .long ∙ size-is;
+    permutes-S = permuted .S;
+    permutes-R = permuted .R;
+    twice = λ j h. S-twice j (omega (arith, size-is));
+    thrice = λ j h. R-thrice j (omega (arith, size-is));
+    low = λ m d. rw (leads-is m) (omega (arith, size-is, member (arrives v t origin m) (arrives-real m)));
+    by-S = S-step;
+    by-R = R-step;
+    fixes = home;
+    cosets = one-coset;
+    reached = λ j h. all-led j (omega (arith, size-is));
+    numbered = in-order;
+  }
+
 pub cosets-are : (v : ℕ) (t : List ℤ) → Polygon v t → Cosets v t (tableS v t) (tableR v t) (tableT v t)
-cosets-are v t g =
-    let n = size-is v t g in
-    record {
-      size-S = names v t g .S .long ∙ n;
-      size-R = names v t g .R .long ∙ n;
-      size-T = names v t g .T .long ∙ n;
-      permutations = permuted v t g;
-      low = λ m d. rw (leads-is v t g m) (omega (arith, n, member v t g (arrives v t (originOf v t) m) (arrives-real v t g m)));
-      by-S = S-step v t g;
-      by-R = R-step v t g;
-      by-T = T-step v t g;
-      T-is = names v t g .T-is;
-      zero = leads-is v t g 𝟙 ∙ ap (number v t g) (a v t g .identity (originOf v t)) ∙ zero-is v t g;
-      cosets = same-coset v t g;
-      reached = λ j h. all-led v t g j (omega (arith, n));
-      numbered = in-order v t g;
-    }
+cosets-are v t g = record {
+  of-H = of-H v t g;
+  size-T = names v t g .T .long ∙ size-is v t g;
+  permutes-T = permuted v t g .T;
+  by-T = T-step v t g;
+  T-is = names v t g .T-is;
+}

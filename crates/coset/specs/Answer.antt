@@ -13,35 +13,31 @@
 --                           docs/CONVENTIONS.md says; its e2 is the number of its even sides and its e3 that of its odd
 --                           sides; its genus is a number, never refusal 18
 --   Ample l                 each of the result spaces l has at least 4,090 entries
---   SymbolSays M v t w l n  what the number n of a call on the symbol in t says: 0 means M; and RESULT SPACES OF 4,090
---                           ENTRIES ARE ENOUGH: with a work space w of its length and ample result spaces l it is 0 for
---                           every symbol, never 11
---   tablesCall              checks 1 to 7, the work space, the tables of S, R and T; it counts the cosets
---   widthsCall              checks 1 to 7, the work space, the widths of the cusps; it counts the cusps
+--   SymbolSays M v t w n l number place
+--                           what the number and the place of a call on the table t say. With 0 and with 11 it is a
+--                           symbol. Of every symbol M holds, whatever the number; and with a work space w of its length
+--     place-is              THE PLACE IS n, with 0, where it counts, and with 11, where it is the length that a result
+--                           space needs
+--     enough                RESULT SPACES OF 4,090 ENTRIES ARE ENOUGH: with ample result spaces l the number is 0,
+--                           never 11
+--   tablesCall              checks 1 to 7, the work space, the tables of S, R and T; it counts the cosets, and its 11
+--                           tells the index
+--   widthsCall              checks 1 to 7, the work space, the widths of the cusps; it counts the cusps, and its 11
+--                           tells how many they are
 --   figuresCall             checks 1 to 7, the work space; the eight numbers
--- Calls of other crates that are not yet stated by their steps use
---   roomFor n a b c, roomTwo n a b, roomOne n a     n things, or 11 with that length, for spaces of these lengths
---   tabledBy c work r       the refusal of the checks c, then the work space, or the answer r
---   columnLeft r table out  what a call leaves in one result space: the table at its front, or all as it was
 use mathlib.Core.Path.{_≡_}
+use mathlib.Core.Logic.{_⊎_}
 use mathlib.Core.Bool.{Bool}
 use mathlib.Core.List.{List, [], _∷_, _++_}
 use Prim.Native.Nat.{ℕ, _+_, _≤_}
-use lib.Dec.{ltb}
-use lib.ListN.{length, drop, getD}
+use lib.ListN.{length, getD}
 use lib.IntN.{ℤ, negsuc}
-use Rattle.basics.specs.Choice.{pick}
 use Rattle.basics.specs.Count.{count}
 use Rattle.call.specs.Space.{workLength}
-use Rattle.call.specs.Refusal.{tooShort, filledBy}
-use Rattle.call.specs.declared.refusal.Checked.{Checked}
-use Rattle.call.specs.declared.refusal.Filled.{Filled}
-use Rattle.call.specs.declared.refusal.Filled.the-variants as filled
 use Rattle.call.specs.Call.{Lent, asks, work, stores, resultIn, Contract}
 use Rattle.symbol.specs.Table.{pairingEntry}
 use Rattle.symbol.specs.Check.{eqZ, symbolCheck}
 use Rattle.symbol.specs.Symbol.{IsSymbol}
-use Rattle.pairing.specs.Generator.{byWork}
 use Rattle.polygon.specs.Step.{oddAt}
 use Rattle.figures.specs.Cusps.{widths, Cusps}
 use Rattle.figures.specs.FiguresOf.{figuresIn}
@@ -100,9 +96,11 @@ abbrev pub Ample : List (Lent (List ℕ)) → Type 0
 Ample [] = Unit {0}
 Ample (out ∷ l) = (mostCosets ≤ length (out .entry .now)) × Ample l
 
-pub record SymbolSays
-    (M : Type 0) (v : ℕ) (t : List ℤ) (w : Lent (List ℕ)) (l : List (Lent (List ℕ))) (number : ℕ) : Type 0 where
-  pub means : number ≡ 0 → M
+pub record SymbolSays (M : Type 0) (v : ℕ) (t : List ℤ) (w : Lent (List ℕ)) (n : ℕ) (l : List (Lent (List ℕ)))
+    (number place : ℕ) : Type 0 where
+  pub symbol : (number ≡ 0) ⊎ (number ≡ 11) → IsSymbol v t
+  pub means : IsSymbol v t → M
+  pub place-is : IsSymbol v t → workLength ≤ length (w .entry .now) → place ≡ n
   pub enough : IsSymbol v t → workLength ≤ length (w .entry .now) → Ample l → number ≡ 0
 
 -- ---- the calls
@@ -112,41 +110,19 @@ tablesCall v t w s r u = record {
   steps = asks (symbolCheck v t) ++ work w
       ++ stores (tableS v t) s ++ stores (tableR v t) r ++ stores (tableT v t) u;
   count = indexOf v t;
-  Says = λ number place. SymbolSays (Meaning v t) v t w (s ∷ r ∷ u ∷ []) number;
+  Says = λ number place. SymbolSays (Meaning v t) v t w (indexOf v t) (s ∷ r ∷ u ∷ []) number place;
 }
 
 abbrev pub widthsCall : (v : ℕ) → List ℤ → (w out : Lent (List ℕ)) → Contract
 widthsCall v t w out = record {
   steps = asks (symbolCheck v t) ++ work w ++ stores (widthsOf v t) out;
   count = length (widthsOf v t);
-  Says = λ number place. SymbolSays (Meaning v t) v t w (out ∷ []) number;
+  Says = λ number place. SymbolSays (Meaning v t) v t w (figuresOf v t .cusps) (out ∷ []) number place;
 }
 
 abbrev pub figuresCall : (v : ℕ) → List ℤ → (w out : Lent (List ℕ)) → Contract
 figuresCall v t w out = record {
   steps = asks (symbolCheck v t) ++ work w ++ resultIn (figureNumbers (figuresOf v t)) out;
   count = 0;
-  Says = λ number place. SymbolSays (Meaning v t × GenusGiven (out .exit .now)) v t w [] number;
+  Says = λ number place. SymbolSays (Meaning v t) v t w 0 [] number place × (number ≡ 0 → GenusGiven (out .exit .now));
 }
-
--- ---- for calls of other crates
-
-abbrev pub roomFor : (n a b c : ℕ) → Filled
-roomFor n a b c =
-    let short = filled.Refused (tooShort n) in
-    pick (ltb a n) short (pick (ltb b n) short (pick (ltb c n) short (filled.Made n)))
-
-abbrev pub roomTwo : (n a b : ℕ) → Filled
-roomTwo n a b =
-    let short = filled.Refused (tooShort n) in
-    pick (ltb a n) short (pick (ltb b n) short (filled.Made n))
-
-abbrev pub roomOne : (n a : ℕ) → Filled
-roomOne n a = pick (ltb a n) (filled.Refused (tooShort n)) (filled.Made n)
-
-abbrev pub tabledBy : Checked → (work : ℕ) → Filled → Filled
-tabledBy c work r = filledBy c (byWork work r)
-
-abbrev pub columnLeft : Filled → (table out : List ℕ) → List ℕ
-columnLeft (filled.Made n) table out = table ++ drop n out
-columnLeft (filled.Refused f) table out = out

@@ -26,7 +26,7 @@ ghost use Rattle.symbol.specs.Check.{symbolCheck};
 ghost use Rattle.symbol.specs.Symbol.{IsSymbol};
 ghost use Rattle.numbering.specs.Inner.Space.{S-TABLE, R-TABLE, T-TABLE, WIDTHS};
 ghost use Rattle.coset.specs.Tables.{indexOf, tableS, tableR, tableT};
-ghost use Rattle.coset.specs.Answer.{roomFor, columnLeft, widthsOf, figuresOf, tablesCall, widthsCall};
+ghost use Rattle.coset.specs.Answer.{widthsOf, figuresOf, tablesCall, widthsCall};
 ghost use Rattle.coset.specs.Inner.Survey.{Surveyed, figuredIf};
 ghost use Rattle.coset.specs.declared.Figured.the-variants as figured;
 
@@ -36,10 +36,9 @@ pub mod steps;
 // Copies the tables of n cosets, where there is room for all three.
 pub fn copy_tables(w: &[u16], n: usize, s: &mut [u32], r: &mut [u32], u: &mut [u32]) -> Filled
     requires { ⌜ (n ≤ 4096) × (workLength ≤ length (now w)) ⌝ }
-    ensures { λ a. ⌜ a ≡ roomFor n (length (now (s .entry))) (length (now (r .entry))) (length (now (u .entry))) ⌝ }
-    ensures { λ a. ⌜ now (s .exit) ≡ columnLeft a (entries S-TABLE n (now (w .entry))) (now (s .entry)) ⌝ }
-    ensures { λ a. ⌜ now (r .exit) ≡ columnLeft a (entries R-TABLE n (now (w .entry))) (now (r .entry)) ⌝ }
-    ensures { λ a. ⌜ now (u .exit) ≡ columnLeft a (entries T-TABLE n (now (w .entry))) (now (u .entry)) ⌝ }
+    ensures { λ a. ⌜ Fills (stores (entries S-TABLE n (now (w .entry))) s
+        ++ stores (entries R-TABLE n (now (w .entry))) r
+        ++ stores (entries T-TABLE n (now (w .entry))) u) (madeIf n) a ⌝ }
 {
     if s.len() < n {
         return Filled::Refused(Refusal {

@@ -1,22 +1,19 @@
--- Laws for the public call: the two result spaces in their order (`both-…`), the record of a symbol (`symbol-record`), what it means (`cusp-meaning`), and
--- what the call's number says (`cusps-says`).
+-- Laws for the public call: what it means (`cusp-meaning`), what the call's number and place say (`cusps-says`), and the record of a symbol (`symbol-record`).
 -- Assumes nothing.
-use mathlib.Core.Path.{_≡_, refl, sym, _∙_, ap, subst}
-use mathlib.Core.List.{List, [], _∷_, _++_}
-use Prim.Native.Nat.{ℕ, zero, suc, _+_, _-_, _≤_, _<_}
+use mathlib.Core.Path.{_≡_, refl, sym, _∙_, ap}
+use mathlib.Core.List.{List, [], _∷_}
+use Prim.Native.Nat.{ℕ, zero, suc, _+_, _-_, _<_}
 use native.Mathlib.Omega.{arith}
-use lib.ListN.{length, drop}
+use lib.ListN.{length}
 use lib.IntN.{ℤ, pos}
-use Rattle.call.specs.Refusal.{tooShort, _orElse_}
-use Rattle.call.specs.declared.refusal.Checked.the-variants.{Accepted, Refused}
-use Rattle.call.specs.declared.refusal.Filled.{Filled}
+use Rattle.call.specs.Refusal.{_orElse_}
+use Rattle.call.specs.declared.refusal.Checked.the-variants.{Accepted}
 use Rattle.call.proofs.Answers.{pass-both}
-use Rattle.call.specs.Call.{Lent, Step, Asks, Gives, lengthCheck, numberOf, placeOf}
-use Rattle.call.specs.Inner.Fills.{Fills, madeIf}
-use Rattle.call.proofs.Laws.{Run, run-end, run-write, run-hold, short-write, above-room, room-long}
+use Rattle.call.specs.Call.{Lent, Asks, lengthCheck, numberOf, placeOf}
+use Rattle.call.proofs.Laws.{above-room, room-long}
 use Rattle.symbol.specs.Symbol.{IsSymbol}
-use Rattle.matrix.specs.Matrix.{Mat, _⊗_, 𝟙, det, matT}
-use Rattle.matrix.proofs.Matrix.{det-𝟙, det-one}
+use Rattle.matrix.specs.Matrix.{Mat, _⊗_, det, matT}
+use Rattle.matrix.proofs.Matrix.{det-one}
 use Rattle.numbering.specs.Table.{Permutes}
 use Rattle.numbering.proofs.Space.{entries-same}
 use Rattle.numbering.specs.Inner.Space.{S-TABLE, R-TABLE, T-TABLE}
@@ -25,48 +22,16 @@ use Rattle.figures.specs.Inner.Scan.{heldT, CuspWidths}
 use Rattle.figures.proofs.Filled.{S-stays, R-stays, T-stays}
 use Rattle.coset.specs.Tables.{indexOf, tableS, tableR, tableT}
 use Rattle.right_cosets.specs.Leads.{leads}
+use Rattle.right_cosets.proofs.Tabled.{some-points}
 use Rattle.coset.specs.Theorem.{Cosets}
-use Rattle.coset.proofs.Answer.{Made, meaning, sizes, few-cosets, symbol-says}
+use Rattle.coset.proofs.Stored.{room-told}
+use Rattle.coset.proofs.InWords.{in-words, permutations-of}
+use Rattle.coset.proofs.Answer.{Made, meaning, symbol-cosets, sizes, few-cosets, symbol-says}
 use Rattle.cusp_record.specs.Record.{cuspWidth, cuspOf, cuspSteps, cuspTable, stepTable}
 use Rattle.cusp_record.specs.Answer.{cuspColumn, stepColumn, cuspReached, timesT, OneCusp, CuspMeaning, cuspsCall}
 use Rattle.cusp_record.specs.Inner.Fill.{ByCusps, RecordFilled, SymbolRecord}
 use Rattle.cusp_record.proofs.Record.{ahead, cusp-at, in-order, coset-record}
 use Rattle.cusp_record.proofs.Fill.{scanned}
-
--- ---- the result spaces
-
--- two lists of n entries in their spaces
-module _ (n : ℕ) (x y p q : List ℕ) (lx : length x ≡ n) (ly : length y ≡ n) where
-  abbrev both : (p' q' : List ℕ) → List Step
-  both p' q' =
-      Asks (lengthCheck (length x) (length p)) ∷ Gives (x ++ drop (length x) p) p p' ∷ Asks (lengthCheck (length y) (length q))
-      ∷ Gives (y ++ drop (length y) q) q q' ∷ []
-
-  abbrev second : (q' : List ℕ) → List Step
-  second q' = Asks (lengthCheck (length y) (length q)) ∷ Gives (y ++ drop (length y) q) q q' ∷ []
-
-  pub both-first : length p < n → Run (both p q) (Refused (tooShort n))
-  both-first h = short-write x p n lx (second q) h (refl, tt)
-
-  pub both-second : n ≤ length p → length q < n → Run (both p q) (Refused (tooShort n))
-  both-second h k = run-hold x p n lx (second q) (tooShort n) h (short-write y q n ly [] k tt)
-
-  pub both-room : {p' q' : List ℕ} → n ≤ length p → n ≤ length q → p' ≡ x ++ drop n p → q' ≡ y ++ drop n q → Run (both p' q') Accepted
-  both-room {p'} {q'} h k e f = run-write x p n lx (second q') p' h e (run-write y q n ly [] q' k f run-end)
-
--- the same of the lists that they are
-pub both-as : (x y x' y' p q : List ℕ) {p' q' : List ℕ} {n n' : ℕ} {a : Filled}
-    → Fills (Asks (lengthCheck (length x) (length p)) ∷ Gives (x ++ drop (length x) p) p p' ∷ Asks (lengthCheck (length y) (length q))
-    ∷ Gives (y ++ drop (length y) q) q q' ∷ []) (madeIf n) a → x ≡ x' → y ≡ y' → n ≡ n'
-    → Fills (Asks (lengthCheck (length x') (length p)) ∷ Gives (x' ++ drop (length x') p) p p' ∷ Asks (lengthCheck (length y') (length q))
-    ∷ Gives (y' ++ drop (length y') q) q q' ∷ []) (madeIf n') a
-both-as x y x' y' p q {p'} {q'} {n} {n'} {a} k e f h =
-    subst (λ (i : ℕ). Fills (Asks (lengthCheck (length x') (length p)) ∷ Gives (x' ++ drop (length x') p) p p' ∷ Asks (lengthCheck (length y') (length q))
-    ∷ Gives (y' ++ drop (length y') q) q q' ∷ []) (madeIf i) a) h
-    (subst (λ (m : List ℕ). Fills (Asks (lengthCheck (length x') (length p)) ∷ Gives (x' ++ drop (length x') p) p p' ∷ Asks (lengthCheck (length m) (length q))
-    ∷ Gives (m ++ drop (length m) q) q q' ∷ []) (madeIf n) a) f
-    (subst (λ (l : List ℕ). Fills (Asks (lengthCheck (length l) (length p)) ∷ Gives (l ++ drop (length l) p) p p' ∷ Asks (lengthCheck (length y) (length q))
-    ∷ Gives (y ++ drop (length y) q) q q' ∷ []) (madeIf n) a) e k))
 
 -- ---- what it means
 
@@ -81,10 +46,10 @@ module _ {v : ℕ} {t : List ℤ} (ok : IsSymbol v t) where
   cosets = meaning ok .cosets
 
   p : Permutes u
-  p = cosets .permutations .T
+  p = cosets .permutes-T
 
   at-low : (m : Mat) → det m ≡ pos 1 → at m < length u
-  at-low m d = omega (arith, cosets .low m d, cosets .size-T)
+  at-low m d = omega (arith, cosets .of-H .low m d, cosets .size-T)
 
   det-T : det matT ≡ pos 1
   unfolding matT det
@@ -110,18 +75,18 @@ module _ {v : ℕ} {t : List ℤ} (ok : IsSymbol v t) where
     one-cusp-if e =
         let n = cuspWidth u (cuspOf u (at a)) - cuspSteps u (at a) + cuspSteps u (at b) in
         let there = ahead p (at a) (at b) (at-low a da) (at-low b db) (sym cusp-a ∙ e ∙ cusp-b) in
-        record { steps = n; joined = cosets .cosets (timesT a n) b (T-unit a n da) db .0 (T-leads a n da ∙ there) }
+        record { steps = n; joined = in-words cosets (timesT a n) b (T-unit a n da) db .0 (T-leads a n da ∙ there) }
 
     one-cusp-only : OneCusp v t a b → cuspReached v t a ≡ cuspReached v t b
     one-cusp-only g =
         let n = g .steps in
-        let there = sym (T-leads a n da) ∙ cosets .cosets (timesT a n) b (T-unit a n da) db .1 (g .joined) in
+        let there = sym (T-leads a n da) ∙ in-words cosets (timesT a n) b (T-unit a n da) db .1 (g .joined) in
         cusp-a ∙ sym (in-order p .keeps-all n (at a) (at-low a da)) ∙ ap (cuspOf u) there ∙ sym cusp-b
 
   pub cusp-meaning : CuspMeaning v t
   cusp-meaning = record {
     tables = meaning ok;
-    rule = coset-record (cosets .permutations) (cosets .T-is);
+    rule = coset-record (permutations-of cosets) (cosets .T-is);
     one-cusp = λ a b da db. (one-cusp-if a b da db, one-cusp-only a b da db);
   }
 
@@ -134,8 +99,14 @@ cusps-says v t w cusps steps =
     let y = length (stepColumn v t) in
     let a = lengthCheck x (length (cusps .entry .now)) in
     let b = lengthCheck y (length (steps .entry .now)) in
-    symbol-says v t w (cusps ∷ steps ∷ []) (Asks a ∷ Asks b ∷ []) (above-room x (length (cusps .entry .now)), (above-room y (length (steps .entry .now)), tt))
-    (λ ok all. cusp-meaning ok) (λ ok ample.
+    let N = indexOf v t in
+    symbol-says v t w N N (cusps ∷ steps ∷ []) (Asks a ∷ Asks b ∷ [])
+    (above-room x (length (cusps .entry .now)), (above-room y (length (steps .entry .now)), tt))
+    cusp-meaning (λ ok.
+    let rule = cusp-meaning ok .rule .columns in
+    room-told N x (length (cusps .entry .now)) N (b orElse Accepted) (rule .size-cusps ∙ sizes ok .T-long)
+    (room-told N y (length (steps .entry .now)) N Accepted (rule .size-steps ∙ sizes ok .T-long) refl))
+    (λ ok ample.
     let rule = cusp-meaning ok .rule .columns in
     let long = sizes ok .T-long in
     let few = few-cosets ok in
@@ -145,7 +116,7 @@ cusps-says v t w cusps steps =
 -- ---- the record of a symbol: from the tables that were arranged, through the scan of the cusps
 module _ {t : List ℤ} {v n k : ℕ} {w w1 : List ℕ} (ok : IsSymbol v t) (m : Made t v w n) (c : CuspWidths n w w1 k) where
   some : 0 < n
-  some = let g = meaning ok .cosets in omega (arith, m .index, g .low 𝟙 det-𝟙, g .zero)
+  some = omega (arith, m .index, some-points (symbol-cosets ok))
 
   pub lists-are : ByCusps (heldT n w1) n k w1
   lists-are = scanned (m .permuted) c (T-stays (m .permuted) c) some

@@ -1,4 +1,4 @@
--- THE CALL `cusps`: its steps, and what it means (docs/CONVENTIONS.md, 5).
+-- THE CALL `cusps`: its steps, and what it means (docs/CONVENTIONS.md, 4.5).
 --
 --   cuspColumn, stepColumn v t     the cusps and the steps of the symbol's cosets
 --   cuspReached v t m         the cusp of the coset H m, by the column: where m sends infinity
@@ -7,8 +7,9 @@
 --   CuspMeaning v t           the symbol means what its tables mean; its columns of cusps and of steps keep the
 --                             standing rule; and two matrices have one cusp in the column exactly when they have one
 --                             under H
---   cuspsCall                 checks 1 to 7, the work space, the cusps and the steps; it counts the cosets. Result
---                             spaces of 4,090 entries are enough for every symbol (`SymbolSays`, in the crate coset)
+--   cuspsCall                 checks 1 to 7, the work space, the cusps and the steps; it counts the cosets, and its 11
+--                             tells the index. Result spaces of 4,090 entries are enough for every symbol
+--                             (`SymbolSays`, in the crate coset)
 use mathlib.Core.Path.{_≡_}
 use mathlib.Core.Logic.{_↔_}
 use mathlib.Core.List.{List, [], _∷_, _++_}
@@ -52,5 +53,5 @@ abbrev pub cuspsCall : (v : ℕ) → List ℤ → (w cusps steps : Lent (List �
 cuspsCall v t w cusps steps = record {
   steps = asks (symbolCheck v t) ++ work w ++ stores (cuspColumn v t) cusps ++ stores (stepColumn v t) steps;
   count = indexOf v t;
-  Says = λ number place. SymbolSays (CuspMeaning v t) v t w (cusps ∷ steps ∷ []) number;
+  Says = λ number place. SymbolSays (CuspMeaning v t) v t w (indexOf v t) (cusps ∷ steps ∷ []) number place;
 }

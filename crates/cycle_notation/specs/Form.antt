@@ -6,9 +6,9 @@
 --     Cycles ps cs rest        the cycles cs with blanks around them or none; there may be no cycle
 --     Written semi ps cs rest  a permutation with blanks around it: cycles, or `()` alone. Beside a semicolon (semi is
 --                              true) there may be any number of cycles, and none written is the identity; without it a
---                              permutation is one cycle or `()`
---     Reading semi ps n sc rc  the whole text: the index n, S with the cycles sc, a semicolon or none, R with the
---                              cycles rc
+--                              permutation is one cycle or `()` (`Enough`)
+--     Reading semi ps n sc rc  the whole text: the index n, S with the cycles sc, a semicolon or none (`behindS`), R
+--                              with the cycles rc
 --     pointsOf cs              the points that the cycles cs name, in their order
 --     free n seen x            x is a point from 1 to n, and not among those seen
 --     Disjoint n seen xs       each of xs is free when those before it have been seen
@@ -16,7 +16,6 @@
 --     Right ps n sc rc         the pieces ps are of the form, by one of the two readings, with such an index, and
 --                              disjoint cycles in S and in R
 --     Completes ps             some ending makes the pieces ps right
--- Assumes nothing.
 use mathlib.Core.Path.{_≡_}
 use mathlib.Core.Logic.{_⊎_}
 use mathlib.Core.Bool.{Bool, true, false, not, _&&_}

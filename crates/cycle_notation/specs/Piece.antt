@@ -7,11 +7,10 @@
 --     runValue m t                 the number that a run of digits says which has said m so far and goes on with t
 --     PlacedPiece                  a piece with the offset where it begins
 --     cyclePiecesFrom at inside t  the pieces that begin in t, whose first byte stands at the offset `at`; `inside`
---                                  where the byte before is a digit
+--                                  where the byte before is a digit, and then no number begins (`numberBegun`)
 --     cyclePieces t                the pieces of the text t
 --     withoutOffsets ps            the same without their offsets
 -- Zeros in front of a number change nothing, and a number may have any length. A line end (10, 13) is another byte.
--- Assumes nothing.
 use Prim.Native.Nat.{ℕ, suc, _+_, _-_, _*_}
 use mathlib.Core.Bool.{Bool, true, false, _&&_}
 use mathlib.Core.List.{List, [], _∷_}

@@ -4,7 +4,6 @@
 --
 --     WrongAt t place  the text t leaves the form at this place
 -- A piece that begins the fault has one place only: what stands before it can still be completed, and with it no more.
--- Assumes nothing.
 use mathlib.Core.Path.{_≡_}
 use mathlib.Core.List.{List, [], _∷_, _++_}
 use Prim.Native.Nat.{ℕ}

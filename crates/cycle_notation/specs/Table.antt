@@ -1,11 +1,11 @@
 -- The table of a permutation that is given by cycles: points count from 1 in the text and from 0 in the table.
 --
 --     behindIn f c x   the point behind x in c, whose points go round to f; x itself where c does not have it
+--     turnedBy c x     the point behind x in the cycle c, round to the first
 --     imageBy cs x     where the cycles cs lead from x: to the point behind it in its cycle, round to the first; x
 --                      itself where no cycle has it
 --     tabled f n       f 0 to f (n - 1)
 --     cycleTable n cs  the table of the permutation of n points with the cycles cs
--- Assumes nothing.
 use mathlib.Core.Bool.{Bool, true, false}
 use mathlib.Core.List.{List, [], _∷_, _++_}
 use Prim.Native.Nat.{ℕ, zero, suc, _-_}

@@ -2,10 +2,10 @@
 --
 --     Read              an index, the cycles of S and the cycles of R
 --     Verdict           what was read; an index out of range (12); or the place where the text leaves the form (27)
+--     IndexOut ps       behind blanks or none the pieces begin with a number that is no index
 --     VerdictMeans t v  what the verdict v says of the text t: it is right with that reading; behind blanks or none it
 --                       begins with a number that is no index; or there is no such number, and it leaves the form at
 --                       that place
--- Assumes nothing.
 use mathlib.Core.Path.{_≡_}
 use mathlib.Core.Bool.{true, false}
 use mathlib.Core.List.{List, [], _∷_}

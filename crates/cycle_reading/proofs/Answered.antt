@@ -1,6 +1,7 @@
 -- A text that was read: its tables are checked and stand in the result spaces, or why not.
 --     cycles-read     the steps of `read_cycles`, run, for a text that was read
 --     even, most      the tables that are read have one length, of 3,066 at most
+--     one-reading     a right text has the tables of each of its readings
 --     read-means      what number and place of the call mean
 --     read-returns    a right text whose tables are a good pair is read as it says
 --     means-only      what number and place mean allows no others
@@ -35,7 +36,7 @@ use Rattle.cycle_notation.proofs.Stores.{stored-table, length-tabled}
 use Rattle.cycle_reading.specs.declared.Judged.{Judged}
 use Rattle.cycle_reading.specs.declared.Judged.the-variants as judged
 use Rattle.cycle_reading.specs.Reading as reading
-use Rattle.cycle_reading.specs.Reading.{tableOfS, tableOfR, checkBy, cyclesCheck, readTable, readS, readR, RightAs, GoodPair, ReadCyclesMean}
+use Rattle.cycle_reading.specs.Reading.{tableOfS, tableOfR, checkBy, cyclesCheck, readTable, readS, readR, RightAs, OneReading, GoodPair, ReadCyclesMean}
 use Rattle.cycle_reading.specs.Inner.PartRun.{made}
 use Rattle.cycle_reading.specs.Inner.Front.{VerdictRead}
 use Rattle.cycle_reading.proofs.Filling.{read-as, in-range, pair-fault, FaultNumber, tableSteps, givenRun, readRun}
@@ -93,6 +94,9 @@ fault t q h =
 -- a right text is read as it says
 right-read : (t : List ℕ) (q : Read) → RightAs t q → verdictOf t ≡ reads q
 right-read t q h = sym (verdict-only t (reads q) (right q h))
+
+pub one-reading : OneReading
+one-reading t q h = let e = right-read t q h in (ap (readTable tableOfS) e, ap (readTable tableOfR) e)
 
 -- ---- the verdict of the steps
 

@@ -7,6 +7,8 @@
 --     readS t, readR t          the tables of S and R of a text that is right; nothing for another text
 --     readSteps t s r           that refusal, and then the table of S at the front of s and that of R at the front of
 --                               r: 11 with the number of points where one of them is too short
+--     OneReading                [one-reading] the tables of a text are those of each reading that the grammar allows:
+--                               all of these have the same tables, and `verdictOf`, which runs two readers, finds them
 --     PairFault s r f           the tables s and r are no pair of permutations as wanted, and f, one of 13 to 15, is
 --                               their first fault
 --     ReadCyclesMean t a b s r number place    what number and place mean, for result spaces of length a and b that
@@ -14,8 +16,8 @@
 --                               written number that is no index; a text of the form, whose tables have a fault, or
 --                               find no room, or stand in the result spaces
 --
--- proofs/Answered.antt, `means-only`: what number and place mean allows no others, so `verdictOf`, which runs two
--- readers, need not be read. Assumes nothing.
+-- proofs/Answered.antt: `one-reading`; and `means-only`, that what number and place mean allows no others, so that
+-- `verdictOf` need not be read.
 use mathlib.Core.Path.{_≡_}
 use mathlib.Core.Logic.{_⊎_}
 use mathlib.Core.List.{List, [], _++_}
@@ -73,6 +75,10 @@ pub record PairFault (s r : List ℕ) (f : Refusal) : Type 0 where
 -- the text t is right, and q is how it reads
 abbrev pub RightAs : List ℕ → Read → Type 0
 RightAs t q = Right (withoutOffsets (cyclePieces t)) (q .index) (q .ofS) (q .ofR)
+
+-- readS and readR are the tables of each of its readings
+abbrev pub OneReading : Type 0
+OneReading = (t : List ℕ) (q : Read) → RightAs t q → (readS t ≡ tableOfS q) × (readR t ≡ tableOfR q)
 
 -- and its tables are a pair of permutations as wanted
 pub record GoodPair (t : List ℕ) (q : Read) : Type 0 where

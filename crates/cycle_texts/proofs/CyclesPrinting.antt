@@ -36,7 +36,8 @@ use Rattle.cycle_notation.proofs.Wrong.{verdict-means}
 use Rattle.cycle_reading.specs.Reading.{tableOfS, tableOfR, checkBy, cyclesCheck, readTable, readS, readR, RightAs}
 use Rattle.cycle_reading.proofs.Filling.{FaultNumber}
 use Rattle.cycle_reading.proofs.Answered.{even, fault}
-use Rattle.symbol_texts.specs.Pair.{PairFits, pairText, pairLinesBy}
+use Rattle.symbol_texts.specs.Pair.{pairText, pairLinesBy}
+use Rattle.symbol_texts.specs.Inner.PairFits.{PairFits}
 use Rattle.symbol_texts.proofs.PairLines.{pair-fits}
 use Rattle.symbol_texts.proofs.PairReadBack.{pair-read-back}
 use Rattle.cycle_texts.specs.Cut.{withoutRun, lastRun, overMost, judgedText}

@@ -22,8 +22,9 @@ use Rattle.call.specs.Inner.Fills.{Fills, madeIf}
 use Rattle.call.proofs.Apart.{refused-accepted}
 use Rattle.call.proofs.Answers.{both-pass}
 use Rattle.call.proofs.Answered.{run-made, run-refused, made-count}
-use Rattle.text.specs.Writing.{bytesPlaced}
-use Rattle.text.specs.Line.{refusalLine, Puts}
+use Rattle.decimal.specs.Writing.{bytesPlaced}
+use Rattle.text.specs.Line.{refusalLine}
+use Rattle.decimal.specs.Writing.{Puts}
 use Rattle.permutations.specs.Check.{pairCheck}
 use Rattle.permutations.proofs.Answering.{passport-of}
 use Rattle.cycle_writing.specs.Bytes.{exportOf}

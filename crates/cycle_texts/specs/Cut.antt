@@ -7,7 +7,6 @@
 --   judgedText longer t      the part of t that is judged: all of it where the input ends there (longer is false).
 --                            Where the input goes on: all of t where the run at its end says more than 3,066, and
 --                            else t without that run
--- Assumes nothing.
 use mathlib.Core.Bool.{Bool, true, false, _&&_}
 use mathlib.Core.List.{List, [], _∷_}
 use Prim.Native.Nat.{ℕ}

@@ -1,4 +1,4 @@
--- WHAT THE PROGRAM `cycles` WRITES, byte for byte. `longer`: the input goes on behind the text, which is the 65,536
+-- WHAT THE JOB `cycles` WRITES, byte for byte. `longer`: the input goes on behind the text, which is the 65,536
 -- bytes that fit into the buffer.
 --
 --   cyclesRead text           the answer of `read_cycles` in the program's own tables, which have room for every pair

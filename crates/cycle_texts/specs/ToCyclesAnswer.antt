@@ -1,12 +1,11 @@
--- WHAT THE PROGRAM `to_cycles` WRITES, byte for byte: the text is read as `import` reads it
+-- WHAT THE JOB `to-cycles` WRITES, byte for byte: the text is read as `import` reads it
 -- (symbol_texts/specs/ImportAnswer.antt, `requestOf`).
 --
 --   exportLineBy c bs       the bytes bs of an export and a line end where the checks accept the pair, or the refusal's
---                           number and place in a line
+--                           line
 --   exportLine s r          the line for the tables s and r
 --   exportLineFor a         the line for what is asked
---   toCyclesText longer text    the bytes for a text, or for one with more than the 65,536 bytes that fit into the
---                               buffer
+--   toCyclesText longer text    the bytes for a text
 --   ExportPrinted s r bytes     the bytes are the export of s and r and a line end, and reading that export returns the
 --                               tables
 --   ExportPrintMeans a bytes    that holds wherever the tables that are asked for are accepted

@@ -1,4 +1,4 @@
-// What the program `cycles` writes for a text: all of it, byte for byte, as specs/CyclesAnswer.antt says.
+// What the job `cycles` writes for a text: all of it, byte for byte, as specs/CyclesAnswer.antt says.
 use call::refusal::BAD_CYCLES;
 use call::refusal::Filled;
 use call::refusal::POINT_COUNT;
@@ -8,15 +8,12 @@ use cycle_reading::pieces::digits_at;
 use cycle_reading::read_cycles;
 use symbol_texts::pair_text::pair_lines;
 use text::TEXT_MOST;
-use text::input::Input;
-use text::input::text_end;
 use text::line::refusal_line;
 ghost use mathlib.Core.Path.{_≡_};
 ghost use Prim.Native.Nat.{_≤_};
-ghost use lib.ListN.{length, take};
-ghost use Rattle.text.specs.Input.{ForInput};
-ghost use Rattle.text.specs.Line.{Puts};
-ghost use Rattle.cycle_texts.specs.CyclesAnswer.{cyclesAnswer, cyclesText, CyclesPrinted};
+ghost use lib.ListN.{length};
+ghost use Rattle.decimal.specs.Writing.{Puts};
+ghost use Rattle.cycle_texts.specs.CyclesAnswer.{cyclesAnswer, cyclesText};
 ghost use Rattle.cycle_texts.specs.Inner.Ends.{RunBegins, JudgedTo, cutRefusal, cutAnswer, CyclesLeave};
 
 // Where the run of digits at the end of a text begins; at the end where it has none.
@@ -109,21 +106,13 @@ fn cycles_text(text: &[u8], longer: bool, s: &mut [u32], r: &mut [u32], out: &mu
     }
 }
 
-// What the program writes for an input, whose bytes stand at the front of the buffer, from the front of `out`; where
-// it ends: at 0, with nothing changed, where the input could not be read.
-pub fn answer(buffer: &[u8], input: Input, out: &mut [u8; 65536]) -> usize
-    ensures { λ e. ⌜ e ≤ length (now (out .exit)) ⌝ }
-    ensures { λ e. ⌜ ForInput (now (buffer .entry))
-        (λ longer text. Puts (cyclesText longer text) 0 e (now (out .entry)) (now (out .exit))
-        × CyclesPrinted text longer (take e (now (out .exit))))
-        ((e ≡ 0) × (now (out .exit) ≡ now (out .entry)))
-        input ⌝ }
+// What the program writes for a text, from the front of `out`, where `longer` says that the input goes on behind the
+// text; where it ends.
+pub fn answer(text: &[u8], longer: bool, out: &mut [u8]) -> usize
+    requires { ⌜ 65536 ≤ length (now out) ⌝ }
+    ensures { λ e. ⌜ Puts (cyclesText longer (now (text .entry))) 0 e (now (out .entry)) (now (out .exit)) ⌝ }
 {
-    let Input::Read(n, longer) = input else {
-        return 0;
-    };
-    let end = text_end(buffer, n);
     let mut s = [0u32; 3066];
     let mut r = [0u32; 3066];
-    cycles_text(&buffer[..end], longer, &mut s, &mut r, out)
+    cycles_text(text, longer, &mut s, &mut r, out)
 }

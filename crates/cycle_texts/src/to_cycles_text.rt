@@ -1,18 +1,14 @@
-// What the program `to_cycles` writes for a text: all of it, byte for byte, as specs/ToCyclesAnswer.antt says.
+// What the job `to-cycles` writes for a text: all of it, byte for byte, as specs/ToCyclesAnswer.antt says.
 use call::refusal::Filled;
 use cycle_writing::write_cycles;
+use decimal::put;
 use symbol_texts::import_text::read_tables;
-use text::input::Input;
-use text::input::text_end;
-use text::line::put;
 use text::line::refusal_line;
 ghost use mathlib.Core.Path.{_≡_};
 ghost use Prim.Native.Nat.{_≤_};
-ghost use lib.ListN.{length, take};
-ghost use Rattle.text.specs.Input.{ForInput};
-ghost use Rattle.text.specs.Line.{Puts};
-ghost use Rattle.symbol_texts.specs.ImportAnswer.{requestOf};
-ghost use Rattle.cycle_texts.specs.ToCyclesAnswer.{exportLine, toCyclesText, ExportPrintMeans};
+ghost use lib.ListN.{length};
+ghost use Rattle.decimal.specs.Writing.{Puts};
+ghost use Rattle.cycle_texts.specs.ToCyclesAnswer.{exportLine, toCyclesText};
 
 // The line for two tables: their export, or the refusal.
 fn export_line(s: &[u32], r: &[u32], out: &mut [u8]) -> usize
@@ -46,22 +42,14 @@ fn to_cycles_text(
     }
 }
 
-// What the program writes for an input, whose bytes stand at the front of the buffer, from the front of `out`; where
-// it ends: at 0, with nothing changed, where the input could not be read.
-pub fn answer(buffer: &[u8], input: Input, out: &mut [u8; 65537]) -> usize
-    ensures { λ e. ⌜ e ≤ length (now (out .exit)) ⌝ }
-    ensures { λ e. ⌜ ForInput (now (buffer .entry))
-        (λ longer text. Puts (toCyclesText longer text) 0 e (now (out .entry)) (now (out .exit))
-        × ExportPrintMeans (requestOf longer text) (take e (now (out .exit))))
-        ((e ≡ 0) × (now (out .exit) ≡ now (out .entry)))
-        input ⌝ }
+// What the program writes for a text, from the front of `out`, where `longer` says that the input goes on behind the
+// text; where it ends.
+pub fn answer(text: &[u8], longer: bool, out: &mut [u8]) -> usize
+    requires { ⌜ 65537 ≤ length (now out) ⌝ }
+    ensures { λ e. ⌜ Puts (toCyclesText longer (now (text .entry))) 0 e (now (out .entry)) (now (out .exit)) ⌝ }
 {
-    let Input::Read(n, longer) = input else {
-        return 0;
-    };
-    let end = text_end(buffer, n);
     let mut numbers = [0i64; 6133];
     let mut s = [0u32; 3066];
     let mut r = [0u32; 3066];
-    to_cycles_text(&buffer[..end], longer, &mut numbers, &mut s, &mut r, out)
+    to_cycles_text(text, longer, &mut numbers, &mut s, &mut r, out)
 }

@@ -25,8 +25,8 @@ use Rattle.permutations.specs.Check.{pairCheck, Passport}
 use Rattle.permutations.proofs.Accepted.{accepted as passes}
 use Rattle.permutations.proofs.Answering.{passport-of}
 use Rattle.permutations.proofs.Numbers.{pairs-among}
-use Rattle.text.specs.Writing.{bytesPlaced}
-use Rattle.text.specs.Line.{Puts}
+use Rattle.decimal.specs.Writing.{bytesPlaced}
+use Rattle.decimal.specs.Writing.{Puts}
 use Rattle.cycle_writing.specs.Bytes.{exportOf}
 use Rattle.cycle_writing.specs.Export.{Exported}
 use Rattle.cycle_writing.proofs.Theorem.{exported}

@@ -3,7 +3,7 @@ use mathlib.Core.Path.{_≡_, refl}
 use mathlib.Core.List.{List, [], _∷_}
 use Prim.Native.Nat.{ℕ}
 use Rattle.figures.specs.Cusps.{stepsTo, width, iterates, noneBelow}
-use Rattle.text.specs.Decimal.{digitsOnto, digits}
+use Rattle.decimal.specs.Decimal.{digitsOnto, digits}
 use Rattle.cycle_writing.specs.Cycles.{beginsCycle, cyclesBelow}
 use Rattle.cycle_writing.specs.Bytes.{behindCommas, cycleBytes, cyclesBytes, permutationBytes, exportOf}
 

@@ -17,8 +17,8 @@ use Rattle.numbering.specs.Find.{find, isIn, _∈_, _∉_, Once}
 use Rattle.numbering.specs.Table.{imageAt}
 use Rattle.numbering.proofs.Find.{in-all, once-none, once-last, once-append, once-below}
 use Rattle.figures.specs.Cusps.{cycle}
-use Rattle.text.specs.Decimal.{digits}
-use Rattle.text.proofs.Spacing.{digits-most}
+use Rattle.decimal.specs.Decimal.{digits}
+use Rattle.decimal.proofs.Decimals.{digits-most}
 use Rattle.cycle_notation.specs.Form.{pointsOf, Disjoint, all, next}
 use Rattle.cycle_notation.proofs.Points.{free-range}
 use Rattle.cycle_notation.proofs.Stores.{in-head, fresh}

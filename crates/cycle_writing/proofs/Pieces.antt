@@ -10,7 +10,7 @@ use Prim.Native.Nat.{ℕ, zero, suc, _+_, _-_, _*_, _/_, _%_, _≤_, _<_}
 use native.Mathlib.Decide.{decLt}
 use native.Mathlib.Omega.{arith}
 use borrow.Author.Tests.{lt-ltb, le-ltb, le-leb}
-use Rattle.text.specs.Decimal.{digitsOnto, digits}
+use Rattle.decimal.specs.Decimal.{digitsOnto, digits}
 use Rattle.cycle_notation.specs.Piece.{digitByte, CyclePiece, number, mark, runValue, PlacedPiece, numberBegun, cyclePiecesFrom, withoutOffsets}
 
 abbrev pub piecesOf : Bool → List ℕ → List CyclePiece

@@ -10,9 +10,9 @@ use Prim.Native.Nat.{ℕ, zero, suc, _+_, _≤_}
 use native.Mathlib.Decide.{ℕ-discrete}
 use native.Mathlib.Omega.{arith}
 use lib.ListN.{length}
-use Rattle.text.specs.Decimal.{digits}
-use Rattle.text.specs.Line.{Puts}
-use Rattle.text.proofs.Placing.{puts-as, puts-then}
+use Rattle.decimal.specs.Decimal.{digits}
+use Rattle.decimal.specs.Writing.{Puts}
+use Rattle.decimal.proofs.Placing.{puts-as, puts-then}
 use Rattle.cycle_writing.specs.Cycles.{cyclesOf}
 use Rattle.cycle_writing.specs.Bytes.{behindCommas, cycleBytes, permutationBytes, exportOf}
 use Rattle.cycle_writing.specs.Inner.Short.{bytesBelow}

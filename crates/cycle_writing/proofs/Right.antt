@@ -8,7 +8,7 @@ use mathlib.Core.Path.{_≡_, refl, sym, ap, subst, _∙_}
 use mathlib.Core.Bool.{Bool, true, false}
 use mathlib.Core.List.{List, [], _∷_, _++_, map, append-assoc, append-nil}
 use Prim.Native.Nat.{ℕ}
-use Rattle.text.specs.Decimal.{digits}
+use Rattle.decimal.specs.Decimal.{digits}
 use Rattle.cycle_notation.specs.Piece.{CyclePiece, number, blank, opening, closing, comma, semicolon, cyclePiecesFrom, withoutOffsets}
 use Rattle.cycle_notation.specs.Form.{Blanks, here, past, More, last, further, Cycles, end, gap, cycle, Written, cycles, identity, Reading}
 use Rattle.cycle_writing.specs.Bytes.{behindCommas, cycleBytes, cyclesBytes, permutationBytes}

@@ -20,7 +20,7 @@ use Rattle.basics.specs.Count.{those}
 use Rattle.basics.proofs.Choice.{pick-true, pick-false, clash}
 use Rattle.numbering.specs.Table.{imageAt}
 use Rattle.figures.specs.Cusps.{stepsTo, width, iterates, cycle, noneBelow}
-use Rattle.import_rule.specs.Fixed.{image}
+use Rattle.permutations.specs.Pair.{image}
 use Rattle.cycle_writing.specs.Cycles.{beginsCycle, pointsFromOne, cyclesBelow}
 use Rattle.cycle_writing.specs.Inner.Short.{ShortTable}
 

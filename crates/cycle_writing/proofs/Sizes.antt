@@ -19,11 +19,11 @@ use native.Mathlib.Omega.{arith}
 use lib.ListN.{length, length-append}
 use Rattle.basics.specs.Choice.{pick}
 use Rattle.basics.proofs.Choice.{pick-true, pick-false, either}
-use Rattle.text.specs.Decimal.{digits}
-use Rattle.text.proofs.Decimals.{last, inFront, digits-last, digits-more}
+use Rattle.decimal.specs.Decimal.{digits}
+use Rattle.decimal.proofs.Decimals.{last, inFront, digits-last, digits-more}
 use Rattle.numbering.specs.Table.{imageAt}
 use Rattle.figures.specs.Cusps.{cycle}
-use Rattle.import_rule.specs.Fixed.{image}
+use Rattle.permutations.specs.Pair.{image}
 use Rattle.cycle_writing.specs.Cycles.{beginsCycle, pointsFromOne, cyclesBelow, cyclesOf}
 use Rattle.cycle_writing.specs.Bytes.{behindCommas, cycleBytes, cyclesBytes, permutationBytes, exportOf}
 use Rattle.cycle_writing.specs.Inner.Short.{ShortTable, StartIn, bytesAt, bytesBelow}

@@ -14,7 +14,7 @@ use borrow.Author.Tests.{le-leb}
 use Rattle.basics.specs.Count.{those}
 use Rattle.numbering.specs.Table.{imageAt}
 use Rattle.figures.specs.Cusps.{stepsTo, width, iterates}
-use Rattle.import_rule.specs.Fixed.{image}
+use Rattle.permutations.specs.Pair.{image}
 use Rattle.permutations.specs.Check.{Passport}
 use Rattle.cycle_notation.specs.Piece.{cyclePieces, withoutOffsets}
 use Rattle.cycle_notation.specs.Form.{pointsOf, Disjoint, inRange, Reading, Right}

@@ -5,12 +5,12 @@
 --     cyclesBytes cs         cycles one after another
 --     permutationBytes cs    a permutation by its cycles: these, and `()` for the identity, which has none
 --     exportOf s r           the tables s and r: the index, one blank, S, a semicolon, R
--- Decimal forms have no zeros in front (`digits`, crate text).
--- Assumes nothing.
+-- Decimal forms have no zeros in front (`digits`, crate `decimal`).
 use mathlib.Core.List.{List, [], _∷_, _++_}
 use Prim.Native.Nat.{ℕ}
 use lib.ListN.{length}
-use Rattle.text.specs.Decimal.{digits}
+use Rattle.decimal.specs.Ascii.{ascii}
+use Rattle.decimal.specs.Decimal.{digits}
 use Rattle.cycle_writing.specs.Cycles.{cyclesOf}
 
 unfoldable pub behindCommas : List ℕ → List ℕ
@@ -18,7 +18,7 @@ behindCommas [] = []
 behindCommas (x ∷ xs) = 44 ∷ (digits x ++ behindCommas xs)
 
 unfoldable pub cycleBytes : List ℕ → List ℕ
-cycleBytes [] = 40 ∷ 41 ∷ []
+cycleBytes [] = ascii "()"
 cycleBytes (x ∷ xs) = 40 ∷ (digits x ++ (behindCommas xs ++ (41 ∷ [])))
 
 unfoldable pub cyclesBytes : List (List ℕ) → List ℕ

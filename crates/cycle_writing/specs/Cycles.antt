@@ -6,7 +6,6 @@
 --     cyclesBelow t k     the cycles of more than one point that begin below k, each from its smallest point, ordered
 --                         by it
 --     cyclesOf t          all of these
--- Assumes nothing.
 use mathlib.Core.Bool.{Bool, not, _&&_}
 use mathlib.Core.List.{List, map}
 use Prim.Native.Nat.{ℕ, suc}

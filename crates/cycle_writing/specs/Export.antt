@@ -6,7 +6,6 @@
 --                               most; it is a right text with their index and their cycles; these cycles make the
 --                               tables again; and this is what a reader says of it. So reading an export returns the
 --                               tables.
--- Assumes nothing.
 use mathlib.Core.Path.{_≡_}
 use mathlib.Core.List.{List, _++_}
 use Prim.Native.Nat.{ℕ, _≤_}

@@ -1,15 +1,15 @@
 // The bytes of an export, put into a lent slice one after another: each call says where its bytes end, and the next
 // ones start there.
 use crate::start::is_start;
-use import_rule::image;
-use text::Written;
-use text::line::put;
+use decimal::Written;
+use decimal::put;
+use permutations::image;
 ghost use mathlib.Core.Path.{_≡_};
 ghost use mathlib.Core.List.{[], _∷_, _++_};
 ghost use Prim.Native.Nat.{_+_, _≤_, _<_};
 ghost use lib.ListN.{length};
-ghost use Rattle.text.specs.Decimal.{digits};
-ghost use Rattle.text.specs.Line.{Puts};
+ghost use Rattle.decimal.specs.Decimal.{digits};
+ghost use Rattle.decimal.specs.Writing.{Puts};
 ghost use Rattle.cycle_writing.specs.Cycles.{cyclesOf};
 ghost use Rattle.cycle_writing.specs.Bytes.{cycleBytes, permutationBytes, exportOf};
 ghost use Rattle.cycle_writing.specs.Inner.Short.{ShortTable, StartIn, bytesAt, bytesBelow};
@@ -19,7 +19,7 @@ fn put_number(n: usize, out: &mut [u8], at: usize) -> usize
     requires { ⌜ at + length (digits n) ≤ length (now out) ⌝ }
     ensures { λ e. ⌜ Puts (digits n) at e (now (out .entry)) (now (out .exit)) ⌝ }
 {
-    let written = text::write_natural(n as u64, out, at);
+    let written = decimal::write_natural(n as u64, out, at);
     match written {
         Written::To(end) => end,
         Written::Refused(_) => at,

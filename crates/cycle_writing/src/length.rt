@@ -1,10 +1,10 @@
 // The length of an export, before it is written.
 use crate::start::is_start;
-use import_rule::image;
+use permutations::image;
 ghost use mathlib.Core.Path.{_≡_};
 ghost use Prim.Native.Nat.{_*_, _≤_, _<_};
 ghost use lib.ListN.{length};
-ghost use Rattle.text.specs.Decimal.{digits};
+ghost use Rattle.decimal.specs.Decimal.{digits};
 ghost use Rattle.cycle_writing.specs.Cycles.{cyclesOf};
 ghost use Rattle.cycle_writing.specs.Bytes.{permutationBytes, exportOf};
 ghost use Rattle.cycle_writing.specs.Inner.Short.{ShortTable, StartIn, bytesAt, bytesBelow};

@@ -1,5 +1,5 @@
 // Where a cycle begins.
-use import_rule::image;
+use permutations::image;
 ghost use mathlib.Core.Path.{_≡_};
 ghost use Prim.Native.Nat.{_<_};
 ghost use lib.ListN.{length};

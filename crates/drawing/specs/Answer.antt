@@ -1,6 +1,6 @@
 -- THE CALL `draw_symbol`: its refusals, what it returns and what it leaves (docs/CONVENTIONS.md, 14).
 --
---   drawnRow v t i            side i in four floats: a line gives 0, its place and 0, an arc 1, its centre and its
+--   rowFor, drawnRow v t i    side i in four floats: a line gives 0, its place and 0, an arc 1, its centre and its
 --                             radius; behind these the kind, 1 free, 2 even, 3 odd
 --   drawnRows v t n           those of the first n sides, one after another
 --   tooLargeAt t i            whether the entry i is over 33,554,432 in size

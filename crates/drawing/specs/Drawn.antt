@@ -5,7 +5,7 @@
 --   Drawn                     Line with its place, or Arc with its centre and its radius
 --   crossSum s                a d + c b
 --   twiceProduct s            2 b d
---   drawnOf s                 a line at the finite end, or the arc with centre (a d + c b) / (2 b d) and radius 1 / (2
+--   arcOf s, drawnOf s        a line at the finite end, or the arc with centre (a d + c b) / (2 b d) and radius 1 / (2
 --                             b d): each number is one float division
 --   placeNum s, placeDen s    numerator and denominator of the finite end of a line
 --   NearExact s r             every float of r is near the exact number that it stands for: the two differ by at most

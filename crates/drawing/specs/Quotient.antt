@@ -1,7 +1,7 @@
 -- FLOATS AS FRACTIONS: a finite float of 64 bits is a whole number over 1 or a power of two. The operations are those
 -- of IEEE 754's binary64, as the logic has them.
 --
---   numerator r        a finite float r is the fraction numerator r / den r; `den` is the logic's own
+--   signedBy, numerator r    a finite float r is the fraction numerator r / den r; `den` is the logic's own
 --   quotient x y       the float that one division gives for the whole numbers x and y, each carried over to a float
 --   floatOf n          the float that is n
 --   Exact x r          r is finite, and it is the whole number x: nothing was lost

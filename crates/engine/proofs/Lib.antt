@@ -1,4 +1,5 @@
 -- What the proofs of the exported functions share.
+pub mod Numbers
 pub mod Said
 pub mod Lent
 pub mod Drawn

@@ -18,7 +18,7 @@ use Rattle.call.specs.Refusal.{tooShort, checkedRefusal}
 use Rattle.call.specs.declared.refusal.Checked.{Checked}
 use Rattle.call.specs.declared.refusal.Checked.the-variants.{Accepted, Refused}
 use Rattle.call.specs.Call.{verdict, ifAccepted, Leaves, Contract, numberOf, placeOf, Call}
-use Rattle.call.proofs.Laws.{call}
+use Rattle.call.proofs.Laws.{Numbered, call}
 use Rattle.call.specs.declared.refusal.Refusal.{Refusal}
 use Rattle.import_rule.specs.Order.{Order}
 use Rattle.named_groups.specs.Answer.{namedRule, ruledWord, ruledSign}
@@ -126,11 +126,11 @@ module _ (start n : ℕ) (sign : Bool) where
   number-if c = same-number (sym (refusal-if start n sign c))
 
 -- the exported call, from the answer of the query beneath it
-pub call-word : (p : Contract) (start : ℕ) (sign : Bool) → p .Says (numberOf p) (placeOf p) → Leaves (p .steps) → {r : Queried}
+pub call-word : (p : Contract) → Numbered (p .steps) → (start : ℕ) (sign : Bool) → p .Says (numberOf p) (placeOf p) → Leaves (p .steps) → {r : Queried}
     → r ≡ wordIf start (p .count) sign (verdict (p .steps)) → {number place : ℕ} → number ≡ queryRefusal r .number → place ≡ queryPlace r → Call p number place
-call-word p start sign says l {r} e n k =
+call-word p numbered start sign says l {r} e n k =
     let c = verdict (p .steps) in
-    call p says l (n ∙ ap (λ (x : Queried). queryRefusal x .number) e ∙ sym (number-if start (p .count) sign c))
+    call p numbered says l (n ∙ ap (λ (x : Queried). queryRefusal x .number) e ∙ sym (number-if start (p .count) sign c))
     (k ∙ ap queryPlace e ∙ place-if start (p .count) sign c)
 
 -- the sign, by the answer

@@ -1,14 +1,8 @@
 -- CYCLE NOTATION BY WHAT THE EXPORTED CALLS RETURN AND WRITE.
 --
---   ReadPair t s r n          the text t is right, its tables are a pair of permutations as wanted, and they are the
---                             first n numbers of s and of r
---   CyclesSay t s r n place   what the number n and the place of `farey_read_cycles` say, where s and r have been left
---                             in the result spaces: 0, that there is such a pair, and the place is its number of
---                             points; 12, that the number written at the front is no index; 27, that the text leaves
---                             the form at the place
 --   MeansInSpaces t s r n place   what number and place mean by the grammar alone (cycle_reading, `ReadCyclesMean`),
 --                             for the lent result spaces s and r
---   readCyclesCall t s r      `farey_read_cycles`: number and place mean this, and say what `CyclesSay` has
+--   readCyclesCall t s r      `farey_read_cycles`: number and place mean this
 --   OneAnswer                 [means-only] what number and place mean, by the grammar alone, allows one number and one
 --                             place for each text; proofs/CycleCalls.antt has the proof
 --   ExportReadBack s r t      READING AN EXPORT RETURNS THE TABLES: the text t is read as the tables s and r, wherever
@@ -21,24 +15,9 @@ use Prim.Native.Nat.{ℕ, _≤_}
 use lib.ListN.{length, take}
 use Rattle.call.specs.Call.{Lent, verdict, Contract, numberOf, placeOf}
 use Rattle.call.specs.declared.refusal.Checked.the-variants.{Accepted}
-use Rattle.cycle_notation.specs.Piece.{cyclePieces, withoutOffsets}
-use Rattle.cycle_notation.specs.Place.{WrongAt}
-use Rattle.cycle_notation.specs.Verdict.{Read, IndexOut}
-use Rattle.cycle_reading.specs.Reading.{tableOfS, tableOfR, readS, readR, readSteps, GoodPair, ReadCyclesMean}
+use Rattle.cycle_reading.specs.Reading.{readS, readR, readSteps, ReadCyclesMean}
 use Rattle.cycle_writing.specs.Bytes.{exportOf}
 use Rattle.cycle_writing.specs.Export.{exportSteps, Exported}
-
-pub record ReadPair (t s r : List ℕ) (n : ℕ) : Type 0 where
-  pub reading : Read
-  pub good : GoodPair t reading
-  pub points : n ≡ reading .index
-  pub S-is : take n s ≡ tableOfS reading
-  pub R-is : take n r ≡ tableOfR reading
-
-pub record CyclesSay (t s r : List ℕ) (number place : ℕ) : Type 0 where
-  pub pair : number ≡ 0 → ReadPair t s r place
-  pub no-index : number ≡ 12 → IndexOut (withoutOffsets (cyclePieces t))
-  pub wrong : number ≡ 27 → WrongAt t place
 
 abbrev pub MeansInSpaces : List ℕ → (s r : Lent (List ℕ)) → (number place : ℕ) → Type 0
 MeansInSpaces t s r number place =
@@ -48,7 +27,7 @@ abbrev pub readCyclesCall : List ℕ → (s r : Lent (List ℕ)) → Contract
 readCyclesCall t s r = record {
   steps = readSteps t s r;
   count = length (readS t);
-  Says = λ number place. MeansInSpaces t s r number place × CyclesSay t (s .exit .now) (r .exit .now) number place;
+  Says = MeansInSpaces t s r;
 }
 
 abbrev pub OneAnswer : Type 0

@@ -2,7 +2,7 @@
 use crate::answers::of_filled;
 ghost use Rattle.call.specs.Call.{Call};
 ghost use Rattle.import_rule.specs.Order.{leftmost, longestOpen};
-ghost use Rattle.permutations.specs.Import.{importCall, importLengthCall};
+ghost use Rattle.import_call.specs.Import.{importCall, importLengthCall};
 
 // The symbol of the matrices that fix point 0, from the tables of S and R, from the front of out.
 #[no_mangle]
@@ -15,7 +15,7 @@ pub extern "C" fn farey_import(
 ) -> u64
     ensures { λ n. ⌜ Call (importCall leftmost (now (s .entry)) (now (r .entry)) w out) n (now (place .exit)) ⌝ }
 {
-    let said = of_filled(permutations::import(s, r, w, out));
+    let said = of_filled(import_call::import(s, r, w, out));
     *place = said.place;
     said.number
 }
@@ -31,7 +31,7 @@ pub extern "C" fn farey_import_wide(
 ) -> u64
     ensures { λ n. ⌜ Call (importCall longestOpen (now (s .entry)) (now (r .entry)) w out) n (now (place .exit)) ⌝ }
 {
-    let said = of_filled(permutations::import_wide(s, r, w, out));
+    let said = of_filled(import_call::import_wide(s, r, w, out));
     *place = said.place;
     said.number
 }
@@ -41,7 +41,7 @@ pub extern "C" fn farey_import_wide(
 pub extern "C" fn farey_import_length(s: &[u32], r: &[u32], place: &mut usize) -> u64
     ensures { λ n. ⌜ Call (importLengthCall (now (s .entry)) (now (r .entry))) n (now (place .exit)) ⌝ }
 {
-    let said = of_filled(permutations::import_length(s, r));
+    let said = of_filled(import_call::import_length(s, r));
     *place = said.place;
     said.number
 }

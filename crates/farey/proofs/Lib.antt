@@ -1,2 +1,3 @@
 -- Laws of the program `farey` that belong to no one function.
 pub mod Names
+pub mod Meanings

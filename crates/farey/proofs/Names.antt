@@ -14,7 +14,8 @@ use lib.ListN.{length, getD}
 use lib.Seq.{ext-getD}
 use lib.Dec.{eqb}
 use borrow.Author.Count.{below-none, below-more}
-use Rattle.farey.specs.Jobs.{nameOf, FindsJob, Says}
+use Rattle.farey.specs.Jobs.{nameOf, FindsJob}
+use Rattle.farey.specs.Inner.Says.{Says}
 use Rattle.farey.specs.declared.Job.{Job}
 use Rattle.farey.specs.declared.Job.the-variants as job
 use Rattle.farey.specs.declared.Found.{Found}

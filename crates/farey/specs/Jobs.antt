@@ -1,41 +1,67 @@
--- The jobs of the program `farey` by their names.
+-- THE JOBS OF THE PROGRAM `farey`: their names, and what each writes.
 --
---   bytes t               the bytes of a text in quotes, one for each of its characters, which are all of ASCII here
---   nameOf job            the name of a job
---   FindsJob name found   the job that has this name, or that none has it
---   Says b P              b is true where P holds, and false where it doesn't
--- No two jobs have one name (`one-job` in proofs/Names.antt). Assumes nothing.
+--   nameOf job                   the name of a job
+--   FindsJob name found          the job that has this name, or that none has it
+--   bytesOf job longer t         the bytes for a text t, where `longer` says whether the input goes on behind it
+--   MeansOf job longer t bytes   what they mean
+-- No two jobs have one name (`one-job` in proofs/Names.antt).
 use Prim.Native.Nat.{ℕ}
-use Prim.Native.Char.{code}
-use Prim.Native.String.{String, [] as end, _∷_ as _then_}
 use mathlib.Core.Path.{_≡_}
-use mathlib.Core.Bool.{Bool, true, false}
-use mathlib.Core.List.{List, [], _∷_}
+use mathlib.Core.Bool.{Bool}
+use mathlib.Core.List.{List}
+use Rattle.decimal.specs.Ascii.{ascii}
+use Rattle.import_rule.specs.Order.{leftmost, longestOpen}
+use Rattle.query_text.specs.Printed.{sheetBytes, SheetPrintMeans}
+use Rattle.symbol_texts.specs.ImportAnswer.{requestOf, importedBy}
+use Rattle.symbol_texts.specs.ReadBack.{PrintMeans}
+use Rattle.symbol_texts.specs.NamedAnswer.{groupRequest, namedBytes, NamedPrintMeans}
+use Rattle.symbol_texts.specs.ExchangeAnswer.{exchangedText, ExchangePrintMeans}
+use Rattle.subgroup_texts.specs.SameAnswer.{sameBytes, SamePrintMeans}
+use Rattle.subgroup_texts.specs.IntersectionAnswer.{intersectionBytes, IntersectionPrintMeans}
+use Rattle.subgroup_texts.specs.TowerAnswer.{towerBytes, TowerPrintMeans}
+use Rattle.cycle_texts.specs.CyclesAnswer.{cyclesText, CyclesPrinted}
+use Rattle.cycle_texts.specs.ToCyclesAnswer.{toCyclesText, ExportPrintMeans}
 use Rattle.farey.specs.declared.Job.{Job}
 use Rattle.farey.specs.declared.Job.the-variants as job
 use Rattle.farey.specs.declared.Found.{Found}
 use Rattle.farey.specs.declared.Found.the-variants as found
 
-abbrev pub bytes : String → List ℕ
-bytes end = []
-bytes (c then t) = code c ∷ bytes t
-
 abbrev pub nameOf : Job → List ℕ
-nameOf job.Sheet = bytes "sheet"
-nameOf job.Import = bytes "import"
-nameOf job.ImportWide = bytes "import-wide"
-nameOf job.Named = bytes "named"
-nameOf job.Same = bytes "same"
-nameOf job.Exchange = bytes "exchange"
-nameOf job.Intersection = bytes "intersection"
-nameOf job.Tower = bytes "tower"
-nameOf job.Cycles = bytes "cycles"
-nameOf job.ToCycles = bytes "to-cycles"
+nameOf job.Sheet = ascii "sheet"
+nameOf job.Import = ascii "import"
+nameOf job.ImportWide = ascii "import-wide"
+nameOf job.Named = ascii "named"
+nameOf job.Same = ascii "same"
+nameOf job.Exchange = ascii "exchange"
+nameOf job.Intersection = ascii "intersection"
+nameOf job.Tower = ascii "tower"
+nameOf job.Cycles = ascii "cycles"
+nameOf job.ToCycles = ascii "to-cycles"
 
 abbrev pub FindsJob : List ℕ → Found → Type 0
 FindsJob name (found.Job j) = name ≡ nameOf j
 FindsJob name found.Nothing = (j : Job) → name ≡ nameOf j → ⊥
 
-abbrev pub Says : Bool → Type 0 → Type 0
-Says true P = P
-Says false P = P → ⊥
+abbrev pub bytesOf : Job → (longer : Bool) (t : List ℕ) → List ℕ
+bytesOf job.Sheet longer t = sheetBytes longer t
+bytesOf job.Import longer t = importedBy leftmost longer t
+bytesOf job.ImportWide longer t = importedBy longestOpen longer t
+bytesOf job.Named longer t = namedBytes longer t
+bytesOf job.Same longer t = sameBytes longer t
+bytesOf job.Exchange longer t = exchangedText longer t
+bytesOf job.Intersection longer t = intersectionBytes longer t
+bytesOf job.Tower longer t = towerBytes longer t
+bytesOf job.Cycles longer t = cyclesText longer t
+bytesOf job.ToCycles longer t = toCyclesText longer t
+
+abbrev pub MeansOf : Job → (longer : Bool) (t bytes : List ℕ) → Type 0
+MeansOf job.Sheet longer t bytes = SheetPrintMeans longer t bytes
+MeansOf job.Import longer t bytes = PrintMeans leftmost (requestOf longer t) bytes
+MeansOf job.ImportWide longer t bytes = PrintMeans longestOpen (requestOf longer t) bytes
+MeansOf job.Named longer t bytes = NamedPrintMeans (groupRequest longer t) bytes
+MeansOf job.Same longer t bytes = SamePrintMeans longer t bytes
+MeansOf job.Exchange longer t bytes = ExchangePrintMeans longer t bytes
+MeansOf job.Intersection longer t bytes = IntersectionPrintMeans longer t bytes
+MeansOf job.Tower longer t bytes = TowerPrintMeans longer t bytes
+MeansOf job.Cycles longer t bytes = CyclesPrinted t longer bytes
+MeansOf job.ToCycles longer t bytes = ExportPrintMeans (requestOf longer t) bytes

@@ -1,108 +1,41 @@
-// The jobs of the program: each asks a text's crate for its answer and writes that. They have no contract of their own:
-// what is made is in that of `answer`, or `print`, which each of them calls, and no contract can say what is written.
+// What each job answers to what was read: the crates of the texts make it, and no other job's is taken.
+use crate::Job;
+use text::input::Input;
+use text::input::text_end;
 ghost use Prim.Native.Nat.{_≤_};
 ghost use lib.ListN.{length};
-use text::input::Input;
+ghost use Rattle.text.specs.Input.{AnswersInput};
+ghost use Rattle.decimal.specs.Writing.{Puts};
+ghost use Rattle.farey.specs.Jobs.{bytesOf, MeansOf};
 
-// One line for each pair of matrices.
-pub fn sheet(text: &[u8], input: Input) {
-    let mut out = [0u8; 131072];
-    let end = query_text::sheet_text::print(text, input, &mut out);
-    write_sheet(&out, end);
-}
-
-// The symbol of a permutation pair, by the leftmost rule.
-pub fn import(text: &[u8], input: Input) {
-    let mut out = [0u8; 65536];
-    let end = symbol_texts::import_text::answer(text, input, &mut out);
-    write_text(&out, end);
-}
-
-// The same by the wide rule.
-pub fn import_wide(text: &[u8], input: Input) {
-    let mut out = [0u8; 65536];
-    let end = symbol_texts::import_text::answer_wide(text, input, &mut out);
-    write_text(&out, end);
-}
-
-// A symbol of a congruence group, by its family and N.
-pub fn named(text: &[u8], input: Input) {
-    let mut out = [0u8; 65536];
-    let end = symbol_texts::named_text::answer(text, input, &mut out);
-    write_text(&out, end);
-}
-
-// Whether two symbols generate the same subgroup.
-pub fn same(text: &[u8], input: Input) {
-    let mut out = [0u8; 64];
-    let end = subgroup_texts::same_text::answer(text, input, &mut out);
-    write_line(&out, end);
-}
-
-// The symbol in which two free labels have exchanged partners.
-pub fn exchange(text: &[u8], input: Input) {
-    let mut out = [0u8; 65536];
-    let end = symbol_texts::exchange_text::answer(text, input, &mut out);
-    write_text(&out, end);
-}
-
-// The tables of S and R of the intersection of two subgroups.
-pub fn intersection(text: &[u8], input: Input) {
-    let mut out = [0u8; 65536];
-    let end = subgroup_texts::intersection_text::answer(text, input, &mut out);
-    write_text(&out, end);
-}
-
-// Whether each symbol of a tower is contained in the one that it names.
-pub fn tower(text: &[u8], input: Input) {
-    let mut out = [0u8; 64];
-    let end = subgroup_texts::tower_text::answer(text, input, &mut out);
-    write_line(&out, end);
-}
-
-// The tables of S and R, of a permutation pair in cycle notation.
-pub fn cycles(text: &[u8], input: Input) {
-    let mut out = [0u8; 65536];
-    let end = cycle_texts::cycles_text::answer(text, input, &mut out);
-    write_text(&out, end);
-}
-
-// The pair in cycle notation, of the tables of S and R.
-pub fn to_cycles(text: &[u8], input: Input) {
-    let mut out = [0u8; 65537];
-    let end = cycle_texts::to_cycles_text::answer(text, input, &mut out);
-    write_notation(&out, end);
-}
-
-// Writes the first bytes of an answer to standard output, as many as `end` says. A reference to an array of a known
-// length asks its caller for no proof of that length; so there is a function for each length that the texts' crates
-// ask for.
-fn write_line(out: &[u8; 64], end: usize)
-    requires { ⌜ end ≤ length (now out) ⌝ }
+// What the job writes for an input, whose bytes stand at the front of the buffer, from the front of `out`; where it
+// ends: at 0, with nothing changed, where the input could not be read.
+pub fn answer(job: Job, buffer: &[u8], input: Input, out: &mut [u8; 131072]) -> usize
+    ensures { λ e. ⌜ AnswersInput (bytesOf job) (MeansOf job) (now (buffer .entry)) e (now (out .entry))
+        (now (out .exit)) input ⌝ }
 {
-    write(out, end);
+    let Input::Read(n, longer) = input else {
+        return 0;
+    };
+    let end = text_end(buffer, n);
+    answer_text(job, &buffer[..end], longer, out)
 }
 
-fn write_text(out: &[u8; 65536], end: usize)
-    requires { ⌜ end ≤ length (now out) ⌝ }
+// The same for a text, where `longer` says that the input goes on behind it.
+fn answer_text(job: Job, text: &[u8], longer: bool, out: &mut [u8]) -> usize
+    requires { ⌜ 131072 ≤ length (now out) ⌝ }
+    ensures { λ e. ⌜ Puts (bytesOf job longer (now (text .entry))) 0 e (now (out .entry)) (now (out .exit)) ⌝ }
 {
-    write(out, end);
-}
-
-fn write_notation(out: &[u8; 65537], end: usize)
-    requires { ⌜ end ≤ length (now out) ⌝ }
-{
-    write(out, end);
-}
-
-fn write_sheet(out: &[u8; 131072], end: usize)
-    requires { ⌜ end ≤ length (now out) ⌝ }
-{
-    write(out, end);
-}
-
-fn write(out: &[u8], end: usize)
-    requires { ⌜ end ≤ length (now out) ⌝ }
-{
-    stdio::write_whole(&out[..end]);
+    match job {
+        Job::Sheet => query_text::sheet_text::answer(text, longer, out),
+        Job::Import => symbol_texts::import_text::answer(text, longer, false, out),
+        Job::ImportWide => symbol_texts::import_text::answer(text, longer, true, out),
+        Job::Named => symbol_texts::named_text::answer(text, longer, out),
+        Job::Same => subgroup_texts::same_text::answer(text, longer, out),
+        Job::Exchange => symbol_texts::exchange_text::answer(text, longer, out),
+        Job::Intersection => subgroup_texts::intersection_text::answer(text, longer, out),
+        Job::Tower => subgroup_texts::tower_text::answer(text, longer, out),
+        Job::Cycles => cycle_texts::cycles_text::answer(text, longer, out),
+        Job::ToCycles => cycle_texts::to_cycles_text::answer(text, longer, out),
+    }
 }

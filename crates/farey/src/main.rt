@@ -2,14 +2,15 @@
 // what the job answers, or the number and the place of a refusal (docs/CONVENTIONS.md, 10.7 to 10.15). The script
 // ./farey calls it.
 //
-// The crates of the texts make all that is written (`jobs`); `stdio` reads and writes. Where standard input can't be
-// read to its end, or the argument names no job, nothing is written to standard output, and one line to standard error.
+// `jobs` makes all that is written; `stdio` reads and writes. Where standard input can't be read to its end, or the
+// argument names no job, nothing is written to standard output, and one line to standard error.
 mod jobs;
 
 ghost use mathlib.Core.Path.{_≡_};
-ghost use Rattle.farey.specs.Jobs.{Says, FindsJob};
+ghost use Rattle.farey.specs.Jobs.{FindsJob};
+ghost use Rattle.farey.specs.Inner.Says.{Says};
+use jobs::answer;
 use libc::STDERR_FILENO;
-use text::input::Input;
 
 // What the program can be asked for.
 enum Job {
@@ -47,7 +48,9 @@ fn main() {
     };
     let mut text = [0u8; 65536];
     let input = stdio::read_whole(&mut text);
-    run(job, &text, input);
+    let mut out = [0u8; 131072];
+    let end = answer(job, &text, input, &mut out);
+    stdio::write_whole(&out[..end]);
 }
 
 // The job that has this name.
@@ -102,22 +105,6 @@ fn is(one: &[u8], other: &[u8]) -> bool
         i += 1;
     }
     true
-}
-
-// Does the job over what was read.
-fn run(job: Job, text: &[u8], input: Input) {
-    match job {
-        Job::Sheet => jobs::sheet(text, input),
-        Job::Import => jobs::import(text, input),
-        Job::ImportWide => jobs::import_wide(text, input),
-        Job::Named => jobs::named(text, input),
-        Job::Same => jobs::same(text, input),
-        Job::Exchange => jobs::exchange(text, input),
-        Job::Intersection => jobs::intersection(text, input),
-        Job::Tower => jobs::tower(text, input),
-        Job::Cycles => jobs::cycles(text, input),
-        Job::ToCycles => jobs::to_cycles(text, input),
-    }
 }
 
 // Tells, in one line, what the argument may be.

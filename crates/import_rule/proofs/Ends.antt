@@ -21,7 +21,8 @@ use Rattle.import_rule.specs.Order.{Order, this, chosenBy}
 use Rattle.import_rule.specs.Rule.{Row, cameAfter, rounds, startRows, startCame}
 use Rattle.import_rule.specs.Inner.Placed.{Placed, pts, Grew, refused, lowerAt, upperAt, opensAt, goOn, growBy, startPlaced}
 use Rattle.import_rule.proofs.Lead.{Turning, turning}
-use Rattle.import_rule.proofs.Kept.{Inv, step, triangles}
+use Rattle.import_rule.proofs.Corners.{triangles}
+use Rattle.import_rule.proofs.Kept.{Inv, step}
 use Rattle.import_rule.proofs.Sides.{opened}
 use Rattle.import_rule.proofs.Rounds.{ruled, fit-start, rounds-are}
 use Rattle.import_rule.proofs.Theorem.{secondTest, second-test, start-rows, Started, started}

@@ -21,7 +21,8 @@ use Rattle.import_rule.specs.Inner.Placed.{Placed, pts, finished, refuse
 use Rattle.import_rule.proofs.Member.{in-right}
 use Rattle.import_rule.proofs.Lead.{Turning}
 use Rattle.import_rule.proofs.Split.{Closed}
-use Rattle.import_rule.proofs.Kept.{Inv, step, triangles}
+use Rattle.import_rule.proofs.Corners.{triangles}
+use Rattle.import_rule.proofs.Kept.{Inv, step}
 use Rattle.import_rule.proofs.Start.{Kept, keep}
 use Rattle.import_rule.proofs.Order.{came-long, cut-by}
 

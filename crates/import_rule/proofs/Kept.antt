@@ -1,45 +1,35 @@
 -- What every split keeps.
 --
---   Tops C        each side that was split brought three new points below n: its own, which κ moves, was no earlier corner's
 --   Inv C l       what holds of the sides l when the sides C were split
 --   Ends P l      the sides l are all closed, Inv holds, and so does whatever else each split keeps
 --
--- In order: corners, turned and compared (`corner-spin`, `corner-free`, `corner-one`); at most n/3 triangles (`triangles`); a split keeps
--- Inv (`step`); what growing ends with (`Ends`).
+-- In order: a split keeps Inv (`step`); what growing ends with (`Ends`). The corners are in proofs/Corners.antt.
 --
 -- Why: if a side's point is some corner's, then the point beyond it is a side's, so that the side is closed. So an open side's point is no
 -- corner's, nor are the two points turned from it.
 -- Assumes nothing.
 use mathlib.Core.Path.{_≡_, refl, sym, _∙_, ap}
 use mathlib.Core.Logic.{_⊎_, inl, inr}
-use mathlib.Core.Bool.{Bool, true, false}
-use mathlib.Core.List.{List, [], _∷_, _++_}
-use Prim.Native.Nat.{ℕ, zero, suc, _+_, _*_, _-_, _<_, _≤_}
+use mathlib.Core.List.{List, _∷_, _++_}
+use Prim.Native.Nat.{ℕ, _<_}
 use native.Mathlib.Omega.{arith}
 use native.Mathlib.Decide.{ℕ-discrete}
-use lib.ListN.{length}
-use lib.IntN.{ℤ, pos}
-use Rattle.matrix.specs.Matrix.{Mat, mat, _⊗_, 𝟙, neg, adj, det, matS, matQ, matP, _≈_}
+use lib.IntN.{pos}
+use Rattle.matrix.specs.Matrix.{Mat, _⊗_, 𝟙, det, matS, matQ, matP, _≈_}
 use Rattle.matrix.specs.Words as word
-use Rattle.basics.specs.Choice.{pick}
-use Rattle.matrix.proofs.Matrix.{⊗-assoc, ⊗-idl, ⊗-idr, Q-Q, P-Q, ≈-sym, _∙≈_, ≈-left, ≈-right}
-use Rattle.import_rule.specs.Side.{mediant, fits}
+use Rattle.matrix.proofs.Matrix.{≈-sym, _∙≈_, ≈-right}
 use Rattle.import_rule.specs.Inner.Placed.{Placed, pts, lowerAt, upperAt}
-use Rattle.import_rule.proofs.Member.{In, in-left, in-right, Apart, at-most}
-use Rattle.import_rule.proofs.Lead.{S-twice, Turning, Leads, leads-one, leads-≈, leads-step}
-use Rattle.import_rule.proofs.Split.{framed, Closed, AllClosed, lower-S, upper-S, lower-det, upper-det, in-pts, Pt, pt-of, of-pt, same-side}
+use Rattle.import_rule.proofs.Member.{In, in-right, Apart}
+use Rattle.import_rule.proofs.Lead.{S-twice, Turning, Leads, leads-≈, leads-step}
+use Rattle.import_rule.proofs.Split.{framed, Closed, AllClosed, lower-S, upper-S, lower-det, upper-det, in-pts, pt-of, of-pt, same-side}
 use Rattle.import_rule.proofs.Split.{split-keep, split-from, beside-in, beside-other, Beside, split-apart, Turn, t0, t1, t2, turnM, turnX, Corner, Edge}
+use Rattle.import_rule.proofs.Corners.{Tops, corner-more, corner-pt, corner-≈, corner-new, none-turned, turn-one}
 
 module _ (σ κ : ℕ → ℕ) (n : ℕ) where
-  -- each triangle brings three new points below n
-  abbrev pub Tops : List Placed → Type 0
-  Tops [] = Unit {0}
-  Tops (t ∷ C) = ¬ (κ (t .pt) ≡ t .pt) × (t .pt < n) × ((m : Mat) → Corner σ κ C m (t .pt) → ⊥) × Tops C
-
   -- C the sides that were split, ss those that are there
   pub record Inv (C ss : List Placed) : Type 0 where
     pub apart : Apart (pts ss)
-    pub tops : Tops C
+    pub tops : Tops σ κ n C
     pub under : (u : Placed) → In u ss → Corner σ κ C (framed u ⊗ matS) (σ (u .pt))
     pub beyond : (m : Mat) (x : ℕ) → Corner σ κ C m x → Corner σ κ C (m ⊗ matS) (σ x) ⊎ Edge ss (m ⊗ matS) (σ x)
     pub meets : (u : Placed) (m : Mat) → In u ss → Corner σ κ C m (u .pt) → In (σ (u .pt)) (pts ss)
@@ -50,156 +40,6 @@ module _ (σ κ : ℕ → ℕ) (n : ℕ) where
     pub grown : (t : Placed) → In t C → Leads σ κ (framed t) (t .pt)
 
   module _ (T : Turning σ κ n) where
-    -- ---- corners
-    spinM : (c : Turn) (m : Mat) → Turn
-    spinM t0 m = t1
-    spinM t1 m = t2
-    spinM t2 m = t0
-
-    pub corner-spin : {C : List Placed} {m : Mat} {x : ℕ} → Corner σ κ C m x → Corner σ κ C (m ⊗ matQ) (κ x)
-    corner-spin {C} {m} {x} k = go (k .turn) (k .frame) (k .pt)
-      where
-        f : Mat
-        f = framed (k .tri)
-
-        go : (c : Turn) → m ≈ turnM c (framed (k .tri)) → x ≡ turnX σ κ c (k .tri .pt) → Corner σ κ C (m ⊗ matQ) (κ x)
-        go t0 e p = record { tri = k .tri; among = k .among; turn = t1; frame = ≈-right matQ e; pt = ap κ p }
-        go t1 e p = record {
-          tri = k .tri;
-          among = k .among;
-          turn = t2;
-          frame =
-              ≈-right matQ e ∙≈ inl (⊗-assoc (framed (k .tri)) matQ matQ ∙ ap (λ (y : Mat). framed (k .tri) ⊗ y) Q-Q);
-          pt = ap κ p;
-        }
-        go t2 e p = record {
-          tri = k .tri;
-          among = k .among;
-          turn = t0;
-          frame =
-              ≈-right matQ e ∙≈ inl (⊗-assoc (framed (k .tri)) matP matQ ∙ ap (λ (y : Mat). framed (k .tri) ⊗ y) P-Q ∙ ⊗-idr (framed (k .tri)));
-          pt = ap κ p
-              ∙ T .thrice (k .tri .pt);
-        }
-
-    pub corner-pt : {C : List Placed} {m : Mat} {x y : ℕ} → x ≡ y → Corner σ κ C m x → Corner σ κ C m y
-    corner-pt e k = record { tri = k .tri; among = k .among; turn = k .turn; frame = k .frame; pt = sym e ∙ k .pt }
-
-    pub corner-≈ : {C : List Placed} {m l : Mat} {x : ℕ} → l ≈ m → Corner σ κ C m x → Corner σ κ C l x
-    corner-≈ e k = record { tri = k .tri; among = k .among; turn = k .turn; frame = e ∙≈ k .frame; pt = k .pt }
-
-    corner-more : {C : List Placed} {m : Mat} {x : ℕ} (t : Placed) → Corner σ κ C m x → Corner σ κ (t ∷ C) m x
-    corner-more t k = record { tri = k .tri; among = inr (k .among); turn = k .turn; frame = k .frame; pt = k .pt }
-
-    pub corner-new : (C : List Placed) (t : Placed) (c : Turn) → Corner σ κ (t ∷ C) (turnM c (framed t)) (turnX σ κ c (t .pt))
-    corner-new C t c = record { tri = t; among = inl refl; turn = c; frame = inl refl; pt = refl }
-
-    -- where a turned point is a corner's, so is the point
-    none-turned : (C : List Placed) (y : ℕ) → ((m : Mat) → Corner σ κ C m y → ⊥) → (c : Turn) (m : Mat) → Corner σ κ C m (turnX σ κ c y) → ⊥
-    none-turned C y n t0 m k = n m k
-    none-turned C y n t1 m k = n _ (corner-pt (T .thrice y) (corner-spin (corner-spin k)))
-    none-turned C y n t2 m k = n _ (corner-pt (T .thrice y) (corner-spin k))
-
-    -- in a triangle whose point is not fixed the three points differ
-    pub turn-one : (y : ℕ) → ¬ (κ y ≡ y) → (c d : Turn) → turnX σ κ c y ≡ turnX σ κ d y → c ≡ d
-    turn-one y n t0 t0 e = refl
-    turn-one y n t0 t1 e = absurd (n (sym e))
-    turn-one y n t0 t2 e = absurd (n (ap κ e ∙ T .thrice y))
-    turn-one y n t1 t0 e = absurd (n e)
-    turn-one y n t1 t1 e = refl
-    turn-one y n t1 t2 e = absurd (n (sym (ap κ (T .thrice y)) ∙ sym (ap κ (ap κ e)) ∙ T .thrice y))
-    turn-one y n t2 t0 e = absurd (n (ap κ (sym e) ∙ T .thrice y))
-    turn-one y n t2 t1 e = absurd (n (sym (ap κ (T .thrice y)) ∙ ap κ (ap κ e) ∙ T .thrice y))
-    turn-one y n t2 t2 e = refl
-
-    turned-free : (y : ℕ) → ¬ (κ y ≡ y) → (c : Turn) → ¬ (κ (turnX σ κ c y) ≡ turnX σ κ c y)
-    turned-free y n t0 e = n e
-    turned-free y n t1 e = n (sym (T .thrice (κ y)) ∙ ap κ (ap κ e) ∙ T .thrice y)
-    turned-free y n t2 e = n (ap κ (sym (T .thrice y) ∙ e) ∙ T .thrice y)
-
-    top-free : (C : List Placed) (t : Placed) → Tops C → In t C → ¬ (κ (t .pt) ≡ t .pt)
-    top-free [] t a h = absurd h
-    top-free (s ∷ C) t a (inl h) = rw h (a .0)
-    top-free (s ∷ C) t a (inr h) = top-free C t (a .3) h
-
-    pub corner-free : {C : List Placed} {m : Mat} {x : ℕ} → Tops C → Corner σ κ C m x → ¬ (κ x ≡ x)
-    corner-free {C} a k e = turned-free (k .tri .pt) (top-free C (k .tri) a (k .among)) (k .turn) (rw (k .pt) at e)
-
-    corner-of : (C : List Placed) (t : Placed) (c : Turn) → In t C → Corner σ κ C (turnM c (framed t)) (turnX σ κ c (t .pt))
-    corner-of C t c h = record { tri = t; among = h; turn = c; frame = inl refl; pt = refl }
-
-    -- two corners of one point are one
-    one-in : (C : List Placed) → Tops C → (t u : Placed) → In t C → In u C → (c d : Turn) → turnX σ κ c (t .pt) ≡ turnX σ κ d (u .pt)
-        → turnM c (framed t) ≡ turnM d (framed u)
-    one-in [] a t u h k c d e = absurd h
-    one-in (s ∷ C) a t u (inl h) (inl k) c d e =
-        let z : turnX σ κ c (s .pt) ≡ turnX σ κ d (s .pt) = rw (h, k) at e in
-        rw (h, k, turn-one (s .pt) (a .0) c d z) refl
-    one-in (s ∷ C) a t u (inl h) (inr k) c d e =
-        absurd (none-turned C (s .pt) (a .2) c _ (corner-pt (sym e ∙ ap (λ (v : Placed). turnX σ κ c (v .pt)) h) (corner-of C u d k)))
-    one-in (s ∷ C) a t u (inr h) (inl k) c d e =
-        absurd (none-turned C (s .pt) (a .2) d _ (corner-pt (e ∙ ap (λ (v : Placed). turnX σ κ d (v .pt)) k) (corner-of C t c h)))
-    one-in (s ∷ C) a t u (inr h) (inr k) c d e = one-in C (a .3) t u h k c d e
-
-    pub corner-one : {C : List Placed} {m l : Mat} {x : ℕ} → Tops C → Corner σ κ C m x → Corner σ κ C l x → m ≈ l
-    corner-one {C} a k j = k .frame ∙≈ inl (one-in C a (k .tri) (j .tri) (k .among) (j .among) (k .turn) (j .turn) (sym (k .pt) ∙ j .pt)) ∙≈ ≈-sym (j .frame)
-
-    -- ---- at most n / 3 triangles
-    abbrev pub spread : List Placed → List ℕ
-    spread [] = []
-    spread (t ∷ C) = t .pt ∷ κ (t .pt) ∷ κ (κ (t .pt)) ∷ spread C
-
-    pub spread-corner : (C : List Placed) (x : ℕ) → In x (spread C) → (m : Mat) × Corner σ κ C m x
-    spread-corner [] x h = absurd h
-    spread-corner (t ∷ C) x (inl e) = (framed t, corner-pt (sym e) (corner-new C t t0))
-    spread-corner (t ∷ C) x (inr (inl e)) = (framed t ⊗ matQ, corner-pt (sym e) (corner-new C t t1))
-    spread-corner (t ∷ C) x (inr (inr (inl e))) = (framed t ⊗ matP, corner-pt (sym e) (corner-new C t t2))
-    spread-corner (t ∷ C) x (inr (inr (inr h))) = let k = spread-corner C x h in (k .0, corner-more t (k .1))
-
-    pub spread-low : (C : List Placed) → Tops C → (x : ℕ) → In x (spread C) → x < n
-    spread-low [] a x h = absurd h
-    spread-low (t ∷ C) a x (inl e) = rw e (a .1)
-    spread-low (t ∷ C) a x (inr (inl e)) = rw e (T .κ-low _ (a .1))
-    spread-low (t ∷ C) a x (inr (inr (inl e))) = rw e (T .κ-low _ (T .κ-low _ (a .1)))
-    spread-low (t ∷ C) a x (inr (inr (inr h))) = spread-low C (a .3) x h
-
-    pub spread-apart : (C : List Placed) → Tops C → Apart (spread C)
-    spread-apart [] a = tt
-    spread-apart (t ∷ C) a = (out0, (out1, (out2, spread-apart C (a .3))))
-      where
-        y : ℕ
-        y = t .pt
-
-        away : (c : Turn) → In (turnX σ κ c (t .pt)) (spread C) → ⊥
-        away c h = let k = spread-corner C _ h in none-turned C (t .pt) (a .2) c (k .0) (k .1)
-
-        out2 : In (κ (κ (t .pt))) (spread C) → ⊥
-        out2 h = away t2 h
-
-        out1 : In (κ (t .pt)) (κ (κ (t .pt)) ∷ spread C) → ⊥
-        out1 (inl e) = let z : _≡_ {A = Turn} t1 t2 = turn-one (t .pt) (a .0) t1 t2 e in let q : _≡_ {A = ℕ} 0 1 = cc in omega arith
-        out1 (inr h) = away t1 h
-
-        out0 : In (t .pt) (κ (t .pt) ∷ κ (κ (t .pt)) ∷ spread C) → ⊥
-        out0 (inl e) = a .0 (sym e)
-        out0 (inr (inl e)) = a .0 (ap κ e ∙ T .thrice (t .pt))
-        out0 (inr (inr h)) = away t0 h
-
-    pub spread-length : (C : List Placed) → length (spread C) ≡ 3 * length C
-    spread-length [] = omega arith
-    spread-length (t ∷ C) = let k = spread-length C in omega arith
-
-    pub in-spread : (C : List Placed) (t : Placed) (c : Turn) → In t C → In (turnX σ κ c (t .pt)) (spread C)
-    in-spread [] t c h = h
-    in-spread (s ∷ C) t t0 (inl e) = inl (ap (λ (v : Placed). v .pt) e)
-    in-spread (s ∷ C) t t1 (inl e) = inr (inl (ap (λ (v : Placed). κ (v .pt)) e))
-    in-spread (s ∷ C) t t2 (inl e) = inr (inr (inl (ap (λ (v : Placed). κ (κ (v .pt))) e)))
-    in-spread (s ∷ C) t c (inr h) = inr (inr (inr (in-spread C t c h)))
-
-    -- THREE NEW POINTS A TRIANGLE
-    pub triangles : (C : List Placed) → Tops C → 3 * length C ≤ n
-    triangles C a = let k = at-most n (spread C) (spread-apart C a) (spread-low C a) in let z = spread-length C in omega arith
-
     -- ---- a split
     module _ (C before : List Placed) (s : Placed) (after : List Placed) (inv : Inv C (before ++ (s ∷ after)))
         (none : ¬ (Closed σ κ (pts (before ++ (s ∷ after))) (s .pt))) where
@@ -223,7 +63,7 @@ module _ (σ κ : ℕ → ℕ) (n : ℕ) where
       fresh m k = none (inr (inv .meets s m has-s k))
 
       fresh-turned : (c : Turn) (m : Mat) → Corner σ κ C m (turnX σ κ c (s .pt)) → ⊥
-      fresh-turned c m k = none-turned C (s .pt) fresh c m k
+      fresh-turned c m k = none-turned σ κ n T C (s .pt) fresh c m k
 
       pub moved : ¬ (κ (s .pt) ≡ s .pt)
       moved e = none (inl e)
@@ -243,11 +83,11 @@ module _ (σ κ : ℕ → ℕ) (n : ℕ) where
       pub not-old : (c : Turn) → In (σ (turnX σ κ c (s .pt))) (pts old) → ⊥
       not-old c h =
           let k = pt-of _ old h in
-          fresh-turned c _ (corner-pt (ap σ (sym (k .pt)) ∙ T .twice (turnX σ κ c (s .pt))) (inv .under (k .side) (k .among)))
+          fresh-turned c _ (corner-pt σ κ n T (ap σ (sym (k .pt)) ∙ T .twice (turnX σ κ c (s .pt))) (inv .under (k .side) (k .among)))
 
       pub new-apart : Apart (pts new)
       new-apart = split-apart s (lowerAt σ κ s) (upperAt σ κ s) after before (inv .apart) (not-old t1) (not-old t2)
-          (λ e. let z : _≡_ {A = Turn} t1 t2 = turn-one (s .pt) moved t1 t2 (sym (T .twice _) ∙ ap σ e ∙ T .twice _) in let q : _≡_ {A = ℕ} 0 1 = cc in
+          (λ e. let z : _≡_ {A = Turn} t1 t2 = turn-one σ κ n T (s .pt) moved t1 t2 (sym (T .twice _) ∙ ap σ e ∙ T .twice _) in let q : _≡_ {A = ℕ} 0 1 = cc in
           omega arith)
 
       -- what is said of old sides and of the two parts holds of the new ones
@@ -268,9 +108,9 @@ module _ (σ κ : ℕ → ℕ) (n : ℕ) where
 
       new-under : (u : Placed) → In u new → Corner σ κ (s ∷ C) (framed u ⊗ matS) (σ (u .pt))
       new-under = each (λ u. Corner σ κ (s ∷ C) (framed u ⊗ matS) (σ (u .pt)))
-          (λ u h e. corner-more s (inv .under u h))
-          (corner-≈ lower-under (corner-pt (sym (T .twice _)) (corner-new C s t1)))
-          (corner-≈ upper-under (corner-pt (sym (T .twice _)) (corner-new C s t2)))
+          (λ u h e. corner-more σ κ n T s (inv .under u h))
+          (corner-≈ σ κ n T lower-under (corner-pt σ κ n T (sym (T .twice _)) (corner-new σ κ n T C s t1)))
+          (corner-≈ σ κ n T upper-under (corner-pt σ κ n T (sym (T .twice _)) (corner-new σ κ n T C s t2)))
 
       back : (m n : Mat) → m ⊗ matS ≈ n → n ⊗ matS ≈ m
       back m n e = ≈-right matS (≈-sym e) ∙≈ S-twice m
@@ -293,13 +133,13 @@ module _ (σ κ : ℕ → ℕ) (n : ℕ) where
               (e .pt))
 
           was : Corner σ κ C (m ⊗ matS) (σ x) ⊎ Edge old (m ⊗ matS) (σ x) → Corner σ κ (s ∷ C) (m ⊗ matS) (σ x) ⊎ Edge new (m ⊗ matS) (σ x)
-          was (inl c) = inl (corner-more s c)
+          was (inl c) = inl (corner-more σ κ n T s c)
           was (inr e) = side-is e (ℕ-discrete (σ x) (s .pt))
 
           there : (t : Placed) → t ≡ s → (c : Turn) → m ≈ turnM c (framed t) → x ≡ turnX σ κ c (t .pt) → Corner σ κ (s ∷ C) (m ⊗ matS) (σ x)
               ⊎ Edge new (m ⊗ matS) (σ x)
-          there t e t0 f p = inl (corner-more s (corner-pt (ap σ (sym (p ∙ ap (λ (v : Placed). v .pt) e)))
-              (corner-≈ (≈-right matS (f ∙≈ inl (ap framed e))) (inv .under s has-s))))
+          there t e t0 f p = inl (corner-more σ κ n T s (corner-pt σ κ n T (ap σ (sym (p ∙ ap (λ (v : Placed). v .pt) e)))
+              (corner-≈ σ κ n T (≈-right matS (f ∙≈ inl (ap framed e))) (inv .under s has-s))))
           there t e t1 f p = inr (edge-of (lowerAt σ κ s) (m ⊗ matS) (σ x) has-l
               (≈-right matS (f ∙≈ inl (ap (λ (v : Placed). framed v ⊗ matQ) e)) ∙≈ back _ _ lower-under) (ap σ (p ∙ ap (λ (v : Placed). κ (v .pt)) e)))
           there t e t2 f p = inr (edge-of (upperAt σ κ s) (m ⊗ matS) (σ x) has-r
@@ -339,7 +179,7 @@ module _ (σ κ : ℕ → ℕ) (n : ℕ) where
           y = turnX σ κ c (s .pt)
 
           was : Corner σ κ C (m ⊗ matS) (σ (σ (turnX σ κ c (s .pt)))) ⊎ Edge old (m ⊗ matS) (σ (σ (turnX σ κ c (s .pt)))) → In (turnX σ κ c (s .pt)) (pts new)
-          was (inl k) = absurd (fresh-turned c _ (corner-pt (T .twice _) k))
+          was (inl k) = absurd (fresh-turned c _ (corner-pt σ κ n T (T .twice _) k))
           was (inr e) = stays _ (of-pt _ old (record { side = e .side; among = e .among; pt = sym (T .twice _) ∙ e .pt })) d
 
           turn : (z : ℕ) → σ (turnX σ κ c (s .pt)) ≡ z → In (σ z) (pts new) → In (turnX σ κ c (s .pt)) (pts new)
@@ -348,7 +188,7 @@ module _ (σ κ : ℕ → ℕ) (n : ℕ) where
           go : Corner σ κ C m (σ (turnX σ κ c (s .pt))) ⊎ (σ (turnX σ κ c (s .pt)) ≡ s .pt) ⊎ (σ (turnX σ κ c (s .pt)) ≡ κ (s .pt))
               ⊎ (σ (turnX σ κ c (s .pt)) ≡ κ (κ (s .pt))) → In (turnX σ κ c (s .pt)) (pts new)
           go (inl k) = was (inv .beyond m _ k)
-          go (inr (inl e)) = absurd (fresh-turned c _ (corner-pt (ap σ (sym e) ∙ T .twice _) (inv .under s has-s)))
+          go (inr (inl e)) = absurd (fresh-turned c _ (corner-pt σ κ n T (ap σ (sym e) ∙ T .twice _) (inv .under s has-s)))
           go (inr (inr (inl e))) = turn _ e pt-l
           go (inr (inr (inr e))) = turn _ e pt-r
 
@@ -372,7 +212,7 @@ module _ (σ κ : ℕ → ℕ) (n : ℕ) where
       new-home = go (inv .home)
         where
           go : Corner σ κ C 𝟙 0 ⊎ ((κ 0 ≡ 0) × Edge old 𝟙 0) → Corner σ κ (s ∷ C) 𝟙 0 ⊎ ((κ 0 ≡ 0) × Edge new 𝟙 0)
-          go (inl k) = inl (corner-more s k)
+          go (inl k) = inl (corner-more σ κ n T s k)
           go (inr (f, e)) = inr (
             f,
             edge-of (e .side) 𝟙 0
@@ -380,7 +220,7 @@ module _ (σ κ : ℕ → ℕ) (n : ℕ) where
                 (e .frame) (e .pt),
           )
 
-      new-tops : Tops (s ∷ C)
+      new-tops : Tops σ κ n (s ∷ C)
       new-tops = (moved, inv .low s has-s, fresh, inv .tops)
 
       new-grown : (t : Placed) → In t (s ∷ C) → Leads σ κ (framed t) (t .pt)

@@ -15,7 +15,8 @@ use Rattle.matrix.specs.Words.{Letter, S, Q, P, letter, value}
 use Rattle.matrix.specs.Action.{step, at, Involution, OrderThree}
 use Rattle.matrix.proofs.Matrix.{⊗-assoc, ⊗-idl, ⊗-idr, ⊗-neg, ⊗-adj, det-≈, det-one, det-adj, det-𝟙, det-letter, S-S, Q-Q, Q-P}
 use Rattle.matrix.proofs.Action.{at-word, at-≈, at-⊗, at-𝟙}
-use Rattle.import_rule.specs.Fixed.{byQ, Permuting}
+use Rattle.permutations.specs.Pair.{Permuting}
+use Rattle.import_rule.specs.Fixed.{byQ}
 
 pub S-twice : (m : Mat) → m ⊗ matS ⊗ matS ≈ m
 S-twice m = inr (⊗-assoc m matS matS ∙ ap (λ (x : Mat). m ⊗ x) S-S ∙ ⊗-neg m 𝟙 ∙ ap neg (⊗-idr m))

@@ -2,9 +2,12 @@
 pub mod Member
 pub mod Lead
 pub mod Split
+pub mod Corners
 pub mod Kept
 pub mod Stabiliser
 pub mod Table
+pub mod Counting
+pub mod Generators
 pub mod Finished
 pub mod Start
 pub mod Small

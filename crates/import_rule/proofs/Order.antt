@@ -28,7 +28,8 @@ use Rattle.import_rule.specs.Inner.Placed.{Placed, pts, finished, refuse
 use Rattle.import_rule.proofs.Member.{In, in-right}
 use Rattle.import_rule.proofs.Lead.{Turning}
 use Rattle.import_rule.proofs.Split.{framed, Closed, AllClosed, closed-true, closed-false}
-use Rattle.import_rule.proofs.Kept.{Inv, step, triangles, Ends}
+use Rattle.import_rule.proofs.Corners.{triangles}
+use Rattle.import_rule.proofs.Kept.{Inv, step, Ends}
 use Rattle.import_rule.specs.Theorem.{LongestFirst}
 
 -- ---- what an order chooses

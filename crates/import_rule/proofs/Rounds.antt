@@ -4,8 +4,7 @@
 --   Fit C l rows        the rows are the placed sides l, of which some have the mark that their point says already
 --
 -- In order: marks by points; which marked rows are open (`opens-marked`) and their split (`split-marked`); what a round needs
--- (`ready`) and leaves (`visits-mark`); after a split (`fit-step`); the law (`rounds-are`).
--- Assumes nothing.
+-- (`ready`) and leaves (`visits-mark`); after a split (`fit-step`); the law (`rounds-are`). Assumes nothing.
 use mathlib.Core.Path.{_≡_, refl, sym, _∙_, ap}
 use mathlib.Core.Logic.{_⊎_, inl, inr}
 use mathlib.Core.Bool.{Bool, true, false, not}
@@ -26,7 +25,8 @@ use Rattle.import_rule.proofs.Member.{In, in-left, in-right, in-either,
 use Rattle.import_rule.proofs.Lead.{Turning}
 use Rattle.import_rule.proofs.Split.{Closed, AllClosed, closed-true, closed-false, true-closed, false-closed, in-pts, pt-of}
 use Rattle.import_rule.proofs.Split.{split-from, beside-in, Beside, Turn, t1, t2, turnX}
-use Rattle.import_rule.proofs.Kept.{Inv, step, not-old, moved, stays, corner-pt, corner-free}
+use Rattle.import_rule.proofs.Corners.{corner-pt, corner-free}
+use Rattle.import_rule.proofs.Kept.{Inv, step, not-old, moved, stays}
 use Rattle.import_rule.proofs.Order.{Rest, Cut, outcome-by, cut-by, came-long}
 use Rattle.import_rule.proofs.Visit.{pt, points, settle, settles, Vacant, Ready, visits-settle}
 use Rattle.import_rule.proofs.Sides.{sidesOf, bares, opened, sides-++, bares-++, sides-opened, in-sides, in-opened, all-open, Owner, in-bares, open-is}

@@ -29,9 +29,10 @@ use Rattle.import_rule.proofs.Member.{In, in-right, Apart}
 use Rattle.import_rule.proofs.Lead.{S-twice, Turning, Leads, leads-≈, leads-𝟙, leads-step}
 use Rattle.import_rule.proofs.Split.{framed, lower-S, upper-S, lower-det, upper-det, Pt, of-pt, split-from, beside-in, Beside, Turn, t0, t1}
 use Rattle.import_rule.proofs.Split.{t2, turnM, turnX, Corner, Edge}
-use Rattle.import_rule.proofs.Kept.{Inv, turn-one}
+use Rattle.import_rule.proofs.Corners.{turn-one}
+use Rattle.import_rule.proofs.Kept.{Inv}
 use Rattle.import_rule.proofs.Table.{Chained, inner}
-use Rattle.import_rule.proofs.Finished.{Shape}
+use Rattle.import_rule.proofs.Generators.{Shape}
 
 abbrev pub zeroOne : Vertex
 zeroOne = vertex (pos 0) 1

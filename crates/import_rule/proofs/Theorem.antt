@@ -18,7 +18,8 @@ use Rattle.matrix.specs.Matrix.{matS, matT, matQ}
 use Rattle.basics.specs.Choice.{pick}
 use Rattle.symbol.specs.Table.{carried}
 use Rattle.basics.proofs.Choice.{pick-true, pick-false, either, clash, and-left, and-right}
-use Rattle.import_rule.specs.Fixed.{byQ, fixes, Permuting}
+use Rattle.permutations.specs.Pair.{Permuting}
+use Rattle.import_rule.specs.Fixed.{byQ, fixes}
 use Rattle.import_rule.specs.Order.{Order}
 use Rattle.import_rule.specs.Rule.{Row, Grown, finished, refused, rounds, startRows, startCame}
 use Rattle.import_rule.specs.Symbol.{symbolTable, Ruled, made, over, oneVertex, symbolFrom, ruleBy}
@@ -170,7 +171,8 @@ module _ (σ κ : ℕ → ℕ) (n : ℕ) (T : Turning σ κ n) where
               by-grown : (g : Grew) → ((z : List Placed) → g ≡ model.finished z → Ends σ κ n T Kept z) → symbolBy σ κ g ≡ made v t → Precisely σ κ v t
               by-grown (model.finished z) f q =
                   let k = f z refl in
-                  let p = finished-precisely σ κ n T top (k .tris) z (k .inv) (k .all) (k .kept .shape) (k .kept .count) in
+                  let p = finished-precisely {C = k .tris}
+                  (record { turning = T; top = top; inv = k .inv; all = k .all; shape = k .kept .shape; counted = k .kept .count }) in
                   is-made (length z - 1) (symbolTable (rowsOf σ κ z)) q (rw (length-rows σ κ z) at p)
               by-grown (model.refused i) f q = let z : _≡_ {A = ℕ} 0 1 = cc in absurd (omega arith)
 

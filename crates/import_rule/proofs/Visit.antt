@@ -35,7 +35,7 @@ use Rattle.import_rule.proofs.Member.{In, in-right, Apart, in-is}
 use Rattle.import_rule.proofs.Lead.{Turning, Leads, leads-one, leads-≈, leads-step, leads-back, leads-fix}
 use Rattle.import_rule.proofs.Split.{Closed, closed-true, true-closed, closed-false, false-closed}
 use Rattle.import_rule.proofs.Table.{mark-even, mark-odd, mark-free}
-use Rattle.import_rule.proofs.Finished.{least-turn}
+use Rattle.import_rule.proofs.Counting.{least-turn}
 
 -- ---- marks
 

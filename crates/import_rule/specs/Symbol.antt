@@ -18,7 +18,8 @@ use Rattle.basics.specs.Choice.{pick}
 use Rattle.symbol.specs.Table.{carried}
 use Rattle.numbering.specs.Find.{find}
 use Rattle.numbering.specs.Order.{add}
-use Rattle.import_rule.specs.Fixed.{image, byQ, fixes}
+use Rattle.permutations.specs.Pair.{image}
+use Rattle.import_rule.specs.Fixed.{byQ, fixes}
 use Rattle.import_rule.specs.Side.{Interval}
 use Rattle.import_rule.specs.Order.{Order}
 use Rattle.import_rule.specs.Rule.{Mark, unpaired, even, odd, free, Row, Grown, finished, refused, rounds}

@@ -1,6 +1,6 @@
 -- WHAT THE RULE GIVES, for every pair of permutations and under every order: `Precisely σ κ v t`, of the symbol of v
 -- vertices in the table t. The proof is `rule-precisely`, in proofs/Theorem.antt; the rule and the wide rule are two
--- orders of it. How many vertices there are, where every point is reached from 0, is in permutations/specs/Import.antt.
+-- orders of it. How many vertices there are, where every point is reached from 0, is in import_call/specs/Import.antt.
 --
 --   Precisely σ κ v t      the promise, in these parts:
 --     symbol               the table is a symbol, as the checks 1 to 7 have it
@@ -22,7 +22,8 @@ use Rattle.matrix.specs.Action.{at}
 use Rattle.symbol.specs.Symbol.{IsSymbol}
 use Rattle.pairing.specs.Generator.{generators}
 use Rattle.pairing.specs.Subgroup.{InH}
-use Rattle.import_rule.specs.Fixed.{byQ, Permuting}
+use Rattle.permutations.specs.Pair.{Permuting}
+use Rattle.import_rule.specs.Fixed.{byQ}
 use Rattle.import_rule.specs.Order.{Order, longestOpen, this, chosenBy}
 use Rattle.import_rule.specs.Symbol.{ruleBy}
 

@@ -20,17 +20,18 @@ use Rattle.basics.specs.Choice.{pick}
 use Rattle.call.specs.Space.{zeros}
 use Rattle.call.proofs.Zeros.{length-zeros, getD-zeros}
 use Rattle.basics.proofs.Choice.{pick-true, pick-false, clash}
-use Rattle.import_rule.specs.Fixed.{image, byQ, Pair}
+use Rattle.permutations.specs.Pair.{image, Pair}
+use Rattle.import_rule.specs.Fixed.{byQ}
 use Rattle.import_rule.specs.Order.{Order, leftmost, longestOpen}
 use Rattle.import_rule.specs.Symbol.{Ruled, made, over, oneVertex, symbolTable, ruleBy}
 use Rattle.import_rule.specs.Inner.Placed.{Grew, finished, refused, rowsOf, symbolBy, quickBy}
-use Rattle.import_symbol.specs.Inner.Work.{Large, Ground, grownBy, Whole, WalkLeaves, halted, whole, doneIn}
+use Rattle.import_sides.specs.Inner.Work.{Large, Ground, grownBy, Whole, WalkLeaves, halted, whole, doneIn}
 use Rattle.import_symbol.specs.Inner.Writing.{tableWritten, largeBy, HasRoom}
 use Rattle.import_symbol.specs.Answer.{orderBy}
 use Rattle.import_symbol.specs.Inner.Answer.{ruledAnswer, ruledLeft}
 use Rattle.import_rule.proofs.Lead.{Turning, turning}
 use Rattle.import_rule.proofs.Theorem.{rule-is}
-use Rattle.import_symbol.proofs.Held.{length-done}
+use Rattle.import_sides.proofs.Held.{length-done}
 
 pub ground : (s r w w' : List ℕ) → Pair s r → 32768 ≤ length w → w' ≡ zeros (length w) → Large s r → Ground s r w'
 ground s r w w' p h e l = record {

@@ -23,10 +23,10 @@ use Rattle.numbering.proofs.Find as places
 use Rattle.import_rule.specs.Rule.{Mark, unpaired, even, odd, free, Row, least}
 use Rattle.import_rule.specs.Symbol.{noted, labelsFrom, entry, rowEntries}
 use Rattle.import_rule.specs.Inner.Placed.{Placed, markOf, rowOf, rowsOf}
-use Rattle.import_symbol.specs.Inner.Work.{LABEL, DONE, cellPlace, twoCells, endAt}
+use Rattle.import_sides.specs.Inner.Work.{LABEL, DONE, cellPlace, twoCells, endAt}
 use Rattle.import_symbol.specs.Inner.Writing.{verticesTo, Paired, is-new, is-old}
 use Rattle.import_rule.proofs.Member.{In}
-use Rattle.import_symbol.proofs.Decode.{abs-diff}
+use Rattle.import_sides.proofs.Decode.{abs-diff}
 
 -- ---- signed numbers
 

@@ -13,14 +13,15 @@ use lib.IntN.{ℤ, pos, negsuc}
 use Rattle.numbering.specs.Find.{find, _∈_, _∉_}
 use Rattle.numbering.proofs.Find as places
 use Rattle.numbering.proofs.Order.{add-old, add-new}
-use Rattle.import_rule.specs.Fixed.{image, byQ}
+use Rattle.permutations.specs.Pair.{image}
+use Rattle.import_rule.specs.Fixed.{byQ}
 use Rattle.import_rule.specs.Rule.{Row, least}
 use Rattle.import_rule.specs.Symbol.{noted, labelsOf, entry, rowEntries, verticesOf}
 use Rattle.import_rule.specs.Inner.Placed.{Placed, placedSide, markOf, rowOf, rowsOf}
-use Rattle.import_symbol.specs.Inner.Work.{LABEL, DONE, TODO, cellPlace, endAt, pointAt, lastIn, doneIn, Done}
+use Rattle.import_sides.specs.Inner.Work.{LABEL, DONE, TODO, cellPlace, endAt, pointAt, lastIn, doneIn, Done}
 use Rattle.import_symbol.specs.Inner.Writing.{verticesTo, Paired, is-even, is-odd, is-new, is-old, pairingsIn, paired, tableWritten, SideToWrite}
 use Rattle.import_rule.proofs.Table.{length-entries, labels-in, labels-few, mark-even, mark-odd, mark-free}
-use Rattle.import_symbol.proofs.Held.{Same, length-done}
+use Rattle.import_sides.proofs.Held.{Same, length-done}
 use Rattle.import_symbol.proofs.Stored.{least-low, one-store, length-vertices-to, rows-snoc, entries-more, labels-snoc, entries-snoc, numberIn}
 use Rattle.import_symbol.proofs.Stored.{number-in, number-out, number-old}
 

@@ -1,6 +1,4 @@
--- What the functions of the crate `import_symbol` promise each other: how the work space is laid out, what a loop or a
--- call leaves there, what is asked of a caller. A reader who trusts the checker need not read it.
+-- What the functions of the crate `import_symbol` promise each other: what a loop or a call leaves in the
+-- result space, what is asked of a caller. A reader who trusts the checker need not read it.
 pub mod Writing
 pub mod Answer
-pub mod Work
-pub mod Cells

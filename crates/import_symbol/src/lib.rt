@@ -1,29 +1,26 @@
-// The symbol of an accepted pair of permutations: the walk of the module `walk`, or that of the crate
-// `import_queue` for the wide rule, and the table written from what it leaves (specs/Inner/Writing.antt).
-// specs/Inner/Answer.antt says what `grow` answers and leaves.
-use crate::walk::Outcome;
+// The symbol of an accepted pair of permutations: its sides, which the crate `import_sides` leaves in the work space,
+// and the table written from them (specs/Inner/Writing.antt). specs/Inner/Answer.antt says what `grow` answers and
+// leaves.
 use crate::write::write_four;
 use crate::write::write_table;
 use call::refusal::ENTRY_TOO_LARGE;
 use call::refusal::Filled;
 use call::refusal::Refusal;
-use import_rule::image;
 use import_rule::turned;
+use import_sides::walk::Outcome;
+use permutations::image;
 ghost use mathlib.Core.Path.{_≡_};
 ghost use Prim.Native.Nat.{_≤_};
 ghost use lib.IntN.{negsuc};
 ghost use lib.ListN.{length};
-ghost use Rattle.import_rule.specs.Fixed.{image, byQ, Pair};
+ghost use Rattle.permutations.specs.Pair.{image, Pair};
+ghost use Rattle.import_rule.specs.Fixed.{byQ};
 ghost use Rattle.import_rule.specs.Symbol.{oneVertex, ruledBy};
-ghost use Rattle.import_symbol.specs.Inner.Work.{Large, Ground, WalkLeaves};
+ghost use Rattle.import_sides.specs.Inner.Work.{Large, Ground, WalkLeaves};
 ghost use Rattle.import_symbol.specs.Inner.Writing.{largeBy, HasRoom};
 ghost use Rattle.import_symbol.specs.Answer.{orderBy};
 ghost use Rattle.import_symbol.specs.Inner.Answer.{ruledAnswer, ruledLeft};
 
-pub mod cell;
-pub mod places;
-pub mod queue;
-pub mod walk;
 mod write;
 
 // The symbol of one vertex, with the pairings x and -3.
@@ -43,9 +40,9 @@ fn sides(s: &[u32], r: &[u32], w: &mut [u16], wide: bool) -> Outcome
     ensures { λ o. ⌜ WalkLeaves (orderBy wide) (now (s .entry)) (now (r .entry)) (now (w .exit)) (o .stop) (o .d) ⌝ }
 {
     if wide {
-        return crate::queue::walk(s, r, w);
+        return import_sides::queue::walk(s, r, w);
     }
-    crate::walk::walk(s, r, w)
+    import_sides::walk::walk(s, r, w)
 }
 
 // The symbol of a group that is none of the small ones.

@@ -1,19 +1,20 @@
 // The finished symbol, written from the sides done in the work space to the front of the result space.
-use crate::cell::long;
-use crate::cell::number_at;
-use crate::cell::point_at;
-use crate::places::DONE;
-use crate::places::LABEL;
-use import_rule::image;
 use import_rule::turned;
+use import_sides::cell::long;
+use import_sides::cell::number_at;
+use import_sides::cell::point_at;
+use import_sides::places::DONE;
+use import_sides::places::LABEL;
+use permutations::image;
 ghost use mathlib.Core.Path.{_≡_};
 ghost use mathlib.Core.List.{[], _∷_, _++_};
 ghost use Prim.Native.Nat.{_+_, _-_, _*_, _≤_, _<_};
 ghost use lib.ListN.{length, getD, set, drop};
 ghost use lib.IntN.{pos, negsuc, _-ℤ_};
-ghost use Rattle.import_rule.specs.Fixed.{image, byQ};
+ghost use Rattle.permutations.specs.Pair.{image};
+ghost use Rattle.import_rule.specs.Fixed.{byQ};
 ghost use Rattle.import_rule.specs.Rule.{least};
-ghost use Rattle.import_symbol.specs.Inner.Work.{LABEL, DONE, Done, cellPlace, endAt, pointAt};
+ghost use Rattle.import_sides.specs.Inner.Work.{LABEL, DONE, Done, cellPlace, endAt, pointAt};
 ghost use Rattle.import_symbol.specs.Inner.Writing.{verticesTo, Paired, paired, tableWritten, SideToWrite};
 
 // Puts x at j.

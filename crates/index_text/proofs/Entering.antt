@@ -10,10 +10,10 @@ use Prim.Native.Nat.{ℕ, _+_, _*_, _≤_, _<_}
 use native.Mathlib.Numerals.{add-one}
 use native.Mathlib.Omega.{arith}
 use lib.ListN.{length}
-use Rattle.text.specs.Decimal.{digits}
+use Rattle.decimal.specs.Decimal.{digits}
 use Rattle.congruence.specs.Index.{index0}
-use Rattle.text.specs.Line.{Puts}
-use Rattle.text.proofs.Placing.{puts-as, puts-none, puts-then, puts-same}
+use Rattle.decimal.specs.Writing.{Puts}
+use Rattle.decimal.proofs.Placing.{puts-as, puts-none, puts-then, puts-same}
 use Rattle.index_text.specs.Lines.{constantHead, constantTail, entryLine, entryLines, constantLines}
 
 pub entry-put : (n : ℕ) {x at m k e : ℕ} {out out1 out2 out3 : List ℕ} → x ≡ index0 n → Puts (32 ∷ 32 ∷ 32 ∷ 32 ∷ []) at m out out1

@@ -6,21 +6,20 @@
 --   entryLine n       four spaces, the index of Γ0(n), a comma and a line feed
 --   entryLines k      the lines for n from 1 to k
 --   constantLines     all of them
-use mathlib.Core.List.{List, [], _∷_, _++_}
+use mathlib.Core.List.{List, [], _++_}
 use Prim.Native.Nat.{ℕ, zero, suc}
-use Rattle.text.specs.Decimal.{digits}
+use Rattle.decimal.specs.Ascii.{ascii}
+use Rattle.decimal.specs.Decimal.{digits}
 use Rattle.congruence.specs.Index.{index0}
 
 abbrev pub constantHead : List ℕ
-constantHead =
-    112 ∷ 117 ∷ 98 ∷ 32 ∷ 99 ∷ 111 ∷ 110 ∷ 115 ∷ 116 ∷ 32 ∷ 73 ∷ 78 ∷ 68 ∷ 69 ∷ 88 ∷ 58 ∷ 32
-    ∷ 91 ∷ 117 ∷ 49 ∷ 54 ∷ 59 ∷ 32 ∷ 49 ∷ 48 ∷ 48 ∷ 48 ∷ 93 ∷ 32 ∷ 61 ∷ 32 ∷ 91 ∷ 10 ∷ []
+constantHead = ascii "pub const INDEX: [u16; 1000] = [\n"
 
 abbrev pub constantTail : List ℕ
-constantTail = 93 ∷ 59 ∷ 10 ∷ []
+constantTail = ascii "];\n"
 
 unfoldable pub entryLine : ℕ → List ℕ
-entryLine n = (32 ∷ 32 ∷ 32 ∷ 32 ∷ []) ++ (digits (index0 n) ++ (44 ∷ 10 ∷ []))
+entryLine n = ascii "    " ++ (digits (index0 n) ++ ascii ",\n")
 
 unfoldable pub entryLines : ℕ → List ℕ
 entryLines zero = []

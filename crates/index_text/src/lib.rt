@@ -1,10 +1,11 @@
 // What the program `index_table` writes: all of it, byte for byte, as specs/Lines.antt says.
 use congruence::modular::index_of_gamma0;
-use text::line::put;
+use decimal::put;
 use text::line::put_digits;
 ghost use Prim.Native.Nat.{_+_, _*_, _≤_};
 ghost use lib.ListN.{length};
-ghost use Rattle.text.specs.Line.{Puts};
+ghost use Rattle.text.specs.Input.{Prints};
+ghost use Rattle.decimal.specs.Writing.{Puts};
 ghost use Rattle.congruence.specs.Inner.Common.{Modulus};
 ghost use Rattle.index_text.specs.Lines.{entryLine, entryLines, constantLines};
 
@@ -34,7 +35,7 @@ fn put_entries(out: &mut [u8], at: usize) -> usize
 
 // The lines of the constant, from the front of `out`; where they end.
 pub fn constant_lines(out: &mut [u8; 32768]) -> usize
-    ensures { λ r. ⌜ Puts constantLines 0 r (now (out .entry)) (now (out .exit)) × (r ≤ length (now (out .exit))) ⌝ }
+    ensures { λ r. ⌜ Prints constantLines r (now (out .entry)) (now (out .exit)) ⌝ }
 {
     let first = put(b"pub const INDEX: [u16; 1000] = [\n", out, 0);
     let second = put_entries(out, first);

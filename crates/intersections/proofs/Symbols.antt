@@ -27,12 +27,12 @@ use Rattle.numbering.specs.Inner.Space.{S-TABLE, R-TABLE}
 use Rattle.numbering.proofs.Space.{entries-length}
 use Rattle.coset.specs.Tables.{tableS, tableR, indexOf}
 use Rattle.coset.specs.Inner.Work.{Arranged}
-use Rattle.coset.proofs.Answer.{Made, made}
+use Rattle.coset.proofs.Answer.{Made, made, symbol-cosets}
 use Rattle.right_cosets.specs.Cosets.{CosetsOf}
-use Rattle.containment.proofs.Symbols.{symbol-cosets}
 use Rattle.containment.specs.Pairs.{both, pairsReached, pairsS, pairsR}
 use Rattle.containment.specs.TwoSymbols.{commonCosets, commonS, commonR, commonT, CommonSubgroup}
-use Rattle.containment.proofs.Pairs.{S-low, R-low, some-points, maps}
+use Rattle.right_cosets.proofs.Tabled.{S-low, R-low, some-points}
+use Rattle.containment.proofs.Pairs.{maps}
 use Rattle.containment.proofs.TwoSymbols.{common-subgroup}
 use Rattle.containment.proofs.Tables.{padded}
 use Rattle.intersections.specs.Answer.{tooMany}
@@ -106,10 +106,10 @@ module _ {v : ℕ} {t : List ℤ} {v' : ℕ} {t' : List ℤ} (ok : IsSymbol v t)
   k = indexOf v' t'
 
   one : CosetsOf (InH (generators v t)) n (tableS v t) (tableR v t)
-  one = symbol-cosets v t ok
+  one = symbol-cosets ok
 
   other : CosetsOf (InH (generators v' t')) k (tableS v' t') (tableR v' t')
-  other = symbol-cosets v' t' ok'
+  other = symbol-cosets ok'
 
   pair-tables : n ≤ 4096 → k ≤ 4096 → length a ≡ 4096 → length b ≡ 4096 → length c ≡ 4096 → length d ≡ 4096 → PairTables n k a b c d
   pair-tables few few' za zb zc zd = record {

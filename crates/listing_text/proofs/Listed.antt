@@ -24,9 +24,10 @@ use Rattle.symbol.specs.Check.{eqZ}
 use Rattle.symbol.proofs.Choice.{eqZ-true}
 use Rattle.basics.proofs.Choice.{either}
 use Rattle.symbol.proofs.Signed.{bits-positive}
-use Rattle.text.specs.Decimal.{digits}
-use Rattle.text.specs.Line.{line, refusalLine, Puts}
-use Rattle.text.proofs.Placing.{puts-as, puts-then}
+use Rattle.decimal.specs.Decimal.{digits}
+use Rattle.text.specs.Line.{line, refusalLine}
+use Rattle.decimal.specs.Writing.{Puts}
+use Rattle.decimal.proofs.Placing.{puts-as, puts-then}
 use Rattle.text.specs.Piece.{pieces, numbers}
 use Rattle.text.specs.Reading.{symbolFormat, inputOf}
 use Rattle.text.specs.declared.Reading.{Reading}
@@ -39,24 +40,25 @@ use Rattle.call.specs.declared.refusal.Refusal.{Refusal}
 use Rattle.call.specs.declared.refusal.Checked.{Checked}
 use Rattle.call.specs.declared.refusal.Checked.the-variants.{Accepted, Refused}
 use Rattle.call.specs.Call.{ifAccepted}
+use Rattle.decimal.specs.Ascii.{ascii}
 use Rattle.coset.specs.Inner.Survey.{Surveyed}
 use Rattle.figures.specs.declared.FigureRecord.{FigureRecord}
 use Rattle.coset.proofs.Answer.{meaning}
 use Rattle.listing_text.specs.Listing.{listedLines, listingLines, readBy, listingOf}
-use Rattle.listing_text.specs.Listing.{ListingMeans, freeWord, evenWord, oddWord, kindWord, generatorLine, generatorLines}
+use Rattle.listing_text.specs.Listing.{ListingMeans, kindWord, generatorLine, generatorLines}
 use Rattle.listing_text.specs.Inner.Parts.{partsOf}
 
 module _ (z : ℤ) where
-  pub first-kind : SFits w64 z → ofZ w64 z ≡ 1 → kindWord z ≡ freeWord
+  pub first-kind : SFits w64 z → ofZ w64 z ≡ 1 → kindWord z ≡ ascii " free"
   first-kind f e = ap kindWord (bits-positive z 1 f (omega arith) e)
 
-  pub second-kind : SFits w64 z → ofZ w64 z ≡ 2 → kindWord z ≡ evenWord
+  pub second-kind : SFits w64 z → ofZ w64 z ≡ 2 → kindWord z ≡ ascii " even"
   second-kind f e = ap kindWord (bits-positive z 2 f (omega arith) e)
 
   apart : (k : ℕ) → (ofZ w64 z ≡ ofZ w64 (pos k) → ⊥) → eqZ z (pos k) ≡ false
   apart k n = elim (either (eqZ z (pos k))) [ inl e ↦ absurd (n (ap (ofZ w64) (eqZ-true z (pos k) e))) | inr e ↦ e ]
 
-  pub third-kind : (ofZ w64 z ≡ 1 → ⊥) → (ofZ w64 z ≡ 2 → ⊥) → kindWord z ≡ oddWord
+  pub third-kind : (ofZ w64 z ≡ 1 → ⊥) → (ofZ w64 z ≡ 2 → ⊥) → kindWord z ≡ ascii " odd"
   third-kind m n = rw (apart 1 m, apart 2 n)
 
 pub lines-more : (n k : ℕ) (table : List ℤ) → k ≡ 5

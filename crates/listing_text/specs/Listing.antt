@@ -1,8 +1,7 @@
 -- WHAT THE PROGRAM `listing` WRITES, byte for byte (docs/CONVENTIONS.md, 10.5).
 --
---   indexWord .. oddWord            the words of a listing as bytes; a kind has a space in front
 --   figureLine name f               the line of a figure: its number, or `refused` with number and place
---   kindWord k                      free, even or odd, for the kinds 1, 2 and 3 of the generator table
+--   kindWord k                      a space and free, even or odd, for the kinds 1, 2 and 3 of the generator table
 --   generatorLine j row             generator j: its number, its kind, its four entries
 --   generatorLines n table          those of the first n generators, in order
 --   countLines n e2 e3 k            index, elliptic counts (e2 before e3), cusps
@@ -12,8 +11,7 @@
 --   tableLines s r u                the tables of S, R and T
 --   listedLines v t                 the lines of a symbol's figures, generators and tables
 --   listingLines v t                all of it for the symbol in t, or its refusal
---   listingOf longer text           the bytes for a text, or for one with more than the 65,536 bytes that fit into the
---                                   buffer
+--   listingOf longer text           the bytes for a text
 --   Listed v t bytes                what the bytes mean for a symbol: they are the lines of its figures, generators and
 --                                   tables; the tables are those of the cosets of H and the figures are the tables'
 --                                   (`Meaning`), so that the genus is a number in its line; each generator has
@@ -27,12 +25,13 @@ use lib.IntN.{ℤ, pos}
 use lib.ListN.{length, take, drop, getD}
 use Rattle.matrix.specs.Matrix.{nth}
 use Rattle.basics.specs.Choice.{pick}
-use Rattle.text.specs.Decimal.{digits}
+use Rattle.decimal.specs.Decimal.{digits}
 use Rattle.text.specs.Piece.{pieces, numbers}
 use Rattle.text.specs.Reading.{symbolFormat, inputOf, vertexCount}
 use Rattle.text.specs.declared.Reading.{Reading}
 use Rattle.text.specs.declared.Reading.the-variants as reading
-use Rattle.text.specs.Line.{natural, line, refusedWord, refusalLine}
+use Rattle.decimal.specs.Ascii.{ascii}
+use Rattle.text.specs.Line.{natural, line, refusalLine}
 use Rattle.call.specs.Refusal.{checkedRefusal}
 use Rattle.call.specs.Call.{ifAccepted}
 use Rattle.symbol.specs.Check.{eqZ, symbolCheck}
@@ -44,43 +43,13 @@ use Rattle.figures.specs.declared.FigureRecord.{FigureRecord}
 use Rattle.coset.specs.Tables.{tableS, tableR, tableT}
 use Rattle.coset.specs.Answer.{widthsOf, figuresOf, Meaning}
 
-abbrev pub indexWord : List ℕ
-indexWord = 105 ∷ 110 ∷ 100 ∷ 101 ∷ 120 ∷ []
-
-abbrev pub ellipticWord : List ℕ
-ellipticWord = 101 ∷ 108 ∷ 108 ∷ 105 ∷ 112 ∷ 116 ∷ 105 ∷ 99 ∷ []
-
-abbrev pub cuspsWord : List ℕ
-cuspsWord = 99 ∷ 117 ∷ 115 ∷ 112 ∷ 115 ∷ []
-
-abbrev pub widthsWord : List ℕ
-widthsWord = 119 ∷ 105 ∷ 100 ∷ 116 ∷ 104 ∷ 115 ∷ []
-
-abbrev pub genusWord : List ℕ
-genusWord = 103 ∷ 101 ∷ 110 ∷ 117 ∷ 115 ∷ []
-
-abbrev pub levelWord : List ℕ
-levelWord = 108 ∷ 101 ∷ 118 ∷ 101 ∷ 108 ∷ []
-
-abbrev pub generatorsWord : List ℕ
-generatorsWord = 103 ∷ 101 ∷ 110 ∷ 101 ∷ 114 ∷ 97 ∷ 116 ∷ 111 ∷ 114 ∷ 115 ∷ []
-
-abbrev pub freeWord : List ℕ
-freeWord = 32 ∷ 102 ∷ 114 ∷ 101 ∷ 101 ∷ []
-
-abbrev pub evenWord : List ℕ
-evenWord = 32 ∷ 101 ∷ 118 ∷ 101 ∷ 110 ∷ []
-
-abbrev pub oddWord : List ℕ
-oddWord = 32 ∷ 111 ∷ 100 ∷ 100 ∷ []
-
 unfoldable pub figureLine : List ℕ → Figure → List ℕ
 figureLine name (figure.Value x) = line name (natural x ∷ [])
 figureLine name (figure.Refused f) =
-    name ++ line (32 ∷ refusedWord) (natural (f .number) ∷ natural (f .place) ∷ [])
+    name ++ line (ascii " refused") (natural (f .number) ∷ natural (f .place) ∷ [])
 
 abbrev pub kindWord : ℤ → List ℕ
-kindWord z = pick (eqZ z (pos 1)) freeWord (pick (eqZ z (pos 2)) evenWord oddWord)
+kindWord z = pick (eqZ z (pos 1)) (ascii " free") (pick (eqZ z (pos 2)) (ascii " even") (ascii " odd"))
 
 unfoldable pub generatorLine : ℕ → List ℤ → List ℕ
 generatorLine j row = digits j ++ line (kindWord (getD row 0 (pos 0))) (drop 1 row)
@@ -91,22 +60,22 @@ generatorLines (suc n) table = generatorLines n table ++ generatorLine (suc n) (
 
 unfoldable pub countLines : (n e2 e3 k : ℕ) → List ℕ
 countLines n e2 e3 k =
-    line indexWord (natural n ∷ []) ++ line ellipticWord (natural e2 ∷ natural e3 ∷ [])
-    ++ line cuspsWord (natural k ∷ [])
+    line (ascii "index") (natural n ∷ []) ++ line (ascii "elliptic") (natural e2 ∷ natural e3 ∷ [])
+    ++ line (ascii "cusps") (natural k ∷ [])
 
 unfoldable pub cuspLines : (widths : List ℕ) → (genus level : Figure) → List ℕ
 cuspLines widths genus level =
-    line widthsWord (map natural widths) ++ figureLine genusWord genus ++ figureLine levelWord level
+    line (ascii "widths") (map natural widths) ++ figureLine (ascii "genus") genus ++ figureLine (ascii "level") level
 
 unfoldable pub figureLines : FigureRecord → (widths : List ℕ) → List ℕ
 figureLines f widths = countLines (f .index) (f .e2) (f .e3) (f .cusps) ++ cuspLines widths (f .genus) (f .level)
 
 unfoldable pub generatorPart : ℕ → List ℤ → List ℕ
-generatorPart n table = line generatorsWord (natural n ∷ []) ++ generatorLines n table
+generatorPart n table = line (ascii "generators") (natural n ∷ []) ++ generatorLines n table
 
 unfoldable pub tableLines : (s r u : List ℕ) → List ℕ
 tableLines s r u =
-    line (83 ∷ []) (map natural s) ++ line (82 ∷ []) (map natural r) ++ line (84 ∷ []) (map natural u)
+    line (ascii "S") (map natural s) ++ line (ascii "R") (map natural r) ++ line (ascii "T") (map natural u)
 
 abbrev pub listedLines : ℕ → List ℤ → List ℕ
 listedLines v t =

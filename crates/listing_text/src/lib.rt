@@ -16,10 +16,10 @@ use text::read_input;
 use text::vertex_count;
 ghost use mathlib.Core.Path.{_≡_};
 ghost use Prim.Native.Nat.{_*_, _≤_};
-ghost use lib.ListN.{length, take};
-ghost use Rattle.text.specs.Input.{ForInput};
+ghost use lib.ListN.{length};
+ghost use Rattle.text.specs.Input.{AnswersInput};
 ghost use Rattle.call.specs.Space.{workLength};
-ghost use Rattle.text.specs.Line.{Puts};
+ghost use Rattle.decimal.specs.Writing.{Puts};
 ghost use Rattle.symbol.specs.Symbol.{IsSymbol};
 ghost use Rattle.pairing.specs.Generator.{leaders, generatorTable};
 ghost use Rattle.listing_text.specs.Listing.{listedLines, listingLines, listingOf, ListingMeans};
@@ -107,11 +107,7 @@ fn list_text(
 // What the program writes for an input, whose bytes stand at the front of the buffer, from the front of `out`; where
 // it ends: at 0, with nothing changed, where the input could not be read.
 pub fn list(buffer: &[u8], input: Input, out: &mut [u8; 212992]) -> usize
-    ensures { λ e. ⌜ e ≤ length (now (out .exit)) ⌝ }
-    ensures { λ e. ⌜ ForInput (now (buffer .entry))
-        (λ longer text. Puts (listingOf longer text) 0 e (now (out .entry)) (now (out .exit))
-        × ListingMeans longer text (take e (now (out .exit))))
-        ((e ≡ 0) × (now (out .exit) ≡ now (out .entry)))
+    ensures { λ e. ⌜ AnswersInput listingOf ListingMeans (now (buffer .entry)) e (now (out .entry)) (now (out .exit))
         input ⌝ }
 {
     let Input::Read(n, longer) = input else {

@@ -1,4 +1,5 @@
 // The lines of a listing, as bytes in a lent slice.
+use decimal::put;
 use figures::Figure;
 use figures::FigureRecord;
 use numbering::R_TABLE;
@@ -9,7 +10,6 @@ use text::line::line_of_cells;
 use text::line::line_of_integers;
 use text::line::line_of_one;
 use text::line::line_of_two;
-use text::line::put;
 use text::line::put_digits;
 ghost use mathlib.Core.Path.{_≡_};
 ghost use mathlib.Core.List.{map};
@@ -17,7 +17,8 @@ ghost use Prim.Native.Nat.{_+_, _*_, _≤_};
 ghost use lib.ListN.{length};
 ghost use Rattle.call.specs.Space.{workLength, entries};
 ghost use Rattle.numbering.specs.Inner.Space.{S-TABLE, WIDTHS, R-TABLE, T-TABLE};
-ghost use Rattle.text.specs.Line.{natural, line, Puts};
+ghost use Rattle.text.specs.Line.{natural, line};
+ghost use Rattle.decimal.specs.Writing.{Puts};
 ghost use Rattle.listing_text.specs.Listing.{figureLine, countLines, cuspLines, figureLines, generatorLine};
 ghost use Rattle.listing_text.specs.Listing.{generatorLines, generatorPart, tableLines};
 

@@ -5,8 +5,7 @@
 --   Uniqueness   [proofs/Uniqueness.antt, uniqueness]   two alternating words with the same value up to sign are the
 --                same word
 --   Action       [proofs/Action.antt, action]           a set with an involution and a map of order three carries an
---                action, on the
---                                                       right, of all matrices of determinant 1, which is blind to sign
+--                action, on the right, of all matrices of determinant 1, which is blind to sign (`Acts`)
 use mathlib.Core.Path.{_≡_}
 use mathlib.Core.List.{List}
 use lib.IntN.{pos}

@@ -3,7 +3,7 @@
 -- Assumes nothing.
 use mathlib.Core.Path.{_≡_, refl, sym, _∙_, ap, subst}
 use mathlib.Core.List.{List, [], _∷_, _++_}
-use Prim.Native.Nat.{ℕ, _≤_, _<_}
+use Prim.Native.Nat.{ℕ, _+_, _*_, _≤_, _<_}
 use native.Mathlib.Omega.{arith}
 use lib.ListN.{length, take, drop}
 use lib.Seq.{take-at}
@@ -16,7 +16,7 @@ use Rattle.call.specs.declared.refusal.Filled.the-variants as filled
 use Rattle.call.proofs.Answers.{both-pass}
 use Rattle.call.proofs.Numbered.{Among}
 use Rattle.call.specs.Space.{workLength, zeros}
-use Rattle.call.specs.Call.{Step, Asks, Gives, lengthCheck, atFront, ifAccepted}
+use Rattle.call.specs.Call.{Step, Asks, Clears, Gives, lengthCheck, atFront, ifAccepted, Leaves}
 use Rattle.call.specs.Inner.Fills.{Fills, madeIf}
 use Rattle.call.proofs.Laws.{run-end, run-write, run-hold, short-write, fills-as, above-room, above-among, made-says}
 use Rattle.congruence.specs.Index.{familyIndex}
@@ -27,10 +27,10 @@ use Rattle.named_groups.specs.Group.{familyOf, groupCheck}
 use Rattle.import_rule.specs.Order.{Order}
 use Rattle.import_symbol.specs.Answer.{check16, ruledTable}
 use Rattle.permutations.specs.Check.{pairCheck}
-use Rattle.permutations.specs.Import.{neededVertices, neededLength}
+use Rattle.import_call.specs.Import.{neededVertices, neededLength}
 use Rattle.permutations.proofs.Accepted.{accepted}
-use Rattle.permutations.proofs.Means.{symbolSteps, above16, made-means}
-use Rattle.permutations.proofs.Answering.{admitted, work-back}
+use Rattle.import_call.proofs.Means.{symbolSteps, front-of, above16, made-means}
+use Rattle.import_call.proofs.Answering.{admitted, work-back}
 use Rattle.named_groups.specs.Answer.{NamedTables, namedRule, NamedSymbol}
 use Rattle.named_groups.proofs.Checked.{check-named, group-of, group-numbers}
 use Rattle.named_groups.proofs.Tables.{family-cosets, passport}
@@ -40,7 +40,7 @@ use Rattle.named_groups.proofs.Symbols.{symbol-named}
 pub group-by : (k n : ℕ) {f : Family} → f ≡ familyOf k → groupCheck k n ≡ checked.Accepted → Group f n
 group-by k n e d = rw e (group-of k n (check-named k n d))
 
-groups-among : (k n : ℕ) → Among 20 21 (groupCheck k n)
+pub groups-among : (k n : ℕ) → Among 20 21 (groupCheck k n)
 groups-among k n = go (groupCheck k n) refl
   where
     go : (c : Checked) → groupCheck k n ≡ c → Among 20 21 c
@@ -174,15 +174,29 @@ module _ (order : Order) (k n : ℕ) (w : List ℕ) (o : List ℤ) where
       (made-means order (familyS (familyOf k) n) (familyR (familyOf k) n) (passport (familyOf k) n g)
       (both-pass (check16 (namedRule order k n)) checked.Accepted (d .1) .0))
 
-  pub symbol-says : checkedRefusal symbolVerdict .number ≡ 0
-      → NamedSymbol (familyOf k) n (ifAccepted symbolVerdict (neededVertices (familyR (familyOf k) n)) (checkedRefusal symbolVerdict .place)) table
-  symbol-says =
-      made-says (record {
-        steps = Asks (groupCheck k n) ∷ Asks (lengthCheck workLength (length w)) ∷ Asks (lengthCheck needed (length o))
-            ∷ Asks (check16 (namedRule order k n)) ∷ [];
-        count = neededVertices (familyR (familyOf k) n);
-        Says = λ number place. Unit {0};
-      }) (λ (v : ℕ). NamedSymbol (familyOf k) n v table) (
-        above-among 20 21 (groupCheck k n) (omega arith) (groups-among k n),
-        (above-room workLength (length w), (above-room needed (length o), (above16 (namedRule order k n), tt))),
-      ) symbol-accepted
+  -- it stands at the front of the result space
+  module _ (w' : List ℕ) (o' : List ℤ)
+      (l : Leaves (Asks (groupCheck k n) ∷ Asks (lengthCheck workLength (length w)) ∷ Clears w w'
+      ∷ symbolSteps order (familyS (familyOf k) n) (familyR (familyOf k) n) o o')) where
+    abbrev vertices : ℕ
+    vertices = neededVertices (familyR (familyOf k) n)
+
+    symbol-in-space : symbolVerdict ≡ checked.Accepted → NamedSymbol (familyOf k) n vertices (take (3 * vertices + 1) o')
+    symbol-in-space e =
+        let m = symbol-accepted e in
+        subst (NamedSymbol (familyOf k) n vertices) (sym (front-of table o o' symbolVerdict (3 * vertices + 1) (m .symbol .long) (l .1 .0) e)) m
+
+    abbrev place : ℕ
+    place = ifAccepted symbolVerdict vertices (checkedRefusal symbolVerdict .place)
+
+    pub symbol-says : checkedRefusal symbolVerdict .number ≡ 0 → NamedSymbol (familyOf k) n place (take (3 * place + 1) o')
+    symbol-says =
+        made-says (record {
+          steps = Asks (groupCheck k n) ∷ Asks (lengthCheck workLength (length w)) ∷ Asks (lengthCheck needed (length o))
+              ∷ Asks (check16 (namedRule order k n)) ∷ [];
+          count = vertices;
+          Says = λ number place. Unit {0};
+        }) (λ (v : ℕ). NamedSymbol (familyOf k) n v (take (3 * v + 1) o')) (
+          above-among 20 21 (groupCheck k n) (omega arith) (groups-among k n),
+          (above-room workLength (length w), (above-room needed (length o), (above16 (namedRule order k n), tt))),
+        ) symbol-in-space

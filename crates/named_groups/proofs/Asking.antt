@@ -26,12 +26,12 @@ use Rattle.congruence_tables.specs.Inner.Held.{Group}
 use Rattle.import_rule.specs.Order.{Order}
 use Rattle.import_rule.specs.Symbol.{Ruled, made, over, ruledBy}
 use Rattle.import_symbol.specs.Answer.{check16, ruledTable}
-use Rattle.permutations.specs.Import.{neededVertices, neededLength}
-use Rattle.permutations.proofs.Means.{symbolSteps}
-use Rattle.permutations.proofs.Told.{told-made, told-refused, rule-made, rule-over}
-use Rattle.permutations.proofs.Answering.{past-check}
+use Rattle.import_call.specs.Import.{neededVertices, neededLength}
+use Rattle.import_call.proofs.Means.{symbolSteps}
+use Rattle.import_call.proofs.Told.{told-made, told-refused, rule-made, rule-over}
+use Rattle.import_call.proofs.Answering.{past-check}
 use Rattle.word.specs.Answer.{matricesCheck, foundIf}
-use Rattle.word.specs.Claim.{Asked}
+use Rattle.word.specs.Claim.{ValidQuery}
 use Rattle.word.specs.declared.Queried.{Queried}
 use Rattle.word.specs.declared.Queried.the-variants as queried
 use Rattle.word.proofs.Pair.{unit-is}
@@ -105,7 +105,7 @@ module _ (f : Family) (n : ℕ) (g : Group f n) (order : Order) where
           → Fills (ruledRun G a b out out' start) (ruledIf G a b start) r × (w' ≡ zeros (length w))
       query-made a b w w1 w' out out' start {r} q ew g =
           let u = ruledTable G in
-          let asked : Asked v u a b w1 =
+          let asked : ValidQuery v u a b w1 =
           record {
             symbol = symbol .symbol;
             work = rw ew (q .work);

@@ -21,8 +21,8 @@ use Rattle.call.specs.declared.refusal.Checked.the-variants.{Refused}
 use Rattle.call.proofs.Numbered.{Among}
 use Rattle.call.specs.Space.{workLength}
 use Rattle.pairing.specs.Generator.{generators}
-use Rattle.permutations.proofs.Means.{ruled-means}
-use Rattle.permutations.proofs.Renumbered.{from-coset, to-coset}
+use Rattle.import_call.proofs.Means.{ruled-means}
+use Rattle.coset.proofs.InWords.{from-coset, to-coset}
 use Rattle.right_cosets.specs.Condition.{Unit}
 use Rattle.congruence.specs.Congruence.{Meets}
 use Rattle.congruence.specs.Cosets.{familyS, familyR}
@@ -32,7 +32,7 @@ use Rattle.import_rule.specs.Order.{Order}
 use Rattle.import_rule.specs.Symbol.{Ruled, made, over, ruledBy}
 use Rattle.call.specs.Call.{verdict}
 use Rattle.word.specs.Answer.{queryRefusal, large, foundWord, foundSign, foundIf, foundChecks, wordLeft}
-use Rattle.word.specs.Claim.{Joined, Found, Answered, ShortWork}
+use Rattle.word.specs.Claim.{SameRightCoset, Found, Answered, ShortWork}
 use Rattle.word.specs.declared.Queried.{Queried}
 use Rattle.word.proofs.Pair.{small-clear, unit-is, is-unit}
 use Rattle.word.proofs.Claim.{same-number, answered}
@@ -40,7 +40,7 @@ use Rattle.word.proofs.Order.{passed-small}
 use Rattle.word.proofs.Refused.{Passed, pair-passes, pair-among, inOrder, Gets, Short, Stopped, checked, paired, reached, reaches}
 use Rattle.named_groups.specs.Group.{familyOf, groupCheck, NamedGroup}
 use Rattle.named_groups.specs.Answer.{namedRule, NamedSymbol, ruledWord, ruledIf, ruledChecks, namedQueryBy}
-use Rattle.named_groups.specs.Claim.{NamedAsked, NamedAnswered, RuleMakes, NamedClaim}
+use Rattle.named_groups.specs.Claim.{ValidNamedQuery, NamedAnswered, RuleMakes, NamedClaim}
 use Rattle.named_groups.proofs.Checked.{check-named, check-accepts, group-of, group-numbers}
 use Rattle.named_groups.proofs.Symbols.{symbol-named}
 use Rattle.named_groups.proofs.Tables.{passport}
@@ -73,7 +73,7 @@ module _ (order : Order) (k n : ℕ) (a b : List ℤ) (w : List ℕ) (out : List
   abbrev all : Checked
   all = inOrder (groupCheck k n) found a b w
 
-  asked-of : Gets (groupCheck k n) found a b w → NamedAsked k n a b w
+  asked-of : Gets (groupCheck k n) found a b w → ValidNamedQuery k n a b w
   asked-of g =
       let s = passed-small a b (g .passed .entries) in
       record {
@@ -87,7 +87,7 @@ module _ (order : Order) (k n : ℕ) (a b : List ℤ) (w : List ℕ) (out : List
 
   module _ (e : r ≡ namedQueryBy order k n a b (length w) (length out) start) where
     -- what a query that gets past the checks answers
-    found-of : NamedAsked k n a b w → r ≡ ruledIf G a b start found
+    found-of : ValidNamedQuery k n a b w → r ≡ ruledIf G a b start found
     found-of q =
         let p = pair-passed a b (q .entries-A) (q .entries-B) (q .unit-A) (q .unit-B) in
         e ∙ ap (ruledIf G a b start) (reached (groupCheck k n) found a b w (check-accepts k n (q .group)) (sym (pair-passes a b p)) (q .work))
@@ -104,21 +104,22 @@ module _ (order : Order) (k n : ℕ) (a b : List ℤ) (w : List ℕ) (out : List
     -- a number that the checks before don't give
     asked-by : (queryRefusal r .number < 8) ⊎ (queryRefusal r .number ≡ 10) ⊎ (queryRefusal r .number ≡ 11)
         → (queryRefusal r .number ≡ 11 → workLength ≤ length w)
-        → NamedAsked k n a b w × RuleMakes order k n
+        → ValidNamedQuery k n a b w × RuleMakes order k n
     asked-by h long = go (reaches (groupCheck k n) found a b w)
       where
-        no : {f : Refusal} → all ≡ Refused f → (f .number < 8 → ⊥) → (f .number ≡ 10 → ⊥) → (f .number ≡ 11 → ⊥) → NamedAsked k n a b w × RuleMakes order k n
+        no : {f : Refusal} → all ≡ Refused f → (f .number < 8 → ⊥) → (f .number ≡ 10 → ⊥) → (f .number ≡ 11 → ⊥)
+            → ValidNamedQuery k n a b w × RuleMakes order k n
         no s x y z =
             let q = same-number (ap queryRefusal (by s)) in
             elim h [ inl l ↦ absurd (x (omega (arith, l, q))) | inr (inl l) ↦ absurd (y (sym q ∙ l)) | inr (inr l) ↦ absurd (z (sym q ∙ l)) ]
 
-        stopped : Stopped (groupCheck k n) found a b w → NamedAsked k n a b w × RuleMakes order k n
+        stopped : Stopped (groupCheck k n) found a b w → ValidNamedQuery k n a b w × RuleMakes order k n
         stopped (checked f q s) = let z = group-numbers k n q in no s (λ y. omega (arith, z .0, y)) (λ y. omega (arith, z .0, y)) (λ y. omega (arith, z .0, y))
         stopped (paired f q s) =
             let z = subst (Among 8 9) q (pair-among a b) in no s (λ y. omega (arith, z .0, y)) (λ y. omega (arith, z .1, y)) (λ y. omega (arith, z .1, y))
 
         go : Gets (groupCheck k n) found a b w ⊎ Short (groupCheck k n) found a b w ⊎ Stopped (groupCheck k n) found a b w
-            → NamedAsked k n a b w × RuleMakes order k n
+            → ValidNamedQuery k n a b w × RuleMakes order k n
         go (inl g) = (
           asked-of g,
           makes G refl (by (g .is)) (λ z. elim h [ inl l ↦ omega (arith, l, z) | inr (inl l) ↦ omega (arith, l, z) | inr (inr l) ↦ omega (arith, l, z) ]),
@@ -126,13 +127,13 @@ module _ (order : Order) (k n : ℕ) (a b : List ℤ) (w : List ℕ) (out : List
         go (inr (inl s)) = absurd (omega (arith, long (same-number (ap queryRefusal (by (s .is)))), s .low))
         go (inr (inr s)) = stopped s
 
-    zero-ten : (queryRefusal r .number ≡ 0) ⊎ (queryRefusal r .number ≡ noWord .number) → NamedAsked k n a b w × RuleMakes order k n
+    zero-ten : (queryRefusal r .number ≡ 0) ⊎ (queryRefusal r .number ≡ noWord .number) → ValidNamedQuery k n a b w × RuleMakes order k n
     zero-ten h = elim h [
       | inl z ↦ asked-by (inl (omega (arith, z))) (λ y. absurd (omega (arith, y, z)))
       | inr z ↦ asked-by (inr (inl z)) (λ y. absurd (omega (arith, y, z)))
     ]
 
-    short-by : (m : ℕ) → queryRefusal r .number ≡ tooShort m .number → (NamedAsked k n a b w × RuleMakes order k n) ⊎ ShortWork w r
+    short-by : (m : ℕ) → queryRefusal r .number ≡ tooShort m .number → (ValidNamedQuery k n a b w × RuleMakes order k n) ⊎ ShortWork w r
     short-by m h = elim (reaches (groupCheck k n) found a b w) [
       | inl g ↦ inl (asked-by (inr (inr h)) (λ y. g .work))
       | inr (inl s) ↦ inr (s .low, ap queryRefusal (by (s .is)))
@@ -146,7 +147,8 @@ module _ (order : Order) (k n : ℕ) (a b : List ℤ) (w : List ℕ) (out : List
           )
     ]
 
-  module _ (e : r ≡ namedQueryBy order k n a b (length w) (length out) start) (d : out' ≡ wordLeft r (ruledWord G a b) out) (q : NamedAsked k n a b w) where
+  module _ (e : r ≡ namedQueryBy order k n a b (length w) (length out) start) (d : out' ≡ wordLeft r (ruledWord G a b) out)
+      (q : ValidNamedQuery k n a b w) where
     module _ (v : ℕ) (t : List ℤ) (g : G ≡ made v t) where
       abbrev A : Mat
       A = ofList a
@@ -165,7 +167,7 @@ module _ (order : Order) (k n : ℕ) (a b : List ℤ) (w : List ℕ) (out : List
           (subst (λ (x : Queried). Answered v t A B (foundWord v t A B) (foundSign v t A B) out start x (wordLeft x (foundWord v t A B) out)) (sym z)
           (answered (symbol .symbol) a b (q .unit-A) (q .unit-B) out start))
 
-      joined-meets : Joined v t A B ↔ Meets (familyOf k) n (B ⊗ adj A)
+      joined-meets : SameRightCoset v t A B ↔ Meets (familyOf k) n (B ⊗ adj A)
       joined-meets =
           let u : Unit (B ⊗ adj A) = det-one B (adj A) (q .unit-B) (det-adj A ∙ q .unit-A) in
           let s = symbol .group (B ⊗ adj A) u in

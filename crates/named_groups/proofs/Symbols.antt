@@ -9,7 +9,7 @@ use Rattle.right_cosets.specs.Condition.{Unit}
 use Rattle.congruence.specs.Cosets.{familyS, familyR}
 use Rattle.congruence.specs.declared.Family.{Family}
 use Rattle.congruence_tables.specs.Inner.Held.{Group}
-use Rattle.permutations.specs.Import.{SymbolOfPair}
+use Rattle.import_call.specs.Import.{SymbolOfPair}
 use Rattle.named_groups.specs.Answer.{NamedSymbol}
 use Rattle.named_groups.proofs.Tables.{family-cosets, leads-same, numbered-S, numbered-R}
 

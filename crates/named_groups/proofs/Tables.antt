@@ -29,9 +29,10 @@ use Rattle.congruence.specs.declared.Family.{Family}
 use Rattle.congruence.proofs.Theorem.{tables}
 use Rattle.right_cosets.proofs.Walked.{upTo-find}
 use Rattle.congruence_tables.specs.Inner.Held.{Group}
-use Rattle.import_rule.specs.Fixed.{image, byQ}
+use Rattle.permutations.specs.Pair.{image}
+use Rattle.import_rule.specs.Fixed.{byQ}
 use Rattle.permutations.specs.Check.{Passport}
-use Rattle.permutations.specs.Import.{numbering as points}
+use Rattle.import_call.specs.Import.{numbering as points}
 
 -- an image in a table, where there is an entry
 same-image : (t : List ℕ) (x : ℕ) → x < length t → image t x ≡ imageAt t x

@@ -11,7 +11,8 @@
 --                            index - e3
 --   namedSymbolSteps         20, 21, then the work space, then the result space by the length of the table, then 16;
 --                            by the rule under `leftmost`, by the wide rule under `longestOpen`
---   namedSymbolCall          the exported call
+--   namedSymbolCall          the exported call: 0 says that the table of such a symbol stands at the front of the
+--                            result space, of as many vertices as the place says
 --   ruledCloses, ruledWord, ruledSign     whether the walk over the symbol that the rule gives comes home, the word
 --                                         that
 --                            it writes, and its sign
@@ -24,7 +25,7 @@ use mathlib.Core.Logic.{_↔_}
 use mathlib.Core.Bool.{Bool, true, false}
 use mathlib.Core.List.{List, [], _++_}
 use Prim.Native.Nat.{ℕ, _+_, _-_, _*_}
-use lib.ListN.{length}
+use lib.ListN.{length, take}
 use lib.IntN.{ℤ}
 use Rattle.matrix.specs.Matrix.{Mat, ofList}
 use Rattle.call.specs.Space.{workLength}
@@ -45,7 +46,7 @@ use Rattle.import_rule.specs.Order.{Order}
 use Rattle.import_rule.specs.Symbol.{Ruled, made, over, ruledBy}
 use Rattle.import_symbol.specs.Answer.{check16, ruledTable}
 use Rattle.permutations.specs.Check.{Passport}
-use Rattle.permutations.specs.Import.{neededVertices, symbolInto}
+use Rattle.import_call.specs.Import.{neededVertices, symbolInto}
 use Rattle.word.specs.Answer.{matricesCheck, closes, foundWord, foundSign, walkChecks, wordSteps, wordIf}
 use Rattle.word.specs.declared.Queried.{Queried}
 use Rattle.named_groups.specs.Group.{familyOf, groupCheck}
@@ -91,7 +92,7 @@ abbrev pub namedSymbolCall : Order → (k n : ℕ) → Lent (List ℕ) → Lent 
 namedSymbolCall order k n w out = record {
   steps = namedSymbolSteps order k n w out;
   count = neededVertices (familyR (familyOf k) n);
-  Says = λ number place. number ≡ 0 → NamedSymbol (familyOf k) n place (ruledTable (namedRule order k n));
+  Says = λ number place. number ≡ 0 → NamedSymbol (familyOf k) n place (take (3 * place + 1) (out .exit .now));
 }
 
 -- ---- a query

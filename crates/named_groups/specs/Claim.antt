@@ -1,7 +1,7 @@
 -- WHAT A QUERY ON A GROUP WITH A NAME SAYS, for every family, N, pair, space and start place, under the rule and under
 -- the wide rule. It rests on the claim of the pair query (word/specs/Claim.antt).
 --
---   NamedAsked k n a b w     the query gets past all that comes before 16: 20 and 21, 8 and 9, and the work space
+--   ValidNamedQuery k n a b w    the query gets past all that comes before 16: 20 and 21, 8 and 9, and the work space
 --   NamedAnswered            where the rule gives a symbol, the claim of a pair query on that symbol; and a word is
 --                            found exactly when B A⁻¹ meets the condition of the group, and otherwise the answer is 10
 --   RuleMakes order k n      the rule gives a symbol of the group
@@ -42,7 +42,7 @@ use Rattle.word.specs.declared.Queried.{Queried}
 use Rattle.named_groups.specs.Group.{familyOf, NamedGroup}
 use Rattle.named_groups.specs.Answer.{namedRule, NamedSymbol, ruledWord, ruledSign, namedQuerySteps, namedQueryBy}
 
-pub record NamedAsked (k n : ℕ) (a b : List ℤ) (w : List ℕ) : Type 0 where
+pub record ValidNamedQuery (k n : ℕ) (a b : List ℤ) (w : List ℕ) : Type 0 where
   pub group : NamedGroup k n
   pub work : workLength ≤ length w
   pub entries-A : Small 1000000 (ofList a)
@@ -66,16 +66,16 @@ pub record RuleMakes (order : Order) (k n : ℕ) : Type 0 where
 pub record NamedClaim (order : Order) (k n : ℕ) (a b : List ℤ) (w : List ℕ) (out : List ℤ) (start : ℕ) (r : Queried)
     (out' : List ℤ) : Type 0 where
   pub asked : (queryRefusal r .number ≡ 0) ⊎ (queryRefusal r .number ≡ noWord .number)
-      → NamedAsked k n a b w × RuleMakes order k n
+      → ValidNamedQuery k n a b w × RuleMakes order k n
   pub short : (m : ℕ) → queryRefusal r .number ≡ tooShort m .number
-      → (NamedAsked k n a b w × RuleMakes order k n) ⊎ ShortWork w r
-  pub answered : NamedAsked k n a b w → (v : ℕ) (t : List ℤ) → namedRule order k n ≡ made v t
+      → (ValidNamedQuery k n a b w × RuleMakes order k n) ⊎ ShortWork w r
+  pub answered : ValidNamedQuery k n a b w → (v : ℕ) (t : List ℤ) → namedRule order k n ≡ made v t
       → NamedAnswered (familyOf k) n v t (ofList a) (ofList b) out start r out'
-  pub over : NamedAsked k n a b w → (i : ℕ) → namedRule order k n ≡ over i → queryRefusal r ≡ entryTooLarge i
+  pub over : ValidNamedQuery k n a b w → (i : ℕ) → namedRule order k n ≡ over i → queryRefusal r ≡ entryTooLarge i
 
 pub record NamedQuerySays (order : Order) (k n : ℕ) (a b : List ℤ) (w : List ℕ) (start number place : ℕ)
     (out' : List ℤ) : Type 0 where
-  pub asked : (number ≡ 0) ⊎ (number ≡ noWord .number) → NamedAsked k n a b w × RuleMakes order k n
+  pub asked : (number ≡ 0) ⊎ (number ≡ noWord .number) → ValidNamedQuery k n a b w × RuleMakes order k n
   pub none : number ≡ noWord .number → Meets (familyOf k) n (ofList b ⊗ adj (ofList a)) → ⊥
   pub some : number ≡ 0 → Meets (familyOf k) n (ofList b ⊗ adj (ofList a))
   pub letters : number ≡ 0 → (v : ℕ) (t : List ℤ) → namedRule order k n ≡ made v t
@@ -84,7 +84,8 @@ pub record NamedQuerySays (order : Order) (k n : ℕ) (a b : List ℤ) (w : List
       → valueOf (generators v t) (partOf out' start place) ⊗ ofList a ≈ ofList b
   pub normal : number ≡ 0 → (v : ℕ) (t : List ℤ) → namedRule order k n ≡ made v t
       → NormalWord v t (ofList a) (ofList b) (partOf out' start place)
-  pub short : number ≡ tooShort 0 .number → NamedAsked k n a b w → (v : ℕ) (t : List ℤ) → namedRule order k n ≡ made v t
+  pub short : number ≡ tooShort 0 .number → ValidNamedQuery k n a b w → (v : ℕ) (t : List ℤ)
+      → namedRule order k n ≡ made v t
       → (length (foundWord v t (ofList a) (ofList b)) ≡ place)
       × NormalWord v t (ofList a) (ofList b) (foundWord v t (ofList a) (ofList b))
 

@@ -24,7 +24,7 @@ ghost use Rattle.congruence_tables.specs.Inner.Held.{Group};
 ghost use Rattle.import_rule.specs.Order.{leftmost, longestOpen};
 ghost use Rattle.import_rule.specs.Symbol.{ruledBy};
 ghost use Rattle.import_symbol.specs.Answer.{orderBy};
-ghost use Rattle.permutations.specs.Import.{neededVertices, symbolInto};
+ghost use Rattle.import_call.specs.Import.{neededVertices, symbolInto};
 ghost use Rattle.named_groups.specs.Group.{familyOf, GroupVerdict};
 ghost use Rattle.named_groups.specs.Answer.{namedTablesSteps, namedRule, namedSymbolSteps};
 ghost use Rattle.named_groups.specs.Answer.{ruledSteps, namedQuerySteps, ruledIf};
@@ -137,7 +137,7 @@ fn make_symbol(f: Family, n: u64, w: &mut [u16], out: &mut [i64], wide: bool) ->
     let mut s = [0u32; 3066];
     let mut r = [0u32; 3066];
     let k = congruence_tables::tables(f, n, w, &mut s, &mut r);
-    permutations::import_by(&s[..k], &r[..k], w, out, wide)
+    import_call::import_by(&s[..k], &r[..k], w, out, wide)
 }
 
 // The symbol of the group, by the wide rule or by the rule.

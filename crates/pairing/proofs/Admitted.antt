@@ -1,8 +1,8 @@
 -- Laws of calls that ask `admit` first, for its answer r.
 --   admitted              where r accepts, the table is a symbol, and the work space is long enough
 --   admit-refused, admit-short, admit-both      what r is: a fault of the table, a short work space, or neither
---   filled-by, work-by    what is then answered and left is what the promises of the calls say
---   symbol-passed, symbol-zero     a call that asks for a symbol and for the work space, and then has the steps l: what its number 0 says, and when it is 0
+--   symbol-passed, symbol-short, symbol-behind, symbol-zero     a call that asks for a symbol and for the work space, and then has the steps l: what its
+--                         numbers 0 and 11 say, that behind the two the steps l decide, and when its number is 0
 --   generators-says       what the number of `generators` says
 -- Assumes nothing.
 use mathlib.Core.Path.{_≡_, refl, sym, ap, _∙_}
@@ -15,23 +15,21 @@ use lib.IntN.{ℤ}
 use lib.ListN.{length}
 use borrow.Author.Tests.{lt-ltb, le-ltb, ltb-false}
 use Rattle.basics.specs.Choice.{pick}
-use Rattle.call.specs.Space.{workLength, zeros}
-use Rattle.call.specs.Refusal.{tooShort, filledBy, _orElse_, checkedRefusal}
+use Rattle.call.specs.Space.{workLength}
+use Rattle.call.specs.Refusal.{tooShort, _orElse_, checkedRefusal}
 use Rattle.call.specs.declared.refusal.Refusal.{Refusal}
 use Rattle.call.specs.declared.refusal.Checked.{Checked}
 use Rattle.call.specs.declared.refusal.Checked.the-variants.{Accepted, Refused}
-use Rattle.call.specs.declared.refusal.Filled.{Filled}
-use Rattle.call.specs.declared.refusal.Filled.the-variants as filled
 use Rattle.call.proofs.Apart.{refused-accepted}
-use Rattle.call.proofs.Answers.{both-pass, pass-both}
+use Rattle.call.proofs.Answers.{both-pass, then-next}
 use Rattle.call.specs.Call.{Lent, Step, Asks, lengthCheck, verdict, numberOf, placeOf}
-use Rattle.call.proofs.Laws.{Numbered, above-among, above-room, accepted-by, room-long}
+use Rattle.call.proofs.Laws.{Numbered, above-among, above-room, accepted-by, past, room-long}
 use Rattle.symbol.specs.Check.{symbolCheck}
 use Rattle.symbol.specs.Symbol.{IsSymbol}
 use Rattle.symbol.proofs.Accepted.{accepted, check-among}
 use Rattle.basics.proofs.Choice.{pick-true, pick-false}
-use Rattle.pairing.specs.Generator.{byWork, workAfter, generatorTable, generatorsCall}
-use Rattle.pairing.specs.Inner.Admitted.{workCheck, admittedOf, workLeft}
+use Rattle.pairing.specs.Generator.{generatorTable, generatorsCall}
+use Rattle.pairing.specs.Inner.Admitted.{workCheck, admittedOf}
 use Rattle.pairing.proofs.Meaning.{generates}
 
 work-long : (work : ℕ) → Accepted ≡ workCheck work → workLength ≤ work
@@ -61,29 +59,6 @@ module _ (v : ℕ) (t : List ℤ) (work : ℕ) where
   pub admit-both : symbolCheck v t ≡ Accepted → workLength ≤ work → Accepted ≡ admittedOf v t work
   admit-both e h = sym (by-check e ∙ pick-false (ltb work workLength) (Refused (tooShort workLength)) Accepted (le-ltb work workLength h))
 
-filled-orElse : (c : Checked) (work : ℕ) (a : Filled) → filledBy (c orElse workCheck work) a ≡ filledBy c (byWork work a)
-filled-orElse (Refused f) work a = refl
-filled-orElse Accepted work a = go (ltb work workLength)
-  where
-    go : (b : Bool) → filledBy (pick b (Refused (tooShort workLength)) Accepted) a ≡ pick b (filled.Refused (tooShort workLength)) a
-    go true = refl
-    go false = refl
-
-work-orElse : (c : Checked) (w : List ℕ) → workLeft (c orElse workCheck (length w)) w ≡ workAfter c w
-work-orElse (Refused f) w = refl
-work-orElse Accepted w = go (ltb (length w) workLength)
-  where
-    go : (b : Bool) → workLeft (pick b (Refused (tooShort workLength)) Accepted) w ≡ pick b w (zeros (length w))
-    go true = refl
-    go false = refl
-
-module _ (v : ℕ) (t : List ℤ) (w : List ℕ) (r : Checked) (e : r ≡ admittedOf v t (length w)) where
-  pub filled-by : (a : Filled) → filledBy r a ≡ filledBy (symbolCheck v t) (byWork (length w) a)
-  filled-by a = ap (λ (c : Checked). filledBy c a) e ∙ filled-orElse (symbolCheck v t) (length w) a
-
-  pub work-by : workLeft r w ≡ workAfter (symbolCheck v t) w
-  work-by = ap (λ (c : Checked). workLeft c w) e ∙ work-orElse (symbolCheck v t) w
-
 -- ---- the number of a call on a symbol
 
 abbrev pub symbolVerdict : (v : ℕ) (t : List ℤ) (w : List ℕ) (l : List Step) → Checked
@@ -96,11 +71,16 @@ module _ (v : ℕ) (t : List ℤ) (w : List ℕ) (l : List Step) where
       (above-among 1 7 (symbolCheck v t) (omega arith) (check-among v t), (above-room workLength (length w), n)) z in
       (accepted v t .0 (both-pass (symbolCheck v t) (lengthCheck workLength (length w) orElse verdict l) all .0), all)
 
+  pub symbol-short : checkedRefusal (symbolVerdict v t w l) .number ≡ 11 → IsSymbol v t
+  symbol-short z = accepted v t .0 (past 1 7 11 (symbolCheck v t) (lengthCheck workLength (length w) orElse verdict l) (check-among v t) (omega arith) z .0)
+
+  pub symbol-behind : IsSymbol v t → workLength ≤ length w → symbolVerdict v t w l ≡ verdict l
+  symbol-behind ok long =
+      let space = lengthCheck workLength (length w) in
+      sym (then-next (symbolCheck v t) (space orElse verdict l) (accepted v t .1 ok)) ∙ sym (then-next space (verdict l) (room-long workLength (length w) long))
+
   pub symbol-zero : IsSymbol v t → workLength ≤ length w → verdict l ≡ Accepted → checkedRefusal (symbolVerdict v t w l) .number ≡ 0
-  symbol-zero ok long h =
-      let rest = pass-both (lengthCheck workLength (length w)) (verdict l) (room-long workLength (length w) long) h in
-      ap (λ (c : Checked). checkedRefusal c .number)
-      (pass-both (symbolCheck v t) (lengthCheck workLength (length w) orElse verdict l) (accepted v t .1 ok) rest)
+  symbol-zero ok long h = ap (λ (c : Checked). checkedRefusal c .number) (symbol-behind ok long ∙ h)
 
 pub generators-says : (v : ℕ) (t : List ℤ) (w : Lent (List ℕ)) (out : Lent (List ℤ))
     → generatorsCall v t w out .Says (numberOf (generatorsCall v t w out)) (placeOf (generatorsCall v t w out))

@@ -12,13 +12,10 @@
 --   Generates v t         what a list that was made means: the table is a symbol, and each generator has determinant 1,
 --                         so that its adjugate is its inverse
 --   generatorsCall        checks 1 to 7, the work space, the generators; it counts them
--- Calls of other crates that are not yet stated by their steps use
---   byWork work a         refused with 11 where the work space is too short, or else the answer a
---   workAfter c w         what is left in the work space: zeros where the checks c accept and w is long enough, else w
 use mathlib.Core.Path.{_≡_}
 use mathlib.Core.Bool.{Bool, true, false, not, _&&_}
 use mathlib.Core.List.{List, [], _∷_, _++_, map}
-use Prim.Native.Nat.{ℕ, suc, _+_, _*_, _<_}
+use Prim.Native.Nat.{ℕ, _+_, _<_}
 use lib.Dec.{ltb, eqb}
 use lib.IntN.{ℤ, pos}
 use lib.ListN.{length, getD}
@@ -26,12 +23,6 @@ use Rattle.matrix.specs.Matrix.{nth, Mat, _⊗_, 𝟙, det, adj, matS, matQ, to
 use Rattle.basics.specs.Choice.{pick}
 use Rattle.basics.specs.Count.{first, count, those}
 use Rattle.symbol.specs.Table.{pairingEntries, pairingEntry, sideAt, frame, carried, pairingOf}
-use Rattle.call.specs.Space.{workLength, zeros}
-use Rattle.call.specs.Refusal.{tooShort}
-use Rattle.call.specs.declared.refusal.Checked.{Checked}
-use Rattle.call.specs.declared.refusal.Checked.the-variants.{Accepted, Refused}
-use Rattle.call.specs.declared.refusal.Filled.{Filled}
-use Rattle.call.specs.declared.refusal.Filled.the-variants as filled
 use Rattle.call.specs.Call.{Lent, asks, work, stores, Contract}
 use Rattle.symbol.specs.Check.{eqZ, symbolCheck}
 use Rattle.symbol.specs.Symbol.{IsSymbol}
@@ -111,12 +102,3 @@ generatorsCall v t w out = record {
   count = length (leaders v t);
   Says = λ number place. number ≡ 0 → Generates v t;
 }
-
--- ---- for calls of other crates
-
-abbrev pub byWork : ℕ → Filled → Filled
-byWork work a = pick (ltb work workLength) (filled.Refused (tooShort workLength)) a
-
-abbrev pub workAfter : Checked → List ℕ → List ℕ
-workAfter (Refused f) w = w
-workAfter Accepted w = pick (ltb (length w) workLength) w (zeros (length w))

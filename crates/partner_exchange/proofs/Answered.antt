@@ -84,7 +84,7 @@ module _ (v : ℕ) (t : List ℤ) (x y : ℤ) where
       (among-refuse 1 23 (not (isFreeLabel v p x)) (notFreeLabel 0) (omega arith) (omega arith))
       (among-first 1 23 second same (among-refuse 1 23 (not (isFreeLabel v p y)) (notFreeLabel 1) (omega arith) (omega arith)) repeat)
 
-  exchange-numbered : Above (exchangeCheck v t x y)
+  pub exchange-numbered : Above (exchangeCheck v t x y)
   exchange-numbered = above-among 1 23 (exchangeCheck v t x y) (omega arith)
       (among-first 1 23 (symbolCheck v t) (check23 v (pairingEntries v t) x y)
       (wider 1 7 1 23 (symbolCheck v t) (omega arith) (omega arith) (check-among v t)) labels-among)

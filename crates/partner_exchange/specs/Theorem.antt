@@ -1,5 +1,5 @@
 -- WHAT AN EXCHANGE OF PARTNERS DOES, for every symbol and every two of its free labels. The proof is `trades`, in
--- proofs/Trade.antt.
+-- proofs/Theorem.antt.
 --
 --   TwoSides v t x a b    the sides a and b, in this order, are those with the label x, and there are no others
 --   Trade v t x y         the theorem, in these parts:

@@ -1,17 +1,17 @@
 -- THE CHECKS 12 TO 15 ACCEPT EXACTLY THE PASSPORTS.
 --
--- In order: the checks one by one (`passed-all`, `all-passed`); entries of a table (`image-in`, `image-out`, `entry-low`); what passing says
+-- In order: the checks one by one (`passed-all`, `all-passed`); entries of a table (`entry-low`); what passing says
 -- (`passport`) and why a passport passes (`passing`); the theorem (`accepted`, `verdict`); the two tables as maps (`permuting-of`).
 -- Assumes nothing.
 use mathlib.Core.Path.{_≡_, refl, sym, _∙_, ap}
 use mathlib.Core.Logic.{_↔_}
 use mathlib.Core.Bool.{Bool, true, false, not, _&&_, _||_}
-use mathlib.Core.List.{List, [], _∷_}
-use Prim.Native.Nat.{ℕ, zero, suc, _≤_, _<_}
+use mathlib.Core.List.{List}
+use Prim.Native.Nat.{ℕ, _≤_, _<_}
 use native.Mathlib.Omega.{arith}
 use native.Mathlib.Decide.{decLt}
 use lib.Dec.{leb, ltb, eqb}
-use lib.ListN.{length, getD, List·getD-eq-default}
+use lib.ListN.{length, getD}
 use borrow.Author.Tests.{leb-true, eqb-true, ltb-true, lt-ltb, le-ltb, le-leb, eq-eqb, ne-eqb, not-false}
 use Rattle.call.specs.Refusal.{_orElse_, pointCount, tableEntry, wrongOrder, unreached}
 use Rattle.call.specs.declared.refusal.Checked.{Checked}
@@ -23,9 +23,10 @@ use Rattle.basics.proofs.Count.{Clear, first-clear}
 use Rattle.numbering.specs.Find.{find, isIn, _∈_}
 use Rattle.numbering.specs.Order.{orderOf, Numbering}
 use Rattle.numbering.proofs.Order.{numbering}
-use Rattle.import_rule.specs.Fixed.{image, Permuting}
+use Rattle.permutations.specs.Pair.{image, Permuting}
 use Rattle.permutations.specs.Check.{check12, earlier, badEntry, check13, twiceMoved, thriceMoved, check14, notReached, check15, pairCheck, Passport}
 use Rattle.permutations.specs.Check.{PairVerdict}
+use Rattle.permutations.proofs.Images.{image-in, image-out}
 use Rattle.symbol.proofs.Accepted.{passes, pass, passes-at, pass-at}
 
 -- ---- the checks one by one
@@ -67,17 +68,6 @@ all-passed s r p =
     (pass-at (notReached s r) (length s) unreached (p .all))))))
 
 -- ---- entries of a table
-
-pub image-in : (l : List ℕ) (x d : ℕ) → x < length l → image l x ≡ getD l x d
-image-in l x d h = go l x x d h
-  where
-    go : (l : List ℕ) (x a b : ℕ) → x < length l → getD l x a ≡ getD l x b
-    go [] x a b h = absurd (omega arith)
-    go (y ∷ l) zero a b h = refl
-    go (y ∷ l) (suc x) a b h = go l x a b (omega arith)
-
-image-out : (l : List ℕ) (x : ℕ) → length l ≤ x → image l x ≡ x
-image-out l x h = List·getD-eq-default l x h
 
 or-left : (a b : Bool) → (a || b) ≡ false → a ≡ false
 or-left true b e = e

@@ -20,8 +20,8 @@ use Rattle.basics.specs.Choice.{pick}
 use Rattle.basics.specs.Count.{first}
 use Rattle.basics.proofs.Choice.{pick-true, pick-false, either, clash}
 use Rattle.basics.proofs.Count.{Clear, Found, clear-zero, clear-more, search-first, first-clear, first-hit, found, clear-first, first-le}
-use Rattle.import_rule.specs.Fixed.{image}
-use Rattle.import_rule.proofs.Images.{image-in}
+use Rattle.permutations.specs.Pair.{image}
+use Rattle.permutations.proofs.Images.{image-in}
 use Rattle.symbol.specs.Check.{refuseAt}
 use Rattle.permutations.specs.Check.{badEntry, earlier, twiceMoved, thriceMoved}
 use Rattle.permutations.proofs.Accepted.{entry-low}

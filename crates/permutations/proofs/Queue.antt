@@ -19,7 +19,7 @@ use Rattle.numbering.specs.Find.{find, _∈_, _∉_, isIn, Once}
 use Rattle.numbering.specs.Order.{add, visit, orderTo, orderOf, Maps}
 use Rattle.numbering.proofs.Find as places
 use Rattle.numbering.proofs.Order.{add-old, add-new, Grows, visit-grows, to-more, order-stop}
-use Rattle.import_rule.specs.Fixed.{image}
+use Rattle.permutations.specs.Pair.{image}
 use Rattle.permutations.specs.Check.{notReached}
 use Rattle.permutations.specs.Inner.Seen.{Entries}
 use Rattle.permutations.specs.Inner.Reach.{QueueHolds, Entered, VisitedAt, Two, Blank, AllReached}

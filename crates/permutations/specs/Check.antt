@@ -24,7 +24,7 @@ use Rattle.basics.specs.Count.{first}
 use Rattle.symbol.specs.Check.{refuse, refuseAt}
 use Rattle.numbering.specs.Find.{isIn}
 use Rattle.numbering.specs.Order.{orderOf, Reached}
-use Rattle.import_rule.specs.Fixed.{image}
+use Rattle.permutations.specs.Pair.{image}
 
 -- 12: from 1 to 3,066 points, and as many in both tables
 abbrev pub check12 : (s r : List ℕ) → Checked

@@ -1,4 +1,4 @@
--- What the functions of the crate `permutations` promise each other: how the work space is laid out, what a loop or a
--- call leaves there, what is asked of a caller. A reader who trusts the checker need not read it.
+-- What the functions of the crate `permutations` promise each other: what a loop or a call leaves in memory of its own,
+-- what is asked of a caller. A reader who trusts the checker need not read it.
 pub mod Seen
 pub mod Reach

@@ -1,13 +1,13 @@
 // The checks 13 and 14: entries that are no points or come again, and points that S twice or R three times moves.
-use import_rule::image;
-use import_rule::wide;
+use crate::image;
+use crate::wide;
 ghost use mathlib.Core.Path.{_≡_};
 ghost use mathlib.Core.Bool.{not};
 ghost use Prim.Native.Nat.{_+_, _≤_, _<_};
 ghost use lib.Dec.{eqb};
 ghost use lib.ListN.{length, getD, set};
 ghost use Rattle.basics.specs.Count.{first};
-ghost use Rattle.import_rule.specs.Fixed.{image};
+ghost use Rattle.permutations.specs.Pair.{image};
 ghost use Rattle.permutations.specs.Check.{badEntry, twiceMoved, thriceMoved, movedBy};
 ghost use Rattle.permutations.specs.Inner.Seen.{SeenTo, Entries};
 

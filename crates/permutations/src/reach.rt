@@ -1,10 +1,10 @@
 // The check 15: the points that are reached from 0, listed with a queue and a mark for each.
-use import_rule::image;
+use crate::image;
 ghost use mathlib.Core.Path.{_≡_};
 ghost use Prim.Native.Nat.{_≤_, _<_};
 ghost use lib.ListN.{length};
 ghost use Rattle.basics.specs.Count.{first};
-ghost use Rattle.import_rule.specs.Fixed.{image};
+ghost use Rattle.permutations.specs.Pair.{image};
 ghost use Rattle.permutations.specs.Check.{notReached};
 ghost use Rattle.permutations.specs.Inner.Reach.{QueueHolds, Entered, VisitedAt, Two, Blank, AllReached};
 

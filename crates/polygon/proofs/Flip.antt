@@ -23,7 +23,8 @@ use Rattle.polygon.specs.Step.{oddAt, real, Real, turnQ}
 use Rattle.polygon.specs.Triangles.{Farey, Triangles}
 use Rattle.polygon.proofs.SymbolFacts.{odd-in}
 use Rattle.polygon.proofs.Edges.{Known, corner, face, known-in, spun, frame-outer, frame-corner, Way, Shut}
-use Rattle.polygon.proofs.Scan.{Over, framed, Whole, whole}
+use Rattle.polygon.proofs.Scan.{framed, Whole, whole}
+use Rattle.polygon.proofs.Chord.{Over}
 use Rattle.polygon.proofs.Triangles.{side-edge, farey}
 
 -- ---- turns

@@ -26,6 +26,7 @@ use Rattle.matrix.proofs.Action.{at-word, at-≈, at-⊗, at-𝟙}
 use Rattle.pairing.specs.Subgroup.{IsLetter, IsWord, letterOf, valueOf, InH}
 use Rattle.polygon.specs.Walk.{wrote}
 use Rattle.polygon.specs.Theorem.{SameCoset}
+use Rattle.polygon.proofs.OneCoset.{to-coset}
 
 -- ---- words in the generators put together
 
@@ -250,11 +251,6 @@ module _ {X : Type 0} (σ κ : X → X) (F : X → Mat) (Real : X → Type 0) (g
           let k = adj m ⊗ F₀ in
           let dk = det-one (adj m) F₀ (det-adj m ∙ dm) d₀ in
           let i = stabiliser x dx .1 (ap lead (⊗-assoc n (adj m) F₀) ∙ lead-same n m k dn dm dk (sym e) ∙ ap lead (undo m F₀ dm) ∙ home start real) in
-          record {
-            word = i .word;
-            letters = i .letters;
-            is =
-                ≈-right m (≈-sym (i .is)) ∙≈ inl (⊗-assoc n (adj m) m ∙ ap (λ (y : Mat). n ⊗ y) (adj-⊗ m dm) ∙ ⊗-idr n);
-          }),
+          to-coset gens m n dm i),
       (λ c. sym (lead-word (c .word) m (c .letters) dm) ∙ lead-≈ (valueOf gens (c .word) ⊗ m) n (c .is)),
     )

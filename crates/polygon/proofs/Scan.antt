@@ -1,6 +1,6 @@
 -- The scan cuts the whole polygon: after its last vertex one position is open, and it lies under the chord from -1/0 to the last vertex.
 --
--- In order: chords and their frames (`chord`, `side-chord`), also over a triangle (`Over`); what the stack keeps (`Stacked`, `Rising`); a triangle
+-- In order: what the stack keeps (`Stacked`, `Rising`); a triangle
 -- cut off (`cut-off`); a vertex pushed (`push-ready`); the scan (`Ready`, `ready`); a vertex of denominator 1 is alone on the stack (`alone`); the
 -- array at the end (`Whole`, `whole`).
 --
@@ -34,29 +34,16 @@ use Rattle.basics.proofs.Count.{found}
 use Rattle.symbol.proofs.Choice.{eqZ-true}
 use Rattle.basics.proofs.Choice.{either, and-left, and-right}
 use Rattle.polygon.proofs.SymbolFacts.{below-suc, first-below}
+use Rattle.polygon.proofs.Chord.{chord, Over, left-den, side-chord, last-side}
 use Rattle.polygon.proofs.Mediant.{S-twice, sum-or-half, mediant, Triangle, triangle}
 use Rattle.polygon.proofs.Edges.{Known, corner, face, known-more, known-in, Knowns, frames, put, spun, frame-outer, frame-corner, frame-same}
 use Rattle.polygon.proofs.Edges.{Way, Fits, open-side, open-triangle, join}
 
 -- ---- chords
 
--- the frame of the chord from vertex x to vertex y, counted from 0 for -1/0
-abbrev pub chord : List ℤ → ℕ → ℕ → Mat
-chord t x y = mat (leftNum t y) (leftNum t x) (pos (den t y)) (pos (den t x))
-
 triangle-at : (t : List ℤ) (x m y : ℕ) → leftNum t m ≡ leftNum t x +ℤ leftNum t y → den t m ≡ den t x + den t y
     → Triangle (chord t x m) (chord t m y) (chord t x y)
 triangle-at t x m y n d = rw (n, d) (triangle (leftNum t x) (pos (den t x)) (leftNum t y) (pos (den t y)))
-
--- x is the frame of a chord between vertices, with their mediant between them
-pub record Over (v : ℕ) (t : List ℤ) (x : Mat) : Type 0 where
-  pub left : ℕ
-  pub middle : ℕ
-  pub right : ℕ
-  pub ordered : (left < middle) × (middle < right) × (right ≤ v)
-  pub num-is : leftNum t middle ≡ leftNum t left +ℤ leftNum t right
-  pub den-is : den t middle ≡ den t left + den t right
-  pub is : x ≡ chord t left right
 
 abbrev pub handles : List Cell → List ℕ
 handles [] = []
@@ -241,21 +228,6 @@ unfolding matS
 to-zero = refl
 
 module _ (v : ℕ) (t : List ℤ) (ok : IsSymbol v t) where
-  pub left-den : (i : ℕ) → i ≤ v → leftDen t i ≡ pos (den t i)
-  left-den zero h = refl
-  left-den (suc i) h = ok .denoms i (omega arith) .2
-
-  pub side-chord : (i : ℕ) → i < v → frameAt v t i ≡ chord t i (suc i)
-  side-chord i h =
-      let b = lt-ltb i v h in
-      mat-eq (ap (λ (x : Bool). pick x (numer t i) (pos 1)) b) refl (ap (λ (x : Bool). pick x (denom t i) (pos 0)) b ∙ ok .denoms i h .2)
-      (left-den i (omega arith))
-
-  pub last-side : frameAt v t v ≡ mat (pos 1) (leftNum t v) (pos 0) (pos (den t v))
-  last-side =
-      let b = le-ltb v v (omega arith) in
-      mat-eq (ap (λ (x : Bool). pick x (numer t v) (pos 1)) b) refl (ap (λ (x : Bool). pick x (denom t v) (pos 0)) b) (left-den v (omega arith))
-
   -- the last vertex is an integer
   last-den : den t v ≡ 1
   last-den = let one = ok .some in let e : v ≡ suc (v - 1) = omega arith in ap (den t) e ∙ ap natAbs (last-integer v t ok)
@@ -297,7 +269,7 @@ module _ (v : ℕ) (t : List ℤ) (ok : IsSymbol v t) where
   step-pushed n s r h =
       let f = open-side v (frameAt v t) (s .flips) (s .cut) n (handles (s .stack)) (r .tops) (r .fits) (omega arith) (ok .neighbours n (omega arith)) in
       push-ready v t (s .stack) (s .flips) (s .cut) (suc n) (outer v n) (suc n) (r .tops) f (let c = r .count in omega arith) h (r .stacked)
-      (frame-outer v (frameAt v t) (r .tops) n ∙ side-chord n (omega arith) ∙ ap (λ (x : ℕ). chord t x (suc n)) (sym (r .on-top)))
+      (frame-outer v (frameAt v t) (r .tops) n ∙ side-chord v t ok n (omega arith) ∙ ap (λ (x : ℕ). chord t x (suc n)) (sym (r .on-top)))
       (let d = ok .denoms n (omega arith) .0 in omega arith)
       (r .rising) (let e = r .on-top in omega arith) h (r .overs)
 
@@ -386,7 +358,7 @@ module _ (v : ℕ) (t : List ℤ) (ok : IsSymbol v t) where
       let low = last-handle a h top f in
       join v (frameAt v t) a (v - 1) (suc v) (outer v v) h [] top
       (open-side v (frameAt v t) a (v - 1) v (h ∷ []) top f (omega arith) (ok .neighbours v (omega arith)))
-      (inl (ap (λ (m : Mat). m ⊗ matS) (frame-outer v (frameAt v t) top v ∙ last-side) ∙ close (leftNum t v) (pos (den t v)) ∙ sym e))
+      (inl (ap (λ (m : Mat). m ⊗ matS) (frame-outer v (frameAt v t) top v ∙ last-side v t ok) ∙ close (leftNum t v) (pos (den t v)) ∙ sym e))
       (record { up = λ b z. absurd (omega arith); inside = λ b. low })
       (record { up = λ b z. (omega arith, inr refl); inside = λ b. elim low [ inl z ↦ absurd (omega arith) | inr z ↦ inr z ] })
 

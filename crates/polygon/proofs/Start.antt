@@ -27,7 +27,7 @@ use Rattle.polygon.specs.Step.{oddAt, real, Real, stepS, turned, startOf
 use Rattle.symbol.proofs.Choice.{eqZ-true}
 use Rattle.basics.proofs.Choice.{either, clash, and-left, and-right}
 use Rattle.polygon.proofs.Mediant.{neg-pos}
-use Rattle.polygon.proofs.Scan.{chord, side-chord, last-side}
+use Rattle.polygon.proofs.Chord.{chord, side-chord, last-side}
 use Rattle.polygon.proofs.Flip.{inner, outside, place, Cutting, real-corner, real-face}
 use Rattle.polygon.proofs.Steps.{closed-S}
 

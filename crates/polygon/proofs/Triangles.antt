@@ -22,7 +22,7 @@ use Rattle.symbol.specs.Symbol.{IsSymbol}
 use Rattle.pairing.specs.Generator.{frameAt}
 use Rattle.polygon.specs.Cut.{den}
 use Rattle.polygon.specs.Triangles.{Fraction, fraction, opposite, mediant, vertexAt, atZero, atInfinity, Edge, Farey}
-use Rattle.polygon.proofs.Scan.{Over, left-den}
+use Rattle.polygon.proofs.Chord.{Over, left-den}
 
 -- ---- columns
 

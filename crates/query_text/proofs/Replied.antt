@@ -11,6 +11,7 @@ use mathlib.Core.List.{List}
 use Prim.Native.Nat.{ℕ, _≤_, _<_}
 use native.Mathlib.Omega.{arith}
 use lib.Dec.{ltb}
+use Rattle.basics.specs.Choice.{pick}
 use lib.IntN.{ℤ}
 use lib.ListN.{length, take}
 use lib.Seq.{length-take-le}
@@ -20,7 +21,7 @@ use Rattle.call.specs.Refusal.{badVertexCount}
 use Rattle.call.specs.Space.{workLength}
 use Rattle.basics.proofs.Choice.{pick-true, pick-false}
 use Rattle.text.specs.Piece.{pieces, numbers}
-use Rattle.text.specs.Reading.{inputOf}
+use Rattle.text.specs.Reading.{inputOf, byReading, countIn}
 use Rattle.text.specs.declared.Reading.{Reading}
 use Rattle.text.specs.declared.Reading.the-variants.{Numbers}
 use Rattle.text.proofs.Handed.{input-on}
@@ -29,8 +30,9 @@ use Rattle.word.specs.Answer.{queryRefusal, foundWord, queryOf}
 use Rattle.word.specs.declared.Queried.{Queried}
 use Rattle.word.proofs.Order.{claim}
 use Rattle.word.specs.declared.Queried.the-variants as queried
-use Rattle.query_text.specs.Reply.{lettersLent, said, replied, countIn, symbolIn, firstIn, secondIn, byCount, repliedTo}
-use Rattle.query_text.specs.Reply.{queryFormat, replyBy, replyOf, ReplyMeans}
+use Rattle.query_text.specs.Reply.{lettersLent, said, symbolIn, firstIn, secondIn, repliedTo}
+use Rattle.query_text.specs.Inner.Spaces.{replied}
+use Rattle.query_text.specs.Reply.{queryFormat, replyOf, ReplyMeans}
 
 -- an answer that is no word is its refusal
 pub said-other : (r : Queried) (l : List ℤ) → ((s n : ℕ) (q : Bool) → r ≡ queried.Word s n q → ⊥) → refusalLine (queryRefusal r) ≡ said r l
@@ -51,10 +53,10 @@ pub asked-as : {X : Type 0} {v v' : ℕ} {t t' a a' b b' : List ℤ} (f : ℕ �
 asked-as f e g h k = cc
 
 module _ (ns : List ℤ) where
-  few : {X : Type 0} (x y : X) → length ns < 10 → x ≡ byCount ns x y
+  few : {X : Type 0} (x y : X) → length ns < 10 → x ≡ pick (ltb (length ns) 10) x y
   few x y h = sym (pick-true (ltb (length ns) 10) x y (lt-ltb (length ns) 10 h))
 
-  enough : {X : Type 0} (x y : X) → 10 ≤ length ns → y ≡ byCount ns x y
+  enough : {X : Type 0} (x y : X) → 10 ≤ length ns → y ≡ pick (ltb (length ns) 10) x y
   enough x y h = sym (pick-false (ltb (length ns) 10) x y (le-ltb (length ns) 10 h))
 
   pub few-line : length ns < 10 → refusalLine badVertexCount ≡ repliedTo ns
@@ -62,19 +64,19 @@ module _ (ns : List ℤ) where
   few-line h = few _ _ h
 
   pub enough-line : 10 ≤ length ns → replied (countIn ns) (symbolIn ns) (firstIn ns) (secondIn ns) ≡ repliedTo ns
-  unfolding repliedTo
+  unfolding repliedTo replied
   enough-line h = enough _ _ h
 
 pub reply-by : (longer : Bool) (text : List ℕ) (r : Reading) → r ≡ inputOf longer queryFormat text 3079
-    → replyBy r (numbers (pieces text)) ≡ replyOf longer text
+    → byReading repliedTo refusalLine r (numbers (pieces text)) ≡ replyOf longer text
 unfolding replyOf
-reply-by longer text r e = ap (λ (x : Reading). replyBy x (numbers (pieces text))) e
+reply-by longer text r e = ap (λ (x : Reading). byReading repliedTo refusalLine x (numbers (pieces text))) e
 
 -- the claim holds of what a query in such spaces answers
 pub reply-means : (longer : Bool) (text : List ℕ) {bytes : List ℕ} → bytes ≡ replyOf longer text → ReplyMeans longer text bytes
 unfolding replyOf repliedTo replied
 reply-means longer text {bytes} b k ten e = record {
-  line = b ∙ ap (λ (x : Reading). replyBy x all) e ∙ sym (enough read (refusalLine badVertexCount) _ long);
+  line = b ∙ ap (λ (x : Reading). byReading repliedTo refusalLine x all) e ∙ sym (enough read (refusalLine badVertexCount) _ long);
   claim = λ w letters work lent. claim
       (ap (λ (n : ℕ). queryOf (countIn read) (symbolIn read) (firstIn read) (secondIn read) n lettersLent 0) (sym work)
       ∙ ap (λ (n : ℕ). queryOf (countIn read) (symbolIn read) (firstIn read) (secondIn read) (length w) n 0) (sym lent))

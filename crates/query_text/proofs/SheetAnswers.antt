@@ -32,11 +32,12 @@ use Rattle.text.specs.Piece.{pieces, numbers}
 use Rattle.text.specs.declared.Reading.{Reading}
 use Rattle.text.specs.declared.Reading.the-variants.{Numbers}
 use Rattle.text.specs.Line.{refusalLine}
-use Rattle.query_text.specs.Reply.{lettersLent, countIn}
+use Rattle.query_text.specs.Reply.{lettersLent}
+use Rattle.text.specs.Reading.{countIn, byReading}
 use Rattle.sheets.specs.Sheet.{pairsIn, spaceAt, linesTo, entriesCheck, sheetChecks}
 use Rattle.sheets.proofs.Spaces.{line-means}
 use Rattle.sheets.proofs.Whole.{sheetRun}
-use Rattle.query_text.specs.Printed.{sheetReading, tableOf, pairsOf, linesLent, unused, pairLines, sheetVerdict, linesIf, printed, bytesBy, sheetBytes}
+use Rattle.query_text.specs.Printed.{sheetReading, tableOf, pairsOf, linesLent, unused, pairLines, sheetVerdict, linesIf, printed, sheetBytes}
 use Rattle.query_text.specs.Printed.{SheetPrintMeans}
 use Rattle.query_text.specs.Inner.SheetTable.{printedRows, SheetSpaces, LinesRoom}
 use Rattle.query_text.proofs.SheetFresh.{print-same}
@@ -148,9 +149,10 @@ module _ (ns : List ℤ) {w : List ℕ} {lines letters : List ℤ} {out : List �
 
 -- ---- by what a text gives
 
-pub by-reading : (longer : Bool) (t : List ℕ) (r : Reading) → r ≡ sheetReading longer t → bytesBy r (numbers (pieces t)) ≡ sheetBytes longer t
+pub by-reading : (longer : Bool) (t : List ℕ) (r : Reading) → r ≡ sheetReading longer t
+    → byReading printed refusalLine r (numbers (pieces t)) ≡ sheetBytes longer t
 unfolding sheetBytes
-by-reading longer t r e = ap (λ (x : Reading). bytesBy x (numbers (pieces t))) e
+by-reading longer t r e = ap (λ (x : Reading). byReading printed refusalLine x (numbers (pieces t))) e
 
 -- ---- what it means
 
@@ -158,7 +160,7 @@ pub print-means : (longer : Bool) (text : List ℕ) {bytes : List ℕ} → bytes
 unfolding sheetBytes printed
 print-means longer text {bytes} b k e = record {
   answer = λ letters lent.
-      b ∙ ap (λ (x : Reading). bytesBy x all) e
+      b ∙ ap (λ (x : Reading). byReading printed refusalLine x all) e
       ∙ ap (linesIf (sheetVerdict ns))
       (sym (print-same (countIn ns) (tableOf ns) (pairsOf ns) letters (replicate {A = ℕ} workLength 0) lent (length-replicate {A = ℕ} workLength 0)
       (pairsIn (pairsOf ns))));

@@ -14,8 +14,10 @@ use lib.ListN.{length}
 use borrow.Author.Tests.{eq-eqb, ne-eqb}
 use Rattle.basics.proofs.Choice.{pick-true, pick-false}
 use Rattle.matrix.specs.Matrix.{nth}
-use Rattle.text.specs.Line.{natural, line, refusedWord, Puts}
-use Rattle.text.proofs.Placing.{puts-as, puts-none, puts-then, puts-same}
+use Rattle.decimal.specs.Ascii.{ascii}
+use Rattle.text.specs.Line.{natural, line}
+use Rattle.decimal.specs.Writing.{Puts}
+use Rattle.decimal.proofs.Placing.{puts-as, puts-none, puts-then, puts-same}
 use Rattle.query_text.specs.Reply.{wordHead}
 use Rattle.sheets.specs.Sheet.{lineIn}
 use Rattle.query_text.specs.Inner.SheetTable.{isWord, namedWord, printedRow, used, printedRows, usedTo}
@@ -29,14 +31,14 @@ module _ (l letters : List ℤ) where
   asWord = line (wordHead (not (ltZ (nth l 3) (pos 0)))) (namedWord l letters)
 
   abbrev asRefusal : List ℕ
-  asRefusal = line refusedWord (natural (natAbs (nth l 0)) ∷ natural (natAbs (nth l 1)) ∷ [])
+  asRefusal = line (ascii "refused") (natural (natAbs (nth l 0)) ∷ natural (natAbs (nth l 1)) ∷ [])
 
   pub refused-line : (number place : ℕ) → number ≡ natAbs (nth l 0) → place ≡ natAbs (nth l 1) → (number ≡ 0 → ⊥)
-      → line refusedWord (natural number ∷ natural place ∷ []) ≡ printedRow l letters
+      → line (ascii "refused") (natural number ∷ natural place ∷ []) ≡ printedRow l letters
   unfolding printedRow
   refused-line number place e f h =
-      ap (λ (n : ℕ). line refusedWord (natural n ∷ natural place ∷ [])) e
-      ∙ ap (λ (p : ℕ). line refusedWord (natural (natAbs (nth l 0)) ∷ natural p ∷ [])) f
+      ap (λ (n : ℕ). line (ascii "refused") (natural n ∷ natural place ∷ [])) e
+      ∙ ap (λ (p : ℕ). line (ascii "refused") (natural (natAbs (nth l 0)) ∷ natural p ∷ [])) f
       ∙ sym (pick-false (isWord l) asWord asRefusal (ne-eqb (natAbs (nth l 0)) 0 (λ z. h (e ∙ z))))
 
   module _ {number : ℕ} (e : number ≡ natAbs (nth l 0)) (z : number ≡ 0) {word : List ℤ} (w : word ≡ namedWord l letters) where

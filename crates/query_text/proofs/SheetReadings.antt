@@ -28,7 +28,7 @@ use Rattle.text.proofs.Answers.{any-count, that-count, bad-at}
 use Rattle.text.proofs.Clash.{clash}
 use Rattle.text.proofs.Handed.{numbers-count}
 use Rattle.text.proofs.Walks.{walked-start}
-use Rattle.query_text.specs.Reply.{countIn}
+use Rattle.text.specs.Reading.{countIn}
 use Rattle.sheets.specs.Sheet.{badCount}
 use Rattle.query_text.specs.Printed.{byWanted, byNumbers, byBad, sheetReading}
 use Rattle.query_text.specs.Inner.SheetTable.{SheetNumbers}

@@ -18,7 +18,8 @@ use Rattle.basics.proofs.Choice.{pick-false}
 use Rattle.matrix.specs.Matrix.{ofList}
 use Rattle.call.specs.declared.refusal.Refusal.{Refusal}
 use Rattle.call.specs.Space.{workLength}
-use Rattle.text.specs.Line.{natural, line, refusedWord, refusalLine}
+use Rattle.decimal.specs.Ascii.{ascii}
+use Rattle.text.specs.Line.{natural, line, refusalLine}
 use Rattle.word.specs.Answer.{foundWord, partOf}
 use Rattle.word.specs.declared.Queried.{Queried}
 use Rattle.word.specs.declared.Queried.the-variants as queried
@@ -39,7 +40,8 @@ module _ (r : Queried) (l letters : List ℤ) (stands : (s n : ℕ) (sign : Bool
   line-by (queried.Word s n true) e = ap (line (wordHead true)) (stands s n true e)
   line-by (queried.Word s n false) e = ap (line (wordHead false)) (stands s n false e)
   line-by (queried.Refused f) e =
-      pick-false (eqb (f .number) 0) (line (wordHead true) (partOf letters (f .place) 0)) (line refusedWord (natural (f .number) ∷ natural (f .place) ∷ []))
+      pick-false (eqb (f .number) 0) (line (wordHead true) (partOf letters (f .place) 0))
+      (line (ascii "refused") (natural (f .number) ∷ natural (f .place) ∷ []))
       (ne-eqb (f .number) 0 (some-number f e))
 
   pub line-said : printedRow (lineOf r) letters ≡ said r l

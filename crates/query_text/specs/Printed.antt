@@ -1,25 +1,21 @@
--- WHAT THE PROGRAM `sheet` WRITES, byte for byte (docs/CONVENTIONS.md, 10.9). The text has a symbol's text and behind
--- it the entries of the pairs, any number of them.
+-- WHAT THE JOB `sheet` WRITES, byte for byte (docs/CONVENTIONS.md, 10.9). The text has a symbol's text and behind it
+-- the entries of the pairs, any number of them.
 --
---   sheetReading longer t        what a text gives, or one with more than the 65,536 bytes that fit into the buffer, in
---                                this order: 19 for its length, for its first piece that is no number, for no number at
---                                all; 1 for a v that is out of range, and then nothing is counted; 19 where the symbol
---                                isn't whole; 11 with 2,048 for a number of entries that is no sheet; or all its
---                                numbers
---   tableOf ns, pairsOf ns       in the numbers ns of a text, the symbol's table, which is the 3v + 1 behind v, and the
---                                entries behind these
+--   sheetReading longer t        what a text gives, in this order: 19 for its length, for its first piece that is no
+--                                number, for no number at all; 1 for a v that is out of range, and then nothing is
+--                                counted; 19 where the symbol isn't whole; 11 with 2,048 for a number of entries that
+--                                is no sheet; or all its numbers
+--   tableOf ns, pairsOf ns       the symbol's table, which is the 3v + 1 numbers behind v, and the entries behind these
 --   linesLent                    the numbers of the line table that the program lends: 256 lines
---   unused                       the word space before the first query. What stands in it is free: see `print-same` in
---                                proofs/SheetFresh.antt
---   pairLine v t p letters i     THE LINE FOR THE PAIR i, as the program `query` writes it (`said`): that of the single
---                                query's answer in this word space
+--   unused                       the word space before the first query; what stands in it is free (`SheetPrinted`)
+--   pairLine v t p letters i     THE LINE FOR THE PAIR i: that of the single query's answer in this word space
 --   pairLines .. n               the lines of the first n pairs, one after another
 --   sheetVerdict ns              what the sheet refuses in the program's spaces
 --   linesIf c ls                 the refusal's line, or the lines ls
---   printed ns                   the bytes for the numbers ns: the refusal's line, or a line for each pair
+--   printed ns                   the bytes for the numbers ns
 --   sheetBytes longer t          the bytes for a text
---   SheetPrinted ns bytes        what the bytes mean where the numbers of the text are ns: a line for each pair, and of
---                                its answer the claim holds, in all spaces of the program's lengths
+--   SheetPrinted ns bytes        a line for each pair, and of its answer the claim holds, in all spaces of the
+--                                program's lengths
 --   SheetPrintMeans longer t bytes    that holds for every text that gives numbers
 use mathlib.Core.Path.{_≡_}
 use mathlib.Core.Bool.{Bool, _||_}
@@ -37,12 +33,13 @@ use Rattle.call.specs.declared.refusal.Checked.the-variants as checked
 use Rattle.call.specs.Space.{workLength}
 use Rattle.call.specs.Call.{verdict}
 use Rattle.text.specs.Piece.{pieces, firstBad, numbers}
-use Rattle.text.specs.Reading.{textMost, wanted, symbolFormat}
+use Rattle.text.specs.Reading.{textMost, wanted, symbolFormat, byReading}
 use Rattle.text.specs.declared.Reading.{Reading}
 use Rattle.text.specs.declared.Reading.the-variants.{Numbers, Refused}
 use Rattle.text.specs.Line.{refusalLine}
 use Rattle.word.specs.Answer.{foundWord}
-use Rattle.query_text.specs.Reply.{said, lettersLent, countIn}
+use Rattle.query_text.specs.Reply.{said, lettersLent}
+use Rattle.text.specs.Reading.{countIn}
 use Rattle.sheets.specs.Sheet.{matrixA, matrixB, pairsIn, badCount, spaceAt, answerAt, sheetChecks}
 use Rattle.sheets.specs.Meaning.{LineMeans}
 
@@ -100,12 +97,8 @@ unfoldable pub printed : List ℤ → List ℕ
 printed ns =
     linesIf (sheetVerdict ns) (pairLines (countIn ns) (tableOf ns) (pairsOf ns) unused (pairsIn (pairsOf ns)))
 
-abbrev pub bytesBy : Reading → List ℤ → List ℕ
-bytesBy (Numbers k) ns = printed (take k ns)
-bytesBy (Refused f) ns = refusalLine f
-
 unfoldable pub sheetBytes : Bool → List ℕ → List ℕ
-sheetBytes longer t = bytesBy (sheetReading longer t) (numbers (pieces t))
+sheetBytes longer t = byReading printed refusalLine (sheetReading longer t) (numbers (pieces t))
 
 -- ---- what it means
 

@@ -18,10 +18,12 @@ use word::query_refusal;
 use word::word_part;
 ghost use mathlib.Core.Path.{_≡_};
 ghost use Prim.Native.Nat.{_+_, _*_, _≤_};
-ghost use lib.ListN.{length, take};
-ghost use Rattle.text.specs.Input.{ForInput};
-ghost use Rattle.text.specs.Line.{line, Puts};
-ghost use Rattle.query_text.specs.Reply.{wordHead, replied, repliedTo, replyOf, ReplyMeans};
+ghost use lib.ListN.{length};
+ghost use Rattle.text.specs.Input.{AnswersInput};
+ghost use Rattle.text.specs.Line.{line};
+ghost use Rattle.decimal.specs.Writing.{Puts};
+ghost use Rattle.query_text.specs.Reply.{wordHead, repliedTo, replyOf, ReplyMeans};
+ghost use Rattle.query_text.specs.Inner.Spaces.{replied};
 ghost use Rattle.query_text.specs.Inner.Spaces.{ReplySpaces};
 
 pub mod sheet_text;
@@ -114,11 +116,7 @@ fn reply_text(
 // What the program writes for an input, whose bytes stand at the front of the buffer, from the front of `out`; where
 // it ends: at 0, with nothing changed, where the input could not be read.
 pub fn reply(buffer: &[u8], input: Input, out: &mut [u8; 131072]) -> usize
-    ensures { λ e. ⌜ e ≤ length (now (out .exit)) ⌝ }
-    ensures { λ e. ⌜ ForInput (now (buffer .entry))
-        (λ longer text. Puts (replyOf longer text) 0 e (now (out .entry)) (now (out .exit))
-        × ReplyMeans longer text (take e (now (out .exit))))
-        ((e ≡ 0) × (now (out .exit) ≡ now (out .entry)))
+    ensures { λ e. ⌜ AnswersInput replyOf ReplyMeans (now (buffer .entry)) e (now (out .entry)) (now (out .exit))
         input ⌝ }
 {
     let Input::Read(n, longer) = input else {

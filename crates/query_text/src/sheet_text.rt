@@ -1,4 +1,4 @@
-// What the program `sheet` writes for a text: all of it, byte for byte, as specs/Printed.antt says
+// What the job `sheet` writes for a text: all of it, byte for byte, as specs/Printed.antt says
 // (docs/CONVENTIONS.md, 10.9).
 use crate::word_line;
 use call::refusal::BAD_TEXT;
@@ -6,6 +6,7 @@ use call::refusal::BAD_VERTEX_COUNT;
 use call::refusal::Filled;
 use call::refusal::Refusal;
 use call::refusal::TOO_SHORT;
+use decimal::size;
 use sheets::ENTRIES;
 use sheets::is_bad_count;
 use sheets::sheet;
@@ -16,12 +17,9 @@ use text::Survey;
 use text::TEXT_MOST;
 use text::Wanted;
 use text::fill;
-use text::input::Input;
-use text::input::text_end;
 use text::line::line_of_two;
 use text::line::refusal_line;
 use text::next;
-use text::size;
 use text::survey_of;
 use text::vertex_count;
 use text::wanted_for;
@@ -29,13 +27,11 @@ use word::word_part;
 ghost use mathlib.Core.Path.{_≡_};
 ghost use mathlib.Core.Option.{none, some};
 ghost use Prim.Native.Nat.{_+_, _*_, _≤_};
-ghost use lib.ListN.{length, take};
-ghost use Rattle.text.specs.Input.{ForInput};
+ghost use lib.ListN.{length};
 ghost use Rattle.text.specs.Piece.{pieces, firstBad, numbers};
-ghost use Rattle.text.specs.Reading.{leftBy};
-ghost use Rattle.text.specs.Line.{Puts};
+ghost use Rattle.text.specs.Inner.Inside.{leftBy};
+ghost use Rattle.decimal.specs.Writing.{Puts};
 ghost use Rattle.query_text.specs.Printed.{byWanted, byNumbers, sheetReading, printed, sheetBytes};
-ghost use Rattle.query_text.specs.Printed.{SheetPrintMeans};
 ghost use Rattle.query_text.specs.Inner.SheetTable.{printedRow, used, printedRows};
 ghost use Rattle.query_text.specs.Inner.SheetTable.{SheetSpaces, SheetNumbers, LinesRoom};
 
@@ -196,26 +192,18 @@ fn print_text(
     }
 }
 
-// What the program writes for an input, whose bytes stand at the front of the buffer, from the front of `out`; where
-// it ends: at 0, with nothing changed, where the input could not be read.
-pub fn print(buffer: &[u8], input: Input, out: &mut [u8; 131072]) -> usize
-    ensures { λ e. ⌜ e ≤ length (now (out .exit)) ⌝ }
-    ensures { λ e. ⌜ ForInput (now (buffer .entry))
-        (λ longer text. Puts (sheetBytes longer text) 0 e (now (out .entry)) (now (out .exit))
-        × SheetPrintMeans longer text (take e (now (out .exit))))
-        ((e ≡ 0) × (now (out .exit) ≡ now (out .entry)))
-        input ⌝ }
+// What the program writes for a text, from the front of `out`, where `longer` says that the input goes on behind the
+// text; where it ends.
+pub fn answer(text: &[u8], longer: bool, out: &mut [u8]) -> usize
+    requires { ⌜ 131072 ≤ length (now out) ⌝ }
+    ensures { λ e. ⌜ Puts (sheetBytes longer (now (text .entry))) 0 e (now (out .entry)) (now (out .exit)) ⌝ }
 {
-    let Input::Read(n, longer) = input else {
-        return 0;
-    };
-    let end = text_end(buffer, n);
     let mut numbers = [0i64; 5119];
     let mut w = [0u16; 32768];
     let mut lines = [0i64; 1024];
     let mut letters = [0i16; 16384];
     print_text(
-        &buffer[..end],
+        text,
         longer,
         &mut numbers,
         &mut w,

@@ -26,7 +26,7 @@ use Rattle.numbering.proofs.Table.{undone, permutes, renaming}
 use Rattle.numbering.proofs.Numbered.{numbered}
 use Rattle.right_cosets.specs.Condition.{Unit, Condition, Decides}
 use Rattle.right_cosets.specs.Transversal.{Everything, Transversal}
-use Rattle.right_cosets.specs.Leads.{byTableQ, leads, Led}
+use Rattle.right_cosets.specs.Leads.{byTableQ, leads, IsReached}
 use Rattle.right_cosets.specs.Cosets.{CosetsOf}
 use Rattle.right_cosets.proofs.Place.{place, byS, byR, byQ, adj-𝟙, det-R, Places, places}
 
@@ -180,7 +180,7 @@ module _ {C : Mat → Type 0} {n : ℕ} {rep : ℕ → Mat} {pl : Mat → ℕ} {
       leads-is (m ⊗ matR) (det-one m matR u det-R) ∙ ap number (sym (ρ-is m u)) ∙ sym (natural-R .step (pl m) (listed (pl m) (place-low m u)))
       ∙ ap (imageAt r) (sym (leads-is m u))
 
-  all-led : (j : ℕ) → j < n → Led s r j
+  all-led : (j : ℕ) → j < n → IsReached s r j
   all-led j h =
       let x = getD list j 0 in
       let u = unit-rep x (entry-low j h) in

@@ -29,7 +29,7 @@ use Rattle.basics.specs.Count.{first}
 use Rattle.matrix.specs.Matrix.{Mat, _⊗_, 𝟙, adj, matS, matR}
 use Rattle.numbering.specs.Order.{orderOf, upTo}
 use Rattle.numbering.specs.Table.{imageAt, Permutes}
-use Rattle.right_cosets.specs.Leads.{leads, Led}
+use Rattle.right_cosets.specs.Leads.{leads, IsReached}
 use Rattle.right_cosets.specs.Condition.{Unit}
 
 module _ (test : Mat → Bool) where
@@ -65,6 +65,6 @@ pub record CosetsOf (C : Mat → Type 0) (n : ℕ) (s r : List ℕ) : Type 0 whe
   pub fixes : (m : Mat) → Unit m → (leads s r m ≡ 0) ↔ C m
   pub cosets : (l m : Mat) → Unit l → Unit m → (leads s r l ≡ leads s r m) ↔ C (l ⊗ adj m)
   -- reached
-  pub reached : (j : ℕ) → j < n → Led s r j
+  pub reached : (j : ℕ) → j < n → IsReached s r j
   -- numbered
   pub numbered : orderOf (imageAt s) (imageAt r) 0 n ≡ upTo n

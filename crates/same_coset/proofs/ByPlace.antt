@@ -23,8 +23,9 @@ use Rattle.figures.specs.Cusps.{cusps}
 use Rattle.figures.specs.Inner.Scan.{heldT}
 use Rattle.coset.specs.Tables.{tableS, tableR, tableT}
 use Rattle.right_cosets.specs.Leads.{byTableQ, leads}
-use Rattle.coset.specs.Theorem.{Cosets}
-use Rattle.coset.proofs.Answer.{meaning}
+use Rattle.right_cosets.proofs.Tabled as tabled
+use Rattle.right_cosets.proofs.Tabled.{one-home}
+use Rattle.coset.proofs.Answer.{meaning, symbol-cosets}
 use Rattle.cusp_record.specs.Record.{cuspWidth, cuspOf, cuspSteps, cuspPlace, cuspFirst}
 use Rattle.cusp_record.specs.declared.Cusp.{Cusp}
 use Rattle.cusp_record.specs.Inner.Fill.{CUSPS, STEPS, cuspEntry, OnCusp, SymbolRecord}
@@ -248,11 +249,8 @@ module _ {v : ℕ} {t : List ℤ} (ok : IsSymbol v t) {w₀ w : List ℕ} {n : �
   abbrev u : List ℕ
   u = tableT v t
 
-  cosets : Cosets v t s (tableR v t) u
-  cosets = meaning ok .cosets
-
   S-low : (x : ℕ) → x < n → imageAt s x < n
-  S-low x h = omega (arith, cosets .permutations .S .low x (omega (arith, cosets .size-S, r .index)), cosets .size-S, r .index)
+  S-low x h = omega (arith, tabled.S-low (symbol-cosets ok) x (omega (arith, r .index)), r .index)
 
   turn-source-by : TurnSource s u n w
   turn-source-by = record {
@@ -360,18 +358,18 @@ guided {v} {t} {w} {w'} {n} ok g =
     let s = tableS v t in
     let u = tableT v t in
     let c = meaning ok .cosets in
-    let p = c .permutations .T in
+    let p = c .permutes-T in
     let o = in-order p in
-    let low : (m : Mat) → det m ≡ pos 1 → leads s (tableR v t) m < length u = λ m d. omega (arith, c .low m d, c .size-T) in
+    let low : (m : Mat) → det m ≡ pos 1 → leads s (tableR v t) m < length u = λ m d. omega (arith, c .of-H .low m d, c .size-T) in
     let by : Guided (heldTurns n w') u (leads s (tableR v t)) = record {
       permutes = p;
       point-low = low;
-      zero = c .zero;
+      zero = one-home (c .of-H);
       by-S = λ m d.
           let x = leads s (tableR v t) m in
           let y = cuspPlace u x in
           let yl : y < n = omega (arith, o .place-low x (low m d), c .size-T, g .index) in
-          ap (cuspPlace u) (c .by-S m d)
+          ap (cuspPlace u) (c .of-H .by-S m d)
           ∙ sym (entries-at TURN n w' y yl ∙ g .turns .turn-is y yl ∙ ap (λ (i : ℕ). cuspPlace u (imageAt s i)) (o .at-place x (low m d)));
       by-T = c .by-T;
       up-to-sign = leads-≈ s (tableR v t);

@@ -1,4 +1,4 @@
--- Signed numbers of 64 bits within the limit, as the code has them: they are kept, and compared with 0.
+-- Signed numbers of 64 bits within the limit, as the code has them: they are kept, compared with 0, and taken by their size.
 -- Assumes nothing.
 use mathlib.Core.Path.{_≡_, refl}
 use Prim.Native.Nat.{_≤_}
@@ -10,7 +10,7 @@ use mir.Val.{toZ, ofZ}
 use mir.Facts.{toZ-ofZ}
 use borrow.Author.Tests.{le-leb}
 use Rattle.matrix.proofs.Bounds.{fits}
-use Rattle.same_coset.specs.Inner.Rows.{LIMIT}
+use Rattle.same_coset.specs.Inner.Rows.{signed, LIMIT}
 
 pub kept : (z : ℤ) → natAbs z ≤ LIMIT → toZ w64 (ofZ w64 z) ≡ z
 kept z h = toZ-ofZ (fits z (omega arith))
@@ -18,3 +18,7 @@ kept z h = toZ-ofZ (fits z (omega arith))
 pub from-zero : (z : ℤ) → leZ (pos 0) z ≡ nonNeg z
 from-zero (pos i) = le-leb 0 i (omega arith)
 from-zero (negsuc i) = refl
+
+pub size-is : (z : ℤ) → signed (nonNeg z) z ≡ pos (natAbs z)
+size-is (pos n) = refl
+size-is (negsuc n) = refl

@@ -43,7 +43,7 @@ use Rattle.same_coset.specs.Inner.Places.{heldTurns, SymbolPlaces}
 use Rattle.same_coset.specs.Inner.Rows.{OneMatrix}
 use Rattle.same_coset.proofs.ByPlace.{guided}
 use Rattle.word.specs.Answer.{matricesCheck, closes, foundWord, foundSign, foundIf, foundChecks, queryOf, queryRefusal, wordLeft}
-use Rattle.word.specs.Claim.{Asked, Joined, Fits, Answered, Claim}
+use Rattle.word.specs.Claim.{ValidQuery, SameRightCoset, Fits, Answered, Claim}
 use Rattle.word.proofs.Claim.{same-number, joined-home, home-joined, joined-same, same-joined}
 use Rattle.word.proofs.Order.{asked, asked-passed, claim}
 use Rattle.word.proofs.Refused.{pair-passes, pair-among, inOrder, reached, reaches, checked, paired}
@@ -85,7 +85,7 @@ off false h = refl
 
 -- ---- the walk
 
-module _ {v : ℕ} {t a b : List ℤ} {w : List ℕ} (q : Asked v t a b w) where
+module _ {v : ℕ} {t a b : List ℤ} {w : List ℕ} (q : ValidQuery v t a b w) where
   abbrev A : Mat
   A = ofList a
 
@@ -98,13 +98,13 @@ module _ {v : ℕ} {t a b : List ℤ} {w : List ℕ} (q : Asked v t a b w) where
   abbrev y : ℕ
   y = leads (tableS v t) (tableR v t) B
 
-  home : closes v t A B ≡ true → Joined v t A B
+  home : closes v t A B ≡ true → SameRightCoset v t A B
   home h = home-joined (q .symbol) A B (q .unit-A) (q .unit-B) h
 
-  joined : Joined v t A B → closes v t A B ≡ true
+  joined : SameRightCoset v t A B → closes v t A B ≡ true
   joined j = joined-home (q .symbol) A B (q .unit-A) (q .unit-B) j
 
-  away : (Joined v t A B → ⊥) → closes v t A B ≡ false
+  away : (SameRightCoset v t A B → ⊥) → closes v t A B ≡ false
   away n = off (closes v t A B) (λ h. n (home h))
 
   points-home : x ≡ y → closes v t A B ≡ true
@@ -131,9 +131,9 @@ shares {v} {t} {a} {b} {w₀} {w} {n} ok g ma mb p q ep eq =
     let y = lead (ofList b) in
     let here : p ≡ cuspPlace u x = rw (g .T-is) at (ep lead (guided ok g)) in
     let there : q ≡ cuspPlace u y = rw (g .T-is) at (eq lead (guided ok g)) in
-    let o = in-order (c .permutations .T) in
-    let xl : x < length u = omega (arith, c .low (ofList a) (ma .unit), c .size-T) in
-    let yl : y < length u = omega (arith, c .low (ofList b) (mb .unit), c .size-T) in
+    let o = in-order (c .permutes-T) in
+    let xl : x < length u = omega (arith, c .of-H .low (ofList a) (ma .unit), c .size-T) in
+    let yl : y < length u = omega (arith, c .of-H .low (ofList b) (mb .unit), c .size-T) in
     elim (ℕ-discrete x y) [
       | yes e ↦ eq-eqb p q (here ∙ ap (cuspPlace u) e ∙ sym there) ∙ sym (eq-eqb x y e)
       | no e ↦ ne-eqb p q (λ d. e (sym (o .at-place x xl) ∙ ap (cuspEntry u) (sym here ∙ d ∙ there) ∙ o .at-place y yl)) ∙ sym (ne-eqb x y e)
@@ -158,7 +158,7 @@ module _ (v : ℕ) (t a b : List ℤ) (w : List ℕ) where
   r = sameCosetOf v t a b (length w)
 
   -- all checks pass exactly where the query gets to its walk
-  pub accepted-asked : all ≡ Accepted → Asked v t a b w
+  pub accepted-asked : all ≡ Accepted → ValidQuery v t a b w
   accepted-asked e = elim (reaches (symbolCheck v t) Accepted a b w) [
     | inl g ↦ asked a b (accepted v t .0 (g .accepted)) (g .work) (g .passed)
     | inr (inl s) ↦ refused-accepted (sym (s .is) ∙ e)
@@ -166,31 +166,31 @@ module _ (v : ℕ) (t a b : List ℤ) (w : List ℕ) where
     | inr (inr (paired f g s)) ↦ refused-accepted (sym s ∙ e)
   ]
 
-  asked-accepted : Asked v t a b w → all ≡ Accepted
+  asked-accepted : ValidQuery v t a b w → all ≡ Accepted
   asked-accepted q = reached (symbolCheck v t) Accepted a b w (accepted v t .1 (q .symbol)) (sym (pair-passes a b (asked-passed a b q))) (q .work)
 
-  is-found : Asked v t a b w → r ≡ yesNo found
+  is-found : ValidQuery v t a b w → r ≡ yesNo found
   is-found q = ap (decided found) (asked-accepted q)
 
-  by-found : Asked v t a b w → (k : Bool) → found ≡ k → r ≡ yesNo k
+  by-found : ValidQuery v t a b w → (k : Bool) → found ≡ k → r ≡ yesNo k
   by-found q k e = is-found q ∙ ap yesNo e
 
-  yes-asked : r ≡ decision.Yes → Asked v t a b w
+  yes-asked : r ≡ decision.Yes → ValidQuery v t a b w
   yes-asked e = accepted-asked (yes-by found all e .0)
 
-  no-asked : r ≡ decision.No → Asked v t a b w
+  no-asked : r ≡ decision.No → ValidQuery v t a b w
   no-asked e = accepted-asked (no-by found all e .0)
 
-  yes-is : r ≡ decision.Yes → Joined v t M N
+  yes-is : r ≡ decision.Yes → SameRightCoset v t M N
   yes-is e = home (yes-asked e) (yes-by found all e .1)
 
-  is-yes : Asked v t a b w → Joined v t M N → r ≡ decision.Yes
+  is-yes : ValidQuery v t a b w → SameRightCoset v t M N → r ≡ decision.Yes
   is-yes q j = by-found q true (joined q j)
 
-  no-is : r ≡ decision.No → Joined v t M N → ⊥
+  no-is : r ≡ decision.No → SameRightCoset v t M N → ⊥
   no-is e j = clash (joined (no-asked e) j) (no-by found all e .1)
 
-  is-no : Asked v t a b w → (Joined v t M N → ⊥) → r ≡ decision.No
+  is-no : ValidQuery v t a b w → (SameRightCoset v t M N → ⊥) → r ≡ decision.No
   is-no q n = by-found q false (away q n)
 
   -- the claim of the query in a word space

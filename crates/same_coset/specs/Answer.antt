@@ -29,7 +29,7 @@ use Rattle.symbol.specs.Check.{symbolCheck}
 use Rattle.coset.specs.Tables.{tableS, tableR}
 use Rattle.right_cosets.specs.Leads.{leads}
 use Rattle.word.specs.Answer.{matricesCheck, closes, foundWord, queryOf, queryRefusal}
-use Rattle.word.specs.Claim.{Asked, Joined, Fits}
+use Rattle.word.specs.Claim.{ValidQuery, SameRightCoset, Fits}
 
 abbrev pub sameCosetSteps : (v : ℕ) (t a b : List ℤ) → Lent (List ℕ) → List Step
 sameCosetSteps v t a b w = asks (symbolCheck v t) ++ asks (matricesCheck a b) ++ work w
@@ -40,9 +40,9 @@ sameCosetOf v t a b work =
     (verdict (asks (symbolCheck v t) ++ asks (matricesCheck a b) ++ asks (lengthCheck workLength work)))
 
 pub record CosetMeans (v : ℕ) (t a b : List ℤ) (w : List ℕ) (r : Decision) : Type 0 where
-  pub yes : (r ≡ decision.Yes) ↔ (Asked v t a b w × Joined v t (ofList a) (ofList b))
-  pub no : (r ≡ decision.No) ↔ (Asked v t a b w × (Joined v t (ofList a) (ofList b) → ⊥))
-  pub points : Asked v t a b w
+  pub yes : (r ≡ decision.Yes) ↔ (ValidQuery v t a b w × SameRightCoset v t (ofList a) (ofList b))
+  pub no : (r ≡ decision.No) ↔ (ValidQuery v t a b w × (SameRightCoset v t (ofList a) (ofList b) → ⊥))
+  pub points : ValidQuery v t a b w
       → (r ≡ decision.Yes) ↔ (leads (tableS v t) (tableR v t) (ofList a) ≡ leads (tableS v t) (tableR v t) (ofList b))
   pub word : (out : List ℤ) (start : ℕ) → Fits start (length (foundWord v t (ofList a) (ofList b))) (length out)
       → (r ≡ decision.Yes) ↔ (queryRefusal (queryOf v t a b (length w) (length out) start) ≡ noRefusal)
@@ -50,9 +50,9 @@ pub record CosetMeans (v : ℕ) (t a b : List ℤ) (w : List ℕ) (r : Decision)
       → (r ≡ decision.No) ↔ (queryRefusal (queryOf v t a b (length w) (length out) start) ≡ noWord)
 
 pub record SharedSays (v : ℕ) (t a b : List ℤ) (w : List ℕ) (n place : ℕ) : Type 0 where
-  pub asked : n ≡ 0 → Asked v t a b w
-  pub yes : n ≡ 0 → (place ≡ 1) ↔ Joined v t (ofList a) (ofList b)
-  pub no : n ≡ 0 → (place ≡ 0) ↔ (Joined v t (ofList a) (ofList b) → ⊥)
+  pub asked : n ≡ 0 → ValidQuery v t a b w
+  pub yes : n ≡ 0 → (place ≡ 1) ↔ SameRightCoset v t (ofList a) (ofList b)
+  pub no : n ≡ 0 → (place ≡ 0) ↔ (SameRightCoset v t (ofList a) (ofList b) → ⊥)
 
 abbrev pub sameCosetCall : (v : ℕ) (t a b : List ℤ) → Lent (List ℕ) → Contract
 sameCosetCall v t a b w = record {

@@ -15,7 +15,7 @@ ghost use Rattle.matrix.specs.Matrix.{ofList};
 ghost use Rattle.call.specs.Space.{zeros};
 ghost use Rattle.call.specs.Inner.Fills.{Fills, decided};
 ghost use Rattle.word.specs.Answer.{closes};
-ghost use Rattle.word.specs.Claim.{Asked};
+ghost use Rattle.word.specs.Claim.{ValidQuery};
 ghost use Rattle.same_coset.specs.Inner.Places.{Prepared};
 ghost use Rattle.same_coset.specs.Inner.Rows.{OneMatrix};
 ghost use Rattle.same_coset.specs.Answer.{sameCosetSteps};
@@ -46,7 +46,7 @@ fn yes_or_no(k: bool) -> Decision
 
 // The answer for an accepted symbol and pair; the work space is cleared after.
 fn answer(v: usize, t: &[i64], a: [i64; 4], b: [i64; 4], w: &mut [u16]) -> Decision
-    requires { ⌜ Asked v (now t) a b (now w) ⌝ }
+    requires { ⌜ ValidQuery v (now t) a b (now w) ⌝ }
     ensures { λ r. ⌜ r ≡ yesNo (closes v (now (t .entry)) (ofList a) (ofList b)) ⌝ }
     ensures { λ r. ⌜ now (w .exit) ≡ zeros (length (now (w .entry))) ⌝ }
 {

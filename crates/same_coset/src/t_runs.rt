@@ -2,7 +2,6 @@
 // runs, and each is one look in its cusp, by the remainder of its length by the cusp's width. specs/Runs.antt says what
 // is promised, specs/Inner has the tables by place.
 use cusp_record::arrange_record;
-use walk::magnitude;
 ghost use mathlib.Core.Path.{_≡_};
 ghost use Prim.Native.Nat.{_+_, _*_, _/_, _%_, _≤_, _<_};
 ghost use mathlib.Core.Bool.{false};
@@ -119,14 +118,6 @@ fn is_nonnegative(x: i64) -> bool
     x >= 0
 }
 
-// The size of x.
-fn size(x: i64) -> u32
-    requires { ⌜ natAbs x ≤ LIMIT ⌝ }
-    ensures { λ r. ⌜ r ≡ natAbs x ⌝ }
-{
-    magnitude(x) as u32
-}
-
 // x or -x.
 fn with_sign(plus: bool, x: i64) -> i64
     requires { ⌜ natAbs x ≤ LIMIT ⌝ }
@@ -136,6 +127,14 @@ fn with_sign(plus: bool, x: i64) -> i64
         return x;
     }
     -x
+}
+
+// The size of x.
+fn size(x: i64) -> u32
+    requires { ⌜ natAbs x ≤ LIMIT ⌝ }
+    ensures { λ r. ⌜ r ≡ natAbs x ⌝ }
+{
+    with_sign(is_nonnegative(x), x) as u32
 }
 
 // Two tests that pass both or fail both.

@@ -19,7 +19,7 @@ use Rattle.right_cosets.specs.Leads.{leads}
 use Rattle.call.specs.Refusal.{noRefusal, noWord, tooShort}
 use Rattle.call.specs.declared.refusal.Refusal.{Refusal}
 use Rattle.word.specs.Answer.{queryRefusal, signNumber}
-use Rattle.word.specs.Claim.{Answered, Joined, Claim, scaled}
+use Rattle.word.specs.Claim.{Answered, SameRightCoset, Claim, scaled}
 use Rattle.word.specs.declared.Queried.{Queried}
 use Rattle.word.specs.declared.Queried.the-variants as queried
 use Rattle.word.proofs.Claim.{same-number}
@@ -45,7 +45,7 @@ with-scaled false m =
 module _ {v : ℕ} {t : List ℤ} {A B : Mat} {word : List ℤ} {sign : Bool} {out : List ℤ} {start : ℕ} {r : Queried} {out' : List ℤ}
     (s : Answered v t A B word sign out start r out') where
   -- a number 10 is 'none'
-  pub ten-none : queryRefusal r .number ≡ noWord .number → Joined v t A B → ⊥
+  pub ten-none : queryRefusal r .number ≡ noWord .number → SameRightCoset v t A B → ⊥
   ten-none z j = elim (s .found .1 j) [ inl y ↦ absurd (omega (arith, same-number y, z)) | inr y ↦ absurd (omega (arith, same-number y, z)) ]
 
   -- a number 0 is no refusal
@@ -55,7 +55,7 @@ module _ {v : ℕ} {t : List ℤ} {A B : Mat} {word : List ℤ} {sign : Bool} {o
       go : (x : Queried) → r ≡ x → queryRefusal r ≡ noRefusal
       go (queried.Word i k q) e = ap queryRefusal e
       go (queried.Refused f) e =
-          let never : Joined v t A B → ⊥ = λ j. elim (s .found .1 j) [
+          let never : SameRightCoset v t A B → ⊥ = λ j. elim (s .found .1 j) [
             | inl y ↦ (let q = sym e ∙ s .names y in let u : _≡_ {A = ℕ} 0 1 = cc in absurd (omega arith))
             | inr y ↦ absurd (omega (arith, same-number y, z))
           ] in

@@ -18,7 +18,7 @@ use Rattle.pairing.specs.Subgroup.{IsWord, valueOf}
 use Rattle.call.specs.Refusal.{noRefusal, noWord, tooShort}
 use Rattle.call.specs.declared.refusal.Refusal.{Refusal}
 use Rattle.word.specs.Answer.{queryRefusal, foundWord, foundSign, signNumber, partOf}
-use Rattle.word.specs.Claim.{Asked, NormalWord, Answered, Claim, QuerySays, SignSays, scaled}
+use Rattle.word.specs.Claim.{ValidQuery, NormalWord, Answered, Claim, QuerySays, SignSays, scaled}
 use Rattle.word.specs.declared.Queried.{Queried}
 use Rattle.word.specs.declared.Queried.the-variants as queried
 use Rattle.word.proofs.Claim.{same-number}
@@ -37,7 +37,7 @@ module _ {v : ℕ} {t a b : List ℤ} {w : List ℕ} {out : List ℤ} {start : �
     none-refused : queryRefusal r ≡ noRefusal
     none-refused = ap queryRefusal e
 
-    asked : Asked v t a b w
+    asked : ValidQuery v t a b w
     asked = c .asked (inl (same-number none-refused))
 
     answered : Answered v t (ofList a) (ofList b) word (foundSign v t (ofList a) (ofList b)) out start r out'
@@ -79,7 +79,7 @@ module _ {v : ℕ} {t a b : List ℤ} {w : List ℕ} {out : List ℤ} {start : �
     place-is : (s : ℕ) → placeIn (f .number) (f .place) s ≡ f .place
     place-is s = pick-false (eqb (f .number) 0) s (f .place) (ne-eqb (f .number) 0 never)
 
-    told : (s : ℕ) → f .number ≡ tooShort 0 .number → Asked v t a b w → (length word ≡ placeIn (f .number) (f .place) s)
+    told : (s : ℕ) → f .number ≡ tooShort 0 .number → ValidQuery v t a b w → (length word ≡ placeIn (f .number) (f .place) s)
         × NormalWord v t (ofList a) (ofList b) word
     told s z q =
         let y = eleven (c .answered q) (same-number is-f ∙ z) in

@@ -8,6 +8,7 @@
 --   WordSpace                 the word space between two queries: what stands in it, and where the next word starts
 --   wordEnd r start           where the next word starts after the answer r: behind a word, and else where it would
 --                             have
+--   answerIn, spaceAfter      the answer of a single query in a word space, and that space after it
 --   spaceAt v t p work out i  the word space before the pair i
 --   answerAt .. i             THE ANSWER FOR THE PAIR i: that of the single query in this word space, from where the
 --                             next word starts

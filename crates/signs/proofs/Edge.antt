@@ -25,7 +25,7 @@ use Rattle.symbol.specs.Table.{leftNum}
 use Rattle.symbol.specs.Symbol.{IsSymbol}
 use Rattle.pairing.specs.Generator.{frameAt}
 use Rattle.polygon.specs.Cut.{corners, outer, places, den, flip}
-use Rattle.polygon.proofs.Scan.{chord, left-den, side-chord, last-side}
+use Rattle.polygon.proofs.Chord.{chord, left-den, side-chord, last-side}
 use Rattle.polygon.proofs.Flip.{Cutting, which, c0, c1, c2, turn-next}
 use Rattle.signs.specs.Sign.{_·_, withSign}
 use Rattle.signs.specs.Step.{leftToRight, frameSign, flipSign}

@@ -11,6 +11,7 @@ use Rattle.symbol.specs.Symbol.{IsSymbol}
 use Rattle.symbol.proofs.Accepted as symbols
 use Rattle.numbering.specs.Table.{Permutes}
 use Rattle.coset.specs.Tables.{tableS, tableR}
+use Rattle.coset.proofs.Answer.{symbol-cosets}
 use Rattle.partner_exchange.proofs.Theorem.{trades}
 use Rattle.partner_exchange.proofs.Answered.{exchangeable}
 use Rattle.right_cosets.specs.Cosets.{CosetsOf}
@@ -18,10 +19,10 @@ use Rattle.congruence.proofs.Theorem.{tables}
 use Rattle.containment.specs.TwoSymbols.{CommonSubgroup}
 use Rattle.containment.proofs.TwoSymbols.{symbol-pairs}
 use Rattle.permutations.specs.Check.{Passport}
-use Rattle.permutations.specs.Import.{SymbolOfPair}
+use Rattle.import_call.specs.Import.{SymbolOfPair}
 use Rattle.permutations.proofs.Accepted as pairs
 use Rattle.permutations.proofs.Pair.{passport-S, passport-R}
-use Rattle.permutations.proofs.Means.{ruled-means}
+use Rattle.import_call.proofs.Means.{ruled-means}
 use Rattle.cycle_reading.specs.Reading.{tableOfS, tableOfR}
 use Rattle.cusp_record.proofs.Record.{then-permutes, coset-record}
 use Rattle.cusp_record.proofs.Answer.{cusp-meaning}
@@ -36,12 +37,13 @@ symbol-recorded ok = cusp-meaning ok .rule
 passport-recorded : (s r : List ℕ) → Passport s r → Recorded s r
 passport-recorded s r g = recorded (passport-S s r g) (passport-R s r g) (g .even)
 
+cosets-recorded : {C : Mat → Type 0} {n : ℕ} {s r : List ℕ} → CosetsOf C n s r → Recorded s r
+cosets-recorded g = recorded (g .permutes-S) (g .permutes-R) (g .size-R ∙ sym (g .size-S))
+
 -- the symbol's tables are the given ones renumbered
 imported : {s r : List ℕ} {v : ℕ} {t : List ℤ} → SymbolOfPair s r v t → Imported s r v t
 imported {s} {r} {v} {t} g =
-    let c = cusp-meaning (g .precisely .symbol) .tables .cosets in
-    let p = c .permutations in
-    let both : Recorded (tableS v t) (tableR v t) = recorded (p .S) (p .R) (c .size-R ∙ sym (c .size-S)) in
+    let both : Recorded (tableS v t) (tableR v t) = cosets-recorded (symbol-cosets (g .precisely .symbol)) in
     record {
       accepted = g .precisely .symbol;
       S-table = g .S-table;
@@ -49,9 +51,6 @@ imported {s} {r} {v} {t} g =
       symbol = symbol-recorded (g .precisely .symbol);
       renumbered = rw (← g .S-table, ← g .R-table) both;
     }
-
-cosets-recorded : {C : Mat → Type 0} {n : ℕ} {s r : List ℕ} → CosetsOf C n s r → Recorded s r
-cosets-recorded g = recorded (g .permutes-S) (g .permutes-R) (g .size-R ∙ sym (g .size-S))
 
 -- the table of T is the product of those of S and R
 common-recorded : {v : ℕ} {t : List ℤ} {v' : ℕ} {t' : List ℤ} → CommonSubgroup v t v' t' → CommonRecorded v t v' t'

@@ -5,37 +5,23 @@
 -- Assumes nothing.
 use mathlib.Core.List.{List}
 use Prim.Native.Nat.{ℕ}
-use native.Mathlib.Omega.{arith}
 use lib.IntN.{ℤ}
-use Rattle.matrix.specs.Matrix.{Mat, 𝟙}
-use Rattle.matrix.proofs.Matrix.{det-𝟙}
 use Rattle.symbol.specs.Symbol.{IsSymbol}
 use Rattle.symbol.proofs.Accepted as symbols
-use Rattle.figures.specs.Genus.{CosetPair}
-use Rattle.figures.proofs.Transitive.{numbered-transitive}
 use Rattle.figures.proofs.Genus.{tables-genus}
+use Rattle.coset.proofs.Genus.{cosets-pair}
 use Rattle.coset.proofs.Answer.{meaning}
 use Rattle.partner_exchange.proofs.Theorem.{trades}
 use Rattle.partner_exchange.proofs.Answered.{exchangeable}
-use Rattle.right_cosets.specs.Cosets.{CosetsOf}
 use Rattle.congruence.proofs.Theorem.{tables}
 use Rattle.containment.proofs.TwoSymbols.{symbol-pairs}
 use Rattle.permutations.proofs.Accepted as pairs
-use Rattle.permutations.proofs.Pair.{passport-pair}
-use Rattle.permutations.proofs.Means.{ruled-means}
+use Rattle.import_call.proofs.Thirds.{passport-pair}
+use Rattle.import_call.proofs.Means.{ruled-means}
 use Rattle.statements.specs.Genus.{SymbolGenus, Genera}
 
 symbol-genus : {v : ℕ} {t : List ℤ} → IsSymbol v t → SymbolGenus v t
 symbol-genus ok = meaning ok .genus
-
--- ---- the right cosets of a condition
-
-cosets-pair : {C : Mat → Type 0} {n : ℕ} {s r : List ℕ} → CosetsOf C n s r → CosetPair s r
-cosets-pair {C} {n} {s} {r} g = record {
-  transitive = numbered-transitive (omega (arith, g .low 𝟙 det-𝟙)) (g .size-S) (g .size-R) (g .permutes-S) (g .permutes-R) (g .numbered);
-  twice = λ x h. g .twice x (omega (arith, g .size-S));
-  thrice = λ x h. g .thrice x (omega (arith, g .size-R));
-}
 
 pub genera : Genera
 genera = record {

@@ -18,7 +18,7 @@
 --     exchanges        `partner_exchange`: each symbol that an exchange gives
 --     pairs            `permutations`: each pair of tables that the checks 12 to 15 accept, as given
 --     cycles           `cycle_reading`: the tables of each text in cycle notation that is read
---     imports          `permutations`, by `import_symbol`: each symbol that an import gives, by the rule under every
+--     imports          `import_call`, by `import_symbol`: each symbol that an import gives, by the rule under every
 --                      order
 --     families         `named_groups`, by `congruence_tables`: the tables of Γ0(n), Γ1(n) and Γ(n), which are those of
 --                      its cosets, as many as its index. A symbol that it makes is one of an import of these tables;
@@ -42,11 +42,11 @@ use Rattle.congruence.specs.Cosets.{familyS, familyR}
 use Rattle.right_cosets.specs.Cosets.{CosetsOf}
 use Rattle.congruence.specs.declared.Family.{Family}
 use Rattle.containment.specs.TwoSymbols.{commonS, commonR, commonT, CommonSubgroup}
-use Rattle.import_rule.specs.Fixed.{image}
+use Rattle.permutations.specs.Pair.{image}
 use Rattle.import_rule.specs.Order.{Order}
 use Rattle.import_rule.specs.Symbol.{made, ruledBy}
 use Rattle.permutations.specs.Check.{pairCheck}
-use Rattle.permutations.specs.Import.{numbering}
+use Rattle.import_call.specs.Import.{numbering}
 use Rattle.cycle_notation.specs.Verdict.{Read}
 use Rattle.cycle_reading.specs.Reading.{tableOfS, tableOfR, GoodPair}
 use Rattle.cusp_record.specs.Record.{cuspTable, stepTable, CosetRecord}

@@ -16,7 +16,7 @@ use Rattle.coset.specs.Answer.{tablesCall, figuresCall}
 use Rattle.word.specs.Claim.{queryCall}
 use Rattle.containment.specs.Same.{sameCall}
 use Rattle.import_rule.specs.Order.{leftmost, longestOpen}
-use Rattle.permutations.specs.Import.{importCall}
+use Rattle.import_call.specs.Import.{importCall}
 use Rattle.statements.specs.Instances.{Question, answerTo, index, generators, tables, query, same, import}
 use Rattle.statements.specs.Instances.{importWide}
 

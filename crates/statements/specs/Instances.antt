@@ -52,7 +52,7 @@ use Rattle.import_rule.specs.Order.{Order, leftmost, longestOpen}
 use Rattle.import_rule.specs.Symbol.{ruledBy}
 use Rattle.import_symbol.specs.Answer.{check16, ruledTable}
 use Rattle.permutations.specs.Check.{pairCheck}
-use Rattle.permutations.specs.Import.{neededVertices, neededLength}
+use Rattle.import_call.specs.Import.{neededVertices, neededLength}
 
 -- ---- what is asked
 

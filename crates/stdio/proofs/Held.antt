@@ -6,7 +6,7 @@ use mathlib.Core.Bool.{Bool, true, false}
 use mathlib.Core.List.{List}
 use lib.ListN.{length, take}
 use lib.Seq.{length-take-le}
-use Rattle.stdio.specs.Input.{Held, Further}
+use Rattle.stdio.specs.Inner.Input.{Held, Further}
 use Rattle.text.specs.declared.input.Input.{Input}
 use Rattle.text.specs.declared.input.Input.the-variants as input
 

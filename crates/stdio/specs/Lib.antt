@@ -1,1 +1,2 @@
-pub mod Input
+-- What the functions of the crate promise each other.
+pub mod Inner

@@ -6,7 +6,7 @@
 ghost use Prim.Native.Nat.{_≤_};
 ghost use mathlib.Core.Path.{_≡_};
 ghost use lib.ListN.{length};
-ghost use Rattle.stdio.specs.Input.{Within, Held, Further};
+ghost use Rattle.stdio.specs.Inner.Input.{Within, Held, Further};
 use libc::STDERR_FILENO;
 use libc::STDIN_FILENO;
 use libc::STDOUT_FILENO;

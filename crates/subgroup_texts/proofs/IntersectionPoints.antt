@@ -33,7 +33,7 @@ use Rattle.right_cosets.specs.Condition.{Unit}
 use Rattle.containment.specs.TwoSymbols.{commonCosets, commonS, commonR, commonT}
 use Rattle.containment.proofs.TwoSymbols.{common-subgroup}
 use Rattle.intersections.specs.Answer.{most, tooMany, Intersected}
-use Rattle.symbol_texts.specs.Pair.{PairFits}
+use Rattle.symbol_texts.specs.Inner.PairFits.{PairFits}
 use Rattle.subgroup_texts.specs.IntersectionAnswer.{intersectionFor}
 
 unit : Unit 𝟙

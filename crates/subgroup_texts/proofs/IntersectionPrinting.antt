@@ -9,13 +9,14 @@ use mathlib.Core.List.{List}
 use Prim.Native.Nat.{ℕ}
 use lib.IntN.{ℤ}
 use Rattle.call.specs.declared.refusal.Filled.{Filled}
-use Rattle.text.specs.Line.{Puts}
-use Rattle.text.proofs.Placing.{puts-as}
+use Rattle.decimal.specs.Writing.{Puts}
+use Rattle.decimal.proofs.Placing.{puts-as}
 use Rattle.containment.specs.TwoSymbols.{commonS, commonR}
 use Rattle.symbol_texts.specs.ImportAnswer.{requestOf}
 use Rattle.symbol_texts.specs.Pair.{pairText, pairLinesBy}
 use Rattle.symbol_texts.proofs.PairReadBack.{pair-read-back}
-use Rattle.subgroup_texts.specs.SameAnswer.{countedIn, tableIn}
+use Rattle.subgroup_texts.specs.SameAnswer.{tableIn}
+use Rattle.text.specs.Reading.{countIn}
 use Rattle.subgroup_texts.specs.Inner.TwoTexts.{symbolsBy, ReadsTwo}
 use Rattle.subgroup_texts.specs.declared.same_text.TwoReading.{TwoReading}
 use Rattle.subgroup_texts.specs.IntersectionAnswer.{intersectionFor, ofBoth, intersectionLines, intersectionBytes, IntersectionPrintMeans}
@@ -40,6 +41,6 @@ print-means longer t bytes e ns ms n g made =
     let r = ofBoth commonR ns ms in
     let text : bytes ≡ pairText s r = e ∙ ap intersectionLines g ∙ ap (λ (x : Filled). pairLinesBy x s r) made in
     record {
-      common = intersected (countedIn ns) (tableIn ns) (countedIn ms) (tableIn ms) n made;
-      read-back = ap (requestOf false) text ∙ pair-read-back s r (made-fits (countedIn ns) (tableIn ns) (countedIn ms) (tableIn ms) n made);
+      common = intersected (countIn ns) (tableIn ns) (countIn ms) (tableIn ms) n made;
+      read-back = ap (requestOf false) text ∙ pair-read-back s r (made-fits (countIn ns) (tableIn ns) (countIn ms) (tableIn ms) n made);
     }

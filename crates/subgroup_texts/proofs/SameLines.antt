@@ -23,7 +23,8 @@ use Rattle.symbol.specs.Check.{symbolCheck}
 use Rattle.pairing.proofs.Both.{with-space}
 use Rattle.containment.specs.Group.{sameTables}
 use Rattle.containment.proofs.Means.{decides-same, decides-different}
-use Rattle.subgroup_texts.specs.SameAnswer.{sameLine, countedIn, tableIn, two, twoLines, sameBytes, SamePrintMeans}
+use Rattle.subgroup_texts.specs.SameAnswer.{sameLine, tableIn, two, twoLines, sameBytes, SamePrintMeans}
+use Rattle.text.specs.Reading.{countIn}
 
 pub yes-line : (a : Decision) → a ≡ decision.Yes → 115 ∷ 97 ∷ 109 ∷ 101 ∷ 10 ∷ [] ≡ sameLine a
 unfolding line spaced
@@ -47,7 +48,7 @@ abbrev answered : (v : ℕ) (t : List ℤ) (n : ℕ) (u : List ℤ) → Decision
 answered v t n u = decided (sameTables v t n u) (symbolCheck v t orElse symbolCheck n u)
 
 -- in a work space that is long enough
-pub numbers-line : (one other : List ℤ) {v n : ℕ} {t u : List ℤ} → v ≡ countedIn one → t ≡ tableIn one → n ≡ countedIn other → u ≡ tableIn other
+pub numbers-line : (one other : List ℤ) {v n : ℕ} {t u : List ℤ} → v ≡ countIn one → t ≡ tableIn one → n ≡ countIn other → u ≡ tableIn other
     → {a : Decision} {w w' : List ℕ}
     → Fills (Asks (symbolCheck v t) ∷ Asks (symbolCheck n u) ∷ Asks (lengthCheck workLength (length w)) ∷ Clears w w' ∷ []) (decided (sameTables v t n u)) a
     → workLength ≤ length w → sameLine a ≡ twoLines (two one other)
@@ -59,6 +60,6 @@ pub print-means : (longer : Bool) (t bytes : List ℕ) → bytes ≡ sameBytes l
 unfolding sameBytes
 print-means longer t bytes e ns ms g = record {
   line = e ∙ ap twoLines g;
-  same = decides-same (countedIn ns) (tableIn ns) (countedIn ms) (tableIn ms);
-  different = decides-different (countedIn ns) (tableIn ns) (countedIn ms) (tableIn ms);
+  same = decides-same (countIn ns) (tableIn ns) (countIn ms) (tableIn ms);
+  different = decides-different (countIn ns) (tableIn ns) (countIn ms) (tableIn ms);
 }

@@ -19,7 +19,7 @@ use Rattle.call.specs.Refusal.{tooShort}
 use Rattle.call.specs.declared.refusal.Refusal.{Refusal}
 use Rattle.text.specs.Piece.{pieces, firstBad, numbers, placeAt}
 use Rattle.text.specs.Reading.{textMost, wanted, wantedOr1, handed, countPlace, firstPlace, orElse, place19, answer, readingOf, symbolFormat}
-use Rattle.text.specs.Refusal.{readingRefusal}
+use Rattle.text.specs.Laws.{readingRefusal}
 use Rattle.text.specs.declared.Format.{Format}
 use Rattle.text.specs.declared.Reading.{Reading}
 use Rattle.text.specs.declared.Reading.the-variants as reading

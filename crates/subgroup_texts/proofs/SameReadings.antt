@@ -22,12 +22,13 @@ use Rattle.basics.proofs.Choice.{pick-true, pick-false}
 use Rattle.call.specs.Refusal.{badText, badVertexCount}
 use Rattle.call.specs.declared.refusal.Refusal.{Refusal}
 use Rattle.text.specs.Piece.{pieces, numbers}
-use Rattle.text.specs.Reading.{textMost, readingOf, symbolFormat, leftBy}
+use Rattle.text.specs.Reading.{textMost, readingOf, symbolFormat}
+use Rattle.text.specs.Inner.Inside.{leftBy}
 use Rattle.text.specs.declared.Reading.{Reading}
 use Rattle.text.specs.declared.Reading.the-variants as reading
-use Rattle.text.specs.Line.{Puts}
-use Rattle.text.proofs.Placing.{puts-as}
-use Rattle.subgroup_texts.specs.SameAnswer.{cutAt, firstText, secondText, firstReading, secondReading, numbersOf, TwoSymbols, none, bySecond, byFirst}
+use Rattle.decimal.specs.Writing.{Puts}
+use Rattle.decimal.proofs.Placing.{puts-as}
+use Rattle.subgroup_texts.specs.SameAnswer.{cutAt, firstText, secondText, firstReading, secondReading, TwoSymbols, none, bySecond, byFirst}
 use Rattle.subgroup_texts.specs.SameAnswer.{twoSymbols}
 use Rattle.subgroup_texts.specs.SameAnswer.{twoLines, sameBytes}
 use Rattle.subgroup_texts.specs.Inner.TwoTexts.{symbolsBy, CountsWithin, ReadsTwo}
@@ -54,9 +55,9 @@ module _ (t : List ℕ) (at : ℕ) (cut : at ≡ cutAt t) where
   first-told {r} {room} e l = e ∙ ap (λ (n : ℕ). readingOf symbolFormat (take n t) room) cut ∙ ap (readingOf symbolFormat (firstText t)) l
 
   pub first-left : (r : Reading) (ns : List ℤ) {s : Reading} {ns' : List ℤ} → s ≡ r → ns' ≡ leftBy s (numbers (pieces (take at t))) ns
-      → ns' ≡ leftBy r (numbersOf (firstText t)) ns
+      → ns' ≡ leftBy r (numbers (pieces (firstText t))) ns
   first-left r ns {s} g e =
-      e ∙ ap (λ (n : ℕ). leftBy s (numbers (pieces (take n t))) ns) cut ∙ ap (λ (x : Reading). leftBy x (numbersOf (firstText t)) ns) g
+      e ∙ ap (λ (n : ℕ). leftBy s (numbers (pieces (take n t))) ns) cut ∙ ap (λ (x : Reading). leftBy x (numbers (pieces (firstText t))) ns) g
 
   second-is : take (length t - at) (drop at t) ≡ secondText t
   second-is = rest-part at t ∙ ap (λ (n : ℕ). drop n t) cut
@@ -65,15 +66,15 @@ module _ (t : List ℕ) (at : ℕ) (cut : at ≡ cutAt t) where
   second-told {r} {room} e l = e ∙ ap (λ (x : List ℕ). readingOf symbolFormat x room) second-is ∙ ap (readingOf symbolFormat (secondText t)) l
 
   pub second-left : (r : Reading) (ms : List ℤ) {s : Reading} {ms' : List ℤ} → s ≡ r → ms' ≡ leftBy s (numbers (pieces (take (length t - at) (drop at t)))) ms
-      → ms' ≡ leftBy r (numbersOf (secondText t)) ms
+      → ms' ≡ leftBy r (numbers (pieces (secondText t))) ms
   second-left r ms {s} g e =
-      e ∙ ap (λ (x : List ℕ). leftBy s (numbers (pieces x)) ms) second-is ∙ ap (λ (x : Reading). leftBy x (numbersOf (secondText t)) ms) g
+      e ∙ ap (λ (x : List ℕ). leftBy s (numbers (pieces x)) ms) second-is ∙ ap (λ (x : Reading). leftBy x (numbers (pieces (secondText t))) ms) g
 
 -- ---- the first text's numbers
 
 module _ (t : List ℕ) (k : ℕ) where
   abbrev given : Reading → TwoSymbols
-  given s = bySecond (cutAt t) (take k (numbersOf (firstText t))) s (numbersOf (secondText t))
+  given s = bySecond (cutAt t) (take k (numbers (pieces (firstText t)))) s (numbers (pieces (secondText t)))
 
   pub few : k < 2 → none badVertexCount ≡ byFirst t (reading.Numbers k)
   few h = sym (pick-true (ltb k 2) (none badVertexCount) (given (secondReading t)) (lt-ltb k 2 h))

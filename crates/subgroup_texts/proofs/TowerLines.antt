@@ -18,6 +18,7 @@ use Rattle.call.specs.declared.refusal.Checked.{Checked}
 use Rattle.call.specs.declared.refusal.Checked.the-variants as checked
 use Rattle.call.specs.Space.{workLength}
 use Rattle.text.specs.Piece.{pieces, numbers}
+use Rattle.text.specs.Reading.{byReading}
 use Rattle.text.specs.declared.Reading.{Reading}
 use Rattle.text.specs.Line.{spaced, line, refusalLine}
 use Rattle.call.specs.Call.{Step, Asks}
@@ -26,7 +27,7 @@ use Rattle.towers.specs.Meaning.{TowerSays}
 use Rattle.towers.specs.Tower.{symbolsCheck, namedCheck}
 use Rattle.towers.specs.Answer.{countCheck, claimSteps, towerChecks}
 use Rattle.towers.proofs.Says.{verdict-is, with-space, answer-says}
-use Rattle.subgroup_texts.specs.TowerAnswer.{towerLine, towerReading, entriesIn, behindCount, towerAnswer, towerBytesBy, towerBytes, TowerPrintMeans}
+use Rattle.subgroup_texts.specs.TowerAnswer.{towerLine, towerReading, entriesIn, behindCount, towerAnswer, towerBytes, TowerPrintMeans}
 
 pub passes-line : (a : Checked) → a ≡ checked.Accepted → 112 ∷ 97 ∷ 115 ∷ 115 ∷ 101 ∷ 115 ∷ 10 ∷ [] ≡ towerLine a
 unfolding line spaced
@@ -54,9 +55,13 @@ numbers-line ns {c} e w w' is h =
     ∙ ap (λ (n : ℕ). towerChecks n table) e
     ∙ ap (towerChecks (entriesIn ns)) (behind ns))
 
-pub by-reading : (longer : Bool) (t : List ℕ) (r : Reading) → r ≡ towerReading longer t → towerBytesBy r (numbers (pieces t)) ≡ towerBytes longer t
+-- the bytes by what a text gives
+abbrev bytesBy : Reading → List ℤ → List ℕ
+bytesBy = byReading (λ (ns : List ℤ). towerLine (towerAnswer ns)) refusalLine
+
+pub by-reading : (longer : Bool) (t : List ℕ) (r : Reading) → r ≡ towerReading longer t → bytesBy r (numbers (pieces t)) ≡ towerBytes longer t
 unfolding towerBytes
-by-reading longer t r e = ap (λ (x : Reading). towerBytesBy x (numbers (pieces t))) e
+by-reading longer t r e = ap (λ (x : Reading). bytesBy x (numbers (pieces t))) e
 
 said : (n : ℕ) (t : List ℤ) → let f = checkedRefusal (towerChecks n t) in TowerSays n t workLength (f .number) (f .place)
 said n t =
@@ -67,4 +72,4 @@ pub print-means : (longer : Bool) (t bytes : List ℕ) → bytes ≡ towerBytes 
 unfolding towerBytes
 print-means longer t bytes e k g =
     let ns = take k (numbers (pieces t)) in
-    record { line = e ∙ ap (λ (x : Reading). towerBytesBy x (numbers (pieces t))) g; says = said (entriesIn ns) (behindCount ns) }
+    record { line = e ∙ ap (λ (x : Reading). bytesBy x (numbers (pieces t))) g; says = said (entriesIn ns) (behindCount ns) }

@@ -1,16 +1,14 @@
--- WHAT THE PROGRAM `intersection` WRITES, byte for byte. The text has two symbols' texts, one after the other, and is
--- read as the program `same` reads it: `twoSymbols`, in the module `same_text`.
+-- WHAT THE JOB `intersection` WRITES, byte for byte. The text has two symbols' texts, one after the other, and is read
+-- as the job `same` reads it (`twoSymbols`).
 --
 --   intersectionFor v t v' t'     the answer for two symbols: the first one's refusals, then the second one's, then 24;
 --                             or the number of points. The program's own spaces have room for 3,066
---   ofBoth common ns ms       the table `common` of the intersection of the two symbols that the numbers ns and ms of
---                             their texts give
+--   ofBoth common ns ms       the table `common` of the intersection of the two symbols that the numbers ns and ms give
 --   intersectionMade ns ms    the answer for these symbols
---   intersectionLines a       the lines for what a text gives: the refusal of the text, or those of the answer
---   intersectionBytes longer t    the bytes for a text, or for one with more than the 65,536 bytes that fit into the
---                                 buffer
+--   intersectionLines a       the lines for what a text gives
+--   intersectionBytes longer t    the bytes for a text
 --   IntersectionPrinted       what the bytes mean where tables are printed: both texts are symbols, the tables are
---                             those of the right cosets of the matrices that belong to both subgroups, and the program
+--                             those of the right cosets of the matrices that belong to both subgroups, and the job
 --                             `import` reads the bytes as this pair of tables
 --   IntersectionPrintMeans    that holds for every text whose numbers give tables
 use mathlib.Core.Path.{_≡_}
@@ -28,7 +26,8 @@ use Rattle.text.specs.Line.{refusalLine}
 use Rattle.containment.specs.TwoSymbols.{commonCosets, commonS, commonR}
 use Rattle.intersections.specs.Answer.{tooMany, Intersected}
 use Rattle.symbol_texts.specs.Pair.{PairReadBack, pairLinesBy}
-use Rattle.subgroup_texts.specs.SameAnswer.{countedIn, tableIn, TwoSymbols, two, none, twoSymbols}
+use Rattle.subgroup_texts.specs.SameAnswer.{tableIn, TwoSymbols, two, none, twoSymbols}
+use Rattle.text.specs.Reading.{countIn}
 
 abbrev pub intersectionFor : (v : ℕ) (t : List ℤ) (v' : ℕ) (t' : List ℤ) → Filled
 intersectionFor v t v' t' =
@@ -36,10 +35,10 @@ intersectionFor v t v' t' =
     madeIf n (symbolCheck v t orElse symbolCheck v' t' orElse tooMany n)
 
 abbrev pub ofBoth : ((v : ℕ) (t : List ℤ) (v' : ℕ) (t' : List ℤ) → List ℕ) → (ns ms : List ℤ) → List ℕ
-ofBoth common ns ms = common (countedIn ns) (tableIn ns) (countedIn ms) (tableIn ms)
+ofBoth common ns ms = common (countIn ns) (tableIn ns) (countIn ms) (tableIn ms)
 
 abbrev pub intersectionMade : (ns ms : List ℤ) → Filled
-intersectionMade ns ms = intersectionFor (countedIn ns) (tableIn ns) (countedIn ms) (tableIn ms)
+intersectionMade ns ms = intersectionFor (countIn ns) (tableIn ns) (countIn ms) (tableIn ms)
 
 abbrev pub intersectionLines : TwoSymbols → List ℕ
 intersectionLines (none f) = refusalLine f
@@ -51,7 +50,7 @@ intersectionBytes longer t = intersectionLines (twoSymbols longer t)
 -- ---- what it means
 
 pub record IntersectionPrinted (ns ms : List ℤ) (n : ℕ) (bytes : List ℕ) : Type 0 where
-  pub common : Intersected (countedIn ns) (tableIn ns) (countedIn ms) (tableIn ms) n
+  pub common : Intersected (countIn ns) (tableIn ns) (countIn ms) (tableIn ms) n
   pub read-back : PairReadBack (ofBoth commonS ns ms) (ofBoth commonR ns ms) bytes
 
 abbrev pub IntersectionPrintMeans : Bool → List ℕ → (bytes : List ℕ) → Type 0

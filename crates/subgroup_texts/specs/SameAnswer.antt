@@ -1,30 +1,28 @@
--- WHAT THE PROGRAM `same` WRITES, byte for byte (docs/CONVENTIONS.md, 10.8). The text has two symbols' texts, one after
--- the other.
+-- WHAT THE JOB `same` WRITES, byte for byte (docs/CONVENTIONS.md, 10.8). The text has two symbols' texts, one after the
+-- other.
 --
---   sameWord, differentWord      the words of the answer as bytes
---   sameLine a                   the line for an answer of `same`: one of the words, or `refused`, the number and the
---                                place
+--   sameLine a                   the line for an answer of `same`: `same`, `different`, or the refusal's
 --   cutAt t                      where the second symbol's text begins
---   firstReading, secondReading  how the two texts are read; each is lent 3,071 numbers
---   countedIn ns, tableIn ns     v and the symbol's table in the numbers ns of its text
+--   firstText, secondText        the two texts
+--   firstReading, secondReading  how they are read; each is lent 3,071 numbers
+--   tableIn ns                   the symbol's table in the numbers ns of its text
 --   TwoSymbols                   what a text gives: a refusal; or two symbols, by the numbers of their texts
 --   inWhole at f                 refusal 19 of the second text, its place counted over the whole text
---   twoSymbols longer t          what a text gives, or one with more than the 65,536 bytes that fit into the buffer.
---                                Refusal 19 of the first text goes before that of the second; a first v that is out of
---                                range is refused with 1, and then no second text is looked for
+--   bySecond, byFirst            what a text gives, by the readings
+--   twoSymbols longer t          what a text gives: refusal 19 of the first text goes before that of the second; a
+--                                first v that is out of range is refused with 1, and then no second text is looked for
 --   sameAnswer ns ms             the answer for two symbols: the first one's refusals, then the second one's, then yes
---                                or no. The program's work space is long enough
---   sameBytes longer t           the bytes for a text
+--                                or no
+--   twoLines, sameBytes longer t the bytes for what a text gives, and for a text
 --   SamePrinted, SamePrintMeans  where there are two symbols' numbers, the bytes are the line of the answer, yes means
 --                                that they are the same, and no that they are different
 use mathlib.Core.Path.{_≡_}
 use mathlib.Core.Bool.{Bool, _||_}
-use mathlib.Core.List.{List, [], _∷_}
+use mathlib.Core.List.{List, []}
 use Prim.Native.Nat.{ℕ, _+_}
 use lib.Dec.{ltb}
 use lib.IntN.{ℤ}
 use lib.ListN.{length, take, drop}
-use Rattle.matrix.specs.Matrix.{nth}
 use Rattle.basics.specs.Choice.{pick}
 use Rattle.call.specs.Refusal.{_orElse_, badText, badVertexCount}
 use Rattle.call.specs.declared.refusal.Refusal.{Refusal}
@@ -32,24 +30,19 @@ use Rattle.call.specs.Inner.Fills.{decided}
 use Rattle.call.specs.declared.Decision.{Decision}
 use Rattle.call.specs.declared.Decision.the-variants as decision
 use Rattle.text.specs.Piece.{pieces, numbers}
-use Rattle.text.specs.Reading.{textMost, readingOf, symbolFormat, vertexCount}
+use Rattle.text.specs.Reading.{textMost, readingOf, symbolFormat, countIn}
 use Rattle.text.specs.declared.Reading.{Reading}
 use Rattle.text.specs.declared.Reading.the-variants as reading
+use Rattle.decimal.specs.Ascii.{ascii}
 use Rattle.text.specs.Line.{line, refusalLine}
 use Rattle.text.specs.Part.{partEnd}
 use Rattle.symbol.specs.Check.{symbolCheck}
 use Rattle.containment.specs.Group.{sameTables}
 use Rattle.containment.specs.Same.{Same, Different}
 
-abbrev pub sameWord : List ℕ
-sameWord = 115 ∷ 97 ∷ 109 ∷ 101 ∷ []
-
-abbrev pub differentWord : List ℕ
-differentWord = 100 ∷ 105 ∷ 102 ∷ 102 ∷ 101 ∷ 114 ∷ 101 ∷ 110 ∷ 116 ∷ []
-
 abbrev pub sameLine : Decision → List ℕ
-sameLine decision.Yes = line sameWord []
-sameLine decision.No = line differentWord []
+sameLine decision.Yes = line (ascii "same") []
+sameLine decision.No = line (ascii "different") []
 sameLine (decision.Refused f) = refusalLine f
 
 -- ---- the two texts
@@ -68,12 +61,6 @@ firstReading t = readingOf symbolFormat (firstText t) 3071
 
 abbrev pub secondReading : List ℕ → Reading
 secondReading t = readingOf symbolFormat (secondText t) 3071
-
-abbrev pub numbersOf : List ℕ → List ℤ
-numbersOf t = numbers (pieces t)
-
-abbrev pub countedIn : List ℤ → ℕ
-countedIn ns = vertexCount (nth ns 0)
 
 abbrev pub tableIn : List ℤ → List ℤ
 tableIn ns = drop 1 ns
@@ -96,7 +83,7 @@ abbrev pub byFirst : (t : List ℕ) → Reading → TwoSymbols
 byFirst t (reading.Refused f) = none f
 byFirst t (reading.Numbers k) =
     pick (ltb k 2) (none badVertexCount)
-    (bySecond (cutAt t) (take k (numbersOf (firstText t))) (secondReading t) (numbersOf (secondText t)))
+    (bySecond (cutAt t) (take k (numbers (pieces (firstText t)))) (secondReading t) (numbers (pieces (secondText t))))
 
 unfoldable pub twoSymbols : Bool → List ℕ → TwoSymbols
 twoSymbols longer t =
@@ -104,8 +91,8 @@ twoSymbols longer t =
 
 abbrev pub sameAnswer : (ns ms : List ℤ) → Decision
 sameAnswer ns ms =
-    decided (sameTables (countedIn ns) (tableIn ns) (countedIn ms) (tableIn ms))
-    (symbolCheck (countedIn ns) (tableIn ns) orElse symbolCheck (countedIn ms) (tableIn ms))
+    decided (sameTables (countIn ns) (tableIn ns) (countIn ms) (tableIn ms))
+    (symbolCheck (countIn ns) (tableIn ns) orElse symbolCheck (countIn ms) (tableIn ms))
 
 abbrev pub twoLines : TwoSymbols → List ℕ
 twoLines (none f) = refusalLine f
@@ -118,8 +105,8 @@ sameBytes longer t = twoLines (twoSymbols longer t)
 
 pub record SamePrinted (ns ms : List ℤ) (bytes : List ℕ) : Type 0 where
   pub line : bytes ≡ sameLine (sameAnswer ns ms)
-  pub same : sameAnswer ns ms ≡ decision.Yes → Same (countedIn ns) (tableIn ns) (countedIn ms) (tableIn ms)
-  pub different : sameAnswer ns ms ≡ decision.No → Different (countedIn ns) (tableIn ns) (countedIn ms) (tableIn ms)
+  pub same : sameAnswer ns ms ≡ decision.Yes → Same (countIn ns) (tableIn ns) (countIn ms) (tableIn ms)
+  pub different : sameAnswer ns ms ≡ decision.No → Different (countIn ns) (tableIn ns) (countIn ms) (tableIn ms)
 
 abbrev pub SamePrintMeans : Bool → List ℕ → (bytes : List ℕ) → Type 0
 SamePrintMeans longer t bytes = (ns ms : List ℤ) → twoSymbols longer t ≡ two ns ms → SamePrinted ns ms bytes

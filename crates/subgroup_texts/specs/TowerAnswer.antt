@@ -1,12 +1,10 @@
--- WHAT THE PROGRAM `tower` WRITES, byte for byte. The text has the number of entries and behind it the tower's table,
--- any number of numbers.
+-- WHAT THE JOB `tower` WRITES, byte for byte. The text has the number of entries and behind it the tower's table, any
+-- number of numbers.
 --
---   passesWord                   `passes` as bytes
---   towerLine r                  the line for an answer of `tower`: this word, or `refused`, the number and the place
---   towerReading longer t        what a text gives, or one with more than the 65,536 bytes that fit into the buffer, in
---                                this order: 19 for its length, for its first piece that is no number, for no number at
---                                all (the text's length), for a first number that is negative and so no number of
---                                entries (the offset where it begins); or all its numbers
+--   towerLine r                  the line for an answer of `tower`: `passes`, or the refusal's
+--   towerReading longer t        what a text gives, in this order: 19 for its length, for its first piece that is no
+--                                number, for no number at all (the text's length), for a first number that is negative
+--                                and so no number of entries (the offset where it begins); or all its numbers
 --   entriesIn ns, behindCount ns in the numbers ns of a text, how many entries there are, and the table
 --   towerAnswer ns               the answer of the tower. The program's work space is long enough
 --   towerBytes longer t          the bytes for a text
@@ -27,18 +25,16 @@ use Rattle.call.specs.declared.refusal.Checked.{Checked}
 use Rattle.call.specs.declared.refusal.Checked.the-variants as checked
 use Rattle.call.specs.Space.{workLength}
 use Rattle.text.specs.Piece.{pieces, firstBad, numbers, placeAt}
-use Rattle.text.specs.Reading.{textMost}
+use Rattle.text.specs.Reading.{textMost, byReading}
 use Rattle.text.specs.declared.Reading.{Reading}
 use Rattle.text.specs.declared.Reading.the-variants.{Numbers, Refused}
+use Rattle.decimal.specs.Ascii.{ascii}
 use Rattle.text.specs.Line.{line, refusalLine}
 use Rattle.towers.specs.Meaning.{TowerSays}
 use Rattle.towers.specs.Answer.{towerChecks}
 
-abbrev pub passesWord : List ℕ
-passesWord = 112 ∷ 97 ∷ 115 ∷ 115 ∷ 101 ∷ 115 ∷ []
-
 abbrev pub towerLine : Checked → List ℕ
-towerLine checked.Accepted = line passesWord []
+towerLine checked.Accepted = line (ascii "passes") []
 towerLine (checked.Refused f) = refusalLine f
 
 -- ---- the text
@@ -73,12 +69,9 @@ behindCount ns = drop 1 ns
 abbrev pub towerAnswer : List ℤ → Checked
 towerAnswer ns = towerChecks (entriesIn ns) (behindCount ns)
 
-abbrev pub towerBytesBy : Reading → List ℤ → List ℕ
-towerBytesBy (Numbers k) ns = towerLine (towerAnswer (take k ns))
-towerBytesBy (Refused f) ns = refusalLine f
-
 unfoldable pub towerBytes : Bool → List ℕ → List ℕ
-towerBytes longer t = towerBytesBy (towerReading longer t) (numbers (pieces t))
+towerBytes longer t =
+    byReading (λ ns. towerLine (towerAnswer ns)) refusalLine (towerReading longer t) (numbers (pieces t))
 
 -- ---- what it means
 

@@ -1,23 +1,19 @@
-// What the program `intersection` writes for a text: all of it, byte for byte, as specs/IntersectionAnswer.antt says.
+// What the job `intersection` writes for a text: all of it, byte for byte, as specs/IntersectionAnswer.antt says.
 use crate::same_text::TwoReading;
 use crate::same_text::read_two;
 use call::refusal::Filled;
 use intersections::intersection;
 use symbol_texts::pair_text::pair_lines;
-use text::input::Input;
-use text::input::text_end;
 use text::line::refusal_line;
 use text::vertex_count;
 ghost use mathlib.Core.Path.{_≡_};
 ghost use Prim.Native.Nat.{_≤_};
-ghost use lib.ListN.{length, take};
-ghost use Rattle.text.specs.Input.{ForInput};
-ghost use Rattle.text.specs.Line.{Puts};
+ghost use lib.ListN.{length};
+ghost use Rattle.decimal.specs.Writing.{Puts};
 ghost use Rattle.containment.specs.TwoSymbols.{commonS, commonR};
 ghost use Rattle.symbol_texts.specs.Pair.{pairLinesBy};
 ghost use Rattle.subgroup_texts.specs.SameAnswer.{two};
 ghost use Rattle.subgroup_texts.specs.IntersectionAnswer.{intersectionFor, intersectionLines, intersectionBytes};
-ghost use Rattle.subgroup_texts.specs.IntersectionAnswer.{IntersectionPrintMeans};
 
 // The lines for the symbols in t and u: the tables of S and R of the intersection, or the refusal.
 fn intersection_lines(v: usize, t: &[i64], n: usize, u: &[i64], out: &mut [u8]) -> usize
@@ -48,8 +44,9 @@ fn intersection_numbers(one: &[i64], other: &[i64], out: &mut [u8]) -> usize
     intersection_lines(v, &one[1..], n, &other[1..], out)
 }
 
-// The same for a text.
-fn intersection_input(text: &[u8], longer: bool, out: &mut [u8]) -> usize
+// What the program writes for a text, from the front of `out`, where `longer` says that the input goes on behind the
+// text; where it ends.
+pub fn answer(text: &[u8], longer: bool, out: &mut [u8]) -> usize
     requires { ⌜ 65536 ≤ length (now out) ⌝ }
     ensures { λ e. ⌜ Puts (intersectionBytes longer (now (text .entry))) 0 e (now (out .entry)) (now (out .exit)) ⌝ }
 {
@@ -60,21 +57,4 @@ fn intersection_input(text: &[u8], longer: bool, out: &mut [u8]) -> usize
         TwoReading::Refused(refusal) => refusal_line(refusal, out),
         TwoReading::Numbers(k, j) => intersection_numbers(&one[..k], &other[..j], out),
     }
-}
-
-// What the program writes for an input, whose bytes stand at the front of the buffer, from the front of `out`; where
-// it ends: at 0, with nothing changed, where the input could not be read.
-pub fn answer(buffer: &[u8], input: Input, out: &mut [u8; 65536]) -> usize
-    ensures { λ e. ⌜ e ≤ length (now (out .exit)) ⌝ }
-    ensures { λ e. ⌜ ForInput (now (buffer .entry))
-        (λ longer text. Puts (intersectionBytes longer text) 0 e (now (out .entry)) (now (out .exit))
-        × IntersectionPrintMeans longer text (take e (now (out .exit))))
-        ((e ≡ 0) × (now (out .exit) ≡ now (out .entry)))
-        input ⌝ }
-{
-    let Input::Read(n, longer) = input else {
-        return 0;
-    };
-    let end = text_end(buffer, n);
-    intersection_input(&buffer[..end], longer, out)
 }

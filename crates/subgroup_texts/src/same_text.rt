@@ -1,15 +1,13 @@
-// What the program `same` writes for a text: all of it, byte for byte, as specs/SameAnswer.antt says.
+// What the job `same` writes for a text: all of it, byte for byte, as specs/SameAnswer.antt says.
 use call::Decision;
 use call::refusal::BAD_TEXT;
 use call::refusal::BAD_VERTEX_COUNT;
 use call::refusal::Refusal;
 use containment::sameness::same;
+use decimal::put;
 use text::Format;
 use text::Reading;
 use text::TEXT_MOST;
-use text::input::Input;
-use text::input::text_end;
-use text::line::put;
 use text::line::refusal_line;
 use text::part::part_end;
 use text::read;
@@ -17,10 +15,9 @@ use text::vertex_count;
 ghost use mathlib.Core.Path.{_≡_};
 ghost use mathlib.Core.Bool.{false};
 ghost use Prim.Native.Nat.{_+_, _≤_};
-ghost use lib.ListN.{length, take};
-ghost use Rattle.text.specs.Input.{ForInput};
-ghost use Rattle.text.specs.Line.{Puts};
-ghost use Rattle.subgroup_texts.specs.SameAnswer.{sameLine, inWhole, two, twoLines, sameBytes, SamePrintMeans};
+ghost use lib.ListN.{length};
+ghost use Rattle.decimal.specs.Writing.{Puts};
+ghost use Rattle.subgroup_texts.specs.SameAnswer.{sameLine, inWhole, two, twoLines, sameBytes};
 ghost use Rattle.subgroup_texts.specs.Inner.TwoTexts.{ReadsTwo};
 
 // What reading two symbols' texts gives.
@@ -117,8 +114,9 @@ pub fn read_two(text: &[u8], longer: bool, one: &mut [i64], other: &mut [i64]) -
     read_texts(text, one, other)
 }
 
-// The line for a text.
-fn same_input(text: &[u8], longer: bool, out: &mut [u8]) -> usize
+// What the program writes for a text, from the front of `out`, where `longer` says that the input goes on behind the
+// text; where it ends.
+pub fn answer(text: &[u8], longer: bool, out: &mut [u8]) -> usize
     requires { ⌜ 50 ≤ length (now out) ⌝ }
     ensures { λ e. ⌜ Puts (sameBytes longer (now (text .entry))) 0 e (now (out .entry)) (now (out .exit)) ⌝ }
 {
@@ -129,21 +127,4 @@ fn same_input(text: &[u8], longer: bool, out: &mut [u8]) -> usize
         TwoReading::Refused(refusal) => refusal_line(refusal, out),
         TwoReading::Numbers(k, j) => same_numbers(&one[..k], &other[..j], out),
     }
-}
-
-// What the program writes for an input, whose bytes stand at the front of the buffer, from the front of `out`; where
-// it ends: at 0, with nothing changed, where the input could not be read.
-pub fn answer(buffer: &[u8], input: Input, out: &mut [u8; 64]) -> usize
-    ensures { λ e. ⌜ e ≤ length (now (out .exit)) ⌝ }
-    ensures { λ e. ⌜ ForInput (now (buffer .entry))
-        (λ longer text. Puts (sameBytes longer text) 0 e (now (out .entry)) (now (out .exit))
-        × SamePrintMeans longer text (take e (now (out .exit))))
-        ((e ≡ 0) × (now (out .exit) ≡ now (out .entry)))
-        input ⌝ }
-{
-    let Input::Read(n, longer) = input else {
-        return 0;
-    };
-    let end = text_end(buffer, n);
-    same_input(&buffer[..end], longer, out)
 }

@@ -1,30 +1,26 @@
-// What the program `tower` writes for a text: all of it, byte for byte, as specs/TowerAnswer.antt says.
+// What the job `tower` writes for a text: all of it, byte for byte, as specs/TowerAnswer.antt says.
 use call::refusal::BAD_TEXT;
 use call::refusal::Checked;
 use call::refusal::Refusal;
+use decimal::put;
+use decimal::size;
 use text::Reading;
 use text::Step;
 use text::Survey;
 use text::TEXT_MOST;
 use text::fill;
-use text::input::Input;
-use text::input::text_end;
-use text::line::put;
 use text::line::refusal_line;
 use text::next;
-use text::size;
 use text::survey_of;
 use towers::tower;
 ghost use mathlib.Core.Path.{_≡_};
 ghost use mathlib.Core.Option.{none};
 ghost use Prim.Native.Nat.{_≤_};
-ghost use lib.ListN.{length, take};
-ghost use Rattle.text.specs.Input.{ForInput};
+ghost use lib.ListN.{length};
 ghost use Rattle.text.specs.Piece.{pieces, firstBad, numbers, placeAt};
-ghost use Rattle.text.specs.Reading.{leftBy};
-ghost use Rattle.text.specs.Line.{Puts};
+ghost use Rattle.text.specs.Inner.Inside.{leftBy};
+ghost use Rattle.decimal.specs.Writing.{Puts};
 ghost use Rattle.subgroup_texts.specs.TowerAnswer.{towerLine, entriesFrom, towerReading, towerAnswer, towerBytes};
-ghost use Rattle.subgroup_texts.specs.TowerAnswer.{TowerPrintMeans};
 
 // The numbers of a text whose pieces are all numbers, `count` of them.
 fn read_entries(text: &[u8], count: usize, ns: &mut [i64]) -> Reading
@@ -104,8 +100,9 @@ fn tower_numbers(ns: &[i64], out: &mut [u8]) -> usize
     tower_line(answer, out)
 }
 
-// What a text gets.
-fn print_tower(text: &[u8], longer: bool, out: &mut [u8]) -> usize
+// What the program writes for a text, from the front of `out`, where `longer` says that the input goes on behind the
+// text; where it ends.
+pub fn answer(text: &[u8], longer: bool, out: &mut [u8]) -> usize
     requires { ⌜ 50 ≤ length (now out) ⌝ }
     ensures { λ e. ⌜ Puts (towerBytes longer (now (text .entry))) 0 e (now (out .entry)) (now (out .exit)) ⌝ }
 {
@@ -115,21 +112,4 @@ fn print_tower(text: &[u8], longer: bool, out: &mut [u8]) -> usize
         Reading::Refused(refusal) => refusal_line(refusal, out),
         Reading::Numbers(k) => tower_numbers(&ns[..k], out),
     }
-}
-
-// What the program writes for an input, whose bytes stand at the front of the buffer, from the front of `out`; where
-// it ends: at 0, with nothing changed, where the input could not be read.
-pub fn answer(buffer: &[u8], input: Input, out: &mut [u8; 64]) -> usize
-    ensures { λ e. ⌜ e ≤ length (now (out .exit)) ⌝ }
-    ensures { λ e. ⌜ ForInput (now (buffer .entry))
-        (λ longer text. Puts (towerBytes longer text) 0 e (now (out .entry)) (now (out .exit))
-        × TowerPrintMeans longer text (take e (now (out .exit))))
-        ((e ≡ 0) × (now (out .exit) ≡ now (out .entry)))
-        input ⌝ }
-{
-    let Input::Read(n, longer) = input else {
-        return 0;
-    };
-    let end = text_end(buffer, n);
-    print_tower(&buffer[..end], longer, out)
 }

@@ -2,6 +2,11 @@
 --
 --   refuse b f            refused with f where b holds
 --   refuseAt i n f        refused at i, the first place that fails, where it is below n
+--   eqZ                   whether two whole numbers are equal
+--   outOfRange, apart, isZero, unpairedIn    what 3, 4, 5 and 6 look for: an entry out of range, ends of a side that
+--                         are no neighbours, a vertex 0/1, a side that is neither even nor odd nor one of two with its
+--                         label; `sides`, `sidesIn` count the sides with a label, `unpairedBy` judges by that count
+--   isOdd, lacksOdd       a side is odd; one vertex and no odd side
 --   check1 .. check7      the seven checks; the last two are on the pairings alone
 --   symbolCheck v t       all of them, in order: the first fault counts
 use mathlib.Core.Bool.{Bool, true, false, not, _&&_, _||_}

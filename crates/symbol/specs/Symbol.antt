@@ -1,6 +1,7 @@
 -- What an accepted symbol is, in the words of the field: the meaning of the seven checks.
 --
---   IsSymbol v t     v finite vertices with their pairings make a Farey symbol
+--   ZeroAt, FreeLabel    a vertex that is 0/1; a label from 1 to v + 1 that two sides have
+--   IsSymbol v t         v finite vertices with their pairings make a Farey symbol
 --   SymbolVerdict v t r  r is the answer of the checks, and it is that the symbol is accepted exactly when it is one
 --
 -- proofs/Accepted.antt, `accepted`: the checks accept exactly the symbols.

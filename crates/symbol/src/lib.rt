@@ -2,6 +2,8 @@
 //
 // A table of a symbol with v vertices holds 2v vertex entries and then v + 1 pairings. specs/ says what each call
 // returns and leaves.
+mod counting;
+
 use call::refusal::BAD_PAIRING;
 use call::refusal::BAD_VERTEX_COUNT;
 use call::refusal::Checked;
@@ -25,7 +27,7 @@ ghost use Rattle.symbol.specs.Table.{leftNum, leftDen, rightNum, rightDe
 ghost use Rattle.symbol.specs.Table.{pairingOf};
 ghost use Rattle.symbol.specs.Check.{eqZ, outOfRange, apart, isZero, unpairedIn, check3, check4, check5};
 ghost use Rattle.symbol.specs.Check.{lacksOdd, check6, check7};
-ghost use Rattle.symbol.specs.Inner.Marks.{digit, CountedAt, Noted, Tallied};
+ghost use Rattle.symbol.specs.Inner.Marks.{Noted, Tallied};
 ghost use Rattle.symbol.specs.Symbol.{SymbolVerdict};
 ghost use Rattle.symbol.specs.Inner.Ready.{SmallSide, failsOf, placesOf, MayCheck};
 
@@ -210,43 +212,6 @@ pub fn is_zero(t: &[i64], i: usize) -> bool
     false
 }
 
-// What is counted at k.
-fn counted(marks: &[u8; 512], k: usize) -> u8
-    requires { ⌜ k < 1024 ⌝ }
-    ensures { λ r. ⌜ r ≡ digit (now (marks .entry)) k ⌝ }
-{
-    let m = marks[k / 2];
-    if k % 2 == 0 {
-        return m % 16;
-    }
-    m / 16
-}
-
-// The byte after m, whose low half isn't full.
-fn next(m: u8) -> u8
-    requires { ⌜ m % 16 < 3 ⌝ }
-    ensures { λ r. ⌜ r ≡ m + 1 ⌝ }
-{
-    m + 1
-}
-
-// Counts one more at k, up to 3.
-fn mark(marks: &mut [u8; 512], k: usize)
-    requires { ⌜ (k < 1024) × (length (now marks) ≡ 512) ⌝ }
-    ensures { λ r. ⌜ CountedAt (now (marks .entry)) (now (marks .exit)) k ⌝ }
-{
-    let m = marks[k / 2];
-    if k % 2 == 0 {
-        if m % 16 < 3 {
-            marks[k / 2] = next(m);
-        }
-    } else {
-        if m / 16 < 3 {
-            marks[k / 2] = m + 16;
-        }
-    }
-}
-
 // Counts one more at the label that x is, if it is one.
 fn note(v: usize, x: i64, marks: &mut [u8; 512])
     requires { ⌜ (v ≤ 1023) × (length (now marks) ≡ 512) ⌝ }
@@ -256,7 +221,7 @@ fn note(v: usize, x: i64, marks: &mut [u8; 512])
     match pairing {
         Pairing::Even => {}
         Pairing::Odd => {}
-        Pairing::Free(l) => mark(marks, l - 1),
+        Pairing::Free(l) => counting::mark(marks, l - 1),
         Pairing::Bad => {}
     }
 }
@@ -282,7 +247,7 @@ fn is_unpaired(v: usize, p: &[i64], marks: &[u8; 512], i: usize) -> bool
     match pairing {
         Pairing::Even => false,
         Pairing::Odd => false,
-        Pairing::Free(l) => counted(marks, l - 1) != 2,
+        Pairing::Free(l) => counting::counted(marks, l - 1) != 2,
         Pairing::Bad => true,
     }
 }

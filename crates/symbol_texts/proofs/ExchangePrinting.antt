@@ -29,7 +29,7 @@ use Rattle.call.specs.Inner.Fills.{Fills, madeIf}
 use Rattle.call.proofs.Laws.{room-long}
 use Rattle.call.proofs.Answered.{run-made, run-refused, made-count}
 use Rattle.text.specs.Piece.{pieces, numbers}
-use Rattle.text.specs.Reading.{inputOf}
+use Rattle.text.specs.Reading.{inputOf, byReading, countIn}
 use Rattle.text.specs.declared.Reading.{Reading}
 use Rattle.text.proofs.Handed.{input-on}
 use Rattle.text.specs.Line.{refusalLine}
@@ -40,8 +40,8 @@ use Rattle.partner_exchange.specs.Exchange.{exchanged}
 use Rattle.partner_exchange.specs.Answer.{exchangeCheck}
 use Rattle.partner_exchange.proofs.Theorem.{trades}
 use Rattle.partner_exchange.proofs.Answered.{exchangeable}
-use Rattle.symbol_texts.specs.ExchangeAnswer.{exchangeLines, exchangeCount, exchangeSymbol, firstLabel, secondLabel, exchangeLinesOf, exchangeFormat}
-use Rattle.symbol_texts.specs.ExchangeAnswer.{exchangeLinesBy, exchangedText, ExchangePrintMeans}
+use Rattle.symbol_texts.specs.ExchangeAnswer.{exchangeLines, exchangeSymbol, firstLabel, secondLabel, exchangeLinesOf, exchangeFormat}
+use Rattle.symbol_texts.specs.ExchangeAnswer.{exchangedText, ExchangePrintMeans}
 
 -- ---- the answer of `exchange`
 
@@ -103,27 +103,27 @@ module _ (ns : List ℤ) where
   unfolding exchangeLinesOf
   few-lines h = sym (pick-true (ltb (length ns) 4) _ _ (lt-ltb (length ns) 4 h))
 
-  pub enough-lines : 4 ≤ length ns → exchangeLines (exchangeCount ns) (exchangeSymbol ns) (firstLabel ns) (secondLabel ns) ≡ exchangeLinesOf ns
+  pub enough-lines : 4 ≤ length ns → exchangeLines (countIn ns) (exchangeSymbol ns) (firstLabel ns) (secondLabel ns) ≡ exchangeLinesOf ns
   unfolding exchangeLinesOf
   enough-lines h = sym (pick-false (ltb (length ns) 4) _ _ (le-ltb (length ns) 4 h))
 
 pub lines-by : (longer : Bool) (text : List ℕ) (r : Reading) → r ≡ inputOf longer exchangeFormat text 3073
-    → exchangeLinesBy r (numbers (pieces text)) ≡ exchangedText longer text
+    → byReading exchangeLinesOf refusalLine r (numbers (pieces text)) ≡ exchangedText longer text
 unfolding exchangedText
-lines-by longer text r e = ap (λ (x : Reading). exchangeLinesBy x (numbers (pieces text))) e
+lines-by longer text r e = ap (λ (x : Reading). byReading exchangeLinesOf refusalLine x (numbers (pieces text))) e
 
 -- ---- what the bytes mean
 
 pub print-means : (longer : Bool) (text bytes : List ℕ) → bytes ≡ exchangedText longer text → ExchangePrintMeans longer text bytes
 unfolding exchangedText
 print-means longer text bytes b k four e passed =
-    let v = exchangeCount read in
+    let v = countIn read in
     let t = exchangeSymbol read in
     let x = firstLabel read in
     let y = secondLabel read in
     let trade = trades (exchangeable v t x y passed) in
     let lines : bytes ≡ symbolLines v (exchanged v t x y) =
-    b ∙ ap (λ (r : Reading). exchangeLinesBy r all) e ∙ sym (enough-lines read long) ∙ sym (lines-if v t x y checked.Accepted passed) in
+    b ∙ ap (λ (r : Reading). byReading exchangeLinesOf refusalLine r all) e ∙ sym (enough-lines read long) ∙ sym (lines-if v t x y checked.Accepted passed) in
     record { trade = trade; read-back = rw lines (symbol-read-back v (exchanged v t x y) (trade .accepted)) }
   where
     all : List ℤ

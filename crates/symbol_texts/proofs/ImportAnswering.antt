@@ -31,22 +31,23 @@ use Rattle.call.specs.Call.{lengthCheck, atFront, ifAccepted}
 use Rattle.call.specs.Inner.Fills.{Fills, madeIf}
 use Rattle.call.proofs.Laws.{room-long}
 use Rattle.text.specs.Piece.{pieces, numbers}
-use Rattle.text.specs.Reading.{inputOf, leftBy}
+use Rattle.text.specs.Reading.{inputOf, byReading}
+use Rattle.text.specs.Inner.Inside.{leftBy}
 use Rattle.text.specs.declared.Reading.{Reading}
 use Rattle.text.specs.declared.Reading.the-variants.{Numbers}
-use Rattle.text.specs.Line.{Puts}
+use Rattle.decimal.specs.Writing.{Puts}
 use Rattle.import_symbol.specs.Answer.{check16, ruledTable}
 use Rattle.permutations.specs.Check.{pairCheck}
 use Rattle.import_rule.specs.Order.{Order}
 use Rattle.import_rule.specs.Symbol.{Ruled, ruledBy}
-use Rattle.permutations.specs.Import.{neededVertices, neededLength, SymbolOfPair}
+use Rattle.import_call.specs.Import.{neededVertices, neededLength, SymbolOfPair}
 use Rattle.permutations.proofs.Accepted.{accepted}
-use Rattle.permutations.proofs.Means.{symbolSteps, importVerdict, accepted-means}
-use Rattle.permutations.proofs.Told.{told-made}
-use Rattle.permutations.proofs.Answering.{admitted}
-use Rattle.symbol_texts.specs.ImportAnswer.{pointsFrom, Request, tables, refused, tablesIn, importFormat, requestBy, requestOf, linesBy}
+use Rattle.import_call.proofs.Means.{symbolSteps, importVerdict, accepted-means}
+use Rattle.import_call.proofs.Told.{told-made}
+use Rattle.import_call.proofs.Answering.{admitted}
+use Rattle.symbol_texts.specs.ImportAnswer.{pointsFrom, Request, tables, refused, tablesIn, importFormat, requestOf, linesBy}
 use Rattle.symbol_texts.specs.ImportAnswer.{importLines, linesFor, importedBy}
-use Rattle.symbol_texts.specs.ImportSpaces.{filled, numbersLeft, tablesRead, TablesRead}
+use Rattle.symbol_texts.specs.Inner.ImportSpaces.{filled, numbersLeft, tablesRead, TablesRead}
 
 pub front-is : (k : ℕ) (t out out' : List ℤ) → out' ≡ t ++ drop k out → length out' ≡ length out → k ≤ length out → take k out' ≡ t
 front-is k t out out' e l h =
@@ -103,9 +104,9 @@ enough-numbers ns h = rw (le-ltb (length ns) 3 h) refl
 
 module _ (longer : Bool) (text : List ℕ) where
   module _ (r : Reading) (e : r ≡ inputOf longer importFormat text 6133) where
-    pub asked-by : requestBy r (numbers (pieces text)) ≡ requestOf longer text
+    pub asked-by : byReading tablesIn refused r (numbers (pieces text)) ≡ requestOf longer text
     unfolding requestOf
-    asked-by = ap (λ (x : Reading). requestBy x (numbers (pieces text))) e
+    asked-by = ap (λ (x : Reading). byReading tablesIn refused x (numbers (pieces text))) e
 
     pub numbers-by : (ns : List ℤ) → leftBy r (numbers (pieces text)) ns ≡ numbersLeft longer text ns
     unfolding numbersLeft

@@ -19,7 +19,7 @@ use lib.Signed.{ltZ, nonNeg}
 use borrow.Author.Tests.{ltb-true, ltb-false, lt-ltb, le-ltb}
 use Rattle.text.proofs.Clash.{clash}
 use Rattle.symbol_texts.specs.ImportAnswer.{tablePoint, pointsFrom}
-use Rattle.symbol_texts.specs.ImportSpaces.{filled}
+use Rattle.symbol_texts.specs.Inner.ImportSpaces.{filled}
 
 pub negative-point : (x : ℤ) → ltZ x (pos 0) ≡ true → 4294967295 ≡ tablePoint x
 unfolding tablePoint

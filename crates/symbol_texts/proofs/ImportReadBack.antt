@@ -23,23 +23,23 @@ use Rattle.call.proofs.Answers.{pass-both}
 use Rattle.call.specs.Inner.Fills.{madeIf}
 use Rattle.matrix.specs.Matrix.{nth}
 use Rattle.text.specs.Blank.{isBlank}
-use Rattle.text.specs.Decimal.{decimalOf}
+use Rattle.decimal.specs.Decimal.{decimalOf}
 use Rattle.text.specs.Laws.{Inside64}
 use Rattle.text.specs.Reading.{symbolFormat, textMost, wanted}
 use Rattle.text.proofs.Says.{Says, says-none, says-number, says-numbers, says-reading}
 use Rattle.text.specs.Line.{natural, spaced}
-use Rattle.text.proofs.Spacing.{decimal-most}
+use Rattle.decimal.proofs.Decimals.{decimal-most}
 use Rattle.symbol.specs.Table.{numer, denom, pairingEntry}
 use Rattle.symbol.specs.Symbol.{FreeLabel, IsSymbol}
 use Rattle.import_symbol.specs.Answer.{check16, ruledTable}
 use Rattle.import_rule.specs.Order.{Order}
 use Rattle.import_rule.specs.Symbol.{ruledBy}
 use Rattle.permutations.specs.Check.{pairCheck}
-use Rattle.permutations.specs.Import.{neededVertices}
+use Rattle.import_call.specs.Import.{neededVertices}
 use Rattle.permutations.proofs.Accepted.{accepted}
-use Rattle.permutations.proofs.Means.{made-means}
+use Rattle.import_call.proofs.Means.{made-means}
 use Rattle.symbol_texts.specs.ImportAnswer.{numberLine, symbolLines, Request, tables, requestOf, linesBy, importLines, linesFor}
-use Rattle.symbol_texts.specs.ReadBack.{ReadBack, LinesReadBack, SymbolReadBack, Printed, PrintMeans}
+use Rattle.symbol_texts.specs.ReadBack.{ReadBack, SymbolReadBack, Printed, PrintMeans}
 
 -- ---- what the lines say
 
@@ -91,7 +91,8 @@ module _ (v : ℕ) (t : List ℤ) (low : 1 ≤ v) (high : v ≤ 1023) (long : le
   unfolding wanted
   in-range = rw (le-leb 1 v low, le-leb v 1023 high)
 
-pub lines-read-back : LinesReadBack
+pub lines-read-back : (v : ℕ) (t : List ℤ) → 1 ≤ v → v ≤ 1023 → length t ≡ 3 * v + 1 → Each64 t → length (symbolLines v t) ≤ textMost
+    → ReadBack v t (symbolLines v t)
 lines-read-back v t n m long each short =
     let s = lines-say v t n m long each in
     let w = in-range v t n m long each in

@@ -17,22 +17,22 @@ use Rattle.call.specs.declared.refusal.Filled.{Filled}
 use Rattle.call.specs.declared.refusal.Filled.the-variants as filled
 use Rattle.call.proofs.Answers.{both-pass}
 use Rattle.text.specs.Piece.{pieces, numbers}
-use Rattle.text.specs.Reading.{inputOf, vertexCount}
+use Rattle.text.specs.Reading.{inputOf, byReading, vertexCount}
 use Rattle.text.specs.declared.Reading.{Reading}
 use Rattle.import_rule.specs.Order.{Order}
 use Rattle.import_symbol.specs.Answer.{check16, ruledTable}
-use Rattle.permutations.specs.Import.{SymbolOfPair}
-use Rattle.permutations.proofs.Told.{told-made}
+use Rattle.import_call.specs.Import.{SymbolOfPair}
+use Rattle.import_call.proofs.Told.{told-made}
 use Rattle.symbol_texts.specs.ImportAnswer.{symbolLines, linesBy}
 use Rattle.symbol_texts.proofs.ImportReadBack.{symbol-read-back}
-use Rattle.permutations.proofs.Means.{made-means}
+use Rattle.import_call.proofs.Means.{made-means}
 use Rattle.congruence.specs.Cosets.{familyS, familyR}
 use Rattle.named_groups.specs.Group.{familyOf, groupCheck}
 use Rattle.named_groups.specs.Answer.{namedRule, NamedSymbol}
 use Rattle.named_groups.proofs.Checked.{check-named, group-of}
 use Rattle.named_groups.proofs.Symbols.{symbol-named}
 use Rattle.named_groups.proofs.Tables.{passport}
-use Rattle.symbol_texts.specs.NamedAnswer.{namedFormat, GroupRequest, group, refused, groupIn, groupBy, groupRequest, madeBy, orderFor, groupLines}
+use Rattle.symbol_texts.specs.NamedAnswer.{namedFormat, GroupRequest, group, refused, groupIn, groupRequest, madeBy, orderFor, groupLines}
 use Rattle.symbol_texts.specs.NamedAnswer.{requestLines, namedBytes, NamedPrintMeans}
 
 -- ---- the numbers of a text
@@ -49,9 +49,9 @@ enough-numbers ns {k} {n} h e f = rw (le-ltb (length ns) 2 h) (ap (λ (x : ℕ).
 
 module _ (longer : Bool) (text : List ℕ) where
   module _ (r : Reading) (e : r ≡ inputOf longer namedFormat text 2) where
-    pub asked-by : groupBy r (numbers (pieces text)) ≡ groupRequest longer text
+    pub asked-by : byReading groupIn refused r (numbers (pieces text)) ≡ groupRequest longer text
     unfolding groupRequest
-    asked-by = ap (λ (x : Reading). groupBy x (numbers (pieces text))) e
+    asked-by = ap (λ (x : Reading). byReading groupIn refused x (numbers (pieces text))) e
 
   pub lines-as : {a : GroupRequest} → a ≡ groupRequest longer text → requestLines a ≡ namedBytes longer text
   unfolding namedBytes

@@ -23,10 +23,10 @@ use Rattle.call.specs.Inner.Fills.{Fills, madeIf}
 use Rattle.congruence.specs.Cosets.{familyS, familyR}
 use Rattle.import_rule.specs.Order.{Order, leftmost, longestOpen}
 use Rattle.import_symbol.specs.Answer.{check16, ruledTable}
-use Rattle.permutations.specs.Import.{neededVertices, neededLength}
-use Rattle.permutations.proofs.Means.{symbolSteps}
-use Rattle.permutations.proofs.Told.{told-made}
-use Rattle.permutations.proofs.Answering.{admitted}
+use Rattle.import_call.specs.Import.{neededVertices, neededLength}
+use Rattle.import_call.proofs.Means.{symbolSteps}
+use Rattle.import_call.proofs.Told.{told-made}
+use Rattle.import_call.proofs.Answering.{admitted}
 use Rattle.symbol_texts.specs.ImportAnswer.{linesBy}
 use Rattle.symbol_texts.proofs.ImportAnswering.{own-spaces}
 use Rattle.named_groups.specs.Group.{familyOf, groupCheck}

@@ -11,13 +11,13 @@ use Prim.Native.Nat.{ℕ, suc, _+_, _-_, _≤_, _<_}
 use native.Mathlib.Omega.{arith}
 use lib.ListN.{length, getD, take, drop}
 use lib.Seq.{take-all}
-use Rattle.text.specs.Decimal.{decimalOf}
+use Rattle.decimal.specs.Decimal.{decimalOf}
 use Rattle.text.specs.Line.{natural, spaced}
-use Rattle.text.proofs.Spacing.{digits-most}
+use Rattle.decimal.proofs.Decimals.{digits-most}
 use Rattle.permutations.specs.Check.{Passport}
-use Rattle.permutations.proofs.Accepted.{image-in}
+use Rattle.permutations.proofs.Images.{image-in}
 use Rattle.symbol_texts.specs.ImportAnswer.{numberLine}
-use Rattle.symbol_texts.specs.Pair.{EachBelow, PairFits}
+use Rattle.symbol_texts.specs.Inner.PairFits.{EachBelow, PairFits}
 
 rest-is : (x : ℕ) (xs : List ℕ) → take (length (x ∷ xs) - 1) (drop 1 (x ∷ xs)) ≡ xs
 rest-is x xs = take-all (length (x ∷ xs) - 1) xs (omega arith)

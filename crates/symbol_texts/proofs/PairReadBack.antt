@@ -16,16 +16,17 @@ use lib.ListN.{length, take, length-append, length-map}
 use lib.Seq.{take-all, take-at, drop-at}
 use borrow.Author.Tests.{lt-ltb, le-ltb, le-leb}
 use Rattle.basics.proofs.Choice.{pick-true, pick-false}
-use Rattle.text.specs.Decimal.{decimalOf}
+use Rattle.decimal.specs.Decimal.{decimalOf}
 use Rattle.text.specs.Piece.{pieces, numbers}
-use Rattle.text.specs.Reading.{textMost, wanted, inputOf}
+use Rattle.text.specs.Reading.{textMost, wanted, inputOf, byReading}
 use Rattle.text.specs.declared.Reading.{Reading}
 use Rattle.text.proofs.Says.{Says, says-none, says-numbers, says-reading}
 use Rattle.text.specs.Line.{natural, spaced}
 use Rattle.text.proofs.Spacing.{natural-at}
-use Rattle.symbol_texts.specs.ImportAnswer.{numberLine, tablePoint, pointsFrom, tables, tablesIn, importFormat, requestBy, requestOf}
+use Rattle.symbol_texts.specs.ImportAnswer.{numberLine, tablePoint, pointsFrom, tables, refused, tablesIn, importFormat, requestOf}
 use Rattle.symbol_texts.proofs.ImportReadBack.{Each64, number-line-says, says-as, three}
-use Rattle.symbol_texts.specs.Pair.{EachBelow, PairFits, pairText, PairsReadBack}
+use Rattle.symbol_texts.specs.Pair.{pairText}
+use Rattle.symbol_texts.specs.Inner.PairFits.{EachBelow, PairFits, PairsReadBack}
 use Rattle.symbol_texts.proofs.PairLines.{one-line-is, count-most, point-most}
 
 -- ---- what the lines say
@@ -151,7 +152,7 @@ pair-read-back s r fits =
     let many : suc (length (map natural s ++ map natural r)) ≡ k = all-long s r fits in
     let read = says-reading importFormat t (natural (length s)) (map natural s ++ map natural r) k says w many 6133 (pair-short s r fits)
     (omega (arith, fits .most)) in
-    ap (λ (x : Reading). requestBy x (numbers (pieces t))) read
+    ap (λ (x : Reading). byReading tablesIn refused x (numbers (pieces t))) read
     ∙ ap (λ (l : List ℤ). tablesIn (take k l)) (says-numbers importFormat t (natural (length s)) (map natural s ++ map natural r) k says w many)
     ∙ ap tablesIn (take-all k (all s r fits) (omega (arith, all-long s r fits)))
     ∙ tables-are s r fits

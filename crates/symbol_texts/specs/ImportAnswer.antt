@@ -1,4 +1,4 @@
--- WHAT THE PROGRAMS `import` AND `import_wide` WRITE, byte for byte: by the rule under the order `leftmost`, and by the
+-- WHAT THE JOBS `import` AND `import-wide` WRITE, byte for byte: by the rule under the order `leftmost`, and by the
 -- wide rule, under `longestOpen`.
 --
 --   numberLine zs            the numbers zs in one line, a space between each two
@@ -7,12 +7,11 @@
 --                            given as its greatest number, which is outside every table
 --   pointsFrom from n ns     n of the numbers ns as a table, from the place `from` on
 --   Request                  what a text asks for: the symbol of two tables; or it is refused before there are tables
---   tablesIn ns              what the numbers handed on ask for: the index alone is out of range, and that is refusal
---                            12
---   importFormat             the form of the text: the index n from 1 to 3,066, and then n entries of S and n of R
---   requestBy r ns           what a text asks for that is read with the answer r, its numbers being ns
---   requestOf longer text    what a text asks for, or one with more than the 65,536 bytes that fit into the buffer
---   linesBy a t              the lines for an answer: the symbol with the table t, or the refusal's number and place
+--   tablesIn ns              what the numbers handed on ask for: the index and two tables; the index alone is out of
+--                            range, and that is refusal 12
+--   importFormat             the index n from 1 to 3,066, and then n entries of S and n of R
+--   requestOf longer text    what a text asks for
+--   linesBy a t              the lines for an answer: the symbol with the table t, or the refusal's line
 --   importLines order s r    the lines for two tables: 12 to 15, then 16, or the symbol; every symbol has room
 --   linesFor order a         the lines for what is asked
 --   importedBy order longer text    the bytes for a text
@@ -28,18 +27,15 @@ use Rattle.call.specs.declared.refusal.Filled.{Filled}
 use Rattle.call.specs.declared.refusal.Filled.the-variants as filled
 use Rattle.basics.specs.Choice.{pick}
 use Rattle.call.specs.Inner.Fills.{madeIf}
-use Rattle.text.specs.Decimal.{decimalOf}
-use Rattle.text.specs.Piece.{pieces, numbers}
-use Rattle.text.specs.Reading.{inputOf}
+use Rattle.decimal.specs.Decimal.{decimalOf}
+use Rattle.text.specs.Reading.{inputGives}
 use Rattle.text.specs.declared.Format.{Format}
-use Rattle.text.specs.declared.Reading.{Reading}
-use Rattle.text.specs.declared.Reading.the-variants as reading
 use Rattle.text.specs.Line.{natural, spaced, refusalLine}
 use Rattle.import_symbol.specs.Answer.{check16, ruledTable}
 use Rattle.import_rule.specs.Order.{Order}
 use Rattle.import_rule.specs.Symbol.{ruledBy}
 use Rattle.permutations.specs.Check.{pairCheck}
-use Rattle.permutations.specs.Import.{neededVertices}
+use Rattle.import_call.specs.Import.{neededVertices}
 
 unfoldable pub numberLine : List ℤ → List ℕ
 numberLine [] = 10 ∷ []
@@ -59,7 +55,6 @@ pub data Request : Type 0 where
   tables : (s r : List ℕ) → Request
   refused : Refusal → Request
 
--- the numbers that are handed on: the index, and then two tables
 unfoldable pub tablesIn : List ℤ → Request
 tablesIn ns =
     let n = (length ns - 1) / 2 in
@@ -68,12 +63,8 @@ tablesIn ns =
 abbrev pub importFormat : Format
 importFormat = record { least = 1; most = 3066; each = 2; more = 1 }
 
-abbrev pub requestBy : Reading → List ℤ → Request
-requestBy (reading.Numbers k) ns = tablesIn (take k ns)
-requestBy (reading.Refused f) ns = refused f
-
 unfoldable pub requestOf : Bool → List ℕ → Request
-requestOf longer text = requestBy (inputOf longer importFormat text 6133) (numbers (pieces text))
+requestOf longer text = inputGives importFormat 6133 tablesIn refused longer text
 
 abbrev pub linesBy : Filled → List ℤ → List ℕ
 linesBy (filled.Made v) t = symbolLines v t

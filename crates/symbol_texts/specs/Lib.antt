@@ -1,6 +1,5 @@
 -- What a reader of the crate `symbol_texts` must believe, in reading order. The symbol of a pair of permutations.
 pub mod ImportAnswer
-pub mod ImportSpaces
 pub mod ReadBack
 -- The lines of a pair of permutations.
 pub mod Pair

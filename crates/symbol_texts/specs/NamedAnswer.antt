@@ -1,18 +1,16 @@
--- WHAT THE PROGRAM `named` WRITES, byte for byte: the symbol of a congruence group, for a text of its family's number
--- and N.
+-- WHAT THE JOB `named` WRITES, byte for byte: the symbol of a congruence group, by its family's number and N.
 --
---   namedFormat             the form of the text: the family's number from 0 to 2, and then N
---   GroupRequest            what a text asks for: a group by its family's number and N; or it is refused before there
---                           are these
+--   namedFormat             the family's number from 0 to 2, and then N
+--   GroupRequest            what a text asks for: a group by its family's number and N; or it is refused before that
 --   groupIn ns              what the numbers handed on ask for: a family's number alone is none of a family, and that
 --                           is refusal 20
---   groupBy r ns            what a text asks for that is read with the answer r, its numbers being ns
---   groupRequest longer t   what a text asks for, or one with more than the 65,536 bytes that fit into the buffer
+--   groupRequest longer t   what a text asks for
 --   madeBy order k n        the answer for a group: 20, 21, then 16, or the number of vertices; every symbol has room
 --   isOver a                whether an answer is refusal 16
 --   orderFor k n            the order of the symbol that is printed: the leftmost open side is split, but where that is
 --                           refused with 16 the one open longest
---   groupLines k n          the lines for a group: the symbol, or the refusal's number and place
+--   groupLines k n          the lines for a group: the symbol, or the refusal's line
+--   requestLines a          the lines for what is asked
 --   namedBytes longer t     the bytes for a text
 --   NamedPrinted, NamedPrintMeans     what is printed for a group is read, by the rule of 19, as a symbol of it,
 --                           wherever one is made
@@ -22,7 +20,7 @@ use mathlib.Core.List.{List}
 use Prim.Native.Nat.{ℕ}
 use lib.Dec.{ltb, eqb}
 use lib.IntN.{ℤ}
-use lib.ListN.{length, take}
+use lib.ListN.{length}
 use Rattle.basics.specs.Choice.{pick}
 use Rattle.matrix.specs.Matrix.{nth}
 use Rattle.call.specs.Refusal.{_orElse_, badLevel, entryTooLarge, filledRefusal}
@@ -30,15 +28,12 @@ use Rattle.call.specs.declared.refusal.Refusal.{Refusal}
 use Rattle.call.specs.declared.refusal.Filled.{Filled}
 use Rattle.call.specs.declared.refusal.Filled.the-variants as filled
 use Rattle.call.specs.Inner.Fills.{madeIf}
-use Rattle.text.specs.Piece.{pieces, numbers}
-use Rattle.text.specs.Reading.{inputOf, vertexCount}
+use Rattle.text.specs.Reading.{inputGives, vertexCount}
 use Rattle.text.specs.declared.Format.{Format}
-use Rattle.text.specs.declared.Reading.{Reading}
-use Rattle.text.specs.declared.Reading.the-variants as reading
 use Rattle.text.specs.Line.{refusalLine}
 use Rattle.import_rule.specs.Order.{Order, leftmost, longestOpen}
 use Rattle.import_symbol.specs.Answer.{check16, ruledTable}
-use Rattle.permutations.specs.Import.{neededVertices}
+use Rattle.import_call.specs.Import.{neededVertices}
 use Rattle.congruence.specs.Cosets.{familyR}
 use Rattle.symbol_texts.specs.ImportAnswer.{linesBy}
 use Rattle.symbol_texts.specs.ReadBack.{ReadBack}
@@ -57,12 +52,8 @@ unfoldable pub groupIn : List ℤ → GroupRequest
 groupIn ns =
     pick (ltb (length ns) 2) (refused badLevel) (group (vertexCount (nth ns 0)) (vertexCount (nth ns 1)))
 
-abbrev pub groupBy : Reading → List ℤ → GroupRequest
-groupBy (reading.Numbers j) ns = groupIn (take j ns)
-groupBy (reading.Refused f) ns = refused f
-
 unfoldable pub groupRequest : Bool → List ℕ → GroupRequest
-groupRequest longer text = groupBy (inputOf longer namedFormat text 2) (numbers (pieces text))
+groupRequest longer text = inputGives namedFormat 2 groupIn refused longer text
 
 abbrev pub madeBy : Order → (k n : ℕ) → Filled
 madeBy order k n =

@@ -1,4 +1,4 @@
-// What the program `exchange` writes for a text: all of it, byte for byte, as specs/ExchangeAnswer.antt says.
+// What the job `exchange` writes for a text: all of it, byte for byte, as specs/ExchangeAnswer.antt says.
 use crate::import_text::symbol_lines;
 use call::refusal::BAD_VERTEX_COUNT;
 use call::refusal::Filled;
@@ -6,18 +6,14 @@ use call::refusal::Refusal;
 use partner_exchange::exchange;
 use text::Format;
 use text::Reading;
-use text::input::Input;
-use text::input::text_end;
 use text::line::refusal_line;
 use text::read_input;
 use text::vertex_count;
 ghost use mathlib.Core.Path.{_≡_};
 ghost use Prim.Native.Nat.{_≤_};
-ghost use lib.ListN.{length, take};
-ghost use Rattle.text.specs.Input.{ForInput};
-ghost use Rattle.text.specs.Line.{Puts};
+ghost use lib.ListN.{length};
+ghost use Rattle.decimal.specs.Writing.{Puts};
 ghost use Rattle.symbol_texts.specs.ExchangeAnswer.{exchangeLines, exchangeLinesOf, exchangedText};
-ghost use Rattle.symbol_texts.specs.ExchangeAnswer.{ExchangePrintMeans};
 
 // The lines for a symbol and two labels: the exchanged symbol, or the refusal.
 fn exchange_lines(v: usize, t: &[i64], x: i64, y: i64, table: &mut [i64], out: &mut [u8]) -> usize
@@ -83,21 +79,13 @@ fn exchange_text(
     }
 }
 
-// What the program writes for an input, whose bytes stand at the front of the buffer, from the front of `out`; where
-// it ends: at 0, with nothing changed, where the input could not be read.
-pub fn answer(buffer: &[u8], input: Input, out: &mut [u8; 65536]) -> usize
-    ensures { λ e. ⌜ e ≤ length (now (out .exit)) ⌝ }
-    ensures { λ e. ⌜ ForInput (now (buffer .entry))
-        (λ longer text. Puts (exchangedText longer text) 0 e (now (out .entry)) (now (out .exit))
-        × ExchangePrintMeans longer text (take e (now (out .exit))))
-        ((e ≡ 0) × (now (out .exit) ≡ now (out .entry)))
-        input ⌝ }
+// What the program writes for a text, from the front of `out`, where `longer` says that the input goes on behind the
+// text; where it ends.
+pub fn answer(text: &[u8], longer: bool, out: &mut [u8]) -> usize
+    requires { ⌜ 65536 ≤ length (now out) ⌝ }
+    ensures { λ e. ⌜ Puts (exchangedText longer (now (text .entry))) 0 e (now (out .entry)) (now (out .exit)) ⌝ }
 {
-    let Input::Read(n, longer) = input else {
-        return 0;
-    };
-    let end = text_end(buffer, n);
     let mut numbers = [0i64; 3073];
     let mut table = [0i64; 3070];
-    exchange_text(&buffer[..end], longer, &mut numbers, &mut table, out)
+    exchange_text(text, longer, &mut numbers, &mut table, out)
 }

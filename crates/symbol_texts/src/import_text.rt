@@ -3,12 +3,10 @@
 use call::refusal::Filled;
 use call::refusal::POINT_COUNT;
 use call::refusal::Refusal;
-use permutations::import_by;
+use decimal::put;
+use import_call::import_by;
 use text::Format;
 use text::Reading;
-use text::input::Input;
-use text::input::text_end;
-use text::line::put;
 use text::line::put_decimal;
 use text::line::put_integers;
 use text::line::refusal_line;
@@ -16,15 +14,13 @@ use text::read_input;
 ghost use mathlib.Core.Path.{_≡_};
 ghost use mathlib.Core.List.{[], _∷_, map};
 ghost use Prim.Native.Nat.{_+_, _*_, _≤_};
-ghost use lib.ListN.{length, take};
-ghost use Rattle.text.specs.Input.{ForInput};
-ghost use Rattle.text.specs.Line.{natural, Puts};
-ghost use Rattle.import_rule.specs.Order.{leftmost, longestOpen};
+ghost use lib.ListN.{length};
+ghost use Rattle.text.specs.Line.{natural};
+ghost use Rattle.decimal.specs.Writing.{Puts};
 ghost use Rattle.import_symbol.specs.Answer.{orderBy};
 ghost use Rattle.symbol_texts.specs.ImportAnswer.{numberLine, symbolLines, tablePoint, tablesIn};
 ghost use Rattle.symbol_texts.specs.ImportAnswer.{requestOf, importLines, importedBy};
-ghost use Rattle.symbol_texts.specs.ImportSpaces.{filled, numbersLeft, TablesRead};
-ghost use Rattle.symbol_texts.specs.ReadBack.{PrintMeans};
+ghost use Rattle.symbol_texts.specs.Inner.ImportSpaces.{filled, numbersLeft, TablesRead};
 
 // A line of numbers.
 fn number_line(xs: &[i64], out: &mut [u8], at: usize) -> usize
@@ -156,8 +152,9 @@ pub fn read_tables(
     }
 }
 
-// The lines for a text.
-fn import_text(text: &[u8], longer: bool, wide: bool, out: &mut [u8]) -> usize
+// What the program writes for a text, by the leftmost rule or by the wide one, from the front of `out`, where `longer`
+// says that the input goes on behind the text; where it ends.
+pub fn answer(text: &[u8], longer: bool, wide: bool, out: &mut [u8]) -> usize
     requires { ⌜ 65536 ≤ length (now out) ⌝ }
     ensures { λ e. ⌜ Puts (importedBy (orderBy wide) longer (now (text .entry))) 0 e (now (out .entry))
         (now (out .exit)) ⌝ }
@@ -170,46 +167,4 @@ fn import_text(text: &[u8], longer: bool, wide: bool, out: &mut [u8]) -> usize
         Filled::Refused(refusal) => refusal_line(refusal, out),
         Filled::Made(n) => import_lines(&s[..n], &r[..n], wide, out),
     }
-}
-
-// What the program writes for an input, whose bytes stand at the front of the buffer, from the front of `out`; where
-// it ends: at 0, with nothing changed, where the input could not be read. A symbol that was made is read back from
-// these bytes.
-fn answer_by(buffer: &[u8], input: Input, wide: bool, out: &mut [u8; 65536]) -> usize
-    ensures { λ e. ⌜ e ≤ length (now (out .exit)) ⌝ }
-    ensures { λ e. ⌜ ForInput (now (buffer .entry))
-        (λ longer text. Puts (importedBy (orderBy wide) longer text) 0 e (now (out .entry)) (now (out .exit))
-        × PrintMeans (orderBy wide) (requestOf longer text) (take e (now (out .exit))))
-        ((e ≡ 0) × (now (out .exit) ≡ now (out .entry)))
-        input ⌝ }
-{
-    let Input::Read(n, longer) = input else {
-        return 0;
-    };
-    let end = text_end(buffer, n);
-    import_text(&buffer[..end], longer, wide, out)
-}
-
-// What the program `import` writes.
-pub fn answer(buffer: &[u8], input: Input, out: &mut [u8; 65536]) -> usize
-    ensures { λ e. ⌜ e ≤ length (now (out .exit)) ⌝ }
-    ensures { λ e. ⌜ ForInput (now (buffer .entry))
-        (λ longer text. Puts (importedBy leftmost longer text) 0 e (now (out .entry)) (now (out .exit))
-        × PrintMeans leftmost (requestOf longer text) (take e (now (out .exit))))
-        ((e ≡ 0) × (now (out .exit) ≡ now (out .entry)))
-        input ⌝ }
-{
-    answer_by(buffer, input, false, out)
-}
-
-// What the program `import_wide` writes.
-pub fn answer_wide(buffer: &[u8], input: Input, out: &mut [u8; 65536]) -> usize
-    ensures { λ e. ⌜ e ≤ length (now (out .exit)) ⌝ }
-    ensures { λ e. ⌜ ForInput (now (buffer .entry))
-        (λ longer text. Puts (importedBy longestOpen longer text) 0 e (now (out .entry)) (now (out .exit))
-        × PrintMeans longestOpen (requestOf longer text) (take e (now (out .exit))))
-        ((e ≡ 0) × (now (out .exit) ≡ now (out .entry)))
-        input ⌝ }
-{
-    answer_by(buffer, input, true, out)
 }

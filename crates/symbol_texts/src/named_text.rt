@@ -1,4 +1,4 @@
-// What the program `named` writes for a text: all of it, byte for byte, as specs/NamedAnswer.antt says.
+// What the job `named` writes for a text: all of it, byte for byte, as specs/NamedAnswer.antt says.
 use crate::import_text::symbol_lines;
 use call::refusal::BAD_LEVEL;
 use call::refusal::ENTRY_TOO_LARGE;
@@ -7,18 +7,15 @@ use call::refusal::Refusal;
 use named_groups::named_symbol_by;
 use text::Format;
 use text::Reading;
-use text::input::Input;
-use text::input::text_end;
 use text::line::refusal_line;
 use text::read_input;
 use text::vertex_count;
 ghost use mathlib.Core.Path.{_≡_};
 ghost use Prim.Native.Nat.{_≤_};
-ghost use lib.ListN.{length, take};
-ghost use Rattle.text.specs.Input.{ForInput};
-ghost use Rattle.text.specs.Line.{Puts};
-ghost use Rattle.symbol_texts.specs.NamedAnswer.{groupIn, groupRequest, madeBy, isOver, orderFor};
-ghost use Rattle.symbol_texts.specs.NamedAnswer.{groupLines, requestLines, namedBytes, NamedPrintMeans};
+ghost use lib.ListN.{length};
+ghost use Rattle.decimal.specs.Writing.{Puts};
+ghost use Rattle.symbol_texts.specs.NamedAnswer.{groupIn, madeBy, isOver, orderFor};
+ghost use Rattle.symbol_texts.specs.NamedAnswer.{groupLines, requestLines, namedBytes};
 ghost use Rattle.symbol_texts.specs.Inner.Front.{SymbolFront};
 
 // Whether an answer is refusal 16.
@@ -80,8 +77,9 @@ fn group_numbers(numbers: &[i64], out: &mut [u8]) -> usize
     group_lines(k, n, out)
 }
 
-// The same for a text, or for one that is longer than the buffer.
-fn group_text(text: &[u8], longer: bool, out: &mut [u8]) -> usize
+// What the program writes for a text, from the front of `out`, where `longer` says that the input goes on behind the
+// text; where it ends.
+pub fn answer(text: &[u8], longer: bool, out: &mut [u8]) -> usize
     requires { ⌜ 65536 ≤ length (now out) ⌝ }
     ensures { λ e. ⌜ Puts (namedBytes longer (now (text .entry))) 0 e (now (out .entry)) (now (out .exit)) ⌝ }
 {
@@ -101,22 +99,4 @@ fn group_text(text: &[u8], longer: bool, out: &mut [u8]) -> usize
         Reading::Refused(refusal) => refusal_line(refusal, out),
         Reading::Numbers(j) => group_numbers(&numbers[..j], out),
     }
-}
-
-// What the program writes for an input, whose bytes stand at the front of the buffer, from the front of `out`; where
-// it ends: at 0, with nothing changed, where the input could not be read. A symbol that was made is read back from
-// these bytes.
-pub fn answer(buffer: &[u8], input: Input, out: &mut [u8; 65536]) -> usize
-    ensures { λ e. ⌜ e ≤ length (now (out .exit)) ⌝ }
-    ensures { λ e. ⌜ ForInput (now (buffer .entry))
-        (λ longer text. Puts (namedBytes longer text) 0 e (now (out .entry)) (now (out .exit))
-        × NamedPrintMeans (groupRequest longer text) (take e (now (out .exit))))
-        ((e ≡ 0) × (now (out .exit) ≡ now (out .entry)))
-        input ⌝ }
-{
-    let Input::Read(n, longer) = input else {
-        return 0;
-    };
-    let end = text_end(buffer, n);
-    group_text(&buffer[..end], longer, out)
 }

@@ -1,15 +1,17 @@
-// A pair of permutations as text, as the program `import` reads one: the number of points, the table of S and the table
+// A pair of permutations as text, as the job `import` reads one: the number of points, the table of S and the table
 // of R, each in a line (specs/Pair.antt). For every program that prints a pair.
-use text::line::put;
+use decimal::put;
 use text::line::put_digits;
 ghost use mathlib.Core.Path.{_≡_};
 ghost use mathlib.Core.List.{[], _∷_, map};
 ghost use Prim.Native.Nat.{_+_, _*_, _≤_};
 ghost use lib.ListN.{length};
-ghost use Rattle.text.specs.Decimal.{decimalOf};
-ghost use Rattle.text.specs.Line.{natural, spaced, Puts};
+ghost use Rattle.decimal.specs.Decimal.{decimalOf};
+ghost use Rattle.text.specs.Line.{natural, spaced};
+ghost use Rattle.decimal.specs.Writing.{Puts};
 ghost use Rattle.symbol_texts.specs.ImportAnswer.{numberLine};
-ghost use Rattle.symbol_texts.specs.Pair.{EachBelow, PairFits, pairText};
+ghost use Rattle.symbol_texts.specs.Pair.{pairText};
+ghost use Rattle.symbol_texts.specs.Inner.PairFits.{EachBelow, PairFits};
 
 // An entry of a table as a wider number.
 fn wide(x: u32) -> u64

@@ -1,69 +1,27 @@
--- The decimal form of a number, and reading it back.
---     onto-last, onto-more    a number below 10 is one digit; another is the digits of its tenth and its last digit
---     onto-any                the fuel does not matter, so long as it is at least the number
---     digits-last, digits-more  the same of the digits in front of a list
+-- The decimal form of a number, read back.
 --     write-then-read         reading the decimal form of a number gives the number back
 --     no-blank                the decimal form has no blank byte
 --     one-piece               so that it is a text of one piece, which says the number
 --     number-first            and with a blank byte behind it, it is the first piece of a text
---     form-minus, form-plain  the decimal form by the test that the code makes on the sign
 -- Assumes nothing.
-use mathlib.Core.Path.{_≡_, refl, sym, ap, _∙_}
+use mathlib.Core.Path.{_≡_, refl, ap, _∙_}
 use mathlib.Core.Bool.{true, false}
 use mathlib.Core.List.{List, [], _∷_}
 use mathlib.Core.Option.{some}
 use Prim.Native.Nat.{ℕ, zero, suc, _+_, _-_, _*_, _/_, _%_, _≤_, _<_, _^_}
 use native.Mathlib.Decide.{decLt}
 use native.Mathlib.Omega.{arith}
-use lib.IntN.{ℤ, pos, negsuc, negℤ, natAbs}
-use lib.Signed.{ltZ}
-use mir.Syntax.{w64}
-use mir.Val.{SFits, toZ, ofZ}
-use mir.Facts.{toZ-ofZ}
+use lib.IntN.{ℤ, pos, negsuc, negℤ}
 use lib.ListN.{length, getD}
-use borrow.Author.Tests.{lt-ltb, le-ltb, le-leb, ne-eqb, ltb-true}
+use borrow.Author.Tests.{le-leb, ne-eqb}
 use Rattle.text.specs.Blank.{isBlank, unbroken}
 use Rattle.text.specs.Number.{isDigit, onward, naturalFrom, within, mapped, integerFrom}
 use Rattle.text.specs.Piece.{pieces}
-use Rattle.text.specs.Decimal.{digitsOnto, digits, decimalOf}
+use Rattle.decimal.specs.Decimal.{digitsOnto, digits, decimalOf}
+use Rattle.decimal.proofs.Decimals.{last, onto-last, onto-more}
 use Rattle.text.specs.Laws.{WriteThenRead, NoBlank, OnePiece, NumberFirst}
 use Rattle.text.proofs.Pieces.{one-run, run-first}
 use Rattle.text.proofs.Numbers.{digit-yes, onward-yes, natural-onward, number-plain}
-use Rattle.text.proofs.Clash.{clash}
-
--- the last digit
-abbrev pub last : ℕ → ℕ
-last n = 48 + n % 10
-
-onto-last : (fuel n : ℕ) (t : List ℕ) → n < 10 → digitsOnto fuel n t ≡ last n ∷ t
-unfolding digitsOnto
-onto-last zero n t h = refl
-onto-last (suc fuel) n t h = rw (digitsOnto, lt-ltb n 10 h)
-
-onto-more : (fuel n : ℕ) (t : List ℕ) → 10 ≤ n → digitsOnto (suc fuel) n t ≡ digitsOnto fuel (n / 10) (last n ∷ t)
-unfolding digitsOnto
-onto-more fuel n t h = rw (digitsOnto, le-ltb n 10 h)
-
-onto-any : (f g n : ℕ) (t : List ℕ) → n ≤ f → n ≤ g → digitsOnto f n t ≡ digitsOnto g n t
-onto-any zero g n t a b = onto-last zero n t (omega arith) ∙ sym (onto-last g n t (omega arith))
-onto-any (suc f) zero n t a b = onto-last (suc f) n t (omega arith) ∙ sym (onto-last zero n t (omega arith))
-onto-any (suc f) (suc g) n t a b = go (decLt n 10) (onto-any f g (n / 10) (last n ∷ t))
-  where
-    go : Dec (n < 10) → (n / 10 ≤ f → n / 10 ≤ g → digitsOnto f (n / 10) (last n ∷ t) ≡ digitsOnto g (n / 10) (last n ∷ t))
-        → digitsOnto (suc f) n t ≡ digitsOnto (suc g) n t
-    go (yes h) ih = onto-last (suc f) n t h ∙ sym (onto-last (suc g) n t h)
-    go (no h) ih = onto-more f n t (omega arith) ∙ ih (omega arith) (omega arith) ∙ sym (onto-more g n t (omega arith))
-
--- the digits of n in front of t
-abbrev pub inFront : ℕ → List ℕ → List ℕ
-inFront n t = digitsOnto n n t
-
-pub digits-last : (n : ℕ) (t : List ℕ) → n < 10 → inFront n t ≡ last n ∷ t
-digits-last n t h = onto-last n n t h
-
-pub digits-more : (n : ℕ) (t : List ℕ) → 10 ≤ n → inFront n t ≡ inFront (n / 10) (last n ∷ t)
-digits-more zero t h = absurd (omega arith)
-digits-more (suc n) t h = onto-more n (suc n) t h ∙ onto-any n (suc n / 10) (suc n / 10) (last (suc n) ∷ t) (omega arith) (omega arith)
 
 -- what holds of each digit in front holds of all of them
 last-digit : (n : ℕ) → isDigit (last n) ≡ true
@@ -155,21 +113,3 @@ one-piece z h = rw (← write-then-read z h) (one-text (decimalOf z) (some-byte 
 
 pub number-first : NumberFirst
 number-first z b t at h e = rw (← write-then-read z h) (run-first (decimalOf z) b t at (some-byte z) (no-blank z) e)
-
--- the two cases of the decimal form, by the test that the code makes
-minus-form : (n : ℤ) → ltZ n (pos 0) ≡ true → 45 ∷ digits (natAbs n) ≡ decimalOf n
-unfolding decimalOf
-minus-form (pos n) h = absurd (omega ((arith, ltb-true n 0 h)))
-minus-form (negsuc n) h = refl
-
-plain-form : (n : ℤ) → ltZ n (pos 0) ≡ false → digits (natAbs n) ≡ decimalOf n
-unfolding decimalOf
-plain-form (pos n) h = refl
-plain-form (negsuc n) h = clash (cc)
-
-module _ {n : ℤ} (fit : SFits w64 n) where
-  pub form-minus : ltZ (toZ w64 (ofZ w64 n)) (pos 0) ≡ true → 45 ∷ digits (natAbs n) ≡ decimalOf n
-  form-minus h = minus-form n (rw (toZ-ofZ fit) at h)
-
-  pub form-plain : ltZ (toZ w64 (ofZ w64 n)) (pos 0) ≡ false → digits (natAbs n) ≡ decimalOf n
-  form-plain h = plain-form n (rw (toZ-ofZ fit) at h)

@@ -9,7 +9,7 @@ use Rattle.text.specs.Blank.{isBlank, untilBlank}
 use Rattle.text.specs.Number.{isDigit, onward, naturalFrom, within, integerFrom}
 use Rattle.text.specs.Piece.{piecesFrom, pieces, firstBad, numbers, placeAt}
 use Rattle.text.specs.Reading.{wanted, handed, countPlace, firstPlace, place19, answer, readingOf}
-use Rattle.text.specs.Decimal.{digitsOnto, digits, decimalOf}
+use Rattle.decimal.specs.Decimal.{digitsOnto, digits, decimalOf}
 use Rattle.text.specs.declared.Format.{Format}
 use Rattle.text.specs.declared.Reading.the-variants.{Numbers, Refused}
 

@@ -20,7 +20,8 @@ use borrow.Author.Tests.{lt-ltb, le-ltb}
 use Rattle.call.specs.Refusal.{tooShort, badText}
 use Rattle.basics.specs.Choice.{pick}
 use Rattle.text.specs.Piece.{Piece, pieces, firstBad, numbers, placeAt}
-use Rattle.text.specs.Reading.{textMost, wanted, handed, countPlace, firstPlace, orElse, place19, answer, readingOf, inputOf, leftBy}
+use Rattle.text.specs.Reading.{textMost, wanted, handed, countPlace, firstPlace, orElse, place19, answer, readingOf, inputOf}
+use Rattle.text.specs.Inner.Inside.{leftBy}
 use Rattle.text.specs.declared.Format.{Format}
 use Rattle.text.specs.declared.Reading.{Reading}
 use Rattle.text.specs.declared.Reading.the-variants as reading

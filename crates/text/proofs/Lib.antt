@@ -8,13 +8,11 @@ pub mod Walks
 pub mod Wants
 pub mod Answers
 pub mod Decimals
-pub mod Places
 pub mod Handed
 pub mod Says
 pub mod Counts
 pub mod Examples
 -- The laws of lines.
-pub mod Placing
 pub mod Spacing
 -- Where a part ends.
 pub mod Ends

@@ -24,8 +24,8 @@ use lib.Seq.{drop-cons, drop-length, take-all}
 use borrow.Author.Tests.{le-leb, lt-leb, leb-true, leb-false, eq-eqb, ne-eqb}
 use Rattle.text.specs.Number.{isDigit, onward, naturalFrom, within, mapped, integerFrom}
 use Rattle.text.specs.Inner.Inside.{naturalOf, integerOf, digitPushed}
-use Rattle.text.specs.declared.Natural.the-variants as natural
-use Rattle.text.specs.declared.Integer.the-variants as integer
+use Rattle.text.specs.declared.numeral.Natural.the-variants as natural
+use Rattle.text.specs.declared.numeral.Integer.the-variants as integer
 use Rattle.text.proofs.Clash.{clash}
 
 module _ (b : ℕ) where

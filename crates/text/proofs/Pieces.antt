@@ -21,7 +21,7 @@ use lib.Seq.{drop-cons, drop-drop, getD-drop}
 use Rattle.text.specs.Blank.{isBlank, untilBlank, unbroken}
 use Rattle.text.specs.Piece.{pieceAt, piecesFrom, pieces}
 use Rattle.text.specs.Inner.Inside.{integerOf, stretch, left, Stuck, PieceRead}
-use Rattle.text.specs.declared.Integer.the-variants as integer
+use Rattle.text.specs.declared.numeral.Integer.the-variants as integer
 use Rattle.text.specs.Number.{integerFrom}
 use Rattle.text.proofs.Blanks.{as-kind, stretch-yes, stretch-no, stretch-le, after-stretch, take-stretch}
 use Rattle.text.proofs.Clash.{clash}

@@ -15,7 +15,7 @@ use lib.ListN.{length}
 use borrow.Author.Tests.{le-ltb}
 use Rattle.text.specs.Blank.{isBlank}
 use Rattle.text.specs.Piece.{Piece, piecesFrom, pieces, firstBad, numbers}
-use Rattle.text.specs.Decimal.{decimalOf}
+use Rattle.decimal.specs.Decimal.{decimalOf}
 use Rattle.text.specs.Laws.{Inside64}
 use Rattle.text.specs.Reading.{textMost, wanted, wantedOr1, handed, countPlace, firstPlace, orElse, place19, answer, readingOf}
 use Rattle.text.specs.declared.Format.{Format}

@@ -1,10 +1,9 @@
 -- The first number against its range, by the tests that the code makes on its 64 bits.
 --     natOf v       v's magnitude, as the code casts it
---     natural-fits  the cast is defined from 0 on
 --     want-negative a negative number: any count
 --     from-zero     from 0 on: v is its magnitude
 --     want-low      before the range: any count
---     cast-fits     and the cast is defined there too
+--     cast-fits     and the cast is defined there
 --     want-high     past the range's end: any count
 --     want-these    in range: the format's count
 --     count-fits    which fits
@@ -21,7 +20,8 @@ use lib.Signed.{ltZ, nonNeg}
 use borrow.Author.Tests.{ltb-true, ltb-false, le-leb, lt-leb}
 use mir.Syntax.{w64}
 use mir.Val.{Fits, SFits, toZ, ofZ}
-use mir.Facts.{toZ-ofZ, fits-natAbs}
+use mir.Facts.{toZ-ofZ}
+use Rattle.decimal.proofs.Signs.{natural-fits}
 use Rattle.text.specs.Reading.{wanted}
 use Rattle.text.specs.declared.Format.{Format}
 use Rattle.text.proofs.Clash.{clash}
@@ -38,17 +38,7 @@ its-own : (v : ℤ) → ltZ v (pos 0) ≡ false → v ≡ pos (natAbs v)
 its-own (pos n) h = refl
 its-own (negsuc n) h = clash (cc)
 
-zero-up : (v : ℤ) → ltZ v (pos 0) ≡ false → T (nonNeg v)
-zero-up (pos n) h = tt
-zero-up (negsuc n) h = clash (cc)
-
 module _ {v : ℤ} (fit : SFits w64 v) where
-  nat-fits : Fits w64 (natOf v)
-  nat-fits = rw (toZ-ofZ fit) (fits-natAbs {w = w64} {w′ = w64} tt fit)
-
-  pub natural-fits : ltZ (toZ w64 (ofZ w64 v)) (pos 0) ≡ false → T (nonNeg (toZ w64 (ofZ w64 v))) × Fits w64 (natOf v)
-  natural-fits h = (zero-up (toZ w64 (ofZ w64 v)) h, nat-fits)
-
   pub want-negative : (f : Format) → ltZ (toZ w64 (ofZ w64 v)) (pos 0) ≡ true → wanted f v ≡ none
   want-negative f h = negative f v (rw (toZ-ofZ fit) at h)
 
@@ -57,7 +47,7 @@ module _ {v : ℤ} (fit : SFits w64 v) where
     from-zero = sym (toZ-ofZ fit) ∙ its-own (toZ w64 (ofZ w64 v)) h
 
     pub cast-fits : T (nonNeg (toZ w64 (ofZ w64 v))) × Fits w64 (natOf v)
-    cast-fits = natural-fits h
+    cast-fits = natural-fits fit h
 
 module _ (f : Format) (n : ℕ) where
   pub want-low : n < f .least → wanted f (pos n) ≡ none

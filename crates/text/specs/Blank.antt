@@ -2,7 +2,6 @@
 --     isBlank b     b is a space (32), a line feed (10) or a carriage return (13)
 --     untilBlank t  the bytes of t before its first blank byte, or all of t where it has none
 --     unbroken t    t has no blank byte
--- Assumes nothing.
 use Prim.Native.Nat.{ℕ}
 use mathlib.Core.Bool.{Bool, true, false, not, _&&_, _||_}
 use mathlib.Core.List.{List, [], _∷_}

@@ -5,7 +5,6 @@
 --     within most n      the number n where it is at most `most`; none where it is not, or where there is none
 --     mapped f n         f of the number n; none where there is none
 --     integerFrom t      the number that t is written as; none where t is no decimal number from -2^63 to 2^63 - 1
--- Assumes nothing.
 use Prim.Native.Nat.{ℕ, _+_, _-_, _*_, _^_}
 use mathlib.Core.Bool.{Bool, true, false, _&&_}
 use mathlib.Core.List.{List, [], _∷_}

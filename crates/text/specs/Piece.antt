@@ -9,7 +9,6 @@
 --     firstBad ps               where the first of the pieces ps that is no number begins; none where each is one
 --     numbers ps                the numbers that the pieces ps say
 --     placeAt ps k              where the piece k of ps begins, counted from 0; 0 where there are not so many
--- Assumes nothing.
 use Prim.Native.Nat.{ℕ, zero, suc}
 use mathlib.Core.Bool.{Bool, false, not, _||_}
 use mathlib.Core.List.{List, [], _∷_}

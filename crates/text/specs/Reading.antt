@@ -16,17 +16,19 @@
 --     symbolFormat          the form of a symbol's text: v from 1 to 1,023, and then 3v + 1 numbers
 --     inputOf longer f t room     the same for a program's text: refused where more was sent than the program's buffer
 --                                 holds
---     leftBy r ns out       what the slice holds in the end, where it held `out` and the text's numbers are ns
+--     byReading g h r ns    g of the numbers that are handed on, of the text's numbers ns, or h of the refusal
+--     inputGives f room g h longer t   the same for a program's text
 --     vertexCount z         the first number as a number of vertices; a negative one is out of range as 0 is
--- Assumes nothing.
+--     countIn ns            that of the numbers ns
 use Prim.Native.Nat.{ℕ, _+_, _*_}
 use mathlib.Core.Bool.{Bool, _&&_}
-use mathlib.Core.List.{List, [], _∷_, _++_}
+use mathlib.Core.List.{List, [], _∷_}
 use mathlib.Core.Option.{Option, none, some}
 use lib.Dec.{ltb, leb}
 use lib.IntN.{ℤ, pos, negsuc}
-use lib.ListN.{length, take, drop}
+use lib.ListN.{length, take, getD}
 use Rattle.call.specs.Refusal.{tooShort, badText}
+use Rattle.call.specs.declared.refusal.Refusal.{Refusal}
 use Rattle.basics.specs.Choice.{pick}
 use Rattle.text.specs.Piece.{Piece, pieces, firstBad, numbers, placeAt}
 use Rattle.text.specs.declared.Format.{Format}
@@ -82,10 +84,16 @@ symbolFormat = record { least = 1; most = 1023; each = 3; more = 2 }
 unfoldable pub inputOf : Bool → Format → List ℕ → ℕ → Reading
 inputOf longer f t room = pick longer (Refused (badText textMost)) (readingOf f t room)
 
-unfoldable pub leftBy : Reading → List ℤ → List ℤ → List ℤ
-leftBy (Numbers k) ns out = take k ns ++ drop k out
-leftBy (Refused f) ns out = out
+abbrev pub byReading : {X : Type 0} → (List ℤ → X) → (Refusal → X) → Reading → List ℤ → X
+byReading g h (Numbers k) ns = g (take k ns)
+byReading g h (Refused f) ns = h f
+
+abbrev pub inputGives : {X : Type 0} → Format → (room : ℕ) → (List ℤ → X) → (Refusal → X) → Bool → List ℕ → X
+inputGives f room g h longer t = byReading g h (inputOf longer f t room) (numbers (pieces t))
 
 abbrev pub vertexCount : ℤ → ℕ
 vertexCount (pos n) = n
 vertexCount (negsuc n) = 0
+
+abbrev pub countIn : List ℤ → ℕ
+countIn ns = vertexCount (getD ns 0 (pos 0))

@@ -1,6 +1,6 @@
 // What reading standard input came to, as one value: `stdio` makes it, and a program hands it on whole, with its
 // buffer. Below both, so that the crates of the texts stand on no read and no write.
-ghost use Rattle.text.specs.Input.{TextEnds};
+ghost use Rattle.text.specs.Inner.TextEnds.{TextEnds};
 
 // What reading all of standard input into a buffer came to.
 pub enum Input {

@@ -1,35 +1,29 @@
-// Text in and text out: decimal numbers split by blanks are read into a lent slice, and numbers and words are written
-// into one.
+// Text in and text out: here decimal numbers split by blanks are read into a lent slice. The number that a piece is
+// (`numeral`), lines (`line`), the first of two texts (`part`) and the text of an input (`input`) have modules of their
+// own.
 use call::refusal::BAD_TEXT;
 use call::refusal::Refusal;
 use call::refusal::TOO_SHORT;
+use numeral::Integer;
+use numeral::signed;
 ghost use mathlib.Core.Path.{_≡_};
-ghost use Prim.Native.Nat.{ℕ, _+_, _<_, _≤_, min};
+ghost use Prim.Native.Nat.{_+_, _≤_};
 ghost use mathlib.Core.Option.{none};
 ghost use mathlib.Core.List.{_++_};
 ghost use lib.ListN.{length, take, drop};
-ghost use lib.IntN.{pos, negℤ, natAbs};
 ghost use Rattle.text.specs.Blank.{isBlank};
-ghost use Rattle.text.specs.Number.{naturalFrom, within, integerFrom};
 ghost use Rattle.text.specs.Piece.{pieces, numbers, firstBad, placeAt};
-ghost use Rattle.text.specs.Reading.{readingOf, inputOf, answer, leftBy, wanted, vertexCount};
-ghost use Rattle.text.specs.Decimal.{digits, decimalOf};
-ghost use Rattle.text.specs.Writing.{roomMost, writtenOf, bytesPlaced, standing};
-ghost use Rattle.text.specs.Inner.Inside.{naturalOf, integerOf, digitPushed, wantedOf, stretch, Steps, surveyOf};
-ghost use Rattle.text.specs.Inner.Inside.{countedOf};
+ghost use Rattle.text.specs.Reading.{readingOf, inputOf, answer, wanted, vertexCount};
+ghost use Rattle.text.specs.Inner.Inside.{leftBy};
+ghost use Rattle.text.specs.Inner.Inside.{wantedOf, stretch, Steps, surveyOf, countedOf};
 
 pub mod input;
 pub mod line;
+mod numeral;
 pub mod part;
 
 // The most bytes that a text may have.
 pub const TEXT_MOST: usize = 65536;
-// The greatest number of 64 signed bits, and the magnitude of the least.
-const GREATEST: u64 = 9223372036854775807;
-
-const LEAST: u64 = 9223372036854775808;
-// The greatest length.
-const ROOM_MOST: usize = 18446744073709551615;
 
 // Which first numbers v are in range, and how many numbers a text then has, v among them: v is in range from `least` to
 // `most`, and `each * v + more` numbers are wanted.
@@ -46,26 +40,6 @@ pub enum Reading {
     Numbers(usize),
     // 19, or 11 with the entries that the slice needs.
     Refused(Refusal),
-}
-
-// What writing gives.
-pub enum Written {
-    // The bytes stand, and end before this offset.
-    To(usize),
-    // 11 with the length that the slice needs.
-    Refused(Refusal),
-}
-
-// A natural number, or bytes that are none.
-enum Natural {
-    Is(u64),
-    Bad,
-}
-
-// A signed number, or bytes that are none.
-enum Integer {
-    Is(i64),
-    Bad,
 }
 
 // How many numbers are wanted, or any count where v is out of range.
@@ -119,89 +93,6 @@ fn stretch_end(text: &[u8], from: usize, kind: bool) -> usize
         }
     }
     i
-}
-
-// m with one more decimal digit b behind, where b is a digit and the number at most `most`.
-fn push(m: u64, b: u8, most: u64) -> Natural
-    requires { ⌜ (m ≤ most) × (most ≤ 9223372036854775808) ⌝ }
-    ensures { λ r. ⌜ r ≡ naturalOf (digitPushed most m b) ⌝ }
-{
-    if b < b'0' {
-        return Natural::Bad;
-    }
-    if b'9' < b {
-        return Natural::Bad;
-    }
-    if most / 10 < m {
-        return Natural::Bad;
-    }
-    let n = m * 10 + wide(b - b'0');
-    if most < n {
-        return Natural::Bad;
-    }
-    Natural::Is(n)
-}
-
-// A byte as a wider number.
-fn wide(b: u8) -> u64
-    ensures { λ r. ⌜ r ≡ b ⌝ }
-{
-    b as u64
-}
-
-// The number that the digits are, where it is at most `most`. A number past `most` stays past it, so the first digit
-// that takes it there ends the loop.
-fn magnitude(digits: &[u8], most: u64) -> Natural
-    requires { ⌜ most ≤ 9223372036854775808 ⌝ }
-    ensures { λ r. ⌜ r ≡ naturalOf (within most (naturalFrom (now (digits .entry)))) ⌝ }
-{
-    if digits.len() == 0 {
-        return Natural::Bad;
-    }
-    let mut m: u64 = 0;
-    let mut i = 0;
-    while i < digits.len() {
-        match push(m, digits[i], most) {
-            Natural::Bad => return Natural::Bad,
-            Natural::Is(n) => {
-                m = n;
-                i += 1;
-            }
-        }
-    }
-    Natural::Is(m)
-}
-
-// -m. The way over m - 1 keeps each step within 64 bits.
-fn negative(m: u64) -> i64
-    requires { ⌜ m ≤ 9223372036854775808 ⌝ }
-    ensures { λ r. ⌜ r ≡ negℤ (pos m) ⌝ }
-{
-    if m == 0 {
-        return 0;
-    }
-    let less = (m - 1) as i64;
-    -1 - less
-}
-
-// The number that a piece is.
-fn signed(piece: &[u8]) -> Integer
-    ensures { λ r. ⌜ r ≡ integerOf (integerFrom (now (piece .entry))) ⌝ }
-{
-    if piece.len() == 0 {
-        return Integer::Bad;
-    }
-    if piece[0] == b'-' {
-        match magnitude(&piece[1..], LEAST) {
-            Natural::Bad => Integer::Bad,
-            Natural::Is(m) => Integer::Is(negative(m)),
-        }
-    } else {
-        match magnitude(piece, GREATEST) {
-            Natural::Bad => Integer::Bad,
-            Natural::Is(m) => Integer::Is(m as i64),
-        }
-    }
 }
 
 // What stands first in the text from `from` on.
@@ -404,114 +295,4 @@ pub fn vertex_count(x: i64) -> usize
         return 0;
     }
     x as usize
-}
-
-// The length that k bytes from `at` on need, or the greatest number where that is greater.
-fn needed(at: usize, k: usize) -> usize
-    ensures { λ r. ⌜ r ≡ min (at + k) roomMost ⌝ }
-{
-    if ROOM_MOST - at < k {
-        return ROOM_MOST;
-    }
-    at + k
-}
-
-// Puts the bytes into `out` from `at` on.
-fn put(bytes: &[u8], out: &mut [u8], at: usize)
-    requires { ⌜ at + length (now bytes) ≤ length (now out) ⌝ }
-    ensures { λ _. ⌜ now (out .exit) ≡ bytesPlaced (now (bytes .entry)) at (now (out .entry)) ⌝ }
-{
-    let mut i = 0;
-    while i < bytes.len() {
-        out[at + i] = bytes[i];
-        i += 1;
-    }
-}
-
-// Copies the bytes into `out` from `at` on, where they fit.
-pub fn copy(bytes: &[u8], out: &mut [u8], at: usize) -> Written
-    ensures { λ r. ⌜ (r ≡ writtenOf (length (now (bytes .entry))) (length (now (out .entry))) at)
-        × (now (out .exit) ≡ standing r (now (bytes .entry)) at (now (out .entry))) ⌝ }
-{
-    let k = bytes.len();
-    let room = out.len();
-    if room < at {
-        return Written::Refused(Refusal {
-            number: TOO_SHORT,
-            place: needed(at, k),
-        });
-    }
-    if room - at < k {
-        return Written::Refused(Refusal {
-            number: TOO_SHORT,
-            place: needed(at, k),
-        });
-    }
-    put(bytes, out, at);
-    let end = at + k;
-    Written::To(end)
-}
-
-// The magnitude of n. -1 - n is within 64 bits for each negative n, where -n is not.
-pub fn size(n: i64) -> u64
-    ensures { λ r. ⌜ r ≡ natAbs n ⌝ }
-{
-    if n < 0 {
-        let less = (-1 - n) as u64;
-        return less + 1;
-    }
-    n as u64
-}
-
-// The digits of m at the end of the buffer, the last one first; where they begin. A number of 64 bits has at most 20
-// digits, so that a place is left for a minus.
-fn digits_back(m: u64, buffer: &mut [u8; 21]) -> usize
-    requires { ⌜ length (now buffer) ≡ 21 ⌝ }
-    ensures { λ r. ⌜ (drop r (now (buffer .exit)) ≡ digits m) × (1 ≤ r) × (r ≤ 21)
-        × (length (now (buffer .exit)) ≡ 21) ⌝ }
-{
-    let mut rest = m;
-    let mut at: usize = 21;
-    while 9 < rest {
-        at -= 1;
-        buffer[at] = (48 + rest % 10) as u8;
-        rest = rest / 10;
-    }
-    at -= 1;
-    buffer[at] = (48 + rest % 10) as u8;
-    at
-}
-
-// The decimal form of n at the end of the buffer; where it begins.
-fn form(n: i64, buffer: &mut [u8; 21]) -> usize
-    requires { ⌜ length (now buffer) ≡ 21 ⌝ }
-    ensures { λ r. ⌜ (drop r (now (buffer .exit)) ≡ decimalOf n) × (r ≤ 21) × (length (now (buffer .exit)) ≡ 21) ⌝ }
-{
-    let first = digits_back(size(n), buffer);
-    if n < 0 {
-        let from = first - 1;
-        buffer[from] = b'-';
-        return from;
-    }
-    first
-}
-
-// Writes the decimal form of n into `out` from `at` on, where it fits.
-pub fn write(n: i64, out: &mut [u8], at: usize) -> Written
-    ensures { λ r. ⌜ (r ≡ writtenOf (length (decimalOf n)) (length (now (out .entry))) at)
-        × (now (out .exit) ≡ standing r (decimalOf n) at (now (out .entry))) ⌝ }
-{
-    let mut buffer = [0u8; 21];
-    let from = form(n, &mut buffer);
-    copy(&buffer[from..], out, at)
-}
-
-// The same for a natural number of 64 bits.
-pub fn write_natural(n: u64, out: &mut [u8], at: usize) -> Written
-    ensures { λ r. ⌜ (r ≡ writtenOf (length (digits n)) (length (now (out .entry))) at)
-        × (now (out .exit) ≡ standing r (digits n) at (now (out .entry))) ⌝ }
-{
-    let mut buffer = [0u8; 21];
-    let from = digits_back(n, &mut buffer);
-    copy(&buffer[from..], out, at)
 }

@@ -2,34 +2,26 @@
 // ones start there. The calls ask for room, for the programs that make them know how long a line can get: 21 bytes hold
 // a space and any number, 6 bytes a space and a natural number of 16 bits, and 7 bytes a space and a signed one of 16
 // bits.
-use crate::Written;
 use call::refusal::Refusal;
+use decimal::Written;
+use decimal::put;
+use decimal::write;
+use decimal::write_natural;
 ghost use mathlib.Core.Path.{_≡_};
 ghost use mathlib.Core.List.{[], _∷_, _++_, map};
 ghost use Prim.Native.Nat.{_+_, _*_, _≤_};
 ghost use lib.ListN.{length, take};
 ghost use lib.IntN.{pos};
-ghost use Rattle.text.specs.Decimal.{digits, decimalOf};
-ghost use Rattle.text.specs.Line.{natural, spaced, line, refusalLine, Puts};
-
-// The bytes.
-pub fn put(bytes: &[u8], out: &mut [u8], at: usize) -> usize
-    requires { ⌜ at + length (now bytes) ≤ length (now out) ⌝ }
-    ensures { λ r. ⌜ Puts (now (bytes .entry)) at r (now (out .entry)) (now (out .exit)) ⌝ }
-{
-    let written = crate::copy(bytes, out, at);
-    match written {
-        Written::To(end) => end,
-        Written::Refused(_) => at,
-    }
-}
+ghost use Rattle.decimal.specs.Decimal.{digits, decimalOf};
+ghost use Rattle.text.specs.Line.{natural, spaced, line, refusalLine};
+ghost use Rattle.decimal.specs.Writing.{Puts};
 
 // The digits of n.
 pub fn put_digits(n: u64, out: &mut [u8], at: usize) -> usize
     requires { ⌜ at + 20 ≤ length (now out) ⌝ }
     ensures { λ r. ⌜ Puts (digits n) at r (now (out .entry)) (now (out .exit)) × (r ≤ at + 20) ⌝ }
 {
-    let written = crate::write_natural(n, out, at);
+    let written = write_natural(n, out, at);
     match written {
         Written::To(end) => end,
         Written::Refused(_) => at,
@@ -41,7 +33,7 @@ pub fn put_decimal(n: i64, out: &mut [u8], at: usize) -> usize
     requires { ⌜ at + 20 ≤ length (now out) ⌝ }
     ensures { λ r. ⌜ Puts (decimalOf n) at r (now (out .entry)) (now (out .exit)) × (r ≤ at + 20) ⌝ }
 {
-    let written = crate::write(n, out, at);
+    let written = write(n, out, at);
     match written {
         Written::To(end) => end,
         Written::Refused(_) => at,

@@ -12,9 +12,9 @@
 --   namedAt, verticesAt, tableAt    the same of entry e
 --   symbolsCheck n t e    the checks of the first e entries, in listing order
 --   listedBefore x e      x is -1, or an entry before e
---   namedCheck n t        25 with the first entry that names one not listed before it
+--   namedCheck n t        25 with the first entry that names one not listed before it (`unlisted`)
 --   claimHolds n t e x    x is no entry, or the subgroup of the entry x contains that of the entry e
---   claimsCheck n t       26 with the first entry whose claim is false
+--   claimsCheck n t       26 with the first entry whose claim is false (`claimFails`)
 use mathlib.Core.Bool.{Bool, true, not}
 use mathlib.Core.List.{List}
 use Prim.Native.Nat.{ℕ, zero, suc, _+_, _*_}

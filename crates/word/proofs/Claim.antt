@@ -22,7 +22,7 @@ use borrow.Author.Tests.{le-leb, leb-true, eqb-true, eq-eqb}
 use Rattle.matrix.specs.Matrix.{Mat, _⊗_, adj, det, _≈_, ofList}
 use Rattle.matrix.specs.Euclid as euclid
 use Rattle.matrix.specs.Action as action
-use Rattle.matrix.proofs.Matrix.{⊗-assoc, ⊗-idr, ⊗-adj, adj-⊗, det-adj, det-one, ≈-sym, _∙≈_, ≈-right}
+use Rattle.matrix.proofs.Matrix.{⊗-assoc, ⊗-idr, adj-⊗, det-adj, det-one, ≈-sym, _∙≈_, ≈-right}
 use Rattle.symbol.specs.Symbol.{IsSymbol}
 use Rattle.pairing.specs.Generator.{generators}
 use Rattle.pairing.specs.Subgroup.{IsWord, valueOf}
@@ -30,6 +30,7 @@ use Rattle.basics.proofs.Choice.{clash, pick-true, and-left, and-right}
 use Rattle.coset.specs.Positions.{startOf, followed, walkEnds, Polygon, withSign, querySign, Signs, FrameEquation, Positions}
 use Rattle.coset.specs.Tables.{tableS, tableR}
 use Rattle.right_cosets.specs.Leads.{leads}
+use Rattle.coset.proofs.InWords.{coset-value, from-coset, in-words}
 use Rattle.coset.proofs.Answer.{meaning}
 use Rattle.call.specs.Refusal.{_orElse_, noWord, tooShort}
 use Rattle.call.specs.declared.refusal.Refusal.{Refusal}
@@ -37,7 +38,7 @@ use Rattle.call.specs.declared.refusal.Checked.the-variants.{Accepted}
 use Rattle.call.specs.Call.{verdict}
 use Rattle.symbol.specs.Check.{refuse}
 use Rattle.word.specs.Answer.{placed, closes, foundWord, foundSign, wordFits, wordIf, foundIf, foundChecks, wordLeft, partOf}
-use Rattle.word.specs.Claim.{Joined, Fits, NormalWord, Answered}
+use Rattle.word.specs.Claim.{SameRightCoset, Fits, NormalWord, Answered}
 use Rattle.word.specs.declared.Queried.{Queried}
 use Rattle.word.specs.declared.Queried.the-variants as queried
 use Rattle.word.proofs.Turned.{followed-length}
@@ -91,14 +92,12 @@ module _ {v : ℕ} {t : List ℤ} (ok : IsSymbol v t) (A B : Mat) (d : det A ≡
   -- ---- the walk comes home exactly where a word exists
 
   -- a word that takes A to B has the value B A⁻¹
-  joined-value : (j : Joined v t A B) → X ≈ valueOf (generators v t) (j .word)
-  joined-value j =
-      let W = valueOf (generators v t) (j .word) in
-      ≈-sym (≈-right (adj A) (j .is)) ∙≈ inl (⊗-assoc W A (adj A) ∙ ap (λ (m : Mat). W ⊗ m) (⊗-adj A d) ∙ ⊗-idr W)
+  joined-value : (j : SameRightCoset v t A B) → X ≈ valueOf (generators v t) (j .word)
+  joined-value j = coset-value (generators v t) A B d j
 
-  pub joined-home : Joined v t A B → closes v t A B ≡ true
+  pub joined-home : SameRightCoset v t A B → closes v t A B ≡ true
   unfolding closes
-  joined-home j = eq-eqb (walkEnds v t X) (startOf v t) (g .stabiliser X X-unit .0 (record { word = j .word; letters = j .letters; is = joined-value j }))
+  joined-home j = eq-eqb (walkEnds v t X) (startOf v t) (g .stabiliser X X-unit .0 (from-coset (generators v t) A B d j))
 
   home-product : closes v t A B ≡ true → valueOf (generators v t) word ⊗ A ≈ B
   unfolding closes foundWord
@@ -138,16 +137,16 @@ module _ {v : ℕ} {t : List ℤ} (ok : IsSymbol v t) (A B : Mat) (d : det A ≡
   sixteen-of : (i : ℕ) → i < length word → natAbs (getD word i (pos 0)) ≤ 1024
   sixteen-of i h = omega (arith, letter-most (length (generators v t)) word letters-of i h, all .few-generators)
 
-  pub home-joined : closes v t A B ≡ true → Joined v t A B
+  pub home-joined : closes v t A B ≡ true → SameRightCoset v t A B
   home-joined h = record { word = word; letters = letters-of; is = home-product h }
 
   -- ---- the same point of the tables
 
-  pub joined-same : Joined v t A B → leads (tableS v t) (tableR v t) A ≡ leads (tableS v t) (tableR v t) B
-  joined-same j = meaning ok .cosets .cosets A B d e .1 j
+  pub joined-same : SameRightCoset v t A B → leads (tableS v t) (tableR v t) A ≡ leads (tableS v t) (tableR v t) B
+  joined-same j = in-words (meaning ok .cosets) A B d e .1 j
 
-  pub same-joined : leads (tableS v t) (tableR v t) A ≡ leads (tableS v t) (tableR v t) B → Joined v t A B
-  same-joined q = meaning ok .cosets .cosets A B d e .0 q
+  pub same-joined : leads (tableS v t) (tableR v t) A ≡ leads (tableS v t) (tableR v t) B → SameRightCoset v t A B
+  same-joined q = in-words (meaning ok .cosets) A B d e .0 q
 
   -- ---- the three answers
 
@@ -167,7 +166,7 @@ module _ {v : ℕ} {t : List ℤ} (ok : IsSymbol v t) (A B : Mat) (d : det A ≡
 
     absent : closes v t A B ≡ false → Here (queried.Refused noWord) out
     absent h =
-        let no : Joined v t A B → ⊥ = λ j. clash (joined-home j) h in
+        let no : SameRightCoset v t A B → ⊥ = λ j. clash (joined-home j) h in
         record {
           found = ((λ f. elim f [ inl z ↦ absurd (omega (arith, same-number z)) | inr z ↦ absurd (omega (arith, same-number z)) ]), (λ j. absurd (no j)));
           points = (

@@ -30,7 +30,7 @@ use Rattle.call.specs.Inner.Fills.{Fills}
 use Rattle.call.proofs.Laws.{Run, run-end, run-stop, run-pass, run-put, fills-as}
 use Rattle.symbol.specs.Check.{refuse}
 use Rattle.word.specs.Answer.{placed, closes, foundWord, foundSign, wordFits, walkChecks, wordIf, foundIf}
-use Rattle.word.specs.Claim.{Asked}
+use Rattle.word.specs.Claim.{ValidQuery}
 use Rattle.word.specs.Inner.Ready.{lettersAlong, signAlongWalk, homeAlong, WalkReady, PairReady}
 use Rattle.word.specs.declared.Queried.{Queried}
 use Rattle.word.specs.declared.Queried.the-variants as queried
@@ -60,7 +60,7 @@ module _ {v : ℕ} {t a b m : List ℤ} {w : List ℕ} {x : ℕ} (q : PairReady 
       }
 
 -- a pair that is asked for, once the tables are there
-pub pair-ready : {v : ℕ} {t a b : List ℤ} {w₀ w : List ℕ} {x : ℕ} → Asked v t a b w₀ → BuiltSteps t v w x → PairReady t v w a b x
+pub pair-ready : {v : ℕ} {t a b : List ℤ} {w₀ w : List ℕ} {x : ℕ} → ValidQuery v t a b w₀ → BuiltSteps t v w x → PairReady t v w a b x
 pair-ready q e =
     record { prepared = e .prepared; start = e .start; entries-A = q .entries-A; entries-B = q .entries-B; unit-A = q .unit-A; unit-B = q .unit-B }
 

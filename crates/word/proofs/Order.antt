@@ -25,7 +25,7 @@ use Rattle.call.specs.declared.refusal.Checked.{Checked}
 use Rattle.call.specs.declared.refusal.Checked.the-variants.{Accepted, Refused}
 use Rattle.call.proofs.Numbered.{Among}
 use Rattle.word.specs.Answer.{queryRefusal, large, matricesCheck, closes, placed, foundWord, foundSign, wordIf, foundIf, foundChecks, queryOf, wordLeft}
-use Rattle.word.specs.Claim.{Asked, ShortWork, Answered, Claim}
+use Rattle.word.specs.Claim.{ValidQuery, ShortWork, Answered, Claim}
 use Rattle.word.specs.declared.Queried.{Queried}
 use Rattle.word.proofs.Pair.{small-clear, clear-small, unit-is, is-unit}
 use Rattle.word.proofs.Claim.{same-number, answered}
@@ -39,12 +39,12 @@ passed-small a b h =
     let z : first (large a b) 8 ≡ 8 = omega arith in
     clear-small a b (clear-first (large a b) 8 z)
 
-pub asked : {v : ℕ} {t : List ℤ} {w : List ℕ} (a b : List ℤ) → IsSymbol v t → workLength ≤ length w → Passed a b → Asked v t a b w
+pub asked : {v : ℕ} {t : List ℤ} {w : List ℕ} (a b : List ℤ) → IsSymbol v t → workLength ≤ length w → Passed a b → ValidQuery v t a b w
 asked a b ok k p =
     let s = passed-small a b (p .entries) in
     record { symbol = ok; work = k; entries-A = s .0; entries-B = s .1; unit-A = unit-is a (p .A); unit-B = unit-is b (p .B) }
 
-pub asked-passed : {v : ℕ} {t : List ℤ} {w : List ℕ} (a b : List ℤ) → Asked v t a b w → Passed a b
+pub asked-passed : {v : ℕ} {t : List ℤ} {w : List ℕ} (a b : List ℤ) → ValidQuery v t a b w → Passed a b
 asked-passed a b q =
     let entries = first-clear (large a b) 8 (small-clear a b (q .entries-A) (q .entries-B)) in
     record { entries = omega (arith, entries); A = is-unit a (q .unit-A); B = is-unit b (q .unit-B) }
@@ -87,13 +87,13 @@ module _ (v : ℕ) (t a b : List ℤ) (w : List ℕ) (room start : ℕ) where
   found = verdict (foundChecks v t a b start room)
 
   -- a query that gets to its walk answers what the walk finds
-  pub asked-found : Asked v t a b w → foundIf v t a b start found ≡ queryOf v t a b (length w) room start
+  pub asked-found : ValidQuery v t a b w → foundIf v t a b start found ≡ queryOf v t a b (length w) room start
   asked-found q =
       ap (wordIf start n sign)
       (sym (reached (symbolCheck v t) found a b w (accepted v t .1 (q .symbol)) (sym (pair-passes a b (asked-passed a b q))) (q .work)))
 
   -- a query gets to its walk, or it is refused: for its work space, or with 1 to 9 before that
-  pub gets : (r : Queried) → r ≡ queryOf v t a b (length w) room start → Asked v t a b w ⊎ ShortWork w r ⊎
+  pub gets : (r : Queried) → r ≡ queryOf v t a b (length w) room start → ValidQuery v t a b w ⊎ ShortWork w r ⊎
       ((1 ≤ queryRefusal r .number) × (queryRefusal r .number ≤ 9))
   gets r e = go (reaches (symbolCheck v t) found a b w)
     where
@@ -109,13 +109,13 @@ module _ (v : ℕ) (t a b : List ℤ) (w : List ℕ) (room start : ℕ) where
           rw (by s) (omega (arith, k .0), k .1)
 
       go : Gets (symbolCheck v t) found a b w ⊎ Short (symbolCheck v t) found a b w ⊎ Stopped (symbolCheck v t) found a b w
-          → Asked v t a b w ⊎ ShortWork w r ⊎ ((1 ≤ queryRefusal r .number) × (queryRefusal r .number ≤ 9))
+          → ValidQuery v t a b w ⊎ ShortWork w r ⊎ ((1 ≤ queryRefusal r .number) × (queryRefusal r .number ≤ 9))
       go (inl g) = inl (asked a b (accepted v t .0 (g .accepted)) (g .work) (g .passed))
       go (inr (inl s)) = inr (inl (s .low, by (s .is)))
       go (inr (inr s)) = inr (inr (stopped s))
 
 -- a query that gets to its walk fills the word space as the walk does, and clears the work space
-pub asked-fills : (v : ℕ) (t a b : List ℤ) (w w' : List ℕ) (out out' : List ℤ) (start : ℕ) {r : Queried} → Asked v t a b w
+pub asked-fills : (v : ℕ) (t a b : List ℤ) (w w' : List ℕ) (out out' : List ℤ) (start : ℕ) {r : Queried} → ValidQuery v t a b w
     → Fills (queryRun v t a b w w' out out' start) (foundIf v t a b start) r
     → Fills (walkRun (closes v t (ofList a) (ofList b)) (foundWord v t (ofList a) (ofList b)) out out' start) (foundIf v t a b start) r ×
     (w' ≡ zeros (length w))
@@ -139,21 +139,22 @@ pub claim : {v : ℕ} {t a b : List ℤ} {w : List ℕ} {out : List ℤ} {start 
     → out' ≡ wordLeft r (foundWord v t (ofList a) (ofList b)) out → Claim v t a b w out start r out'
 claim {v} {t} {a} {b} {w} {out} {start} {r} {out'} e f = record { asked = by-number; short = by-eleven; answered = by-walk }
   where
-    by-number : (queryRefusal r .number ≡ 0) ⊎ (queryRefusal r .number ≡ noWord .number) → Asked v t a b w
+    by-number : (queryRefusal r .number ≡ 0) ⊎ (queryRefusal r .number ≡ noWord .number) → ValidQuery v t a b w
     by-number h = elim (gets v t a b w (length out) start r e) [
       | inl q ↦ q
       | inr (inl s) ↦ elim h [ inl z ↦ absurd (omega (arith, same-number (s .1), z)) | inr z ↦ absurd (omega (arith, same-number (s .1), z)) ]
       | inr (inr s) ↦ elim h [ inl z ↦ absurd (omega (arith, s .0, z)) | inr z ↦ absurd (omega (arith, s .1, z)) ]
     ]
 
-    by-eleven : (n : ℕ) → queryRefusal r .number ≡ tooShort n .number → Asked v t a b w ⊎ ShortWork w r
+    by-eleven : (n : ℕ) → queryRefusal r .number ≡ tooShort n .number → ValidQuery v t a b w ⊎ ShortWork w r
     by-eleven n z = elim (gets v t a b w (length out) start r e) [
       | inl q ↦ inl q
       | inr (inl s) ↦ inr s
       | inr (inr s) ↦ absurd (omega (arith, s .1, z))
     ]
 
-    by-walk : Asked v t a b w → Answered v t (ofList a) (ofList b) (foundWord v t (ofList a) (ofList b)) (foundSign v t (ofList a) (ofList b)) out start r out'
+    by-walk : ValidQuery v t a b w
+        → Answered v t (ofList a) (ofList b) (foundWord v t (ofList a) (ofList b)) (foundSign v t (ofList a) (ofList b)) out start r out'
     by-walk q =
         let l = foundWord v t (ofList a) (ofList b) in
         let s = foundSign v t (ofList a) (ofList b) in

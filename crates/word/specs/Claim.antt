@@ -4,10 +4,10 @@
 -- symbol, A and B alone. A word that is returned is no refusal, 'none' is refusal 10, and a word that doesn't fit is
 -- refusal 11.
 --
---   Asked v t a b w         the query gets to its walk: the symbol is accepted, the work space is long enough, whatever
+--   ValidQuery v t a b w    the query gets to its walk: the symbol is accepted, the work space is long enough, whatever
 --                           stands in it, the entries of A and B are from -1,000,000 to 1,000,000, and both
 --                           determinants are 1
---   Joined v t m n          some product of the symbol's generators and their inverses, of whatever length, times m is
+--   SameRightCoset v t m n  some product of the symbol's generators and their inverses, of whatever length, times m is
 --                           n up to sign
 --   Fits start n room       the start place isn't past the end, and at least n letters lie from there to the end
 --   Found word r            a word is found: it is returned, or refused with 11 and its true length, by the word space
@@ -75,7 +75,7 @@ use Rattle.word.specs.Answer.{signNumber}
 use Rattle.word.specs.declared.Queried.{Queried}
 use Rattle.word.specs.declared.Queried.the-variants as queried
 
-pub record Asked (v : ℕ) (t a b : List ℤ) (w : List ℕ) : Type 0 where
+pub record ValidQuery (v : ℕ) (t a b : List ℤ) (w : List ℕ) : Type 0 where
   pub symbol : IsSymbol v t
   pub work : workLength ≤ length w
   pub entries-A : Small 1000000 (ofList a)
@@ -83,8 +83,8 @@ pub record Asked (v : ℕ) (t a b : List ℤ) (w : List ℕ) : Type 0 where
   pub unit-A : det (ofList a) ≡ pos 1
   pub unit-B : det (ofList b) ≡ pos 1
 
-abbrev pub Joined : ℕ → List ℤ → Mat → Mat → Type 0
-Joined v t m n = SameCoset (generators v t) m n
+abbrev pub SameRightCoset : ℕ → List ℤ → Mat → Mat → Type 0
+SameRightCoset v t m n = SameCoset (generators v t) m n
 
 pub record Fits (start n room : ℕ) : Type 0 where
   pub inside : start ≤ room
@@ -97,12 +97,12 @@ pub record NormalWord (v : ℕ) (t : List ℤ) (m n : Mat) (w : List ℤ) : Type
   pub letters : IsWord (length (generators v t)) w
   pub takes : valueOf (generators v t) w ⊗ m ≈ n
   pub reduced : Reduced v t w
-  pub only : (j : Joined v t m n) → Reduced v t (j .word) → j .word ≡ w
-  pub shortest : (j : Joined v t m n) → length w ≤ length (j .word)
+  pub only : (j : SameRightCoset v t m n) → Reduced v t (j .word) → j .word ≡ w
+  pub shortest : (j : SameRightCoset v t m n) → length w ≤ length (j .word)
 
 pub record Answered (v : ℕ) (t : List ℤ) (A B : Mat) (word : List ℤ) (sign : Bool) (out : List ℤ) (start : ℕ)
     (r : Queried) (out' : List ℤ) : Type 0 where
-  pub found : Found word r ↔ Joined v t A B
+  pub found : Found word r ↔ SameRightCoset v t A B
   pub points : Found word r ↔ (leads (tableS v t) (tableR v t) A ≡ leads (tableS v t) (tableR v t) B)
   pub letters : Found word r → IsWord (length (generators v t)) word
   pub product : Found word r → valueOf (generators v t) word ⊗ A ≈ B
@@ -110,9 +110,10 @@ pub record Answered (v : ℕ) (t : List ℤ) (A B : Mat) (word : List ℤ) (sign
   pub exact : Found word r → valueOf (generators v t) word ⊗ A ≡ withSign sign B
   pub walked : FrameEquation v t (startOf v t) (followed v t (B ⊗ adj A)) sign word (walkEnds v t (B ⊗ adj A))
   pub signs : Signs v t
-  pub none : (queryRefusal r ≡ noWord) ↔ (Joined v t A B → ⊥)
-  pub returned : (queryRefusal r ≡ noRefusal) ↔ (Joined v t A B × Fits start (length word) (length out))
-  pub short : (queryRefusal r ≡ tooShort (length word)) ↔ (Joined v t A B × (Fits start (length word) (length out) → ⊥))
+  pub none : (queryRefusal r ≡ noWord) ↔ (SameRightCoset v t A B → ⊥)
+  pub returned : (queryRefusal r ≡ noRefusal) ↔ (SameRightCoset v t A B × Fits start (length word) (length out))
+  pub short : (queryRefusal r ≡ tooShort (length word))
+      ↔ (SameRightCoset v t A B × (Fits start (length word) (length out) → ⊥))
   pub names : queryRefusal r ≡ noRefusal → r ≡ queried.Word start (length word) sign
   pub stands : queryRefusal r ≡ noRefusal → (out' ≡ placed start word out) × (partOf out' start (length word) ≡ word)
   pub untouched : (queryRefusal r ≡ noRefusal → ⊥) → out' ≡ out
@@ -124,19 +125,19 @@ ShortWork w r = (length w < workLength) × (queryRefusal r ≡ tooShort workLeng
 
 pub record Claim (v : ℕ) (t a b : List ℤ) (w : List ℕ) (out : List ℤ) (start : ℕ) (r : Queried)
     (out' : List ℤ) : Type 0 where
-  pub asked : (queryRefusal r .number ≡ 0) ⊎ (queryRefusal r .number ≡ noWord .number) → Asked v t a b w
-  pub short : (n : ℕ) → queryRefusal r .number ≡ tooShort n .number → Asked v t a b w ⊎ ShortWork w r
-  pub answered : Asked v t a b w
+  pub asked : (queryRefusal r .number ≡ 0) ⊎ (queryRefusal r .number ≡ noWord .number) → ValidQuery v t a b w
+  pub short : (n : ℕ) → queryRefusal r .number ≡ tooShort n .number → ValidQuery v t a b w ⊎ ShortWork w r
+  pub answered : ValidQuery v t a b w
       → Answered v t (ofList a) (ofList b) (foundWord v t (ofList a) (ofList b)) (foundSign v t (ofList a) (ofList b))
       out start r out'
 
 pub record QuerySays (v : ℕ) (t a b : List ℤ) (w : List ℕ) (start n place : ℕ) (out' : List ℤ) : Type 0 where
-  pub none : n ≡ noWord .number → Asked v t a b w × (Joined v t (ofList a) (ofList b) → ⊥)
-  pub asked : n ≡ 0 → Asked v t a b w
+  pub none : n ≡ noWord .number → ValidQuery v t a b w × (SameRightCoset v t (ofList a) (ofList b) → ⊥)
+  pub asked : n ≡ 0 → ValidQuery v t a b w
   pub letters : n ≡ 0 → IsWord (length (generators v t)) (partOf out' start place)
   pub product : n ≡ 0 → valueOf (generators v t) (partOf out' start place) ⊗ ofList a ≈ ofList b
   pub normal : n ≡ 0 → NormalWord v t (ofList a) (ofList b) (partOf out' start place)
-  pub short : n ≡ tooShort 0 .number → Asked v t a b w
+  pub short : n ≡ tooShort 0 .number → ValidQuery v t a b w
       → (length (foundWord v t (ofList a) (ofList b)) ≡ place)
       × NormalWord v t (ofList a) (ofList b) (foundWord v t (ofList a) (ofList b))
 

@@ -30,7 +30,7 @@ ghost use Rattle.coset.specs.Positions.{followed};
 ghost use Rattle.call.specs.Inner.Fills.{Fills};
 ghost use Rattle.word.specs.Answer.{queryRefusal, signNumber, four, entryAt, large, unit, matricesCheck, partOf};
 ghost use Rattle.word.specs.Answer.{wordSteps, wordIf, foundSteps, foundIf, querySteps};
-ghost use Rattle.word.specs.Claim.{Asked};
+ghost use Rattle.word.specs.Claim.{ValidQuery};
 ghost use Rattle.word.specs.Inner.Ready.{lettersAlong, signAlongWalk, homeAlong, WalkReady, PairReady};
 
 // The answer of `query`.
@@ -201,7 +201,7 @@ fn answer(
     out: &mut [i16],
     start: usize,
 ) -> Queried
-    requires { ⌜ Asked v (now t) a b (now w) ⌝ }
+    requires { ⌜ ValidQuery v (now t) a b (now w) ⌝ }
     ensures { λ r. ⌜ Fills (foundSteps v (now (t .entry)) a b out start) (foundIf v (now (t .entry)) a b start) r ⌝ }
     ensures { λ r. ⌜ now (w .exit) ≡ zeros (length (now (w .entry))) ⌝ }
 {

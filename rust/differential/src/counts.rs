@@ -30,6 +30,18 @@ impl Tally {
         }
     }
 
+    /// The counts of other cases too.
+    pub fn join(&mut self, other: Tally) {
+        self.calls += other.calls;
+        for (reason, count) in other.met {
+            *self.met.entry(reason).or_default() += count;
+        }
+        self.largest = self.largest.max(other.largest);
+        for (sum, count) in self.signs.iter_mut().zip(other.signs) {
+            *sum += count;
+        }
+    }
+
     /// How often this number was met, whatever it was about.
     pub fn number(&self, number: u64) -> usize {
         let reasons = self.met.iter().filter(|((met, _), _)| *met == number);

@@ -41,6 +41,8 @@ pub mod tables;
 pub mod widths;
 
 use std::ops::Range;
+use std::panic::resume_unwind;
+use std::thread;
 
 use counts::Tally;
 use outcome::Outcome;
@@ -83,17 +85,57 @@ pub const CALLS: [Call; 30] = [
     ("write_cycles", cycles::write_case),
 ];
 
-/// Makes every call once for each case: the counts of each, in the order of
-/// `CALLS`, or the first difference in words. The same seed and case always
-/// make the same call.
-pub fn run(seed: u64, cases: Range<u64>) -> Result<[Tally; CALLS.len()], String> {
-    let mut tallies: [Tally; CALLS.len()] = Default::default();
+/// The counts of each call, in the order of `CALLS`.
+pub type Tallies = [Tally; CALLS.len()];
+
+/// Makes every call once for each case: the counts, or the first difference in
+/// words. The same seed and case always make the same call. Each core has a part
+/// of the cases, one in every so many.
+pub fn run(seed: u64, cases: Range<u64>) -> Result<Tallies, String> {
+    let cores = thread::available_parallelism().map_or(1, usize::from);
+    let parts = thread::scope(|scope| {
+        let part = |core| {
+            let cases = cases.clone().skip(core).step_by(cores);
+            scope.spawn(move || run_part(seed, cases))
+        };
+        let begun: Vec<_> = (0..cores).map(part).collect();
+        let ended = begun.into_iter().map(|part| part.join());
+        ended
+            .map(|part| part.unwrap_or_else(|panic| resume_unwind(panic)))
+            .collect::<Vec<_>>()
+    });
+    let mut all = Tallies::default();
+    let mut first: Option<(u64, String)> = None;
+    for part in parts {
+        match part {
+            Ok(tallies) => {
+                for (sum, tally) in all.iter_mut().zip(tallies) {
+                    sum.join(tally);
+                }
+            }
+            Err(found) if first.as_ref().is_none_or(|first| found.0 < first.0) => {
+                first = Some(found);
+            }
+            Err(_) => {}
+        }
+    }
+    match first {
+        None => Ok(all),
+        Some((_, difference)) => Err(difference),
+    }
+}
+
+/// These cases one after the other: the counts, or the first case with a
+/// difference, and that in words.
+fn run_part(seed: u64, cases: impl Iterator<Item = u64>) -> Result<Tallies, (u64, String)> {
+    let mut tallies = Tallies::default();
     for case in cases {
         for (i, (name, make)) in CALLS.iter().enumerate() {
             let stream = case.wrapping_mul(CALLS.len() as u64).wrapping_add(i as u64);
             let outcome = make(&mut Rng::for_case(seed, stream));
             if !outcome.differences.is_empty() {
-                return Err(format!("seed {seed}, case {case}, {name}\n{outcome}"));
+                let difference = format!("seed {seed}, case {case}, {name}\n{outcome}");
+                return Err((case, difference));
             }
             tallies[i].add(&outcome);
         }
@@ -102,7 +144,7 @@ pub fn run(seed: u64, cases: Range<u64>) -> Result<[Tally; CALLS.len()], String>
 }
 
 /// The counts, a line for each call.
-pub fn table(tallies: &[Tally; CALLS.len()]) -> String {
+pub fn table(tallies: &Tallies) -> String {
     let lines = CALLS.iter().zip(tallies);
     lines
         .map(|((name, _), tally)| format!("{name}: {tally}\n"))

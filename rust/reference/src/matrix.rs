@@ -16,11 +16,36 @@
 //! 1.7 * 10^38. Overflow is checked all the same.
 
 use std::cmp::Ordering;
+use std::collections::HashMap;
+use std::hash::{BuildHasherDefault, Hasher};
 use std::ops::Mul;
 
 /// (a b; c d) as `[a, b, c, d]`.
 #[derive(Clone, Copy, Debug, PartialEq, Eq, Hash)]
 pub struct Matrix(pub [i128; 4]);
+
+/// A map from matrices. Its hash is a quick one: the keys are no one's to choose.
+pub type ByMatrix<T> = HashMap<Matrix, T, BuildHasherDefault<Quick>>;
+
+/// Eight bytes after the other, each mixed in by a product with an odd number.
+#[derive(Default)]
+pub struct Quick(u64);
+
+impl Hasher for Quick {
+    fn write(&mut self, bytes: &[u8]) {
+        for eight in bytes.chunks(8) {
+            let mut part = [0; 8];
+            part[..eight.len()].copy_from_slice(eight);
+            let mixed = self.0.rotate_left(5) ^ u64::from_le_bytes(part);
+            self.0 = mixed.wrapping_mul(0x9e37_79b9_7f4a_7c15);
+        }
+    }
+
+    /// A map looks at the lowest bits and at the highest, and a product mixes upwards.
+    fn finish(&self) -> u64 {
+        self.0 ^ self.0 >> 32
+    }
+}
 
 pub const I: Matrix = Matrix([1, 0, 0, 1]);
 pub const S: Matrix = Matrix([0, -1, 1, 0]);
@@ -32,6 +57,17 @@ impl Mul for Matrix {
     type Output = Matrix;
 
     fn mul(self, other: Matrix) -> Matrix {
+        // Most entries have 64 bits. A sum of two products then has 128, but where
+        // all four numbers are -2^63; a checked product takes long with 128 bits.
+        if let (Some([a, b, c, d]), Some([e, f, g, h])) = (self.entries(), other.entries()) {
+            let product = |x: i64, y: i64| i128::from(x) * i128::from(y);
+            return Matrix([
+                product(a, e) + product(b, g),
+                product(a, f) + product(b, h),
+                product(c, e) + product(d, g),
+                product(c, f) + product(d, h),
+            ]);
+        }
         let [a, b, c, d] = self.0;
         let [e, f, g, h] = other.0;
         Matrix([a * e + b * g, a * f + b * h, c * e + d * g, c * f + d * h])

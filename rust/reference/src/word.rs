@@ -16,9 +16,7 @@
 //! - `taken` multiplies the word out onto A, modulo two numbers, and compares
 //!   with B and with -B.
 
-use std::collections::HashMap;
-
-use crate::matrix::{Matrix, I, Q, S};
+use crate::matrix::{ByMatrix, Matrix, I, Q, S};
 use crate::polygon::{carry, kept_edge};
 use crate::refusal::Refusal;
 use crate::symbol::{Pairing, Symbol};
@@ -81,7 +79,7 @@ fn begins_turned(symbol: &Symbol) -> bool {
 /// The walk along x. `Some` word if it ends where it began, `None` otherwise.
 pub fn walk(symbol: &Symbol, x: Matrix) -> Option<Vec<i16>> {
     // Every side from left to right, by its frame up to sign.
-    let outward: HashMap<Matrix, usize> = symbol
+    let outward: ByMatrix<usize> = symbol
         .sides
         .iter()
         .enumerate()

@@ -1,6 +1,7 @@
 //! The pages: what README.md, docs/TUTORIAL.md and docs/HANDBOOK.md show of files
 //! and of the programs' answers is so, by the reference, by the programs and by
-//! `./farey`. Their other blocks are run by `python/tests/test_pages.py`.
+//! `./farey`. Their other blocks are run by `test_pages.py` and `test_recipes.py` of
+//! `python/tests`.
 //!
 //! | block                 | what is checked                                          |
 //! |-----------------------|----------------------------------------------------------|

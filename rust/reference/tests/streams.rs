@@ -14,8 +14,14 @@
 //! program of the engine has no exit status of its own to give. Of `./farey` with the
 //! jobs `named`, `same` and `intersection`, for which it doesn't read standard input, it
 //! is the tests of writing. No answer of `same` or `tower` is long enough to fill a pipe.
+//!
+//! `reading` has the tests of standard input, `writing` those of standard output.
 
 mod child;
+#[path = "streams/reading.rs"]
+mod reading;
+#[path = "streams/writing.rs"]
+mod writing;
 
 use std::fs::{File, OpenOptions};
 use std::io::{Read, Write};
@@ -318,172 +324,4 @@ fn with_text(command: &mut Command, text: &str) -> Child {
         .write_all(text.as_bytes())
         .expect("the text can be written");
     child
-}
-
-#[test]
-fn a_directory_as_input() {
-    for subject in Subject::reading() {
-        let folder = File::open(repository()).expect("a folder opens");
-        let mut command = subject.command();
-        command.stdin(folder).stdout(Stdio::piped());
-        let came = ended(command.spawn().expect("the program starts"));
-        subject.must_not_answer(&came, "a directory");
-    }
-}
-
-#[test]
-fn no_input() {
-    for subject in Subject::reading() {
-        let mut command = subject.command();
-        command.stdin(Stdio::null()).stdout(Stdio::piped());
-        let came = ended(
-            without(&mut command, 0)
-                .spawn()
-                .expect("the program starts"),
-        );
-        subject.must_not_answer(&came, "standard input closed");
-    }
-}
-
-#[test]
-fn no_output() {
-    for subject in Subject::all() {
-        let mut command = subject.command();
-        command.stdout(Stdio::null());
-        let came = ended(with_text(without(&mut command, 1), subject.text));
-        subject.must_tell(&came, "standard output closed");
-    }
-}
-
-/// A pipe that doesn't wait: it has a first piece of the text, cut anywhere, and
-/// the second one doesn't come before the program has ended.
-#[test]
-fn a_piece_without_waiting() {
-    for subject in Subject::reading() {
-        for cut in subject.cuts() {
-            let (reader, writer) = new_pipe();
-            set_non_blocking(&reader);
-            let mut writer = File::from(writer);
-            let first = &subject.text[..cut];
-            writer.write_all(first.as_bytes()).expect("there is room");
-            let mut command = subject.command();
-            command.stdin(reader).stdout(Stdio::piped());
-            let came = ended(command.spawn().expect("the program starts"));
-            subject.must_not_answer(&came, &format!("cut at {cut}"));
-            // So long there was somebody who could have written more.
-            drop(writer);
-        }
-    }
-}
-
-/// 65,536 bytes and no end yet: only one more read can tell that there is more.
-#[test]
-fn a_full_buffer_without_an_end() {
-    for subject in Subject::reading() {
-        let (reader, writer) = new_pipe();
-        set_non_blocking(&reader);
-        let mut writer = File::from(writer);
-        let rest = " ".repeat(MAX_TEXT - subject.text.len());
-        let text = format!("{}{rest}", subject.text);
-        writer.write_all(text.as_bytes()).expect("there is room");
-        let mut command = subject.command();
-        command.stdin(reader).stdout(Stdio::piped());
-        let came = ended(command.spawn().expect("the program starts"));
-        subject.must_not_answer(&came, "a full buffer");
-        drop(writer);
-    }
-}
-
-/// A pipe that waits: the second piece comes when the first has been read.
-#[test]
-fn two_pieces_with_waiting() {
-    for subject in Subject::reading() {
-        let expected = (subject.reference)(subject.text.as_bytes());
-        for cut in subject.cuts() {
-            let (reader, writer) = new_pipe();
-            let seen = reader.try_clone().expect("a descriptor can be copied");
-            let mut writer = File::from(writer);
-            let (first, second) = subject.text.split_at(cut);
-            writer.write_all(first.as_bytes()).expect("there is room");
-            let mut command = subject.command();
-            command.stdin(reader).stdout(Stdio::piped());
-            let child = command.spawn().expect("the program starts");
-            drop(command);
-            wait_until_read(&seen);
-            writer.write_all(second.as_bytes()).expect("it is read");
-            drop((writer, seen));
-            let came = ended(child);
-            let on = format!("{}, cut at {cut}", subject.called());
-            assert_eq!(String::from_utf8_lossy(&came.stdout), expected, "{on}");
-            assert_eq!(came.stderr, "", "{on}");
-            assert!(came.status.success(), "{on}");
-        }
-    }
-}
-
-#[test]
-fn a_full_device() {
-    for subject in Subject::all() {
-        let full = OpenOptions::new().write(true).open("/dev/full");
-        let mut command = subject.command();
-        command.stdout(full.expect("/dev/full opens"));
-        let came = ended(with_text(&mut command, subject.text));
-        subject.must_tell(&came, "a full device");
-    }
-}
-
-#[test]
-fn a_reader_that_went_away() {
-    for subject in Subject::all() {
-        for ignored in [false, true] {
-            let (reader, writer) = new_pipe();
-            drop(reader);
-            let mut command = subject.command();
-            command.stdout(writer);
-            if ignored {
-                // SAFETY: `signal` may be called between fork and exec.
-                unsafe {
-                    command.pre_exec(|| {
-                        signal(SIGPIPE, SIG_IGN);
-                        Ok(())
-                    })
-                };
-            }
-            let came = ended(with_text(&mut command, subject.text));
-            if ignored {
-                subject.must_tell(&came, "a reader that went away");
-            } else {
-                // The system ends it, and a shell shows that as status 141.
-                assert_eq!(came.status.signal(), Some(SIGPIPE), "{}", subject.called());
-                assert_eq!(came.stderr, "", "{}", subject.called());
-            }
-        }
-    }
-}
-
-/// A pipe that doesn't wait for its reader: the answer doesn't fit.
-#[test]
-fn a_full_pipe_without_waiting() {
-    for subject in Subject::at_length() {
-        let text = subject.long_text();
-        let expected = (subject.reference)(text.as_bytes());
-        assert!(expected.len() > SMALL as usize, "{expected}");
-        let (reader, writer) = new_pipe();
-        set_non_blocking(&writer);
-        // SAFETY: this call touches no memory of ours.
-        let room = unsafe { fcntl(writer.as_raw_fd(), F_SETPIPE_SZ, SMALL) };
-        assert_eq!(room, SMALL);
-        let mut command = subject.command();
-        command.stdout(writer);
-        let child = with_text(&mut command, &text);
-        drop(command);
-        let came = ended(child);
-        subject.must_tell(&came, "a full pipe");
-        let mut written = Vec::new();
-        File::from(reader)
-            .read_to_end(&mut written)
-            .expect("the pipe can be read");
-        assert!(written.len() < expected.len(), "{}", subject.called());
-        assert!(expected.as_bytes().starts_with(&written));
-    }
 }

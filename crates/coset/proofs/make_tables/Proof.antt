@@ -1,13 +1,9 @@
--- `make_tables` copies what `arrange` left, which are the tables of the definition, as many entries as the index says (`made`, `copied`);
+-- `make_tables` copies what `arrange` left, which are the tables of the definition, as many entries as the index says (`made`, `three-as`);
 -- clearing comes last, so zeros stay. Assumes nothing.
 use mathlib.Core.Path.{_∙_, ap}
-use mathlib.Core.List.{List}
-use Prim.Native.Nat.{ℕ}
-use lib.ListN.{length}
 use Rattle.call.specs.Space.{zeros}
-use Rattle.coset.specs.Answer.{roomFor, columnLeft}
-use Rattle.coset.specs.Tables.{indexOf, tableS, tableR, tableT}
-use Rattle.coset.proofs.Answer.{made, copied, sizes}
+use Rattle.coset.proofs.Stored.{three-as}
+use Rattle.coset.proofs.Answer.{made}
 use borrow.Author.Needs.{needs}
 use Rattle.coset.proofs.make_tables.Statement.{statement}
 use Rattle.coset.proofs.make_tables.Tie as tie
@@ -39,20 +35,8 @@ returns c =
     let m = k .before .before .before .before .before .before .before .before in
     let a = m .before .before .before .before .before .before .before in
     let st = a .before .before .before .before .before .before in
-    let g = made (st .pre .0) (a .arrange .ensures .0) in
-    let e = m .copy-tables .ensures in
-    let made = m .copy-tables .result in
-    let v = st .args .v in
-    let t = st .args .t .now in
-    let s = st .args .s .now in
-    let r = st .args .r .now in
-    let u = st .args .u .now in
-    let long = sizes (st .pre .0) in (
-      copied (indexOf v t) (tableS v t) (tableR v t) (tableT v t) s r u (long .S-long) (long .R-long) (long .T-long)
-          (e .0 ∙ ap (λ (n : ℕ). roomFor n (length s) (length r) (length u)) (g .index))
-          (e .1 .0 ∙ ap (λ (l : List ℕ). columnLeft made l s) (g .S-is))
-          (e .1 .1 .0 ∙ ap (λ (l : List ℕ). columnLeft made l r) (g .R-is))
-          (e .1 .1 .1 ∙ ap (λ (l : List ℕ). columnLeft made l u) (g .T-is)),
+    let g = made (st .pre .0) (a .arrange .ensures .0) in (
+      three-as _ _ _ _ _ _ (st .args .s .now) (st .args .r .now) (st .args .u .now) (m .copy-tables .ensures) (g .S-is) (g .R-is) (g .T-is) (g .index),
       k .clear .ensures ∙ ap zeros (a .arrange .ensures .1),
     )
 

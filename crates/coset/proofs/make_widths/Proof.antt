@@ -6,7 +6,8 @@ use Prim.Native.Nat.{ℕ}
 use lib.ListN.{length}
 use Rattle.call.specs.Space.{zeros}
 use Rattle.figures.specs.Cusps as cusps
-use Rattle.coset.proofs.Answer.{made, stored-as}
+use Rattle.coset.proofs.Stored.{stored-as}
+use Rattle.coset.proofs.Answer.{made}
 use borrow.Author.Needs.{needs}
 use Rattle.coset.proofs.make_widths.Statement.{statement}
 use Rattle.coset.proofs.make_widths.Tie as tie

@@ -9,7 +9,7 @@ use Rattle.call.specs.Space.{entries}
 use Rattle.call.proofs.Laws.{fills-as}
 use Rattle.numbering.proofs.Space.{entries-length}
 use Rattle.cusp_record.specs.Inner.Fill.{CUSPS, STEPS}
-use Rattle.cusp_record.proofs.Answer.{both-first, both-second, both-room}
+use Rattle.coset.proofs.Stored.{both-first, both-second, both-room}
 use borrow.Author.Needs.{needs}
 use Rattle.cusp_record.proofs.copy_columns.Statement.{statement}
 use Rattle.cusp_record.proofs.copy_columns.Tie as tie

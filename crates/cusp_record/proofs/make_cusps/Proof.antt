@@ -1,7 +1,7 @@
 -- `make_cusps` copies the columns of the record; clearing comes last. Assumes nothing.
 use mathlib.Core.Path.{_∙_, ap}
 use Rattle.call.specs.Space.{zeros}
-use Rattle.cusp_record.proofs.Answer.{both-as}
+use Rattle.coset.proofs.Stored.{both-as}
 use borrow.Author.Needs.{needs}
 use Rattle.cusp_record.proofs.make_cusps.Statement.{statement}
 use Rattle.cusp_record.proofs.make_cusps.Tie as tie

@@ -14,7 +14,6 @@
 --     lost a b ps len     the offset of the first piece after which both readers are lost; len where there is none
 --     badIndex ps         a number that is no index stands at the front, behind blanks or none
 --     verdictOf t         what the two readers say of the text t
--- Assumes nothing.
 use mathlib.Core.Path.{_≡_}
 use mathlib.Core.Bool.{Bool, true, false, not, _&&_}
 use mathlib.Core.List.{List, [], _∷_, _++_}

@@ -4,7 +4,6 @@
 --     cyclesStored cs t  the same for all cycles, each round to its first point
 --     identity n         the table that moves nothing
 --     lastOf a c         the last of the points a and then c
--- Assumes nothing.
 use mathlib.Core.List.{List, [], _∷_}
 use Prim.Native.Nat.{ℕ, _-_}
 use lib.ListN.{set}

@@ -3,7 +3,6 @@
 --     Alone                 where it fails, or the cycles of S and of R
 --     aloneOf semi n t from what the reader says of the text t behind its index n, which ends at `from`
 --     died semi q ps len    the offset of the first piece after which this reader is lost; len where there is none
--- Assumes nothing.
 use mathlib.Core.Path.{_≡_}
 use mathlib.Core.Bool.{Bool, true, false, not}
 use mathlib.Core.List.{List, [], _∷_}

@@ -5,7 +5,6 @@
 --     BlanksTo t at       and there is no further blank
 --     eitherAlone n a b   the verdict by what the readers with and without a semicolon say, behind the index n
 --     VerdictRead v o s r the code answers o for the verdict v, and s and r hold the tables of a text that is right
--- Assumes nothing.
 use mathlib.Core.Path.{_≡_}
 use mathlib.Core.Bool.{Bool}
 use mathlib.Core.List.{List}

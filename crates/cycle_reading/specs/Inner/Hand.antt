@@ -8,7 +8,6 @@
 --     isQuiet, behindBlank .. behindSemicolon    the phase behind each mark
 --     Hand, hand              all that the code knows of a permutation: its part, the marks of the points and the table
 --     stepHand                what a piece does to it
--- Assumes nothing.
 use mathlib.Core.Path.{_≡_}
 use mathlib.Core.Bool.{Bool, true, false, not, _&&_, _||_}
 use mathlib.Core.List.{List, [], _∷_}

@@ -8,7 +8,6 @@
 --     HandHolds                the marks are those of the points seen, the table has the links of the cycles done and
 --                              of the open one
 --     ReadTo               the loop: what is left to read from the offset `at` on says what all of it does
--- Assumes nothing.
 use mathlib.Core.Path.{_≡_}
 use mathlib.Core.Bool.{Bool, true, false}
 use mathlib.Core.List.{List, [], _∷_, _++_}

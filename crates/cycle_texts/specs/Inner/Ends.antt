@@ -6,7 +6,6 @@
 --                        `end`: 12 stays, and 27 with a place inside that part; any other is 27 with the place 65,536
 --   cutAnswer end a      the answer to such an input: the same, and 27 with that place where there are tables
 --   CyclesLeave ..       what is left in the tables of S and R, s and r before and s' and r' after
--- Assumes nothing.
 use mathlib.Core.Path.{_≡_}
 use mathlib.Core.Bool.{Bool}
 use mathlib.Core.List.{List}

@@ -6,7 +6,6 @@
 --     StartIn t x          x is a point of it, where a cycle begins
 --     bytesAt t x          the bytes of the cycle that begins at x, or none
 --     bytesBelow t k       the bytes of the cycles that begin below k
--- Assumes nothing.
 use mathlib.Core.Path.{_≡_}
 use mathlib.Core.Logic.{_⊎_}
 use mathlib.Core.Bool.{true}

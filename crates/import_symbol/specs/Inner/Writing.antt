@@ -15,12 +15,13 @@ use mathlib.Core.List.{List, [], _∷_, _++_}
 use Prim.Native.Nat.{ℕ, zero, suc, _+_, _-_, _*_, _≤_, _<_}
 use lib.ListN.{length, getD, set, take, drop}
 use lib.IntN.{ℤ, pos, negsuc}
-use Rattle.import_rule.specs.Fixed.{image, byQ, Pair}
+use Rattle.permutations.specs.Pair.{image, Pair}
+use Rattle.import_rule.specs.Fixed.{byQ}
 use Rattle.import_rule.specs.Rule.{Mark, even, odd, free, least}
 use Rattle.import_rule.specs.Order.{Order}
 use Rattle.import_rule.specs.Symbol.{labelsOf, rowEntries, symbolTable, Ruled, made}
 use Rattle.import_rule.specs.Inner.Placed.{rowsOf, markOf, symbolBy}
-use Rattle.import_symbol.specs.Inner.Work.{LABEL, DONE, cellPlace, endAt, pointAt, doneIn, grownBy}
+use Rattle.import_sides.specs.Inner.Work.{LABEL, DONE, cellPlace, endAt, pointAt, doneIn, grownBy}
 
 abbrev pub verticesTo : List ℕ → ℕ → List ℤ
 verticesTo w zero = []

@@ -15,7 +15,7 @@ array-share-prefix-out c = search needs
 slice-aggregate-write-whole : tie.Need-slice-aggregate-write-whole
 slice-aggregate-write-whole c =
     let l = c .before .constant-lines in
-    sym (length-take-le (l .result) (l .last .0) (omega (arith, l .ensures .1)))
+    sym (length-take-le (l .result) (l .last .0) (omega (arith, l .ensures .inside)))
 
 write-whole-requires : tie.Need-write-whole-requires
 write-whole-requires c κs = search needs

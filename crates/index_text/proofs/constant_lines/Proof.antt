@@ -1,5 +1,6 @@
 -- `index_text::constant_lines` meets its contract: the head, the lines and the tail, one behind the other. Assumes nothing.
 use native.Mathlib.Omega.{arith}
+use Rattle.text.proofs.InputText.{puts-prints}
 use Rattle.index_text.proofs.Entering.{constant-put}
 use borrow.Author.Needs.{needs}
 use Rattle.index_text.proofs.constant_lines.Statement.{statement}
@@ -26,7 +27,7 @@ returns c =
     let m = c .before .before .before in
     let second = m .put-entries .ensures in
     let first = m .before .before .put .ensures in
-    (constant-put first (second .0) third (omega (arith, first .end-is)), omega (arith, first .end-is, second .1, third .end-is))
+    puts-prints (constant-put first (second .0) third (omega (arith, first .end-is))) (omega arith)
 
 pub constant-lines-spec : {M : Type 1} → statement M
 constant-lines-spec =

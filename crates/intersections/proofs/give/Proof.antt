@@ -1,17 +1,14 @@
 -- `intersections::give` meets its contract: 24 for more than 3,066 pairs, and all is left as it is; else T is made and the three tables are copied.
 -- Assumes nothing.
 use borrow.Author.Needs.{needs}
-use mathlib.Core.Path.{refl, _∙_, ap}
-use mathlib.Core.List.{List}
-use Prim.Native.Nat.{ℕ}
+use mathlib.Core.Path.{refl}
 use native.Mathlib.Omega.{arith}
 use Rattle.call.specs.Refusal.{largeIntersection}
 use Rattle.call.specs.Inner.Fills.{madeIf}
 use Rattle.call.proofs.Laws.{run-stop, run-pass, fills-as, ran}
-use Rattle.coset.specs.Answer.{columnLeft}
+use Rattle.coset.proofs.Stored.{three-as}
 use Rattle.intersections.specs.Answer.{tooMany}
-use Rattle.intersections.proofs.Given.{given-large, given-few, copied as given, composes, long-S, long-R, long-T, composed-length, composed-S}
-use Rattle.intersections.proofs.Given.{composed-R, composed-T}
+use Rattle.intersections.proofs.Given.{given-large, given-few, composes, composed-length, composed-S, composed-R, composed-T}
 use Rattle.intersections.proofs.give.Statement.{statement}
 use Rattle.intersections.proofs.give.Tie as tie
 
@@ -47,13 +44,8 @@ returns-2 c =
     let args = st .args in
     let n = args .n in
     let is = composed .compose .ensures in
-    let e = copied .copy-tables .ensures in
-    let q = copied .copy-tables .result in
-    let k = given n _ _ _ (args .s .now) (args .r .now) (args .u .now) _ _ _ (long-S (st .pre) (omega arith)) (long-R (st .pre) (omega arith))
-    (long-T (st .pre) (omega arith)) (e .0)
-    (e .1 .0 ∙ ap (λ (l : List ℕ). columnLeft q l (args .s .now)) (composed-S (st .pre) (omega arith) is))
-    (e .1 .1 .0 ∙ ap (λ (l : List ℕ). columnLeft q l (args .r .now)) (composed-R (st .pre) (omega arith) is))
-    (e .1 .1 .1 ∙ ap (λ (l : List ℕ). columnLeft q l (args .u .now)) (composed-T (st .pre) (omega arith) is)) in
+    let k = three-as _ _ _ _ _ _ (args .s .now) (args .r .now) (args .u .now) (copied .copy-tables .ensures) (composed-S (st .pre) (omega arith) is)
+    (composed-R (st .pre) (omega arith) is) (composed-T (st .pre) (omega arith) is) refl in
     (fills-as {by = madeIf n} (run-pass (tooMany n) _ (given-few n (omega arith)) (ran k)) (k .answer), composed-length (st .pre) (omega arith) is)
 
 pub give-spec : {M : Type 1} → statement M

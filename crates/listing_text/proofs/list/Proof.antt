@@ -2,8 +2,7 @@
 -- (`listing-means`). One that could not be read: nothing is done. Assumes nothing.
 use mathlib.Core.Path.{refl}
 use native.Mathlib.Omega.{arith}
-use Rattle.text.proofs.InputText.{when-read, when-failed}
-use Rattle.text.proofs.Placing.{puts-within, puts-front}
+use Rattle.text.proofs.InputText.{puts-prints, when-read, when-failed}
 use Rattle.listing_text.proofs.Listed.{listing-means}
 use borrow.Author.Needs.{needs}
 use Rattle.listing_text.proofs.list.Statement.{statement}
@@ -16,7 +15,7 @@ enum-told : tie.Need-enum-told
 enum-told c = search needs
 
 returns : tie.Need-returns
-returns c = (omega arith, when-failed (c .enum-told .given .1) (refl, refl))
+returns c = when-failed (c .enum-told .given .1) refl refl
 
 text-end-requires : tie.Need-text-end-requires
 text-end-requires c κs = search needs
@@ -39,10 +38,8 @@ list-text-requires c κs = (omega arith, record { work = omega arith; table-long
 returns-2 : tie.Need-returns-2
 returns-2 c =
     let ended = c .before .before .before .before .before .before .before .before .before in
-    let p = c .before .before .before .list-text .ensures in (
-      omega (arith, puts-within p (omega arith) (omega arith)),
-      when-read (ended .before .before .input .given .1) (ended .text-end .ensures) (p, listing-means _ _ (puts-front p)),
-    )
+    let p = c .before .before .before .list-text .ensures in
+    when-read (ended .before .before .input .given .1) (ended .text-end .ensures) (puts-prints p (omega arith)) (λ t. listing-means _ t refl)
 
 pub list-spec : {M : Type 1} → statement M
 list-spec =

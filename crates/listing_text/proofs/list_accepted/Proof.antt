@@ -2,7 +2,7 @@
 use mathlib.Core.Path.{ap}
 use native.Mathlib.Omega.{arith}
 use lib.ListN.{length}
-use Rattle.text.proofs.Placing.{puts-as}
+use Rattle.decimal.proofs.Placing.{puts-as}
 use Rattle.listing_text.proofs.Gathered.{leaders-most, rows-long}
 use Rattle.listing_text.proofs.Listed.{parts-listed}
 use borrow.Author.Needs.{needs}

@@ -1,6 +1,6 @@
 -- `list_parts` meets its contract: its three parts, one after another. Assumes nothing.
 use native.Mathlib.Omega.{arith}
-use Rattle.text.proofs.Placing.{puts-then}
+use Rattle.decimal.proofs.Placing.{puts-then}
 use borrow.Author.Needs.{needs}
 use Rattle.listing_text.proofs.list_parts.Statement.{statement}
 use Rattle.listing_text.proofs.list_parts.Tie as tie

@@ -6,7 +6,7 @@ use Prim.Native.Nat.{ℕ, _*_}
 use lib.IntN.{ℤ}
 use lib.ListN.{take}
 use lib.Seq.{length-take-le}
-use Rattle.text.proofs.Placing.{puts-as}
+use Rattle.decimal.proofs.Placing.{puts-as}
 use Rattle.listing_text.proofs.Gathered.{Gathered, gathered, ungathered}
 use Rattle.listing_text.proofs.Listed.{listed-refused, listed-accepted}
 use borrow.Author.Needs.{needs}

@@ -9,11 +9,12 @@ use mir.Syntax.{w64}
 use mir.Facts.{toZ-ofZ}
 use Rattle.matrix.specs.Matrix.{nth}
 use Rattle.text.specs.Piece.{pieces, numbers}
-use Rattle.text.specs.Reading.{symbolFormat, inputOf, leftBy, vertexCount}
+use Rattle.text.specs.Reading.{symbolFormat, inputOf, vertexCount}
+use Rattle.text.specs.Inner.Inside.{leftBy}
 use Rattle.text.specs.declared.Reading.{Reading}
 use Rattle.text.specs.declared.Reading.the-variants.{Numbers, Refused}
 use Rattle.text.proofs.Handed.{Handed, input-on, first-entry, other-entries}
-use Rattle.text.proofs.Placing.{puts-as}
+use Rattle.decimal.proofs.Placing.{puts-as}
 use Rattle.listing_text.specs.Listing.{listingLines}
 use Rattle.listing_text.proofs.Listed.{listing-by}
 use borrow.Author.Needs.{needs}

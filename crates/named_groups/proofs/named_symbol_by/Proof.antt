@@ -3,9 +3,9 @@
 use borrow.Author.Needs.{needs}
 use Rattle.congruence.specs.Cosets.{familyS, familyR}
 use Rattle.import_symbol.specs.Answer.{orderBy}
-use Rattle.permutations.specs.Import.{neededVertices}
-use Rattle.permutations.proofs.Means.{symbolSteps}
-use Rattle.permutations.proofs.Answering.{check-refused, work-short, work-long}
+use Rattle.import_call.specs.Import.{neededVertices}
+use Rattle.import_call.proofs.Means.{symbolSteps}
+use Rattle.import_call.proofs.Answering.{check-refused, work-short, work-long}
 use Rattle.named_groups.specs.Group.{familyOf, groupCheck}
 use Rattle.named_groups.proofs.Answers.{group-by, symbol-by}
 use mathlib.Core.Path.{refl, sym, _∙_}

@@ -2,7 +2,7 @@
 -- Assumes nothing.
 use borrow.Author.Needs.{needs}
 use Rattle.congruence.specs.Index.{familyIndex}
-use Rattle.permutations.proofs.Answering.{check-refused, work-short, work-long}
+use Rattle.import_call.proofs.Answering.{check-refused, work-short, work-long}
 use Rattle.named_groups.specs.Group.{familyOf, groupCheck}
 use Rattle.named_groups.proofs.Answers.{group-by, tableSteps, tables-by}
 use mathlib.Core.Path.{refl, sym, _∙_}

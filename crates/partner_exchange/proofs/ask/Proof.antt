@@ -5,7 +5,7 @@ use Rattle.call.specs.Space.{zeros}
 use Rattle.call.proofs.Laws.{fills-as}
 use Rattle.call.proofs.Answered.{run-made, run-refused}
 use Rattle.coset.specs.declared.Figured.the-variants as figured
-use Rattle.coset.proofs.Answer.{stored-as}
+use Rattle.coset.proofs.Stored.{stored-as}
 use borrow.Author.Needs.{needs}
 use Rattle.partner_exchange.proofs.ask.Statement.{statement}
 use Rattle.partner_exchange.proofs.ask.Tie as tie

@@ -14,7 +14,7 @@ use lib.ListN.{length, getD, take}
 use Rattle.basics.specs.Choice.{pick}
 use Rattle.numbering.specs.Find.{isIn, _∈_, Once}
 use Rattle.numbering.specs.Order.{add, visit, orderOf}
-use Rattle.import_rule.specs.Fixed.{image}
+use Rattle.permutations.specs.Pair.{image}
 use Rattle.permutations.specs.Inner.Seen.{Entries}
 
 pub record QueueHolds (n size : ℕ) (seen queue : List ℕ) : Type 0 where

@@ -11,7 +11,7 @@ use lib.Dec.{ltb, eqb}
 use lib.ListN.{length, getD}
 use Rattle.basics.specs.Choice.{pick}
 use Rattle.basics.specs.Count.{first}
-use Rattle.import_rule.specs.Fixed.{image}
+use Rattle.permutations.specs.Pair.{image}
 
 abbrev pub earlierIn : List ℕ → ℕ → ℕ → Bool
 earlierIn t i x = ltb (first (λ (j : ℕ). eqb (getD t j 0) x) i) i

@@ -2,8 +2,7 @@
 -- (`reply-means`). One that could not be read: nothing is done. Assumes nothing.
 use mathlib.Core.Path.{refl}
 use native.Mathlib.Omega.{arith}
-use Rattle.text.proofs.InputText.{when-read, when-failed}
-use Rattle.text.proofs.Placing.{puts-within, puts-front}
+use Rattle.text.proofs.InputText.{puts-prints, when-read, when-failed}
 use Rattle.query_text.proofs.Replied.{reply-means}
 use borrow.Author.Needs.{needs}
 use Rattle.query_text.proofs.reply.Statement.{statement}
@@ -16,7 +15,7 @@ enum-told : tie.Need-enum-told
 enum-told c = search needs
 
 returns : tie.Need-returns
-returns c = (omega arith, when-failed (c .enum-told .given .1) (refl, refl))
+returns c = when-failed (c .enum-told .given .1) refl refl
 
 text-end-requires : tie.Need-text-end-requires
 text-end-requires c κs = search needs
@@ -39,10 +38,8 @@ reply-text-requires c κs = search needs
 returns-2 : tie.Need-returns-2
 returns-2 c =
     let ended = c .before .before .before .before .before .before .before .before .before in
-    let p = c .before .before .before .reply-text .ensures in (
-      omega (arith, puts-within p (omega arith) (omega arith)),
-      when-read (ended .before .before .input .given .1) (ended .text-end .ensures) (p, reply-means _ _ (puts-front p)),
-    )
+    let p = c .before .before .before .reply-text .ensures in
+    when-read (ended .before .before .input .given .1) (ended .text-end .ensures) (puts-prints p (omega arith)) (λ t. reply-means _ t refl)
 
 pub reply-spec : {M : Type 1} → statement M
 reply-spec =

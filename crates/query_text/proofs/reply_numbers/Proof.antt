@@ -9,8 +9,8 @@ use mir.Syntax.{w64}
 use mir.Facts.{toZ-ofZ}
 use Rattle.matrix.specs.Matrix.{nth}
 use Rattle.text.specs.Reading.{vertexCount}
-use Rattle.text.proofs.Placing.{puts-as}
-use Rattle.query_text.specs.Reply.{replied}
+use Rattle.decimal.proofs.Placing.{puts-as}
+use Rattle.query_text.specs.Inner.Spaces.{replied}
 use Rattle.word.specs.Answer.{four}
 use Rattle.query_text.proofs.Replied.{asked-as, few-line, enough-line}
 use borrow.Author.Needs.{needs}

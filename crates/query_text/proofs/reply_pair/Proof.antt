@@ -10,7 +10,7 @@ use types.Run.{OneOf, miss}
 use denote.Enum.Declared.{tagOf}
 use Rattle.matrix.specs.Matrix.{ofList}
 use Rattle.text.specs.Line.{line, refusalLine}
-use Rattle.text.proofs.Placing.{puts-as}
+use Rattle.decimal.proofs.Placing.{puts-as}
 use Rattle.word.specs.Answer.{queryRefusal, foundWord, queryOf, wordLeft, partOf}
 use Rattle.call.specs.declared.refusal.Refusal.{Refusal}
 use Rattle.word.specs.declared.Queried.{Queried}

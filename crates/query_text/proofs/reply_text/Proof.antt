@@ -7,11 +7,12 @@ use lib.IntN.{ℤ}
 use lib.ListN.{take}
 use lib.Seq.{length-take-le}
 use Rattle.text.specs.Piece.{pieces, numbers}
-use Rattle.text.specs.Reading.{inputOf, leftBy}
+use Rattle.text.specs.Reading.{inputOf}
+use Rattle.text.specs.Inner.Inside.{leftBy}
 use Rattle.text.specs.declared.Reading.{Reading}
 use Rattle.text.specs.declared.Reading.the-variants.{Numbers, Refused}
 use Rattle.text.proofs.Handed.{Handed, input-on, front-entries}
-use Rattle.text.proofs.Placing.{puts-as}
+use Rattle.decimal.proofs.Placing.{puts-as}
 use Rattle.query_text.specs.Reply.{repliedTo, queryFormat}
 use Rattle.query_text.proofs.Replied.{reply-by}
 use borrow.Author.Needs.{needs}

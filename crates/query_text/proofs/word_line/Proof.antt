@@ -3,7 +3,7 @@ use mathlib.Core.Path.{sym, ap}
 use mathlib.Core.Bool.{Bool}
 use native.Mathlib.Omega.{arith}
 use Rattle.text.specs.Line.{line}
-use Rattle.text.proofs.Placing.{puts-as}
+use Rattle.decimal.proofs.Placing.{puts-as}
 use Rattle.query_text.specs.Reply.{wordHead}
 use borrow.Author.Needs.{needs}
 use Rattle.query_text.proofs.word_line.Statement.{statement}

@@ -20,9 +20,11 @@ use lib.ListN.{length}
 use Rattle.basics.specs.Choice.{pick}
 use Rattle.matrix.specs.Matrix.{nth}
 use Rattle.call.specs.Space.{workLength}
-use Rattle.text.specs.Line.{natural, line, refusedWord}
+use Rattle.decimal.specs.Ascii.{ascii}
+use Rattle.text.specs.Line.{natural, line}
 use Rattle.word.specs.Answer.{partOf}
-use Rattle.query_text.specs.Reply.{wordHead, lettersLent, countIn}
+use Rattle.query_text.specs.Reply.{wordHead, lettersLent}
+use Rattle.text.specs.Reading.{countIn}
 use Rattle.sheets.specs.Sheet.{lineIn}
 use Rattle.query_text.specs.Printed.{linesLent}
 
@@ -36,7 +38,7 @@ unfoldable pub printedRow : (l letters : List ℤ) → List ℕ
 printedRow l letters =
     pick (isWord l)
     (line (wordHead (not (ltZ (nth l 3) (pos 0)))) (namedWord l letters))
-    (line refusedWord (natural (natAbs (nth l 0)) ∷ natural (natAbs (nth l 1)) ∷ []))
+    (line (ascii "refused") (natural (natAbs (nth l 0)) ∷ natural (natAbs (nth l 1)) ∷ []))
 
 unfoldable pub used : (l letters : List ℤ) → ℕ
 used l letters = pick (isWord l) (length (namedWord l letters)) 0

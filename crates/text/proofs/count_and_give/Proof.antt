@@ -8,7 +8,8 @@ use lib.ListN.{length}
 use mir.Syntax.{w64}
 use mir.Facts.{toZ-ofZ}
 use Rattle.call.specs.Refusal.{badText}
-use Rattle.text.specs.Reading.{wanted, leftBy}
+use Rattle.text.specs.Reading.{wanted}
+use Rattle.text.specs.Inner.Inside.{leftBy}
 use Rattle.text.specs.Inner.Inside.{wantedOf, PieceRead}
 use Rattle.text.specs.declared.Reading.the-variants as reading
 use Rattle.text.proofs.Walks.{walked-start, sound-clash, at-end, at-bad, at-number}

@@ -2,7 +2,8 @@
 use mathlib.Core.Path.{refl}
 use borrow.Author.Tests.{lt-ltb, le-ltb}
 use lib.ListN.{length}
-use Rattle.text.specs.Reading.{answer, leftBy}
+use Rattle.text.specs.Reading.{answer}
+use Rattle.text.specs.Inner.Inside.{leftBy}
 use borrow.Author.Needs.{needs}
 use Rattle.text.proofs.give.Statement.{statement}
 use Rattle.text.proofs.give.Tie as tie

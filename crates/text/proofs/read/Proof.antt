@@ -2,7 +2,7 @@
 use mathlib.Core.Path.{refl, sym, _∙_}
 use lib.ListN.{length}
 use Rattle.text.specs.Piece.{pieces}
-use Rattle.text.specs.Reading.{leftBy}
+use Rattle.text.specs.Inner.Inside.{leftBy}
 use Rattle.text.proofs.Answers.{survey-all, read-long, read-bad, read-counted}
 use borrow.Author.Needs.{needs}
 use Rattle.text.proofs.read.Statement.{statement}

@@ -1,7 +1,7 @@
 -- `text::read_input` meets its contract: a longer text is refused, and any other is read. Assumes nothing.
 use mathlib.Core.Path.{refl, _∙_}
 use lib.ListN.{length}
-use Rattle.text.specs.Reading.{leftBy}
+use Rattle.text.specs.Inner.Inside.{leftBy}
 use Rattle.text.proofs.Handed.{input-longer, input-read}
 use borrow.Author.Needs.{needs}
 use Rattle.text.proofs.read_input.Statement.{statement}

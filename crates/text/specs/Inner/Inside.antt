@@ -11,15 +11,15 @@
 --     badOrCount o n          the place o of a piece that is no number, or else the count n, as the code's answer
 --     surveyOf ps             where the first of the pieces ps begins that is no number, or else how many they are
 --     countedOf f t room      the answer to a text t whose pieces are all numbers
--- Assumes nothing.
+--     leftBy r ns out         what the slice holds in the end, where it held `out` and the text's numbers are ns
 use Prim.Native.Nat.{ℕ, suc, _+_, _-_, _*_, _≤_, _<_}
 use mathlib.Core.Path.{_≡_}
 use mathlib.Core.Bool.{Bool, true, false, Bool·beq}
-use mathlib.Core.List.{List, [], _∷_}
+use mathlib.Core.List.{List, [], _∷_, _++_}
 use mathlib.Core.Option.{Option, none, some}
 use lib.Dec.{leb}
 use lib.IntN.{ℤ}
-use lib.ListN.{length, drop}
+use lib.ListN.{length, take, drop}
 use Rattle.basics.specs.Choice.{pick}
 use Rattle.text.specs.Blank.{isBlank}
 use Rattle.text.specs.Number.{isDigit}
@@ -27,10 +27,11 @@ use Rattle.text.specs.Piece.{Piece, piecesFrom, pieces, firstBad, number
 use Rattle.text.specs.Reading.{handed, firstPlace, answer}
 use Rattle.text.specs.declared.Format.{Format}
 use Rattle.text.specs.declared.Reading.{Reading}
-use Rattle.text.specs.declared.Natural.{Natural}
-use Rattle.text.specs.declared.Natural.the-variants as natural
-use Rattle.text.specs.declared.Integer.{Integer}
-use Rattle.text.specs.declared.Integer.the-variants as integer
+use Rattle.text.specs.declared.Reading.the-variants as reading
+use Rattle.text.specs.declared.numeral.Natural.{Natural}
+use Rattle.text.specs.declared.numeral.Natural.the-variants as natural
+use Rattle.text.specs.declared.numeral.Integer.{Integer}
+use Rattle.text.specs.declared.numeral.Integer.the-variants as integer
 use Rattle.text.specs.declared.Wanted.{Wanted}
 use Rattle.text.specs.declared.Wanted.the-variants as wanted
 use Rattle.text.specs.declared.Step.{Step}
@@ -85,3 +86,7 @@ surveyOf ps = badOrCount (firstBad ps) (length ps)
 abbrev pub countedOf : Format → List ℕ → ℕ → Reading
 countedOf f t room =
     answer (firstPlace f (numbers (pieces t)) (length t) (pieces t)) (handed f (numbers (pieces t))) room
+
+unfoldable pub leftBy : Reading → List ℤ → List ℤ → List ℤ
+leftBy (reading.Numbers k) ns out = take k ns ++ drop k out
+leftBy (reading.Refused f) ns out = out

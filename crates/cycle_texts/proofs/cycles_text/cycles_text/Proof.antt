@@ -4,7 +4,7 @@ use mathlib.Core.List.{List}
 use Prim.Native.Nat.{ℕ}
 use native.Mathlib.Omega.{arith}
 use lib.ListN.{length, take}
-use Rattle.text.proofs.Placing.{puts-as}
+use Rattle.decimal.proofs.Placing.{puts-as}
 use Rattle.symbol_texts.proofs.PairLines.{pair-fits}
 use Rattle.cycle_reading.specs.Reading.{readS, readR}
 use Rattle.cycle_texts.specs.Cut.{judgedText}

@@ -2,7 +2,7 @@
 use mathlib.Core.List.{List}
 use native.Mathlib.Omega.{arith}
 use Prim.Native.Nat.{ℕ}
-use Rattle.text.proofs.Placing.{puts-as, puts-then}
+use Rattle.decimal.proofs.Placing.{puts-as, puts-then}
 use Rattle.cycle_texts.proofs.ToCyclesPrinting.{MadeLine, made-line, refused-line, puts-from}
 use borrow.Author.Needs.{needs}
 use Rattle.cycle_texts.proofs.to_cycles_text.export_line.Statement.{statement}

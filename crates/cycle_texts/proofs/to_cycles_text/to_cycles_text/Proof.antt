@@ -6,9 +6,9 @@ use native.Mathlib.Omega.{arith}
 use Prim.Native.Nat.{ℕ, _≤_}
 use lib.ListN.{length, take}
 use lib.Seq.{length-take-le}
-use Rattle.text.proofs.Placing.{puts-as}
+use Rattle.decimal.proofs.Placing.{puts-as}
 use Rattle.symbol_texts.specs.ImportAnswer.{Request, tables, requestOf}
-use Rattle.symbol_texts.specs.ImportSpaces.{TablesRead}
+use Rattle.symbol_texts.specs.Inner.ImportSpaces.{TablesRead}
 use Rattle.symbol_texts.proofs.ImportAnswering.{read-refused}
 use Rattle.cycle_texts.proofs.ToCyclesPrinting.{line-as}
 use borrow.Author.Needs.{needs}

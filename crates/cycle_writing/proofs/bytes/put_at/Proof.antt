@@ -1,7 +1,7 @@
 -- `bytes::put_at` meets its contract: a cycle begins at x, or there are no bytes. Assumes nothing.
 use mathlib.Core.Path.{sym, _∙_}
 use Rattle.cycle_writing.proofs.Sizes.{none-at}
-use Rattle.text.proofs.Placing.{puts-as, puts-none}
+use Rattle.decimal.proofs.Placing.{puts-as, puts-none}
 use borrow.Author.Needs.{needs}
 use Rattle.cycle_writing.proofs.bytes.put_at.Statement.{statement}
 use Rattle.cycle_writing.proofs.bytes.put_at.Tie as tie

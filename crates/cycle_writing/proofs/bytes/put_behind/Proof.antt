@@ -1,6 +1,6 @@
 -- `bytes::put_behind` meets its contract: the number stands behind the bytes. Assumes nothing.
 use native.Mathlib.Omega.{arith}
-use Rattle.text.proofs.Placing.{puts-then}
+use Rattle.decimal.proofs.Placing.{puts-then}
 use borrow.Author.Needs.{needs}
 use Rattle.cycle_writing.proofs.bytes.put_behind.Statement.{statement}
 use Rattle.cycle_writing.proofs.bytes.put_behind.Tie as tie

@@ -1,7 +1,7 @@
 -- `bytes::put_cycle` meets its contract: two points behind x decide which cycle it is. Assumes nothing.
 use native.Mathlib.Omega.{arith}
 use Rattle.cycle_writing.proofs.Sizes.{low-a, low-b, two-here, three-here, two-sized, three-sized}
-use Rattle.text.proofs.Placing.{puts-as}
+use Rattle.decimal.proofs.Placing.{puts-as}
 use borrow.Author.Needs.{needs}
 use Rattle.cycle_writing.proofs.bytes.put_cycle.Statement.{statement}
 use Rattle.cycle_writing.proofs.bytes.put_cycle.Tie as tie

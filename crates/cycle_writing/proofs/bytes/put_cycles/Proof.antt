@@ -3,8 +3,8 @@ use mathlib.Core.Path.{_≡_, refl, ap, _∙_}
 use Prim.Native.Nat.{ℕ, _+_, _-_, _≤_}
 use native.Mathlib.Omega.{arith}
 use lib.ListN.{length}
-use Rattle.text.specs.Line.{Puts}
-use Rattle.text.proofs.Placing.{puts-as, puts-none, puts-then, puts-same}
+use Rattle.decimal.specs.Writing.{Puts}
+use Rattle.decimal.proofs.Placing.{puts-as, puts-none, puts-then, puts-same}
 use Rattle.cycle_writing.specs.Inner.Short.{bytesBelow}
 use Rattle.cycle_writing.proofs.Sizes.{bytes-none, bytes-more, bytes-room}
 use borrow.Author.Needs.{needs}

@@ -1,6 +1,6 @@
 -- `bytes::put_number` meets its contract: there is room for the digits, so that `write_natural` tells their end. Assumes nothing.
-use Rattle.text.specs.Decimal.{digits}
-use Rattle.text.proofs.Placing.{by-writing, no-refusal}
+use Rattle.decimal.specs.Decimal.{digits}
+use Rattle.decimal.proofs.Placing.{by-writing, no-refusal}
 use borrow.Author.Needs.{needs}
 use Rattle.cycle_writing.proofs.bytes.put_number.Statement.{statement}
 use Rattle.cycle_writing.proofs.bytes.put_number.Tie as tie

@@ -2,7 +2,7 @@
 use mathlib.Core.Path.{_≡_, _∙_}
 use native.Mathlib.Omega.{arith}
 use lib.ListN.{length}
-use Rattle.text.proofs.Placing.{puts-as}
+use Rattle.decimal.proofs.Placing.{puts-as}
 use Rattle.cycle_writing.specs.Inner.Short.{bytesBelow}
 use Rattle.cycle_writing.proofs.Sizes.{cycles-are}
 use Rattle.cycle_writing.proofs.Placed.{empty-put, permutation-room, empty-room}

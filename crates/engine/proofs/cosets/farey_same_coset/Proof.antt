@@ -5,6 +5,7 @@ use Rattle.call.proofs.Laws.{call-decided}
 use Rattle.word.specs.Answer.{closes}
 use Rattle.same_coset.proofs.Single.{means, tells, says}
 use borrow.Author.Needs.{needs}
+use Rattle.engine.proofs.Numbers.{matrices-numbered}
 use Rattle.engine.proofs.cosets.farey_same_coset.Statement.{statement}
 use Rattle.engine.proofs.cosets.farey_same_coset.Tie as tie
 
@@ -26,7 +27,8 @@ returns c =
     let a = s .a .now in
     let b = s .b .now in
     let told = tells v t a b (s .w .now) in
-    call-decided _ (told .0, told .1, means v t a b (s .w .now), says v t a b (s .w .now)) (closes v t (ofList a) (ofList b)) refl
+    call-decided _ (matrices-numbered v t (s .w .now) a b)
+    (told .0, told .1, means v t a b (s .w .now), says v t a b (s .w .now)) (closes v t (ofList a) (ofList b)) refl
     (q .ensures)
     (c .of-decision .ensures .0) (c .of-decision .ensures .1)
 

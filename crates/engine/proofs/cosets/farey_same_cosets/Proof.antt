@@ -2,6 +2,11 @@
 use Rattle.call.proofs.Laws.{call-made}
 use Rattle.same_coset.proofs.Whole.{cosets-say}
 use borrow.Author.Needs.{needs}
+use Prim.Native.Nat.{_/_}
+use lib.ListN.{length}
+use Rattle.sheets.specs.Sheet.{pairsIn}
+use Rattle.same_coset.specs.Pairs.{wholePairs, ragged}
+use Rattle.engine.proofs.Numbers.{rows-numbered}
 use Rattle.engine.proofs.cosets.farey_same_cosets.Statement.{statement}
 use Rattle.engine.proofs.cosets.farey_same_cosets.Tie as tie
 
@@ -21,7 +26,8 @@ returns : tie.Need-returns
 returns c =
     let q = c .before .before .before .before .same-cosets in
     let s = c .before .before .before .before .before .before .before .before .args in
-    call-made _
+    call-made _ (rows-numbered (s .v) (s .t .now) (s .w .now) (ragged (length (s .p .now))) (wholePairs (length (s .p .now))) (pairsIn (s .p .now))
+    (length (s .lines .now) / 2))
     (cosets-say (s .v) (s .t .now) (s .p .now) (s .w .now) (q .last .1 .1 .1 .0) (s .lines .now) (q .last .1 .1 .1 .1 .0))
     (q .ensures) (c .of-filled .ensures .0) (c .of-filled .ensures .1)
 

@@ -11,8 +11,10 @@ use Rattle.call.proofs.Laws.{call}
 use Rattle.coset.specs.Answer.{widthsOf, figuresOf, figureNumbers}
 use Rattle.coset.proofs.Answer.{run-figured, run-unfigured, figures-are}
 use Rattle.partner_exchange.specs.Exchange.{exchanged}
-use Rattle.partner_exchange.proofs.Answered.{preview-says}
+use Rattle.partner_exchange.proofs.Answered.{exchange-numbered, preview-says}
 use borrow.Author.Needs.{needs}
+use Rattle.partner_exchange.specs.Answer.{exchangeCheck}
+use Rattle.engine.proofs.Numbers.{widths-numbered}
 use Rattle.engine.proofs.Lent.{lentTo}
 use Rattle.engine.proofs.exchanging.farey_preview.Statement.{statement}
 use Rattle.engine.proofs.exchanging.farey_preview.Tie as tie
@@ -50,7 +52,8 @@ returns c =
     let left = ap (λ (a : Checked). ifAccepted a (figureNumbers (figuresOf v u)) (s .args .out .now)) (sym e) in
     let says = preview-says v t x y (lentTo (s .args .w) _) (lentTo (s .args .widths) _) (lentTo (s .args .out) _)
     (g .leaves .0, (g .leaves .1 .0, (left, tt))) in
-    call _ says (g .leaves .0, (g .leaves .1 .0, (left, tt)))
+    call _ (widths-numbered (exchangeCheck v t x y) (exchange-numbered v t x y) (s .args .w .now) (length (widthsOf v u)) (s .args .widths .now))
+    says (g .leaves .0, (g .leaves .1 .0, (left, tt)))
     (ap (λ (a : Checked). checkedRefusal a .number) (sym e)) (ap (λ (a : Checked). ifAccepted a (length (widthsOf v u)) (checkedRefusal a .place)) (sym e))
 
 same-length-3 : tie.Need-same-length-3
@@ -76,7 +79,8 @@ returns-2 c =
     ∙ ap (λ (a : Checked). ifAccepted a (figureNumbers (figuresOf v u)) (s .args .out .now)) (sym e) in
     let says = preview-says v t x y (lentTo (s .args .w) _) (lentTo (s .args .widths) _) (lentTo (s .args .out) _)
     (g .leaves .0, (g .leaves .1 .0, (left, tt))) in
-    call _ says (g .leaves .0, (g .leaves .1 .0, (left, tt)))
+    call _ (widths-numbered (exchangeCheck v t x y) (exchange-numbered v t x y) (s .args .w .now) (length (widthsOf v u)) (s .args .widths .now))
+    says (g .leaves .0, (g .leaves .1 .0, (left, tt)))
     (ap (λ (a : Checked). checkedRefusal a .number) (sym e))
     (ap (λ (f : FigureRecord). f .cusps) same ∙ ap (λ (a : Checked). ifAccepted a (length (widthsOf v u)) (checkedRefusal a .place)) (sym e))
 

@@ -2,6 +2,10 @@
 use Rattle.call.proofs.Laws.{call-made}
 use Rattle.named_groups.proofs.Answers.{tables-say}
 use borrow.Author.Needs.{needs}
+use lib.ListN.{length}
+use Rattle.congruence.specs.Cosets.{familyR, familyS}
+use Rattle.named_groups.specs.Group.{groupCheck, familyOf}
+use Rattle.engine.proofs.Numbers.{pair-numbered, above-group}
 use Rattle.engine.proofs.named.farey_named_tables.Statement.{statement}
 use Rattle.engine.proofs.named.farey_named_tables.Tie as tie
 
@@ -25,7 +29,9 @@ returns c =
     let q = c .before .before .before .before .before .before .before .named-tables in
     let s = c .before .before .before .before .before .before .before .before .before .before .before .before .before .before .args in
     let k = c .of-filled .ensures in
-    call-made _ (tables-say (s .family) (s .n) (s .w .now) (s .s .now) (s .r .now)) (q .ensures) (k .0) (k .1)
+    call-made _ (pair-numbered (groupCheck (s .family) (s .n)) (above-group (s .family) (s .n)) (s .w .now)
+    (length (familyS (familyOf (s .family)) (s .n))) (length (familyR (familyOf (s .family)) (s .n))) (s .s .now) (s .r .now))
+    (tables-say (s .family) (s .n) (s .w .now) (s .s .now) (s .r .now)) (q .ensures) (k .0) (k .1)
 
 pub farey-named-tables-spec : {M : Type 1} → statement M
 farey-named-tables-spec =

@@ -1,5 +1,8 @@
 -- `farey_read_cycles` meets its contract (`call-made`, `read-says`). Assumes nothing.
 use Rattle.call.proofs.Laws.{call-made}
+use lib.ListN.{length}
+use Rattle.cycle_reading.specs.Reading.{readR, readS, cyclesCheck}
+use Rattle.engine.proofs.Numbers.{results-numbered, above-cycles}
 use Rattle.engine.proofs.CycleCalls.{read-says}
 use borrow.Author.Needs.{needs}
 use Rattle.engine.proofs.notation.farey_read_cycles.Statement.{statement}
@@ -22,7 +25,9 @@ returns c =
     let q = c .before .before .before .before .before .read-cycles in
     let st = c .before .before .before .before .before .before .before .before .before .before .before in
     let k = c .of-filled .ensures in
-    call-made _ (read-says (st .args .text .now) (st .args .s .now) (st .args .r .now) _ _ (q .ensures .leaves)) (q .ensures) (k .0) (k .1)
+    call-made _ (results-numbered (cyclesCheck (st .args .text .now)) (above-cycles (st .args .text .now)) (length (readS (st .args .text .now)))
+    (length (readR (st .args .text .now))) (st .args .s .now) (st .args .r .now))
+    (read-says (st .args .text .now) (st .args .s .now) (st .args .r .now) _ _ (q .ensures .leaves)) (q .ensures) (k .0) (k .1)
 
 pub farey-read-cycles-spec : {M : Type 1} → statement M
 farey-read-cycles-spec =

@@ -1,6 +1,7 @@
 -- `farey_query` meets its contract: what its query promises (`query-call`). Assumes nothing.
 use Rattle.matrix.specs.Matrix.{ofList}
 use Rattle.word.specs.Answer.{foundSign}
+use Rattle.engine.proofs.Numbers.{query-numbered}
 use Rattle.engine.proofs.Said.{call-word, query-call}
 use borrow.Author.Needs.{needs}
 use Rattle.engine.proofs.queries.farey_query.Statement.{statement}
@@ -23,7 +24,9 @@ returns c =
     let q = c .before .before .before .before .query in
     let s = c .before .before .before .before .before .before .before .before .before .before .args in
     let k = c .of-query .ensures in
-    call-word _ (s .start) (foundSign (s .v) (s .t .now) (ofList (s .a .now)) (ofList (s .b .now)))
+    call-word _ (query-numbered (s .v) (s .t .now) (s .a .now) (s .b .now) (s .w .now) (q .last .1 .1 .1 .1 .0) (s .out .now)
+    (q .last .1 .1 .1 .1 .1 .0) (s .start))
+    (s .start) (foundSign (s .v) (s .t .now) (ofList (s .a .now)) (ofList (s .b .now)))
     (query-call (s .v) (s .t .now) (s .a .now) (s .b .now) (s .w .now) (q .last .1 .1 .1 .1 .0) (s .out .now) (q .last .1 .1 .1 .1 .1 .0) (s .start)
     (q .ensures .leaves))
     (q .ensures .leaves) (q .ensures .answer) (k .0) (k .1)

@@ -2,6 +2,10 @@
 use Rattle.call.proofs.Laws.{call-made}
 use Rattle.sheets.proofs.Whole.{sheet-says}
 use borrow.Author.Needs.{needs}
+use Prim.Native.Nat.{_/_}
+use lib.ListN.{length}
+use Rattle.sheets.specs.Sheet.{badCount, pairsIn}
+use Rattle.engine.proofs.Numbers.{rows-numbered}
 use Rattle.engine.proofs.queries.farey_sheet.Statement.{statement}
 use Rattle.engine.proofs.queries.farey_sheet.Tie as tie
 
@@ -24,7 +28,7 @@ returns : tie.Need-returns
 returns c =
     let q = c .before .before .before .before .before .sheet in
     let s = c .before .before .before .before .before .before .before .before .before .before .args in
-    call-made _
+    call-made _ (rows-numbered (s .v) (s .t .now) (s .w .now) (badCount (length (s .p .now))) 2048 (pairsIn (s .p .now)) (length (s .lines .now) / 4))
     (sheet-says (s .v) (s .t .now) (s .p .now) (s .w .now) (q .last .1 .1 .1 .0) (s .lines .now) (q .last .1 .1 .1 .1 .0) (s .out .now)
     (q .last .1 .1 .1 .1 .1 .0)
     (q .ensures .leaves)) (q .ensures) (c .of-filled .ensures .0) (c .of-filled .ensures .1)

@@ -8,6 +8,7 @@ use Rattle.matrix.proofs.Bounds.{kept}
 use Rattle.matrix.specs.Matrix.{ofList}
 use Rattle.word.specs.Answer.{foundWord, foundSign}
 use Rattle.word.proofs.Order.{queryRun}
+use Rattle.engine.proofs.Numbers.{query-numbered}
 use Rattle.engine.specs.Exported.{signWritten}
 use Rattle.engine.proofs.Said.{call-word, sign-left, signed-call}
 use borrow.Author.Needs.{needs}
@@ -41,7 +42,9 @@ returns c =
     (foundSign (s .v) (s .t .now) (ofList (s .a .now)) (ofList (s .b .now)))
     (verdict (queryRun (s .v) (s .t .now) (s .a .now) (s .b .now) (s .w .now) (q .last .1 .1 .1 .1 .0) (s .out .now) (q .last .1 .1 .1 .1 .1 .0) (s .start)))
     (q .ensures .answer) (s .sign .now) told in
-    call-word _ (s .start) (foundSign (s .v) (s .t .now) (ofList (s .a .now)) (ofList (s .b .now)))
+    call-word _ (query-numbered (s .v) (s .t .now) (s .a .now) (s .b .now) (s .w .now) (q .last .1 .1 .1 .1 .0) (s .out .now)
+    (q .last .1 .1 .1 .1 .1 .0) (s .start))
+    (s .start) (foundSign (s .v) (s .t .now) (ofList (s .a .now)) (ofList (s .b .now)))
     (signed-call (s .v) (s .t .now) (s .a .now) (s .b .now) (s .w .now) (q .last .1 .1 .1 .1 .0) (s .out .now) (q .last .1 .1 .1 .1 .1 .0) (s .start)
     (q .ensures .leaves)
     _ (s .sign .now) sign)

@@ -16,6 +16,7 @@ use Rattle.symbol.specs.Check.{symbolCheck}
 use Rattle.symbol.proofs.Accepted.{accepted, check-among}
 use Rattle.engine.specs.Exported.{checkCall}
 use borrow.Author.Needs.{needs}
+use Rattle.engine.proofs.Numbers.{above-symbol}
 use Rattle.engine.proofs.symbols.farey_check.Statement.{statement}
 use Rattle.engine.proofs.symbols.farey_check.Tie as tie
 
@@ -41,7 +42,8 @@ returns c =
     let q = c .before .check in
     let s = c .before .before in
     let e = c .checked-refusal .ensures in
-    call-checked _ (check-says (s .args .v) (s .args .t .now)) refl
+    call-checked _ (above-symbol (s .args .v) (s .args .t .now), tt)
+    (check-says (s .args .v) (s .args .t .now)) refl
     (record { answer = q .ensures .returned ∙ alone (symbolCheck (s .args .v) (s .args .t .now)); leaves = tt })
     (ap (λ (f : Refusal). f .number) e) (ap (λ (f : Refusal). f .place) e)
 

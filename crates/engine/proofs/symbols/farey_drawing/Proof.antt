@@ -2,7 +2,7 @@
 -- are those of the contract. Assumes nothing.
 use mathlib.Core.Path.{_≡_, refl, sym, ap, _∙_}
 use native.Mathlib.Omega.{arith}
-use Prim.Native.Nat.{_+_}
+use Prim.Native.Nat.{_/_, _*_, _+_}
 use lib.Ieee.{Float}
 use mathlib.Core.List.{List}
 use borrow.Author.Needs.{needs}
@@ -11,8 +11,12 @@ use Rattle.call.specs.declared.refusal.Checked.{Checked}
 use Rattle.call.specs.Call.{verdict, ifAccepted}
 use Rattle.call.proofs.Laws.{call}
 use Rattle.drawing.specs.Bounding.{boxTo}
-use Rattle.drawing.specs.Answer.{boxNumbers}
+use Rattle.drawing.specs.Answer.{tooLargeAt, boxNumbers}
 use Rattle.drawing.proofs.Judged.{drawingVerdict, drawn-symbol, drawing-says}
+use lib.Dec.{ltb}
+use lib.ListN.{length}
+use Rattle.basics.specs.Count.{first}
+use Rattle.engine.proofs.Numbers.{drawing-numbered}
 use Rattle.engine.proofs.Drawn.{made-verdict, made-box, refused-verdict}
 use Rattle.engine.proofs.symbols.farey_drawing.Statement.{statement}
 use Rattle.engine.proofs.symbols.farey_drawing.Tie as tie
@@ -48,7 +52,8 @@ returns c =
     let told = c .before .answer .given in
     let b = boxTo v t (v + 1) in
     let e = refused-verdict b (drawingVerdict v t (s .args .out .now)) (told .0 .0) (sym (q .ensures .answer) ∙ told .1) in
-    call _ (drawing-says v t (s .args .out .now))
+    call _ (drawing-numbered v t (ltb (first (tooLargeAt t) (2 * v)) (2 * v)) (first (tooLargeAt t) (2 * v)) (v + 1) (length (s .args .out .now) / 4))
+    (drawing-says v t (s .args .out .now))
     (q .ensures .leaves .0, (ap (λ (x : Checked). ifAccepted x (boxNumbers b) (s .args .bounds .now)) (sym e), tt))
     (ap (λ (x : Checked). checkedRefusal x .number) (sym e))
     (ap (λ (x : Checked). ifAccepted x (v + 1) (checkedRefusal x .place)) (sym e))
@@ -66,7 +71,8 @@ returns-2 c =
     let b = boxTo v t (v + 1) in
     let k = sym (q .ensures .answer) ∙ told .1 in
     let e = made-verdict b (drawingVerdict v t (s .args .out .now)) (told .0 .0) k in
-    call _ (drawing-says v t (s .args .out .now)) (
+    call _ (drawing-numbered v t (ltb (first (tooLargeAt t) (2 * v)) (2 * v)) (first (tooLargeAt t) (2 * v)) (v + 1) (length (s .args .out .now) / 4))
+    (drawing-says v t (s .args .out .now)) (
       q .ensures .leaves .0,
       (
         ap boxNumbers (sym (made-box b (drawingVerdict v t (s .args .out .now)) (told .0 .0) k))

@@ -3,6 +3,9 @@
 use Rattle.call.proofs.Laws.{call-made}
 use Rattle.pairing.proofs.Admitted.{generators-says}
 use borrow.Author.Needs.{needs}
+use lib.ListN.{length}
+use Rattle.pairing.specs.Generator.{generatorTable}
+use Rattle.engine.proofs.Numbers.{stored-numbered}
 use Rattle.engine.proofs.Lent.{lentTo}
 use Rattle.engine.proofs.symbols.farey_generators.Statement.{statement}
 use Rattle.engine.proofs.symbols.farey_generators.Tie as tie
@@ -25,7 +28,8 @@ returns c =
     let s = c .before .before .before .before .before .before .before .before in
     let w = lentTo (s .args .w) (s .args .w .now) in
     let out = lentTo (s .args .out) (s .args .out .now) in
-    call-made _ (generators-says (s .args .v) (s .args .t .now) w out) (q .ensures) (c .of-filled .ensures .0) (c .of-filled .ensures .1)
+    call-made _ (stored-numbered (s .args .v) (s .args .t .now) (s .args .w .now) (length (generatorTable (s .args .v) (s .args .t .now))) (s .args .out .now))
+    (generators-says (s .args .v) (s .args .t .now) w out) (q .ensures) (c .of-filled .ensures .0) (c .of-filled .ensures .1)
 
 pub farey-generators-spec : {M : Type 1} → statement M
 farey-generators-spec =

@@ -3,6 +3,9 @@
 use Rattle.call.proofs.Laws.{call-made}
 use Rattle.cusp_record.proofs.Answer.{cusps-says}
 use borrow.Author.Needs.{needs}
+use lib.ListN.{length}
+use Rattle.cusp_record.specs.Answer.{stepColumn, cuspColumn}
+use Rattle.engine.proofs.Numbers.{columns-numbered}
 use Rattle.engine.proofs.tables.farey_cusps.Statement.{statement}
 use Rattle.engine.proofs.tables.farey_cusps.Tie as tie
 
@@ -25,7 +28,9 @@ returns : tie.Need-returns
 returns c =
     let q = c .before .before .before .before .before .before .before .cusps in
     let s = c .before .before .before .before .before .before .before .before .before .before .before .before .before .before in
-    call-made _ (cusps-says (s .args .v) (s .args .t .now) _ _ _) (q .ensures) (c .of-filled .ensures .0) (c .of-filled .ensures .1)
+    call-made _ (columns-numbered (s .args .v) (s .args .t .now) (s .args .w .now) (length (cuspColumn (s .args .v) (s .args .t .now)))
+    (length (stepColumn (s .args .v) (s .args .t .now))) (s .args .cusps .now) (s .args .steps .now))
+    (cusps-says (s .args .v) (s .args .t .now) _ _ _) (q .ensures) (c .of-filled .ensures .0) (c .of-filled .ensures .1)
 
 pub farey-cusps-spec : {M : Type 1} → statement M
 farey-cusps-spec =

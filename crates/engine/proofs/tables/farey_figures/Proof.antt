@@ -8,6 +8,8 @@ use Rattle.call.proofs.Laws.{call}
 use Rattle.coset.specs.Answer.{figuresOf, figureNumbers}
 use Rattle.coset.proofs.Answer.{run-figured, run-unfigured, figures-are, figures-says}
 use borrow.Author.Needs.{needs}
+use mathlib.Core.List.{[]}
+use Rattle.engine.proofs.Numbers.{one-numbered}
 use Rattle.engine.proofs.Lent.{lentTo}
 use Rattle.engine.proofs.tables.farey_figures.Statement.{statement}
 use Rattle.engine.proofs.tables.farey_figures.Tie as tie
@@ -36,7 +38,8 @@ returns c =
     let t = s .args .t .now in
     let e = run-unfigured (q .ensures) (told .0 .0) (told .1) .is in
     let left = ap (λ (x : Checked). ifAccepted x (figureNumbers (figuresOf v t)) (s .args .out .now)) (sym e) in
-    call _ (figures-says v t (lentTo (s .args .w) _) (lentTo (s .args .out) _) (q .ensures .leaves .0, (left, tt))) (q .ensures .leaves .0, (left, tt))
+    call _ (one-numbered v t (s .args .w .now) [] tt)
+    (figures-says v t (lentTo (s .args .w) _) (lentTo (s .args .out) _) (q .ensures .leaves .0, (left, tt))) (q .ensures .leaves .0, (left, tt))
     (ap (λ (x : Checked). checkedRefusal x .number) (sym e)) (ap (λ (x : Checked). ifAccepted x 0 (checkedRefusal x .place)) (sym e))
 
 same-length-2 : tie.Need-same-length-2
@@ -52,7 +55,8 @@ returns-2 c =
     let e = run-figured (q .ensures) (told .0 .0) (told .1) .is in
     let left = c .of-figures .ensures ∙ ap figureNumbers (figures-are (q .ensures) (told .0 .0) (told .1))
     ∙ ap (λ (x : Checked). ifAccepted x (figureNumbers (figuresOf v t)) (s .args .out .now)) (sym e) in
-    call _ (figures-says v t (lentTo (s .args .w) _) (lentTo (s .args .out) _) (q .ensures .leaves .0, (left, tt))) (q .ensures .leaves .0, (left, tt))
+    call _ (one-numbered v t (s .args .w .now) [] tt)
+    (figures-says v t (lentTo (s .args .w) _) (lentTo (s .args .out) _) (q .ensures .leaves .0, (left, tt))) (q .ensures .leaves .0, (left, tt))
     (ap (λ (x : Checked). checkedRefusal x .number) (sym e)) (ap (λ (x : Checked). ifAccepted x 0 (checkedRefusal x .place)) (sym e))
 
 pub farey-figures-spec : {M : Type 1} → statement M

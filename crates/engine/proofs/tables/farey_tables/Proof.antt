@@ -3,6 +3,7 @@
 use Rattle.call.proofs.Laws.{call-made}
 use Rattle.coset.proofs.Answer.{tables-says}
 use borrow.Author.Needs.{needs}
+use Rattle.engine.proofs.Numbers.{tables-numbered}
 use Rattle.engine.proofs.tables.farey_tables.Statement.{statement}
 use Rattle.engine.proofs.tables.farey_tables.Tie as tie
 
@@ -29,7 +30,8 @@ returns c =
     let earlier = c .before .before .before .before .before .before .before .before .before .before in
     let q = c .before .before .before .before .before .before .before .before .before .tables in
     let s = earlier .before .before .before .before .before .before .before .before in
-    call-made _ (tables-says (s .args .v) (s .args .t .now) _ _ _ _) (q .ensures) (c .of-filled .ensures .0) (c .of-filled .ensures .1)
+    call-made _ (tables-numbered (s .args .v) (s .args .t .now) (s .args .w .now) (s .args .s .now) (s .args .r .now) (s .args .u .now))
+    (tables-says (s .args .v) (s .args .t .now) _ _ _ _) (q .ensures) (c .of-filled .ensures .0) (c .of-filled .ensures .1)
 
 pub farey-tables-spec : {M : Type 1} → statement M
 farey-tables-spec =

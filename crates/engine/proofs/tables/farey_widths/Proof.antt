@@ -3,6 +3,9 @@
 use Rattle.call.proofs.Laws.{call-made}
 use Rattle.coset.proofs.Answer.{widths-says}
 use borrow.Author.Needs.{needs}
+use lib.ListN.{length}
+use Rattle.coset.specs.Answer.{widthsOf}
+use Rattle.engine.proofs.Numbers.{stored-numbered}
 use Rattle.engine.proofs.tables.farey_widths.Statement.{statement}
 use Rattle.engine.proofs.tables.farey_widths.Tie as tie
 
@@ -22,7 +25,8 @@ returns : tie.Need-returns
 returns c =
     let q = c .before .before .before .before .before .widths in
     let s = c .before .before .before .before .before .before .before .before .before .before in
-    call-made _ (widths-says (s .args .v) (s .args .t .now) _ _) (q .ensures) (c .of-filled .ensures .0) (c .of-filled .ensures .1)
+    call-made _ (stored-numbered (s .args .v) (s .args .t .now) (s .args .w .now) (length (widthsOf (s .args .v) (s .args .t .now))) (s .args .out .now))
+    (widths-says (s .args .v) (s .args .t .now) _ _) (q .ensures) (c .of-filled .ensures .0) (c .of-filled .ensures .1)
 
 pub farey-widths-spec : {M : Type 1} → statement M
 farey-widths-spec =

@@ -6,9 +6,10 @@ use Prim.Native.Nat.{_≤_, _<_}
 use native.Mathlib.Omega.{arith}
 use lib.ListN.{length}
 use Rattle.call.specs.Space.{workLength}
-use Rattle.import_symbol.proofs.Turn.{low-is}
-use Rattle.import_rule.proofs.Images.{low-S}
-use Rattle.import_rule.specs.Fixed.{image, byQ}
+use Rattle.import_sides.proofs.Turn.{low-is}
+use Rattle.permutations.proofs.Images.{low-S}
+use Rattle.permutations.specs.Pair.{image}
+use Rattle.import_rule.specs.Fixed.{byQ}
 use Rattle.import_symbol.specs.Inner.Writing.{is-even, is-odd, is-new, is-old}
 use borrow.Author.Needs.{needs}
 use Rattle.import_symbol.proofs.write.write_pairing.Statement.{statement}

@@ -4,7 +4,8 @@ use mathlib.Core.Path.{_≡_, refl, sym, _∙_, ap}
 use native.Mathlib.Omega.{arith}
 use native.Mathlib.Numerals.{add-one}
 use Prim.Native.Nat.{_+_, _-_, _*_, _≤_}
-use Rattle.import_rule.specs.Fixed.{image, byQ}
+use Rattle.permutations.specs.Pair.{image}
+use Rattle.import_rule.specs.Fixed.{byQ}
 use Rattle.import_symbol.proofs.Written.{Labelled, labelled-none, labelled-length, labelled-all, pairs-more, pairs-side}
 use borrow.Author.Needs.{needs}
 use Rattle.import_symbol.proofs.write.write_pairings.Statement.{statement}

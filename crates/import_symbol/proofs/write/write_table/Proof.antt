@@ -2,7 +2,8 @@
 -- Assumes nothing.
 use mathlib.Core.Path.{_≡_, refl, sym, _∙_, ap}
 use native.Mathlib.Omega.{arith}
-use Rattle.import_rule.specs.Fixed.{image, byQ}
+use Rattle.permutations.specs.Pair.{image}
+use Rattle.import_rule.specs.Fixed.{byQ}
 use Rattle.import_symbol.proofs.Written.{table-written}
 use borrow.Author.Needs.{needs}
 use Rattle.import_symbol.proofs.write.write_table.Statement.{statement}

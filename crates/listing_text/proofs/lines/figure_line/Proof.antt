@@ -1,6 +1,6 @@
 -- `lines::figure_line` meets its contract: the figure's value, or its name and its refusal. Assumes nothing.
 use native.Mathlib.Omega.{arith}
-use Rattle.text.proofs.Placing.{puts-then}
+use Rattle.decimal.proofs.Placing.{puts-then}
 use Rattle.listing_text.specs.Listing.{figureLine}
 use borrow.Author.Needs.{needs}
 use Rattle.listing_text.proofs.lines.figure_line.Statement.{statement}

@@ -1,6 +1,6 @@
 -- `lines::figure_lines` meets its contract: its two parts, one after the other. Assumes nothing.
 use native.Mathlib.Omega.{arith}
-use Rattle.text.proofs.Placing.{puts-then}
+use Rattle.decimal.proofs.Placing.{puts-then}
 use Rattle.listing_text.specs.Listing.{figureLines}
 use borrow.Author.Needs.{needs}
 use Rattle.listing_text.proofs.lines.figure_lines.Statement.{statement}

@@ -3,8 +3,8 @@ use mathlib.Core.Path.{_≡_, refl, sym, ap, _∙_}
 use native.Mathlib.Omega.{arith}
 use Prim.Native.Nat.{ℕ, _+_, _-_, _*_, _≤_}
 use lib.ListN.{length}
-use Rattle.text.specs.Line.{Puts}
-use Rattle.text.proofs.Placing.{puts-as, puts-none, puts-then, puts-same}
+use Rattle.decimal.specs.Writing.{Puts}
+use Rattle.decimal.proofs.Placing.{puts-as, puts-none, puts-then, puts-same}
 use Rattle.listing_text.specs.Listing.{generatorLines}
 use Rattle.listing_text.proofs.Listed.{lines-more}
 use borrow.Author.Needs.{needs}

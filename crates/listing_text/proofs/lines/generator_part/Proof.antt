@@ -1,6 +1,6 @@
 -- `lines::generator_part` meets its contract: a line, and the lines of the generators. Assumes nothing.
 use native.Mathlib.Omega.{arith}
-use Rattle.text.proofs.Placing.{puts-then}
+use Rattle.decimal.proofs.Placing.{puts-then}
 use Rattle.listing_text.specs.Listing.{generatorPart}
 use borrow.Author.Needs.{needs}
 use Rattle.listing_text.proofs.lines.generator_part.Statement.{statement}

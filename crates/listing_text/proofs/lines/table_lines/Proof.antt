@@ -1,6 +1,6 @@
 -- `lines::table_lines` meets its contract: three lines, one after another. Assumes nothing.
 use native.Mathlib.Omega.{arith}
-use Rattle.text.proofs.Placing.{puts-then}
+use Rattle.decimal.proofs.Placing.{puts-then}
 use Rattle.listing_text.specs.Listing.{tableLines}
 use borrow.Author.Needs.{needs}
 use Rattle.listing_text.proofs.lines.table_lines.Statement.{statement}

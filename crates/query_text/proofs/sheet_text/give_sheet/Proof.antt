@@ -4,7 +4,7 @@ use mathlib.Core.Bool.{false}
 use Prim.Native.Nat.{_-_}
 use native.Mathlib.Omega.{arith}
 use lib.ListN.{length}
-use Rattle.text.specs.Reading.{leftBy}
+use Rattle.text.specs.Inner.Inside.{leftBy}
 use Rattle.sheets.specs.Sheet.{badCount}
 use Rattle.query_text.proofs.SheetReadings.{few-numbers, bad-entries, all-numbers, entries-most}
 use borrow.Author.Needs.{needs}

@@ -11,7 +11,7 @@ use mir.Syntax.{w64}
 use mir.Val.{SFits, toZ, ofZ}
 use mir.Facts.{toZ-ofZ}
 use Rattle.matrix.specs.Matrix.{nth}
-use Rattle.text.proofs.Placing.{puts-as}
+use Rattle.decimal.proofs.Placing.{puts-as}
 use Rattle.word.specs.Answer.{partOf}
 use Rattle.query_text.specs.Inner.SheetTable.{namedWord, used}
 use Rattle.query_text.proofs.SheetPrinting.{refused-line, word-bytes, word-used}

@@ -8,7 +8,7 @@ use native.Mathlib.Omega.{arith}
 use lib.IntN.{ℤ}
 use lib.ListN.{length, take, drop, length-drop}
 use lib.Seq.{length-take-le}
-use Rattle.text.proofs.Placing.{puts-as}
+use Rattle.decimal.proofs.Placing.{puts-as}
 use Rattle.sheets.specs.Sheet.{lineIn}
 use Rattle.query_text.specs.Inner.SheetTable.{used, printedRows, usedTo}
 use Rattle.query_text.proofs.SheetPrinting.{Printing, printing-none, printing-more}

@@ -10,8 +10,8 @@ use mir.Syntax.{w64}
 use mir.Facts.{toZ-ofZ}
 use Rattle.matrix.specs.Matrix.{nth}
 use Rattle.text.specs.Reading.{vertexCount}
-use Rattle.text.proofs.Placing.{puts-as}
-use Rattle.query_text.specs.Reply.{countIn}
+use Rattle.decimal.proofs.Placing.{puts-as}
+use Rattle.text.specs.Reading.{countIn}
 use Rattle.query_text.specs.Printed.{tableOf, pairsOf}
 use Rattle.query_text.proofs.SheetAnswers.{Called, symbol-part, pairs-part, called-as, refused-printed, made-room, made-printed}
 use borrow.Author.Needs.{needs}

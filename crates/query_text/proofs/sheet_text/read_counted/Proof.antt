@@ -7,7 +7,8 @@ use lib.IntN.{ℤ}
 use lib.ListN.{length}
 use mir.Syntax.{w64}
 use mir.Facts.{toZ-ofZ}
-use Rattle.text.specs.Reading.{wanted, symbolFormat, leftBy}
+use Rattle.text.specs.Reading.{wanted, symbolFormat}
+use Rattle.text.specs.Inner.Inside.{leftBy}
 use Rattle.text.specs.Inner.Inside.{wantedOf, PieceRead}
 use Rattle.text.proofs.Answers.{that-count}
 use Rattle.text.proofs.Walks.{walked-start, sound-clash, at-end, at-bad, at-number}

@@ -6,7 +6,8 @@ use lib.Dec.{ltb}
 use lib.ListN.{length}
 use borrow.Author.Tests.{lt-ltb}
 use Rattle.text.specs.Piece.{pieces, firstBad}
-use Rattle.text.specs.Reading.{textMost, leftBy}
+use Rattle.text.specs.Reading.{textMost}
+use Rattle.text.specs.Inner.Inside.{leftBy}
 use Rattle.text.proofs.Answers.{survey-all}
 use Rattle.query_text.proofs.SheetReadings.{too-long, survey-bad, survey-good}
 use borrow.Author.Needs.{needs}

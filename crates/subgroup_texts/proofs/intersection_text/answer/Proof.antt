@@ -1,48 +1,118 @@
--- `answer` meets its contract. An input that was read: the bytes mean what they say (`print-means`). One that could not be read: nothing is done. Assumes
--- nothing.
-use mathlib.Core.Path.{refl}
+-- `answer` meets its contract: each answer of `read_two` has its lines (`text-as`). Assumes nothing.
+use mathlib.Core.Path.{_≡_, sym}
+use mathlib.Core.List.{List}
+use Prim.Native.Nat.{ℕ, _≤_}
 use native.Mathlib.Omega.{arith}
-use Rattle.text.proofs.InputText.{when-read, when-failed}
-use Rattle.text.proofs.Placing.{puts-within, puts-front}
-use Rattle.subgroup_texts.proofs.IntersectionPrinting.{print-means}
+use lib.IntN.{ℤ}
+use lib.ListN.{length}
+use lib.Seq.{length-take-le}
+use Rattle.subgroup_texts.specs.Inner.TwoTexts.{CountsWithin}
+use Rattle.subgroup_texts.specs.declared.same_text.TwoReading.the-variants.{Numbers}
+use Rattle.subgroup_texts.proofs.IntersectionPrinting.{text-as}
 use borrow.Author.Needs.{needs}
 use Rattle.subgroup_texts.proofs.intersection_text.answer.Statement.{statement}
 use Rattle.subgroup_texts.proofs.intersection_text.answer.Tie as tie
 
-enum-known-input : tie.Need-enum-known-input
-enum-known-input c = search needs
+-- the numbers of two texts
+module _ (d : tie.After-reading2) where
+  abbrev read : tie.After-read-two
+  read = d .before .before .before .before
 
-enum-told : tie.Need-enum-told
-enum-told c = search needs
+  abbrev ones : List ℤ
+  ones = read .read-two .last .1 .1 .0
+
+  abbrev others : List ℤ
+  others = read .read-two .last .1 .1 .1 .0
+
+  abbrev k : ℕ
+  k = d .reading2 .given .0 .0
+
+  abbrev j : ℕ
+  j = d .reading2 .given .0 .1 .0
+
+  told : read .read-two .result ≡ Numbers k j
+  told = d .reading2 .given .1
+
+  counted : CountsWithin k j
+  counted = read .read-two .ensures .within k j told
+
+  inside : k ≤ length ones
+  inside = omega (arith, counted .most, d .before .before .before .one2 .given)
+
+  inside' : j ≤ length others
+  inside' = omega (arith, counted .most', d .before .before .other2 .given)
+
+slice-aggregate-read-two : tie.Need-slice-aggregate-read-two
+slice-aggregate-read-two c = search needs
+
+slice-aggregate-read-two-2 : tie.Need-slice-aggregate-read-two-2
+slice-aggregate-read-two-2 c = search needs
+
+read-two-requires : tie.Need-read-two-requires
+read-two-requires c κs = search needs
+
+enum-known-reading : tie.Need-enum-known-reading
+enum-known-reading c = search needs
+
+refusal-line-requires : tie.Need-refusal-line-requires
+refusal-line-requires c κs = search needs
+
+enum-known-reading-2 : tie.Need-enum-known-reading-2
+enum-known-reading-2 c = search needs
+
+array-share-prefix-one : tie.Need-array-share-prefix-one
+array-share-prefix-one c = inside (c .before)
+
+slice-aggregate-intersection-numbers : tie.Need-slice-aggregate-intersection-numbers
+slice-aggregate-intersection-numbers c = let d = c .before .before in sym (length-take-le (k d) (ones d) (inside d))
+
+array-share-prefix-other : tie.Need-array-share-prefix-other
+array-share-prefix-other c = inside' (c .before .before)
+
+slice-aggregate-intersection-numbers-2 : tie.Need-slice-aggregate-intersection-numbers-2
+slice-aggregate-intersection-numbers-2 c = let d = c .before .before .before in sym (length-take-le (j d) (others d) (inside' d))
+
+intersection-numbers-requires : tie.Need-intersection-numbers-requires
+intersection-numbers-requires c κs =
+    let d = c .before .before .before .before in
+    let s = read d .before .before .before .before .before in (
+      omega (arith, length-take-le (k d) (ones d) (inside d), counted d .some),
+      omega (arith, length-take-le (j d) (others d) (inside' d), counted d .some'),
+      s .pre,
+    )
+
+same-length : tie.Need-same-length
+same-length c = search needs
 
 returns : tie.Need-returns
-returns c = (omega arith, when-failed (c .enum-told .given .1) (refl, refl))
+returns c =
+    let a = c .before .before .before .before .before in
+    text-as (a .before .before .before .before .read-two .ensures) (a .reading .given .1) (c .before .before .refusal-line .ensures)
 
-text-end-requires : tie.Need-text-end-requires
-text-end-requires c κs = search needs
-
-slice-aggregate-intersection-input : tie.Need-slice-aggregate-intersection-input
-slice-aggregate-intersection-input c = c .before .text-end .ensures .long
-
-intersection-input-requires : tie.Need-intersection-input-requires
-intersection-input-requires c κs = search needs
+same-length-2 : tie.Need-same-length-2
+same-length-2 c = search needs
 
 returns-2 : tie.Need-returns-2
 returns-2 c =
-    let ended = c .before .before .before in
-    let p = c .intersection-input .ensures in (
-      omega (arith, puts-within p (omega arith) (omega arith)),
-      when-read (ended .before .before .input .given .1) (ended .text-end .ensures) (p, print-means _ _ _ (puts-front p)),
-    )
+    let d = c .before .before .before .before .before .before .before in
+    text-as (read d .read-two .ensures) (told d) (c .before .before .intersection-numbers .ensures)
 
 pub answer-spec : {M : Type 1} → statement M
 answer-spec =
     tie.close
     (tie.spec
-    enum-known-input
-    enum-told
+    slice-aggregate-read-two
+    slice-aggregate-read-two-2
+    read-two-requires
+    enum-known-reading
+    refusal-line-requires
+    enum-known-reading-2
+    array-share-prefix-one
+    slice-aggregate-intersection-numbers
+    array-share-prefix-other
+    slice-aggregate-intersection-numbers-2
+    intersection-numbers-requires
+    same-length
     returns
-    text-end-requires
-    slice-aggregate-intersection-input
-    intersection-input-requires
+    same-length-2
     returns-2)

@@ -11,10 +11,11 @@ use Rattle.call.specs.Space.{workLength}
 use Rattle.call.specs.declared.refusal.Filled.{Filled}
 use Rattle.call.specs.declared.refusal.Filled.the-variants.{Made}
 use Rattle.call.specs.Call.{atFront}
-use Rattle.text.proofs.Placing.{puts-as}
+use Rattle.decimal.proofs.Placing.{puts-as}
 use Rattle.containment.specs.TwoSymbols.{commonS, commonR}
 use Rattle.intersections.specs.Answer.{Intersected}
-use Rattle.symbol_texts.specs.Pair.{PairFits, pairText, pairLinesBy}
+use Rattle.symbol_texts.specs.Pair.{pairText, pairLinesBy}
+use Rattle.symbol_texts.specs.Inner.PairFits.{PairFits}
 use Rattle.subgroup_texts.specs.IntersectionAnswer.{intersectionFor}
 use Rattle.subgroup_texts.proofs.IntersectionPoints.{made-for, stored, intersected, few-points, made-fits, column-front}
 use borrow.Author.Needs.{needs}

@@ -6,8 +6,8 @@ use lib.ListN.{getD}
 use mir.Syntax.{w64}
 use mir.Facts.{toZ-ofZ}
 use Rattle.text.specs.Reading.{vertexCount}
-use Rattle.text.proofs.Placing.{puts-as}
-use Rattle.subgroup_texts.specs.SameAnswer.{countedIn}
+use Rattle.decimal.proofs.Placing.{puts-as}
+use Rattle.text.specs.Reading.{countIn}
 use Rattle.subgroup_texts.proofs.SameLines.{rest-part}
 use Rattle.subgroup_texts.proofs.IntersectionPrinting.{tables-as}
 use borrow.Author.Needs.{needs}
@@ -25,12 +25,12 @@ module _ (n : tie.After-vertex-count2) where
   abbrev other : List ℤ
   other = start .args .other .now
 
-  first : n .before .before .vertex-count .result ≡ countedIn one
+  first : n .before .before .vertex-count .result ≡ countIn one
   first =
       n .before .before .vertex-count .ensures
       ∙ ap vertexCount (toZ-ofZ {w = w64} {z = getD one 0 (pos 0)} (record { sfits = n .before .before .before .vertex-count-arg .given }))
 
-  second : n .vertex-count2 .result ≡ countedIn other
+  second : n .vertex-count2 .result ≡ countIn other
   second =
       n .vertex-count2 .ensures
       ∙ ap vertexCount (toZ-ofZ {w = w64} {z = getD other 0 (pos 0)} (record { sfits = n .before .vertex-count-arg2 .given }))

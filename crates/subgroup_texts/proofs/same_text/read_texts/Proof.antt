@@ -9,11 +9,13 @@ use lib.ListN.{length, take, length-drop}
 use lib.Seq.{length-take-le}
 use Rattle.call.specs.Refusal.{badVertexCount}
 use Rattle.call.specs.declared.refusal.Refusal.{Refusal}
-use Rattle.text.specs.Reading.{symbolFormat, leftBy}
+use Rattle.text.specs.Reading.{symbolFormat}
+use Rattle.text.specs.Inner.Inside.{leftBy}
 use Rattle.text.specs.declared.Reading.{Reading}
 use Rattle.text.specs.declared.Reading.the-variants as reading
 use Rattle.text.proofs.Handed.{Handed, handed-on, front-entries}
-use Rattle.subgroup_texts.specs.SameAnswer.{cutAt, firstText, secondText, firstReading, secondReading, numbersOf, two, none, inWhole}
+use Rattle.text.specs.Piece.{pieces, numbers}
+use Rattle.subgroup_texts.specs.SameAnswer.{cutAt, firstText, secondText, firstReading, secondReading, two, none, inWhole}
 use Rattle.subgroup_texts.specs.declared.same_text.TwoReading.the-variants.{Numbers, Refused}
 use Rattle.subgroup_texts.proofs.SamePlaces.{refused-place}
 use Rattle.subgroup_texts.proofs.SameReadings.{outcome, first-told, first-left, second-told, second-left, few, enough, counts, no-counts}
@@ -49,7 +51,7 @@ module _ (r : tie.After-read) where
   abbrev stood : List ℤ
   stood = r .read .last .1 .1 .0
 
-  left : (x : Reading) → r .read .result ≡ x → stood ≡ leftBy x (numbersOf (firstText (text parted))) (start parted .args .one .now)
+  left : (x : Reading) → r .read .result ≡ x → stood ≡ leftBy x (numbers (pieces (firstText (text parted)))) (start parted .args .one .now)
   left x e = first-left (text parted) (at parted) (cut parted) x (start parted .args .one .now) e (r .read .ensures .1)
 
 -- the first text's numbers
@@ -58,7 +60,7 @@ module _ (f : tie.After-first2) where
   read1 = f .before .before .before
 
   abbrev ns : List ℤ
-  ns = numbersOf (firstText (text (parted read1)))
+  ns = numbers (pieces (firstText (text (parted read1))))
 
   abbrev count : ℕ
   count = f .first2 .given .0 .0
@@ -95,7 +97,7 @@ module _ (q : tie.After-read2) where
   abbrev stood2 : List ℤ
   stood2 = q .read2 .last .1 .1 .0
 
-  left2 : (x : Reading) → q .read2 .result ≡ x → stood2 ≡ leftBy x (numbersOf (secondText (text begun))) (start begun .args .other .now)
+  left2 : (x : Reading) → q .read2 .result ≡ x → stood2 ≡ leftBy x (numbers (pieces (secondText (text begun)))) (start begun .args .other .now)
   left2 x e = second-left (text begun) (at begun) (cut begun) x (start begun .args .other .now) e (q .read2 .ensures .1)
 
 -- the second text's numbers
@@ -104,7 +106,7 @@ module _ (d : tie.After-second2) where
   read2 = d .before .before .before
 
   abbrev ms : List ℤ
-  ms = numbersOf (secondText (text (begun read2)))
+  ms = numbers (pieces (secondText (text (begun read2))))
 
   abbrev count2 : ℕ
   count2 = d .second2 .given .0 .0

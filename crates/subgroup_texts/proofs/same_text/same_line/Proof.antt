@@ -1,5 +1,5 @@
 -- `same_line` meets its contract: each answer has its line. Assumes nothing.
-use Rattle.text.proofs.Placing.{puts-as}
+use Rattle.decimal.proofs.Placing.{puts-as}
 use Rattle.subgroup_texts.proofs.SameLines.{yes-line, no-line, refused-line}
 use borrow.Author.Needs.{needs}
 use Rattle.subgroup_texts.proofs.same_text.same_line.Statement.{statement}

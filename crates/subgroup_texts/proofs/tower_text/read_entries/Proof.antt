@@ -7,7 +7,7 @@ use lib.ListN.{length}
 use mir.Syntax.{w64}
 use mir.Val.{toZ, ofZ}
 use mir.Facts.{toZ-ofZ}
-use Rattle.text.specs.Reading.{leftBy}
+use Rattle.text.specs.Inner.Inside.{leftBy}
 use Rattle.text.specs.Inner.Inside.{PieceRead}
 use Rattle.text.proofs.Walks.{walked-start, sound-clash, at-end, at-bad, at-number}
 use Rattle.subgroup_texts.proofs.TowerReadings.{by-none, by-negative, by-number}

@@ -1,5 +1,5 @@
 -- `tower_line` meets its contract: each answer has its line. Assumes nothing.
-use Rattle.text.proofs.Placing.{puts-as}
+use Rattle.decimal.proofs.Placing.{puts-as}
 use Rattle.subgroup_texts.proofs.TowerLines.{passes-line, refused-line}
 use borrow.Author.Needs.{needs}
 use Rattle.subgroup_texts.proofs.tower_text.tower_line.Statement.{statement}

@@ -8,7 +8,7 @@ use lib.ListN.{length, replicate, length-replicate}
 use Rattle.call.specs.Space.{workLength}
 use Rattle.matrix.specs.Matrix.{nth}
 use Rattle.matrix.proofs.Bounds.{kept}
-use Rattle.text.proofs.Placing.{puts-as}
+use Rattle.decimal.proofs.Placing.{puts-as}
 use Rattle.subgroup_texts.specs.TowerAnswer.{entriesIn}
 use Rattle.subgroup_texts.proofs.TowerLines.{numbers-line}
 use borrow.Author.Needs.{needs}

@@ -5,7 +5,7 @@ use Prim.Native.Nat.{ℕ, _+_, _*_}
 use native.Mathlib.Omega.{arith}
 use lib.ListN.{length, take}
 use mir.Facts.{toZ-ofZ}
-use Rattle.text.proofs.Placing.{puts-as}
+use Rattle.decimal.proofs.Placing.{puts-as}
 use Rattle.symbol_texts.proofs.ExchangePrinting.{MadeSymbol, made-symbol, refused-lines}
 use borrow.Author.Needs.{needs}
 use Rattle.symbol_texts.proofs.exchange_text.exchange_lines.Statement.{statement}

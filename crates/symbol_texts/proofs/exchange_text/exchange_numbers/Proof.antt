@@ -5,7 +5,7 @@ use native.Mathlib.Omega.{arith}
 use lib.ListN.{length, take, drop}
 use Rattle.matrix.specs.Matrix.{nth}
 use Rattle.matrix.proofs.Bounds.{kept}
-use Rattle.text.proofs.Placing.{puts-as}
+use Rattle.decimal.proofs.Placing.{puts-as}
 use Rattle.symbol_texts.proofs.ExchangePrinting.{asked-as, few-lines, enough-lines}
 use borrow.Author.Needs.{needs}
 use Rattle.symbol_texts.proofs.exchange_text.exchange_numbers.Statement.{statement}

@@ -9,7 +9,7 @@ use lib.Seq.{take-all}
 use mir.Syntax.{w64}
 use mir.Facts.{toZ-ofZ}
 use Rattle.symbol_texts.specs.ImportAnswer.{tablePoint}
-use Rattle.symbol_texts.specs.ImportSpaces.{filled}
+use Rattle.symbol_texts.specs.Inner.ImportSpaces.{filled}
 use Rattle.symbol_texts.proofs.ImportEntries.{points-more, filled-none}
 use borrow.Author.Needs.{needs}
 use Rattle.symbol_texts.proofs.import_text.fill_points.Statement.{statement}

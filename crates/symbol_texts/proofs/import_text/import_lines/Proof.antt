@@ -6,7 +6,7 @@ use Prim.Native.Nat.{ℕ, _+_, _*_}
 use lib.IntN.{ℤ, pos}
 use lib.ListN.{length, take, replicate, length-replicate}
 use Rattle.call.specs.declared.refusal.Filled.{Filled}
-use Rattle.text.proofs.Placing.{puts-as}
+use Rattle.decimal.proofs.Placing.{puts-as}
 use Rattle.symbol.specs.Symbol.{IsSymbol}
 use Rattle.import_symbol.specs.Answer.{orderBy, ruledTable}
 use Rattle.import_rule.specs.Order.{Order}

@@ -8,7 +8,7 @@ use lib.ListN.{length, getD, drop, length-drop}
 use lib.Seq.{length-take-le}
 use mir.Syntax.{w64}
 use mir.Facts.{toZ-ofZ}
-use Rattle.text.proofs.Placing.{puts-as, puts-then}
+use Rattle.decimal.proofs.Placing.{puts-as, puts-then}
 use Rattle.symbol_texts.proofs.ImportLines.{empty-line, full-line}
 use borrow.Author.Needs.{needs}
 use Rattle.symbol_texts.proofs.import_text.number_line.Statement.{statement}

@@ -9,12 +9,13 @@ use lib.IntN.{ℤ}
 use lib.ListN.{length, take}
 use lib.Seq.{length-take-le}
 use Rattle.text.specs.Piece.{pieces, numbers}
-use Rattle.text.specs.Reading.{inputOf, leftBy}
+use Rattle.text.specs.Reading.{inputOf, byReading}
+use Rattle.text.specs.Inner.Inside.{leftBy}
 use Rattle.text.specs.declared.Reading.{Reading}
 use Rattle.text.specs.declared.Reading.the-variants.{Numbers}
 use Rattle.text.proofs.Handed.{Handed, input-on}
-use Rattle.symbol_texts.specs.ImportAnswer.{tablesIn, importFormat, requestBy, requestOf}
-use Rattle.symbol_texts.specs.ImportSpaces.{numbersLeft}
+use Rattle.symbol_texts.specs.ImportAnswer.{tablesIn, importFormat, refused, requestOf}
+use Rattle.symbol_texts.specs.Inner.ImportSpaces.{numbersLeft}
 use Rattle.symbol_texts.proofs.ImportAnswering.{asked-by, numbers-by, handed-numbers, tables-none, tables-as}
 use borrow.Author.Needs.{needs}
 use Rattle.symbol_texts.proofs.import_text.read_tables.Statement.{statement}
@@ -34,7 +35,7 @@ module _ (d : tie.After-read-input) where
   told : d .read-input .result ≡ inputOf longer importFormat text 6133
   told = d .read-input .ensures .0 ∙ ap (inputOf longer importFormat text) (start .pre .0)
 
-  asks : (r : Reading) → d .read-input .result ≡ r → requestBy r (numbers (pieces text)) ≡ requestOf longer text
+  asks : (r : Reading) → d .read-input .result ≡ r → byReading tablesIn refused r (numbers (pieces text)) ≡ requestOf longer text
   asks r e = asked-by longer text r (sym e ∙ told)
 
   numbers-are : d .read-input .last .1 .1 .1 .0 ≡ numbersLeft longer text (start .args .numbers .now)

@@ -6,7 +6,7 @@ use Prim.Native.Nat.{ℕ, _*_, _-_}
 use lib.IntN.{ℤ}
 use lib.ListN.{length, take, drop, length-drop}
 use lib.Seq.{length-take-le}
-use Rattle.text.proofs.Placing.{puts-as, puts-then}
+use Rattle.decimal.proofs.Placing.{puts-as, puts-then}
 use Rattle.symbol_texts.specs.ImportAnswer.{numberLine, symbolLines}
 use Rattle.symbol_texts.proofs.ImportLines.{rest-is}
 use borrow.Author.Needs.{needs}

@@ -5,7 +5,7 @@ use mathlib.Core.List.{List}
 use Prim.Native.Nat.{ℕ, _+_, _*_}
 use lib.IntN.{ℤ}
 use lib.ListN.{length, take}
-use Rattle.text.proofs.Placing.{puts-as}
+use Rattle.decimal.proofs.Placing.{puts-as}
 use Rattle.symbol.specs.Symbol.{IsSymbol}
 use Rattle.import_symbol.specs.Answer.{ruledTable}
 use Rattle.symbol_texts.specs.ImportAnswer.{symbolLines}

@@ -3,7 +3,7 @@ use mathlib.Core.Path.{ap}
 use mir.Syntax.{w64}
 use mir.Facts.{toZ-ofZ}
 use Rattle.matrix.specs.Matrix.{nth}
-use Rattle.text.proofs.Placing.{puts-as}
+use Rattle.decimal.proofs.Placing.{puts-as}
 use Rattle.symbol_texts.specs.NamedAnswer.{requestLines}
 use Rattle.symbol_texts.proofs.NamedAsked.{few-numbers, enough-numbers}
 use borrow.Author.Needs.{needs}

@@ -1,7 +1,7 @@
 -- `count_line` meets its contract: the digits and a line feed are a line of one number. Assumes nothing.
 use native.Mathlib.Omega.{arith}
-use Rattle.text.specs.Decimal.{decimalOf}
-use Rattle.text.proofs.Placing.{puts-as, puts-then}
+use Rattle.decimal.specs.Decimal.{decimalOf}
+use Rattle.decimal.proofs.Placing.{puts-as, puts-then}
 use Rattle.symbol_texts.proofs.PairLines.{one-line-is}
 use borrow.Author.Needs.{needs}
 use Rattle.symbol_texts.proofs.pair_text.count_line.Statement.{statement}

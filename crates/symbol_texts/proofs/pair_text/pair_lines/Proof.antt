@@ -1,6 +1,6 @@
 -- `pair_lines` meets its contract: three lines, one after another. Assumes nothing.
 use native.Mathlib.Omega.{arith}
-use Rattle.text.proofs.Placing.{puts-then}
+use Rattle.decimal.proofs.Placing.{puts-then}
 use Rattle.symbol_texts.specs.Pair.{pairText}
 use borrow.Author.Needs.{needs}
 use Rattle.symbol_texts.proofs.pair_text.pair_lines.Statement.{statement}

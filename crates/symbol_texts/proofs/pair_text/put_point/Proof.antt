@@ -1,7 +1,7 @@
 -- `put_point` meets its contract: a space, and then the digits. Assumes nothing.
 use native.Mathlib.Omega.{arith}
-use Rattle.text.specs.Decimal.{decimalOf}
-use Rattle.text.proofs.Placing.{puts-then}
+use Rattle.decimal.specs.Decimal.{decimalOf}
+use Rattle.decimal.proofs.Placing.{puts-then}
 use borrow.Author.Needs.{needs}
 use Rattle.symbol_texts.proofs.pair_text.put_point.Statement.{statement}
 use Rattle.symbol_texts.proofs.pair_text.put_point.Tie as tie

@@ -1,7 +1,7 @@
 -- `table_line` meets its contract: the first point, the others behind spaces, the line feed. Assumes nothing.
 use native.Mathlib.Omega.{arith}
-use Rattle.text.specs.Decimal.{decimalOf}
-use Rattle.text.proofs.Placing.{puts-as, puts-then}
+use Rattle.decimal.specs.Decimal.{decimalOf}
+use Rattle.decimal.proofs.Placing.{puts-as, puts-then}
 use Rattle.symbol_texts.proofs.PairLines.{rest-long, below-rest, table-line-is}
 use borrow.Author.Needs.{needs}
 use Rattle.symbol_texts.proofs.pair_text.table_line.Statement.{statement}

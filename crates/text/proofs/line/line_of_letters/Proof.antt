@@ -1,6 +1,6 @@
 -- `text::line::line_of_letters` meets its contract: its parts, one after another, are a line. Assumes nothing.
 use native.Mathlib.Omega.{arith}
-use Rattle.text.proofs.Placing.{line-put}
+use Rattle.text.proofs.Spacing.{line-put}
 use borrow.Author.Needs.{needs}
 use Rattle.text.proofs.line.line_of_letters.Statement.{statement}
 use Rattle.text.proofs.line.line_of_letters.Tie as tie

@@ -2,7 +2,8 @@
 use mathlib.Core.List.{[], _∷_}
 use native.Mathlib.Omega.{arith}
 use Rattle.text.specs.Line.{natural}
-use Rattle.text.proofs.Placing.{puts-as, puts-then, line-put}
+use Rattle.decimal.proofs.Placing.{puts-as, puts-then}
+use Rattle.text.proofs.Spacing.{line-put}
 use Rattle.text.proofs.Spacing.{spaced-one}
 use borrow.Author.Needs.{needs}
 use Rattle.text.proofs.line.line_of_one.Statement.{statement}

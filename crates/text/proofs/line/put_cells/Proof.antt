@@ -3,9 +3,10 @@ use mathlib.Core.List.{map}
 use Prim.Native.Nat.{_-_}
 use native.Mathlib.Omega.{arith}
 use lib.ListN.{length, getD, length-map}
-use Rattle.text.specs.Decimal.{decimalOf}
+use Rattle.decimal.specs.Decimal.{decimalOf}
 use Rattle.text.specs.Line.{natural}
-use Rattle.text.proofs.Spacing.{digits-most, Spaced, spaced-none, spaced-more, spaced-all, natural-at}
+use Rattle.decimal.proofs.Decimals.{digits-most}
+use Rattle.text.proofs.Spacing.{Spaced, spaced-none, spaced-more, spaced-all, natural-at}
 use borrow.Author.Needs.{needs}
 use Rattle.text.proofs.line.put_cells.Statement.{statement}
 use Rattle.text.proofs.line.put_cells.Tie as tie

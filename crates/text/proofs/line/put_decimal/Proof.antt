@@ -1,9 +1,9 @@
 -- `text::line::put_decimal` meets its contract: 20 bytes hold a number of 64 signed bits, so that `write` tells its end. Assumes nothing.
 use native.Mathlib.Omega.{arith}
 use mir.Facts.{toZ-ofZ}
-use Rattle.text.specs.Decimal.{decimalOf}
-use Rattle.text.proofs.Spacing.{integer-most}
-use Rattle.text.proofs.Placing.{by-writing, no-refusal}
+use Rattle.decimal.specs.Decimal.{decimalOf}
+use Rattle.decimal.proofs.Decimals.{integer-most}
+use Rattle.decimal.proofs.Placing.{by-writing, no-refusal}
 use borrow.Author.Needs.{needs}
 use Rattle.text.proofs.line.put_decimal.Statement.{statement}
 use Rattle.text.proofs.line.put_decimal.Tie as tie

@@ -1,8 +1,8 @@
 -- `text::line::put_digits` meets its contract: 20 bytes hold a number of 64 bits, so that `write_natural` tells its end. Assumes nothing.
 use native.Mathlib.Omega.{arith}
-use Rattle.text.specs.Decimal.{digits}
-use Rattle.text.proofs.Spacing.{digits-most}
-use Rattle.text.proofs.Placing.{by-writing, no-refusal}
+use Rattle.decimal.specs.Decimal.{digits}
+use Rattle.decimal.proofs.Decimals.{digits-most}
+use Rattle.decimal.proofs.Placing.{by-writing, no-refusal}
 use borrow.Author.Needs.{needs}
 use Rattle.text.proofs.line.put_digits.Statement.{statement}
 use Rattle.text.proofs.line.put_digits.Tie as tie

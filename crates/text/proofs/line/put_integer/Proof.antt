@@ -1,7 +1,7 @@
 -- `text::line::put_integer` meets its contract: a space, and then the number. Assumes nothing.
 use native.Mathlib.Omega.{arith}
 use mir.Facts.{toZ-ofZ}
-use Rattle.text.proofs.Placing.{puts-then}
+use Rattle.decimal.proofs.Placing.{puts-then}
 use borrow.Author.Needs.{needs}
 use Rattle.text.proofs.line.put_integer.Statement.{statement}
 use Rattle.text.proofs.line.put_integer.Tie as tie

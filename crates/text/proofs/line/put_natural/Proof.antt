@@ -1,7 +1,7 @@
 -- `text::line::put_natural` meets its contract: a space, and then the digits. Assumes nothing.
 use native.Mathlib.Omega.{arith}
-use Rattle.text.specs.Decimal.{decimalOf}
-use Rattle.text.proofs.Placing.{puts-then}
+use Rattle.decimal.specs.Decimal.{decimalOf}
+use Rattle.decimal.proofs.Placing.{puts-then}
 use borrow.Author.Needs.{needs}
 use Rattle.text.proofs.line.put_natural.Statement.{statement}
 use Rattle.text.proofs.line.put_natural.Tie as tie

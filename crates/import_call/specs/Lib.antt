@@ -1,0 +1,2 @@
+-- What a reader of the crate `import_call` must believe.
+pub mod Import
