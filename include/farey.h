@@ -90,13 +90,15 @@ extern "C" {
 #define FAREY_VERSION 200
 #define FAREY_VERSION_TEXT "0.2.0"
 /* Stack that is enough for every call, in bytes, with what it calls in turn. This is measured and not proved, on
- * x86-64: the symbols and queries of named groups, which keep two tables and a symbol there, take under 65,536,
- * farey_intersection, which keeps four tables, and farey_read_cycles, which keeps two with marks for their points,
- * under 40,000, farey_contains and farey_tower, which keep three, and farey_preview, which keeps a symbol, under
- * 30,000, farey_same, which keeps two tables, under 20,000, the other calls under 10,000, on the largest inputs, by a
- * thread whose stack was filled beforehand (rust/differential/tests/stack.rs, which the gate runs). A call that the
- * dynamic linker has to look up at its first use (memset) may take some thousand more, once. */
-#define FAREY_STACK 98304
+ * x86-64: the queries of named groups, which keep two tables, a symbol and the rounds of a walk there, take under
+ * 100,000, the symbols of named groups, which keep two tables and a symbol, under 65,536, farey_query,
+ * farey_signed_query and farey_sheet, which keep the rounds of a walk, under 50,000, farey_intersection, which keeps
+ * four tables, and farey_read_cycles, which keeps two with marks for their points, under 40,000, farey_contains and
+ * farey_tower, which keep three, and farey_preview, which keeps a symbol, under 30,000, farey_same, which keeps two
+ * tables, under 20,000, the other calls under 10,000, on the largest inputs, by a thread whose stack was filled
+ * beforehand (rust/differential/tests/stack.rs, which the gate runs). A call that the dynamic linker has to look up at
+ * its first use (memset) may take some thousand more, once. */
+#define FAREY_STACK 131072
 /* The length of the work space. */
 #define FAREY_WORK 32768
 /* Lengths that are enough for every symbol: of a symbol's table, of the generators, of a table of cosets (images,

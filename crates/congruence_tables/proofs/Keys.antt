@@ -1,22 +1,19 @@
 -- ENTRIES TELL RIGHT COSETS APART: where x stands for l and y for m, the numbers of x and y are equal exactly when l m⁻¹ meets the condition
--- (`same-meets`, `meets-same`).
+-- (`same-meets`, `meets-same`); and they are equal exactly when the pairs have one number (`same-code`, `code-same`).
 -- Why, for Γ0: the bottom rows are (c d) and u (c d) modulo n, for some u that has an inverse. So the greatest common divisors g of c and of u c with
 -- n are the same, the multipliers s and s' have s = u s' modulo h = n / g, and so d s = u d s' modulo h. For the converse, s c/g and s' c'/g are 1
 -- modulo h, so c/g d' = c/g c'/g d' s' = c/g c'/g d s = d c'/g modulo h, and c d' - d c' is a multiple of n.
 -- Why, for Γ1 and Γ: the bottom rows or the matrices are equal up to sign, and of the two signs the entry has the first bottom row. Where both
 -- signs have the same bottom row, n is 1 or 2, for the determinant is 1, and the matrices are their own negatives.
--- In order: signs; Γ1; Γ; the law. The rows of Γ0 are in Rows.antt.
+-- In order: signs; Γ1; Γ; the law; the number of a pair; by the family. The rows of Γ0 are in Rows.antt.
 -- Assumes nothing.
 use mathlib.Core.Path.{_≡_, refl, sym, _∙_, ap, subst}
 use mathlib.Core.Logic.{_⊎_, inl, inr}
-use mathlib.Core.Bool.{Bool, true, false, _&&_}
 use mathlib.Core.List.{[], _∷_}
 use Prim.Native.Nat.{ℕ, _+_, _*_, _-_, _%_, _≤_, _<_}
 use native.Mathlib.Omega.{arith}
 use native.Mathlib.Nat.{mod-lt}
-use lib.Dec.{eqb}
 use lib.IntN.{ℤ, pos, negsuc, negℤ, _+ℤ_, _-ℤ_, _*ℤ_}
-use borrow.Author.Tests.{eqb-true, eq-eqb}
 use Rattle.matrix.specs.Matrix.{Mat, 𝟙, _⊗_, neg, adj, det}
 use Rattle.matrix.proofs.Matrix.{neg-neg, neg-⊗, det-neg, ⊗-idl}
 use Rattle.matrix.proofs.Ring.{con, var, _⊕_, _⊙_, ⊖_, ring}
@@ -32,23 +29,24 @@ use Rattle.right_cosets.proofs.Transversal.{self, back, flip, unit-over}
 use Rattle.congruence.proofs.Theorem.{families}
 use Rattle.congruence.proofs.Sign.{gamma1-by}
 use Rattle.congruence_tables.specs.declared.residues.Residues.{Residues}
-use Rattle.congruence_tables.specs.Inner.Residues.{matrixOf, negated, First, MatrixOf, RowOf, UpToSign, SmallOf, Stands, samePair, sameEntry, bucketOf}
+use Rattle.congruence_tables.specs.Inner.Residues.{matrixOf, negated, First, FirstRow, MatrixOf, RowOf, Stands, AllEqual, SameKey}
+use Rattle.congruence_tables.specs.Inner.Residues.{firstOf, secondOf, rowCode}
 use Rattle.congruence_tables.proofs.Products.{opposite-is}
 use Rattle.congruence_tables.proofs.Rows.{Rows, carried-rows, ratio, gamma0-rows, gamma1-rows, row-c, points-cross, points-one}
 
 -- ---- signs
 
--- a matrix that x is modulo n, in the coset of m or of -m
-record SignedAs (f : Family) (n : ℕ) (x : Residues) (m : Mat) : Type 0 where
+-- of m and -m the one that has P
+record SignedAs (f : Family) (n : ℕ) (m : Mat) (P : Mat → Type 0) : Type 0 where
   by : Mat
   unit : Unit by
-  is : Modulo n (matrixOf x) by
+  is : P by
   to : (k : Mat) → Meets f n (m ⊗ adj k) → Meets f n (by ⊗ adj k)
   from : (k : Mat) → Meets f n (by ⊗ adj k) → Meets f n (m ⊗ adj k)
 
-signed-as : (f : Family) (n : ℕ) (x : Residues) (m : Mat) → Unit m → UpToSign n x m → SignedAs f n x m
-signed-as f n x m u (inl h) = record { by = m; unit = u; is = h; to = λ k i. i; from = λ k i. i }
-signed-as f n x m u (inr h) = record {
+signed-as : (f : Family) (n : ℕ) (m : Mat) (P : Mat → Type 0) → Unit m → P m ⊎ P (neg m) → SignedAs f n m P
+signed-as f n m P u (inl h) = record { by = m; unit = u; is = h; to = λ k i. i; from = λ k i. i }
+signed-as f n m P u (inr h) = record {
   by = neg m;
   unit = det-neg m ∙ u;
   is = h;
@@ -56,7 +54,7 @@ signed-as f n x m u (inr h) = record {
   from = λ k i. rw (neg-neg (m ⊗ adj k)) at (families f n .sign (neg (m ⊗ adj k)) (rw (neg-⊗ m (adj k)) at i));
 }
 
-module _ (f : Family) (n : ℕ) {x y : Residues} {l m : Mat} (p : SignedAs f n x l) (q : SignedAs f n y m) where
+module _ (f : Family) (n : ℕ) {P Q : Mat → Type 0} {l m : Mat} (p : SignedAs f n l P) (q : SignedAs f n m Q) where
   abbrev c : Condition (Meets f n)
   c = families f n
 
@@ -92,17 +90,12 @@ module _ (n : ℕ) (some : 0 < n) where
       let b2 : d' ≤ d = rw i (g .second (sym same ∙ e)) in
       (same, omega arith)
 
-  rows-one : (x y : Residues) → MatrixOf n x → MatrixOf n y
+  rows-one : (x y : Residues) → FirstRow n x → FirstRow n y
       → Rows n (pos 1) (pos (y .c)) (pos (y .d)) (pos (x .c)) (pos (x .d)) ⊎ Rows n (negsuc 0) (pos (y .c)) (pos (y .d)) (pos (x .c)) (pos (x .d))
       → (x .c ≡ y .c) × (x .d ≡ y .d)
-  rows-one x y p q (inl r) =
-      let h = p .low in
-      let k = q .low in
-      (equal-of (x .c) (y .c) (h .c-low) (k .c-low) (r .c-is), equal-of (x .d) (y .d) (h .d-low) (k .d-low) (r .d-is))
-  rows-one x y p q (inr r) =
-      let h = p .low in
-      let k = q .low in
-      first-one (x .c) (x .d) (y .c) (y .d) (p .first) (q .first)
+  rows-one x y h k (inl r) = (equal-of (x .c) (y .c) (h .c-low) (k .c-low) (r .c-is), equal-of (x .d) (y .d) (h .d-low) (k .d-low) (r .d-is))
+  rows-one x y h k (inr r) =
+      first-one (x .c) (x .d) (y .c) (y .d) (h .first) (k .first)
       (opposite-of (x .c) (y .c) (h .c-low) (k .c-low) (r .c-is)) (opposite-of (x .d) (y .d) (h .d-low) (k .d-low) (r .d-is))
       (opposite-of (y .c) (x .c) (k .c-low) (h .c-low) (turned (x .c) (y .c) (r .c-is)))
       (opposite-of (y .d) (x .d) (k .d-low) (h .d-low) (turned (x .d) (y .d) (r .d-is)))
@@ -148,11 +141,8 @@ two n x m u h c d = mult-as
     ∙ ap (λ (z : ℤ). pos 2 *ℤ z) u)
     (mult-+ (mult-+ (mult-* (m .a) d) (mult-* (negℤ (m .a +ℤ m .a)) (h .d-is))) (mult-+ (mult-* (negℤ (m .b)) c) (mult-* (m .b +ℤ m .b) (h .c-is))))
 
-pub record AllEqual (x y : Residues) : Type 0 where
-  pub a-is : x .a ≡ y .a
-  pub b-is : x .b ≡ y .b
-  pub c-is : x .c ≡ y .c
-  pub d-is : x .d ≡ y .d
+matrix-row : {n : ℕ} {x : Residues} → MatrixOf n x → FirstRow n x
+matrix-row h = record { c-low = h .low .c-low; d-low = h .low .d-low; first = h .first }
 
 module _ (n : ℕ) (some : 0 < n) (x y : Residues) (p : MatrixOf n x) (q : MatrixOf n y) where
   difference-of : (a b : ℕ) (z w : ℤ) → Multiple n (pos a -ℤ z) → Multiple n (pos b -ℤ w) → Multiple n (z -ℤ w) → Multiple n (pos a -ℤ pos b)
@@ -193,7 +183,7 @@ module _ (n : ℕ) (some : 0 < n) (x y : Residues) (p : MatrixOf n x) (q : Matri
       let b = sum-of (x .b) (y .b) (l .b) (m .b) (h .b-is) (k .b-is) (e .b-is) in
       let c = sum-of (x .c) (y .c) (l .c) (m .c) (h .c-is) (k .c-is) (e .c-is) in
       let d = sum-of (x .d) (y .d) (l .d) (m .d) (h .d-is) (k .d-is) (e .d-is) in
-      let row = rows-one n some x y p q (inr (record { c-is = c; d-is = d })) in
+      let row = rows-one n some x y (matrix-row p) (matrix-row q) (inr (record { c-is = c; d-is = d })) in
       let t = two n y m u (row-of k) (doubled (x .c) (y .c) (row .0) c) (doubled (x .d) (y .d) (row .1) d) in
       record {
         a-is = halves (x .a) (y .a) (hx .a-low) (hy .a-low) t a;
@@ -204,126 +194,83 @@ module _ (n : ℕ) (some : 0 < n) (x y : Residues) (p : MatrixOf n x) (q : Matri
 
 -- ---- the law
 
-and-both : (a b : Bool) → a ≡ true → b ≡ true → (a && b) ≡ true
-and-both a b e f = ap (λ (z : Bool). z && b) e ∙ f
-
-and-first : (a b : Bool) → (a && b) ≡ true → a ≡ true
-and-first true b e = refl
-and-first false b e = e
-
-and-second : (a b : Bool) → (a && b) ≡ true → b ≡ true
-and-second true b e = e
-and-second false true e = refl
-and-second false false e = e
-
-module _ (p q r s : ℕ) where
-  pair-yes : p ≡ r → q ≡ s → samePair p q r s ≡ true
-  pair-yes e f = and-both (eqb p r) (eqb q s) (eq-eqb p r e) (eq-eqb q s f)
-
-  pair-first : samePair p q r s ≡ true → p ≡ r
-  pair-first e = eqb-true p r (and-first (eqb p r) (eqb q s) e)
-
-  pair-second : samePair p q r s ≡ true → q ≡ s
-  pair-second e = eqb-true q s (and-second (eqb p r) (eqb q s) e)
-
-all-equal : (x y : Residues) → sameEntry family.Gamma x y ≡ true → AllEqual x y
-all-equal x y e =
-    let top = samePair (x .a) (x .b) (y .a) (y .b) in
-    let bottom = samePair (x .c) (x .d) (y .c) (y .d) in
-    let t = and-first top bottom e in
-    let b = and-second top bottom e in
-    record {
-      a-is = pair-first (x .a) (x .b) (y .a) (y .b) t;
-      b-is = pair-second (x .a) (x .b) (y .a) (y .b) t;
-      c-is = pair-first (x .c) (x .d) (y .c) (y .d) b;
-      d-is = pair-second (x .c) (x .d) (y .c) (y .d) b;
-    }
-
-module _ (n : ℕ) (x y : Residues) where
-  pub same-bucket : (f : Family) → sameEntry f x y ≡ true → bucketOf f n x ≡ bucketOf f n y
-  same-bucket family.Gamma0 e =
-      let a = pair-first (x .a) (x .b) (y .a) (y .b) e in
-      let b = pair-second (x .a) (x .b) (y .a) (y .b) e in
-      ap (λ (z : ℕ). 3 * z + x .b) a ∙ ap (λ (z : ℕ). 3 * y .a + z) b
-  same-bucket family.Gamma1 e =
-      let c = pair-first (x .c) (x .d) (y .c) (y .d) e in
-      let d = pair-second (x .c) (x .d) (y .c) (y .d) e in
-      ap (λ (z : ℕ). (z * n + x .d) % 4096) c ∙ ap (λ (z : ℕ). (y .c * n + z) % 4096) d
-  same-bucket family.Gamma e =
-      let z = all-equal x y e in
-      ap (λ (v : ℕ). (v * 1162 + x .b * 1923 + x .c * 940 + x .d) % 4096) (z .a-is)
-      ∙ ap (λ (v : ℕ). (y .a * 1162 + v * 1923 + x .c * 940 + x .d) % 4096) (z .b-is)
-      ∙ ap (λ (v : ℕ). (y .a * 1162 + y .b * 1923 + v * 940 + x .d) % 4096) (z .c-is)
-      ∙ ap (λ (v : ℕ). (y .a * 1162 + y .b * 1923 + y .c * 940 + v) % 4096) (z .d-is)
-
 module _ (n : ℕ) (some : 0 < n) (x y : Residues) (l m : Mat) where
-  pub same-meets : (f : Family) → Stands f n x l → Stands f n y m → sameEntry f x y ≡ true → Meets f n (l ⊗ adj m)
-  same-meets family.Gamma0 p q e =
-      row-c n x y l m (p .is) (q .is)
-      (points-cross n some x y (p .entry) (q .entry) (pair-first (x .a) (x .b) (y .a) (y .b) e) (pair-second (x .a) (x .b) (y .a) (y .b) e))
+  pub same-meets : (f : Family) → Stands f n x l → Stands f n y m → SameKey f x y → Meets f n (l ⊗ adj m)
+  same-meets family.Gamma0 p q e = row-c n x y l m (p .is) (q .is) (points-cross n some x y (p .entry) (q .entry) (e .0) (e .1))
   same-meets family.Gamma1 p q e =
-      let s = signed-as family.Gamma1 n x l (p .unit) (p .is) in
-      let t = signed-as family.Gamma1 n y m (q .unit) (q .is) in
-      both-from family.Gamma1 n s t (gamma1-meets n x y (s .by) (t .by) (s .unit) (t .unit) (row-of (s .is)) (row-of (t .is))
-      (pair-first (x .c) (x .d) (y .c) (y .d) e) (pair-second (x .c) (x .d) (y .c) (y .d) e))
-  same-meets family.Gamma p q e =
-      let s = signed-as family.Gamma n x l (p .unit) (p .is) in
-      let t = signed-as family.Gamma n y m (q .unit) (q .is) in
-      let z = all-equal x y e in
+      let s = signed-as family.Gamma1 n l (λ (k : Mat). RowOf n x k) (p .unit) (p .is) in
+      let t = signed-as family.Gamma1 n m (λ (k : Mat). RowOf n y k) (q .unit) (q .is) in
+      both-from family.Gamma1 n s t (gamma1-meets n x y (s .by) (t .by) (s .unit) (t .unit) (s .is) (t .is) (e .0) (e .1))
+  same-meets family.Gamma p q z =
+      let s = signed-as family.Gamma n l (λ (k : Mat). Modulo n (matrixOf x) k) (p .unit) (p .is) in
+      let t = signed-as family.Gamma n m (λ (k : Mat). Modulo n (matrixOf y) k) (q .unit) (q .is) in
       let same : x ≡ y = rw (z .a-is, z .b-is, z .c-is, z .d-is) in
       let h : Modulo n (s .by) (t .by) = mod-trans (mod-sym (s .is)) (subst (λ (v : Residues). Modulo n (matrixOf v) (t .by)) (sym same) (t .is)) in
       both-from family.Gamma n s t
       (mod-meets family.Gamma n (s .by ⊗ adj (t .by)) (t .by ⊗ adj (t .by)) (mod-product h mod-refl) (self (families family.Gamma n) (t .by) (t .unit)))
 
-  pub meets-same : (f : Family) → Stands f n x l → Stands f n y m → Meets f n (l ⊗ adj m) → sameEntry f x y ≡ true
+  pub meets-same : (f : Family) → Stands f n x l → Stands f n y m → Meets f n (l ⊗ adj m) → SameKey f x y
   meets-same family.Gamma0 p q h =
-      let e = points-one n some x y (p .entry) (q .entry) (ratio l m) (ratio m l)
+      points-one n some x y (p .entry) (q .entry) (ratio l m) (ratio m l)
       (carried-rows (ratio l m) x y l m (p .is) (q .is) (gamma0-rows n l m (p .unit) h))
-      (carried-rows (ratio m l) y x m l (q .is) (p .is) (gamma0-rows n m l (q .unit) (flip (gamma0 n) l m h))) in
-      pair-yes (x .a) (x .b) (y .a) (y .b) (e .0) (e .1)
+      (carried-rows (ratio m l) y x m l (q .is) (p .is) (gamma0-rows n m l (q .unit) (flip (gamma0 n) l m h)))
   meets-same family.Gamma1 p q h =
-      let s = signed-as family.Gamma1 n x l (p .unit) (p .is) in
-      let t = signed-as family.Gamma1 n y m (q .unit) (q .is) in
-      let e = rows-one n some x y (p .entry) (q .entry)
-      (carry s t (gamma1-rows n (s .by) (t .by) (t .unit) (both-to family.Gamma1 n s t h))) in
-      pair-yes (x .c) (x .d) (y .c) (y .d) (e .0) (e .1)
+      let s = signed-as family.Gamma1 n l (λ (k : Mat). RowOf n x k) (p .unit) (p .is) in
+      let t = signed-as family.Gamma1 n m (λ (k : Mat). RowOf n y k) (q .unit) (q .is) in
+      rows-one n some x y (p .entry .row) (q .entry .row) (carry s t (gamma1-rows n (s .by) (t .by) (t .unit) (both-to family.Gamma1 n s t h)))
     where
-      carry : (s : SignedAs family.Gamma1 n x l) (t : SignedAs family.Gamma1 n y m)
+      carry : (s : SignedAs family.Gamma1 n l (λ (k : Mat). RowOf n x k)) (t : SignedAs family.Gamma1 n m (λ (k : Mat). RowOf n y k))
           → Rows n (pos 1) (t .by .c) (t .by .d) (s .by .c) (s .by .d) ⊎ Rows n (negsuc 0) (t .by .c) (t .by .d) (s .by .c) (s .by .d)
           → Rows n (pos 1) (pos (y .c)) (pos (y .d)) (pos (x .c)) (pos (x .d)) ⊎ Rows n (negsuc 0) (pos (y .c)) (pos (y .d)) (pos (x .c)) (pos (x .d))
-      carry s t (inl r) = inl (carried-rows (pos 1) y x (t .by) (s .by) (row-of (t .is)) (row-of (s .is)) r)
-      carry s t (inr r) = inr (carried-rows (negsuc 0) y x (t .by) (s .by) (row-of (t .is)) (row-of (s .is)) r)
+      carry s t (inl r) = inl (carried-rows (pos 1) y x (t .by) (s .by) (t .is) (s .is) r)
+      carry s t (inr r) = inr (carried-rows (negsuc 0) y x (t .by) (s .by) (t .is) (s .is) r)
   meets-same family.Gamma p q h =
-      let s = signed-as family.Gamma n x l (p .unit) (p .is) in
-      let t = signed-as family.Gamma n y m (q .unit) (q .is) in
-      let z = gamma-one n some x y (p .entry) (q .entry) (s .by) (t .by) (t .unit) (s .is) (t .is)
-      (gamma-equal n (s .by) (t .by) (t .unit) (both-to family.Gamma n s t h)) in
-      and-both (samePair (x .a) (x .b) (y .a) (y .b)) (samePair (x .c) (x .d) (y .c) (y .d))
-      (pair-yes (x .a) (x .b) (y .a) (y .b) (z .a-is) (z .b-is)) (pair-yes (x .c) (x .d) (y .c) (y .d) (z .c-is) (z .d-is))
+      let s = signed-as family.Gamma n l (λ (k : Mat). Modulo n (matrixOf x) k) (p .unit) (p .is) in
+      let t = signed-as family.Gamma n m (λ (k : Mat). Modulo n (matrixOf y) k) (q .unit) (q .is) in
+      gamma-one n some x y (p .entry) (q .entry) (s .by) (t .by) (t .unit) (s .is) (t .is)
+      (gamma-equal n (s .by) (t .by) (t .unit) (both-to family.Gamma n s t h))
 
--- ---- the tests and the bucket by the family
+-- ---- the number of a pair
 
-module _ (x y : Residues) {f : Family} {b : Bool} where
-  pub same-0 : f ≡ family.Gamma0 → b ≡ samePair (x .a) (x .b) (y .a) (y .b) → b ≡ sameEntry f x y
-  same-0 e h = rw e h
+-- second numbers are below 4,096; of Γ the numbers are below 64
+pub record BelowSixtyFour (x : Residues) : Type 0 where
+  pub b-low : x .b < 64
+  pub c-low : x .c < 64
+  pub d-low : x .d < 64
 
-  pub same-1 : f ≡ family.Gamma1 → b ≡ samePair (x .c) (x .d) (y .c) (y .d) → b ≡ sameEntry f x y
-  same-1 e h = rw e h
+abbrev pub LowOf : Family → Residues → Type 0
+LowOf family.Gamma0 x = x .b < 4096
+LowOf family.Gamma1 x = x .d < 4096
+LowOf family.Gamma x = BelowSixtyFour x
 
-  pub same-no : f ≡ family.Gamma → b ≡ samePair (x .a) (x .b) (y .a) (y .b) → b ≡ false → false ≡ sameEntry f x y
-  same-no e h k = rw e (sym (ap (λ (z : Bool). z && samePair (x .c) (x .d) (y .c) (y .d)) (sym h ∙ k)))
+pub low-second : (f : Family) (x : Residues) → LowOf f x → secondOf f x < 4096
+low-second family.Gamma0 x h = h
+low-second family.Gamma1 x h = h
+low-second family.Gamma x h = omega (arith, h .c-low, h .d-low)
 
-  pub same-yes : f ≡ family.Gamma → {t : Bool} → t ≡ samePair (x .a) (x .b) (y .a) (y .b) → t ≡ true → b ≡ samePair (x .c) (x .d) (y .c) (y .d)
-      → b ≡ sameEntry f x y
-  same-yes e h k i = rw e (i ∙ sym (ap (λ (z : Bool). z && samePair (x .c) (x .d) (y .c) (y .d)) (sym h ∙ k)))
+module _ (x y : Residues) where
+  pub same-code : (f : Family) → SameKey f x y → rowCode f x ≡ rowCode f y
+  same-code family.Gamma0 e = rw (e .0, e .1)
+  same-code family.Gamma1 e = rw (e .0, e .1)
+  same-code family.Gamma e = rw (e .a-is, e .b-is, e .c-is, e .d-is)
 
-module _ (n : ℕ) (x : Residues) (small : SmallOf x) {f : Family} where
-  pub bucket-0 : f ≡ family.Gamma0 → (3 * x .a + x .b ≡ bucketOf f n x) × (3 * x .a + x .b < 4096)
-  bucket-0 e = (rw e, omega (arith, small .a-most, small .b-most))
+  pub code-same : (f : Family) → LowOf f x → LowOf f y → rowCode f x ≡ rowCode f y → SameKey f x y
+  code-same family.Gamma0 p q e = (omega arith, omega arith)
+  code-same family.Gamma1 p q e = (omega arith, omega arith)
+  code-same family.Gamma p q e =
+      let b = p .b-low in
+      let b' = q .b-low in
+      let c = p .c-low in
+      let c' = q .c-low in
+      let d = p .d-low in
+      let d' = q .d-low in
+      record { a-is = omega arith; b-is = omega arith; c-is = omega arith; d-is = omega arith }
 
-  pub bucket-1 : f ≡ family.Gamma1 → ((x .c * n + x .d) % 4096 ≡ bucketOf f n x) × ((x .c * n + x .d) % 4096 < 4096)
-  bucket-1 e = (rw e, mod-lt (x .c * n + x .d) (omega arith))
+-- ---- by the family
 
-  pub bucket-2 : f ≡ family.Gamma → ((x .a * 1162 + x .b * 1923 + x .c * 940 + x .d) % 4096 ≡ bucketOf f n x)
-      × ((x .a * 1162 + x .b * 1923 + x .c * 940 + x .d) % 4096 < 4096)
-  bucket-2 e = (rw e, mod-lt (x .a * 1162 + x .b * 1923 + x .c * 940 + x .d) (omega arith))
+module _ (x : Residues) {f : Family} (e : f ≡ family.Gamma) where
+  pub first-2 : 64 * x .a + x .b ≡ firstOf f x
+  first-2 = rw e
+
+  pub second-2 : 64 * x .c + x .d ≡ secondOf f x
+  second-2 = rw e

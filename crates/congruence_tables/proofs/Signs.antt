@@ -14,7 +14,7 @@ use Rattle.congruence.specs.declared.Family.{Family}
 use Rattle.congruence.specs.declared.Family.the-variants as family
 use Rattle.congruence.specs.Inner.Common.{Modulus}
 use Rattle.congruence_tables.specs.declared.residues.Residues.{Residues}
-use Rattle.congruence_tables.specs.Inner.Residues.{ResiduesOf, negated, negatedAll, TurnsRow, SignedOf, EntryOf, SmallOf}
+use Rattle.congruence_tables.specs.Inner.Residues.{ResiduesOf, negated, negatedAll, TurnsRow, SignedOf, SignedRow, EntryOf, SmallOf}
 
 -- ---- -c and d - c
 
@@ -86,6 +86,31 @@ signed-turned n x r some h t e i =
       is = inr refl;
     })
 
+-- a row with zeros above it
+module _ (n c d : ℕ) (some : 0 < n) (c-low : c < n) (d-low : d < n) {b : Bool} (t : TurnsRow n c d b) where
+  pub row-same : b ≡ false → SignedRow n c d (record { a = 0; b = 0; c = c; d = d })
+  row-same e = record {
+    above = record { a-is = refl; b-is = refl };
+    row = record { c-low = c-low; d-low = d-low; first = t .no e };
+    is = inl (refl, refl);
+  }
+
+  pub row-turned : b ≡ true → {p q : ℕ} → p ≡ negated n c → q ≡ negated n d → SignedRow n c d (record { a = 0; b = 0; c = p; d = q })
+  row-turned e i j =
+      let l = t .yes e in
+      rw (i, j) (record {
+        above = record { a-is = refl; b-is = refl };
+        row = record {
+          c-low = mod-lt (n - c) some;
+          d-low = mod-lt (n - d) some;
+          first = record {
+            first = rw (negated-twice n c some c-low) (l .first);
+            second = λ z. rw (negated-twice n d some d-low) (l .second (sym (rw (negated-twice n c some c-low) at z)));
+          };
+        };
+        is = inr (refl, refl);
+      })
+
 -- ---- bounds
 
 factor-low : (h g n : ℕ) → 0 < g → h * g ≡ n → h ≤ n
@@ -113,5 +138,12 @@ entry-small family.Gamma0 n x m h =
       c-most = omega (arith, h .c-low);
       d-most = omega (arith, h .d-low);
     }
-entry-small family.Gamma1 n x m h = matrix-small n x m (h .low)
+entry-small family.Gamma1 n x m h =
+    let most = m .most in
+    record {
+      a-most = omega (arith, h .above .a-is);
+      b-most = omega (arith, h .above .b-is);
+      c-most = omega (arith, h .row .c-low);
+      d-most = omega (arith, h .row .d-low);
+    }
 entry-small family.Gamma n x m h = matrix-small n x m (h .low)

@@ -7,11 +7,11 @@ use mathlib.Core.List.{List, [], _∷_, _++_}
 use Prim.Native.Nat.{ℕ, zero, suc, _+_, _-_, _≤_, _<_}
 use native.Mathlib.Numerals.{add-one}
 use native.Mathlib.Omega.{arith}
-use native.Mathlib.Decide.{ℕ-discrete}
 use lib.ListN.{length, getD, set, take, drop, length-set}
 use Rattle.matrix.specs.Matrix.{Mat, 𝟙, _⊗_, matS, matR}
-use Rattle.call.specs.Space.{workLength, zeros}
-use Rattle.call.proofs.Zeros.{length-zeros, getD-zeros}
+use Rattle.call.specs.Space.{workLength}
+use Rattle.numbering.specs.Order.{add}
+use Rattle.numbering.proofs.Order.{add-new}
 use Rattle.numbering.specs.Table.{imageAt}
 use Rattle.numbering.proofs.Find.{none-below}
 use Rattle.right_cosets.specs.Condition.{Condition}
@@ -26,25 +26,27 @@ use Rattle.congruence.proofs.Theorem.{families, indexes}
 use Rattle.right_cosets.proofs.Listed.{unit-S, unit-R, in-le, extends-trans, in-extends, joined-in, joined-extends, joined-listed, visited-extends}
 use Rattle.right_cosets.proofs.Listed.{to-more, to-listed, to-extends, to-stop, listed-index, table-length, table-at}
 use Rattle.congruence_tables.specs.declared.residues.Residues.{Residues}
-use Rattle.congruence_tables.specs.Inner.Residues.{EntryOf, ImageBy, Stands, bucketOf}
-use Rattle.congruence_tables.proofs.Signs.{entry-small}
-use Rattle.congruence_tables.specs.Inner.Held.{HEAD, residuesAt, withMatrix, Group, ColumnsMade, TakesImage, HoldsCosets}
-use Rattle.congruence_tables.specs.Inner.Held.{Enters, EntersAs, Visits, VisitsTo, Started, Pushes, Tabulates}
-use Rattle.congruence_tables.proofs.Held.{stands-as, pushed-length, pushed-new, pushed-columns, pushed-head, pushed-heads, pushed-next}
+use Rattle.congruence_tables.specs.Inner.Residues.{EntryOf, ImageBy, Stands, rowCode, multiplierOf}
+use Rattle.buckets.specs.Inner.Pairs.{buckets, bucketOf, BucketsBegun}
+use Rattle.buckets.proofs.Chain.{none-held, holds-kept}
+use Rattle.congruence_tables.specs.Inner.Held.{residuesAt, Group, ColumnsReady, TakesImage, Keys, HoldsCosets}
+use Rattle.congruence_tables.specs.Inner.Held.{Enters, EntersAs, Visits, VisitsTo, Started, Tabulates}
+use Rattle.congruence_tables.proofs.Entries.{enters, keys-are, joined-same, joined-above, entry-new, columns-kept}
+use Rattle.congruence_tables.proofs.Held.{stands-as, held-enters, Joined, joined}
 
 -- ---- a visit
 
 module _ {f : Family} {n : ℕ} {l : List Mat} {w : List ℕ} {count : ℕ} (h : HoldsCosets f n l w count) (i : ℕ) (low : i < count) where
-  pub stands-S : (x : Residues) → ImageBy f n matS (residuesAt w i) x → Stands f n x (matrixAt l i ⊗ matS)
+  pub stands-S : (x : Residues) → ImageBy f n matS (residuesAt f w i) x → Stands f n x (matrixAt l i ⊗ matS)
   stands-S x p = let s = h .stands i low in record { unit = unit-S (matrixAt l i) (s .unit); entry = p .entry; is = p .is (matrixAt l i) (s .is) }
 
-  pub stands-R : (x : Residues) → ImageBy f n matR (residuesAt w i) x → Stands f n x (matrixAt l i ⊗ matR)
+  pub stands-R : (x : Residues) → ImageBy f n matR (residuesAt f w i) x → Stands f n x (matrixAt l i ⊗ matR)
   stands-R x p = let s = h .stands i low in record { unit = unit-R (matrixAt l i) (s .unit); entry = p .entry; is = p .is (matrixAt l i) (s .is) }
 
 -- S joins, and then R
-module _ {f : Family} {n : ℕ} {w : List ℕ} {i count : ℕ} (low : i < count) {x y : Residues} (p : ImageBy f n matS (residuesAt w i) x)
-    (q : ImageBy f n matR (residuesAt w i) y)
-    {w1 w2 : List ℕ} {a b c d : ℕ} (first : EntersAs f n w count x w1 a b) (second : EntersAs f n w1 b y w2 c d) where
+module _ {f : Family} {n : ℕ} {w : List ℕ} {i count : ℕ} (low : i < count) {x y : Residues} (p : ImageBy f n matS (residuesAt f w i) x)
+    (q : ImageBy f n matR (residuesAt f w i) y)
+    {w1 w2 : List ℕ} {a b c d : ℕ} (first : Joined f n w count x w1 a b) (second : Joined f n w1 b y w2 c d) where
   pub visit-to : (s r : List ℕ) → VisitsTo f n w s r i count w2 (set s i a) (set r i c) d
   visit-to s r = record {
     same = second .same ∙ first .same;
@@ -221,7 +223,7 @@ module _ {f : Family} {n : ℕ} {w s r : List ℕ} {i count : ℕ} (a : Visits f
   abbrev h : HoldsCosets f n (a .some .list) w count
   h = a .some .holds
 
-  pub images-S : {x : Residues} → x ≡ residuesAt w i → TakesImage f n w x
+  pub images-S : {x : Residues} → x ≡ residuesAt f w i → TakesImage f n w x
   images-S {x} e = record {
     modulus = a .group .modulus;
     long = h .long;
@@ -229,13 +231,16 @@ module _ {f : Family} {n : ℕ} {w s r : List ℕ} {i count : ℕ} (a : Visits f
     entry = subst (λ (z : Residues). EntryOf f n z) (sym e) (h .stands i (a .low) .entry);
   }
 
-  pub enters-S : {x y : Residues} → x ≡ residuesAt w i → ImageBy f n matS x y → Enters f n w count y
+  pub enters-S : {x y : Residues} → x ≡ residuesAt f w i → ImageBy f n matS x y → Enters f n w count y
   enters-S {x} {y} e p =
-      let p' : ImageBy f n matS (residuesAt w i) y = subst (λ (z : Residues). ImageBy f n matS z y) e p in
-      record { group = a .group; some = a .some; stands = record { matrix = matrixAt (a .some .list) i ⊗ matS; stands = stands-S h i (a .low) y p' } }
+      let p' : ImageBy f n matS (residuesAt f w i) y = subst (λ (z : Residues). ImageBy f n matS z y) e p in
+      held-enters (a .group) h (stands-S h i (a .low) y p')
 
-  module _ {x y : Residues} (e : x ≡ residuesAt w i) (p : ImageBy f n matS x y) {w1 : List ℕ} {b d : ℕ} (first : EntersAs f n w count y w1 b d) where
-    p-at : ImageBy f n matS (residuesAt w i) y
+  module _ {x y : Residues} (e : x ≡ residuesAt f w i) (p : ImageBy f n matS x y) {w1 : List ℕ} {b d : ℕ} (entered : EntersAs f n w count y w1 b d) where
+    first : Joined f n w count y w1 b d
+    first = joined (a .group) entered
+
+    p-at : ImageBy f n matS (residuesAt f w i) y
     p-at = subst (λ (z : Residues). ImageBy f n matS z y) e p
 
     pub images-R : TakesImage f n w1 x
@@ -245,15 +250,9 @@ module _ {f : Family} {n : ℕ} {w s r : List ℕ} {i count : ℕ} (a : Visits f
 
     pub enters-R : {z : Residues} → ImageBy f n matR x z → Enters f n w1 d z
     enters-R {z} q =
-        let q' : ImageBy f n matR (residuesAt w i) z = subst (λ (u : Residues). ImageBy f n matR u z) e q in
-        record {
-          group = a .group;
-          some = record {
-            list = withCoset (meets f n) (a .some .list) (matrixAt (a .some .list) i ⊗ matS);
-            holds = first .holds (a .some .list) (matrixAt (a .some .list) i ⊗ matS) h (stands-S h i (a .low) y p-at);
-          };
-          stands = record { matrix = matrixAt (a .some .list) i ⊗ matR; stands = stands-R h i (a .low) z q' };
-        }
+        let q' : ImageBy f n matR (residuesAt f w i) z = subst (λ (u : Residues). ImageBy f n matR u z) e q in
+        held-enters (a .group)
+        (first .holds (a .some .list) (matrixAt (a .some .list) i ⊗ matS) h (stands-S h i (a .low) y p-at)) (stands-R h i (a .low) z q')
 
     -- a place is a number of a listed coset
     pub place-S : b < 4096
@@ -263,8 +262,11 @@ module _ {f : Family} {n : ℕ} {w s r : List ℕ} {i count : ℕ} (a : Visits f
         let g = first .holds (a .some .list) m h st in
         omega (arith, first .place-is (a .some .list) m h st, in-le (families f n) (decided f n) (withCoset (meets f n) (a .some .list) m) m, g .size, g .room)
 
-    module _ {z : Residues} (q : ImageBy f n matR x z) {w2 : List ℕ} {c k : ℕ} (second : EntersAs f n w1 d z w2 c k) where
-      q-at : ImageBy f n matR (residuesAt w i) z
+    module _ {z : Residues} (q : ImageBy f n matR x z) {w2 : List ℕ} {c k : ℕ} (also : EntersAs f n w1 d z w2 c k) where
+      second : Joined f n w1 d z w2 c k
+      second = joined (a .group) also
+
+      q-at : ImageBy f n matR (residuesAt f w i) z
       q-at = subst (λ (u : Residues). ImageBy f n matR u z) e q
 
       pub place-R : c < 4096
@@ -279,31 +281,16 @@ module _ {f : Family} {n : ℕ} {w s r : List ℕ} {i count : ℕ} (a : Visits f
       pub visited-by : {b' c' : ℕ} → b' ≡ b → c' ≡ c → VisitsTo f n w s r i count w2 (set s i b') (set r i c') k
       visited-by e1 e2 = rw (e1, e2) (visit-to (a .low) p-at q-at first second s r)
 
--- ---- `begin`: the identity alone, where the heads are 0
+-- ---- `begin`: the identity alone
 
-module _ (f : Family) (n : ℕ) (a : Group f n) (w₀ w : List ℕ) (long : workLength ≤ length w₀) (cleared : w ≡ zeros (length w₀)) {u : List ℕ}
-    (made : ColumnsMade n w u)
-    (x : Residues) (st : Stands f n x 𝟙) (k : ℕ) (is : k ≡ bucketOf f n x) (key : k < 4096) where
-  same₀ : length u ≡ length w₀
-  same₀ = made .same ∙ ap length cleared ∙ length-zeros (length w₀)
+module _ {f : Family} {n : ℕ} (a : Group f n) {w₀ w u : List ℕ} (long : workLength ≤ length w₀) (begun : BucketsBegun buckets w₀ w)
+    (made : ColumnsReady f n w u)
+    {x : Residues} (st : Stands f n x 𝟙) where
+  nothing : Keys f n u 0 []
+  nothing = holds-kept u (made .same) (none-held long begun (bucketOf (multiplierOf f n)) 4096 (omega arith)) (λ p h k. made .below p (omega arith))
 
-  long₀ : workLength ≤ length u
-  long₀ = rw same₀ long
-
-  head₀ : (b : ℕ) → b < 4096 → getD u (HEAD + b) 0 ≡ 0
-  head₀ b h = made .below (HEAD + b) (omega arith) ∙ ap (λ (z : List ℕ). getD z (HEAD + b) 0) cleared ∙ getD-zeros (length w₀) (HEAD + b)
-
-  pub begin-pushes : Pushes u 0 x k
-  begin-pushes = record { long = long₀; room = omega arith; small = entry-small f n x (a .modulus) (st .entry); bucket = key }
-
-  abbrev v : List ℕ
-  v = withMatrix u 0 x k
-
-  new : residuesAt v 0 ≡ x
-  new = pushed-new u 0 x k long₀ (omega arith) key
-
-  new-bucket : bucketOf f n (residuesAt v 0) ≡ k
-  new-bucket = ap (λ (z : Residues). bucketOf f n z) new ∙ sym is
+  pub begin-enters : Enters f n u 0 x
+  begin-enters = enters a nothing (omega arith) (st .entry)
 
   one-long : length (cosetsTo (meets f n) 0) ≡ 1
   one-long = unfold cosetsTo in refl
@@ -311,35 +298,33 @@ module _ (f : Family) (n : ℕ) (a : Group f n) (w₀ w : List ℕ) (long : work
   one-entry : matrixAt (cosetsTo (meets f n) 0) 0 ≡ 𝟙
   one-entry = unfold cosetsTo in refl
 
-  pub begun : {v' : List ℕ} → v' ≡ v → Started f n w₀ v'
-  begun d = rw d (record {
-    same = pushed-length u 0 x k long₀ (omega arith) key ∙ same₀;
-    holds = record {
-      long = rw (pushed-length u 0 x k long₀ (omega arith) key) long₀;
-      room = omega arith;
-      size = one-long;
-      listed = to-listed (families f n) (decided f n) 0;
-      columns = pushed-columns u 0 x k long₀ (omega arith) key n (a .modulus .most) (made .columns);
-      stands = λ j h. let e : j ≡ 0 = omega arith in rw e (stands-as f (matrixAt (cosetsTo (meets f n) 0) 0) 𝟙 new one-entry st);
-      heads = λ b h. elim (ℕ-discrete b k) [
-        | yes e ↦ rw (e, pushed-head u 0 x k long₀ (omega arith) key) (record {
-          low = omega arith;
-          hit = λ q d. let z : q ≡ 0 = omega arith in rw z new-bucket;
-          none = λ j c d y. omega arith;
-        })
-        | no e ↦ rw (pushed-heads u 0 x k long₀ (omega arith) key b h e, head₀ b h) (record {
-          low = omega arith;
-          hit = λ q d. let no : ⊥ = omega arith in absurd no;
-          none = λ j c d y. let z : j ≡ 0 = omega arith in e (sym (rw z at y) ∙ new-bucket);
-        })
-      ];
-      nexts = λ j h. let z : j ≡ 0 = omega arith in rw (z, pushed-next u 0 x k long₀ (omega arith) key, head₀ k key) (record {
-        low = omega arith;
-        hit = λ q d. let no : ⊥ = omega arith in absurd no;
-        none = λ j c d y. omega arith;
-      });
-    };
-  })
+  module _ {v : List ℕ} {place count : ℕ} (e : EntersAs f n u 0 x v place count) where
+    one-pair : add [] (rowCode f x) ≡ rowCode f x ∷ []
+    one-pair = add-new [] (rowCode f x) (omega arith)
+
+    keys-of : Keys f n v count (add [] (rowCode f x))
+    keys-of = keys-are a nothing (omega arith) (st .entry) e
+
+    one : count ≡ 1
+    one = sym (keys-of .size) ∙ ap length one-pair
+
+    pub begun-with : Started f n w₀ v
+    begun-with = record {
+      same = joined-same a nothing (omega arith) (st .entry) e ∙ made .same ∙ begun .same;
+      holds = record {
+        long = omega (arith, joined-same a nothing (omega arith) (st .entry) e, made .same, begun .same);
+        room = omega arith;
+        size = one-long;
+        listed = to-listed (families f n) (decided f n) 0;
+        columns = columns-kept f n u v (joined-above a nothing (omega arith) (st .entry) e) (made .columns);
+        stands = λ j h.
+            let d : j ≡ 0 = omega arith in
+            let new = entry-new a nothing (omega arith) (st .entry) e (omega (arith, one)) (ap (λ (l : List ℕ). getD l 0 0) one-pair) in
+            rw d (stands-as f (matrixAt (cosetsTo (meets f n) 0) 0) 𝟙 new one-entry st);
+        pairs = add [] (rowCode f x);
+        keys = subst (λ (k : ℕ). Keys f n v k (add [] (rowCode f x))) one keys-of;
+      };
+    }
 
 pub part-start : {f : Family} {n : ℕ} {w w' s r : List ℕ} → Tabulates f n w s r → Started f n w w' → Part f n s r w' s r 1 0
 part-start a b = record {

@@ -1,15 +1,20 @@
-// The tables of S and R of Γ0(N), Γ1(N) and Γ(N). The right cosets are numbered as they are met: each is kept as an
-// entry of four numbers, of which some tell the cosets apart (module `residues`), and found again by a bucket of these.
+// The tables of S and R of Γ0(N), Γ1(N) and Γ(N). The right cosets are numbered as they are met: each is kept by two
+// numbers that tell the cosets apart (module `residues`), and found again by the bucket of these (crate `buckets`).
 // specs/Inner/Held.antt says what stands in the work space. The functions have `requires`, for they are called from
 // inside the engine.
 use crate::residues::Residues;
-use crate::residues::bucket;
 use crate::residues::difference;
+use crate::residues::first;
+use crate::residues::multiplier;
 use crate::residues::opposite;
-use crate::residues::same_entry;
+use crate::residues::second;
 use crate::residues::signed;
+use crate::residues::signed_row;
 use crate::residues::times_r;
 use crate::residues::times_s;
+use buckets::Entry;
+use buckets::FORMER;
+use buckets::LATTER;
 use congruence::Family;
 use congruence::modular::common_divisor;
 ghost use mathlib.Core.Path.{_≡_};
@@ -21,36 +26,22 @@ ghost use Rattle.congruence.specs.Index.{familyIndex};
 ghost use Rattle.congruence.specs.Cosets.{familyCosets, familyS, familyR};
 ghost use Rattle.matrix.specs.Matrix.{𝟙, matS, matR};
 ghost use Rattle.congruence.specs.Inner.Common.{Modulus};
-ghost use Rattle.congruence_tables.specs.Inner.Residues.{Stands, ImageBy};
-ghost use Rattle.congruence_tables.specs.Inner.Held.{residuesAt, Group, HoldsCosets, Finds, withColumn, Columns};
-ghost use Rattle.congruence_tables.specs.Inner.Held.{ColumnsMade, Points, PointAt, TakesImage};
-ghost use Rattle.congruence_tables.specs.Inner.Held.{withMatrix, Pushes, Seeks, Enters, EntersAs, Visits};
-ghost use Rattle.congruence_tables.specs.Inner.Held.{VisitsTo, Started, Tabulates};
+ghost use Rattle.congruence_tables.specs.Inner.Residues.{Stands, ImageBy, SmallOf};
+ghost use Rattle.congruence_tables.specs.Inner.Held.{residuesAt, Group, HoldsCosets, withColumn, ColumnsFor};
+ghost use Rattle.congruence_tables.specs.Inner.Held.{ColumnsMade, ColumnsReady, Points, PointAt, TakesImage};
+ghost use Rattle.congruence_tables.specs.Inner.Held.{withRow, Enters, EntersAs, Visits, VisitsTo, Started};
+ghost use Rattle.congruence_tables.specs.Inner.Held.{Tabulates};
 
 pub mod residues;
 
 // The places of the tables in the work space.
-pub const ENTRY_A: usize = 4096;
+pub const ROW_C: usize = 4096;
 
-pub const ENTRY_B: usize = 8192;
-
-pub const ENTRY_C: usize = 12288;
-
-pub const ENTRY_D: usize = 16384;
-
-pub const HEAD: usize = 20480;
-
-pub const EARLIER: usize = 24576;
+pub const ROW_D: usize = 24576;
 
 pub const PART: usize = 28672;
 
 pub const MULTIPLIER: usize = 29696;
-
-// What `enter` answers: the place of the coset, and how many there are now.
-struct Entry {
-    place: usize,
-    count: usize,
-}
 
 fn wide(x: u16) -> u64
     ensures { λ r. ⌜ r ≡ x ⌝ }
@@ -59,15 +50,31 @@ fn wide(x: u16) -> u64
 }
 
 // The entry j.
-fn load(w: &[u16], j: usize) -> Residues
+fn load(f: Family, w: &[u16], j: usize) -> Residues
     requires { ⌜ (workLength ≤ length (now w)) × (j < 4096) ⌝ }
-    ensures { λ r. ⌜ r ≡ residuesAt (now (w .entry)) j ⌝ }
+    ensures { λ r. ⌜ r ≡ residuesAt f (now (w .entry)) j ⌝ }
 {
-    Residues {
-        a: wide(w[ENTRY_A + j]),
-        b: wide(w[ENTRY_B + j]),
-        c: wide(w[ENTRY_C + j]),
-        d: wide(w[ENTRY_D + j]),
+    let p = wide(w[FORMER + j]);
+    let q = wide(w[LATTER + j]);
+    match f {
+        Family::Gamma0 => Residues {
+            a: p,
+            b: q,
+            c: wide(w[ROW_C + j]),
+            d: wide(w[ROW_D + j]),
+        },
+        Family::Gamma1 => Residues {
+            a: 0,
+            b: 0,
+            c: p,
+            d: q,
+        },
+        Family::Gamma => Residues {
+            a: p / 64,
+            b: p % 64,
+            c: q / 64,
+            d: q % 64,
+        },
     }
 }
 
@@ -94,6 +101,18 @@ fn columns(n: u64, w: &mut [u16])
     }
 }
 
+// The same, where the family needs them.
+fn prepare(f: Family, n: u64, w: &mut [u16])
+    requires { ⌜ Modulus n × (workLength ≤ length (now w)) ⌝ }
+    ensures { λ _. ⌜ ColumnsReady f n (now (w .entry)) (now (w .exit)) ⌝ }
+{
+    match f {
+        Family::Gamma0 => columns(n, w),
+        Family::Gamma1 => {}
+        Family::Gamma => {}
+    }
+}
+
 // The entry of the point (c : d).
 fn point(n: u64, w: &[u16], c: u64, d: u64) -> Residues
     requires { ⌜ Points n (now w) c d ⌝ }
@@ -117,7 +136,7 @@ fn image_s(f: Family, n: u64, w: &[u16], x: Residues) -> Residues
 {
     match f {
         Family::Gamma0 => point(n, w, x.d, opposite(n, x.c)),
-        Family::Gamma1 => signed(n, times_s(n, x)),
+        Family::Gamma1 => signed_row(n, x.d, opposite(n, x.c)),
         Family::Gamma => signed(n, times_s(n, x)),
     }
 }
@@ -129,40 +148,24 @@ fn image_r(f: Family, n: u64, w: &[u16], x: Residues) -> Residues
 {
     match f {
         Family::Gamma0 => point(n, w, x.d, difference(n, x.d, x.c)),
-        Family::Gamma1 => signed(n, times_r(n, x)),
+        Family::Gamma1 => signed_row(n, x.d, difference(n, x.d, x.c)),
         Family::Gamma => signed(n, times_r(n, x)),
     }
 }
 
-// x becomes the entry i, at the head of the chain of the bucket k.
-fn push(w: &mut [u16], i: usize, x: Residues, k: usize)
-    requires { ⌜ Pushes (now w) i x k ⌝ }
-    ensures { λ _. ⌜ now (w .exit) ≡ withMatrix (now (w .entry)) i x k ⌝ }
+// The row of x, where the family needs it beside the pair, at i.
+fn lay(f: Family, w: &mut [u16], i: usize, x: Residues)
+    requires { ⌜ (workLength ≤ length (now w)) × (i < 4096) × SmallOf x ⌝ }
+    ensures { λ _. ⌜ now (w .exit) ≡ withRow f (now (w .entry)) i x ⌝ }
 {
-    w[ENTRY_A + i] = x.a as u16;
-    w[ENTRY_B + i] = x.b as u16;
-    w[ENTRY_C + i] = x.c as u16;
-    w[ENTRY_D + i] = x.d as u16;
-    w[EARLIER + i] = w[HEAD + k];
-    w[HEAD + k] = (i + 1) as u16;
-}
-
-// The place of the coset of x, whose bucket is k, or `count`.
-fn find(f: Family, n: u64, w: &[u16], count: usize, x: Residues, k: usize) -> usize
-    requires { ⌜ Seeks f n (now w) count x k ⌝ }
-    ensures { λ p. ⌜ Finds f n (now (w .entry)) count x p ⌝ }
-    ensures { λ p. ⌜ p ≤ count ⌝ }
-{
-    let mut p = call::workspace::index(w[HEAD + k]);
-    while 0 < p {
-        let q = p - 1;
-        let y = load(w, q);
-        if same_entry(f, x, y) {
-            return q;
+    match f {
+        Family::Gamma0 => {
+            w[ROW_C + i] = x.c as u16;
+            w[ROW_D + i] = x.d as u16;
         }
-        p = call::workspace::index(w[EARLIER + q]);
+        Family::Gamma1 => {}
+        Family::Gamma => {}
     }
-    count
 }
 
 // The coset of x joins the list, if it is new.
@@ -170,19 +173,8 @@ fn enter(f: Family, n: u64, w: &mut [u16], count: usize, x: Residues) -> Entry
     requires { ⌜ Enters f n (now w) count x ⌝ }
     ensures { λ e. ⌜ EntersAs f n (now (w .entry)) count x (now (w .exit)) (e .place) (e .count) ⌝ }
 {
-    let k = bucket(f, n, x);
-    let p = find(f, n, w, count, x, k);
-    if p < count {
-        return Entry {
-            place: p,
-            count: count,
-        };
-    }
-    push(w, count, x, k);
-    Entry {
-        place: count,
-        count: count + 1,
-    }
+    lay(f, w, count, x);
+    buckets::enter(w, multiplier(f, n), first(f, x), second(f, x), count)
 }
 
 fn narrow(x: usize) -> u32
@@ -207,7 +199,7 @@ fn visit(
     ensures { λ k. ⌜ VisitsTo f n (now (w .entry)) (now (s .entry)) (now (r .entry)) i count (now (w .exit))
         (now (s .exit)) (now (r .exit)) k ⌝ }
 {
-    let x = load(w, i);
+    let x = load(f, w, i);
     let y = image_s(f, n, w, x);
     let a = enter(f, n, w, count, y);
     let z = image_r(f, n, w, x);
@@ -219,21 +211,13 @@ fn visit(
 
 // The entry of the identity.
 fn identity(f: Family, n: u64, w: &[u16]) -> Residues
-    requires { ⌜ Modulus n × (workLength ≤ length (now w)) × Columns n (now w) ⌝ }
+    requires { ⌜ Modulus n × (workLength ≤ length (now w)) × ColumnsFor f n (now w) ⌝ }
     ensures { λ r. ⌜ Stands f n r 𝟙 ⌝ }
 {
     let one = 1 % n;
     match f {
         Family::Gamma0 => point(n, w, 0, one),
-        Family::Gamma1 => signed(
-            n,
-            Residues {
-                a: one,
-                b: 0,
-                c: 0,
-                d: one,
-            },
-        ),
+        Family::Gamma1 => signed_row(n, 0, one),
         Family::Gamma => signed(
             n,
             Residues {
@@ -246,16 +230,15 @@ fn identity(f: Family, n: u64, w: &[u16]) -> Residues
     }
 }
 
-// The columns, and the identity's coset with the number 0.
+// The identity's coset with the number 0, and no other.
 fn begin(f: Family, n: u64, w: &mut [u16])
     requires { ⌜ Group f n × (workLength ≤ length (now w)) ⌝ }
     ensures { λ _. ⌜ Started f n (now (w .entry)) (now (w .exit)) ⌝ }
 {
-    call::workspace::clear(w);
-    columns(n, w);
+    buckets::begin(w);
+    prepare(f, n, w);
     let x = identity(f, n, w);
-    let k = bucket(f, n, x);
-    push(w, 0, x, k);
+    enter(f, n, w, 0, x);
 }
 
 // The tables of S and R at the front of s and r. How many points they have. The work space is not cleared after.

@@ -1,15 +1,15 @@
-// Right cosets by small numbers modulo N, so that two cosets are the same exactly when some of their numbers are: their
-// products with S and R. The functions have `requires`, for they are called from inside the engine.
+// Right cosets by small numbers modulo N, so that two cosets are the same exactly when their pairs of numbers are:
+// their products with S and R. The functions have `requires`, for they are called from inside the engine.
 use congruence::Family;
 ghost use mathlib.Core.Path.{_≡_};
 ghost use Prim.Native.Nat.{_+_, _-_, _%_, _<_};
 ghost use Rattle.matrix.specs.Matrix.{matS, matR};
 ghost use Rattle.congruence.specs.Inner.Common.{Modulus};
 ghost use Rattle.congruence_tables.specs.Inner.Residues.{ResiduesOf, ProductWith, negated, TurnsRow, SignedOf};
-ghost use Rattle.congruence_tables.specs.Inner.Residues.{SmallOf, samePair, sameEntry, bucketOf};
+ghost use Rattle.congruence_tables.specs.Inner.Residues.{SignedRow, SmallOf, firstOf, secondOf, multiplierOf};
 
-// A coset: of Γ1 and Γ one of its matrices modulo N; of Γ0 the bottom row (c d) of one, and for a and b the coordinates
-// of the point (c : d).
+// A coset: of Γ one of its matrices modulo N; of Γ1 the bottom row (c d) of one, with zeros for a and b; of Γ0 such a
+// row, and for a and b the coordinates of the point (c : d).
 pub struct Residues {
     pub a: u64,
     pub b: u64,
@@ -96,40 +96,58 @@ pub fn signed(n: u64, x: Residues) -> Residues
     }
 }
 
-fn same_pair(p: u64, q: u64, r: u64, s: u64) -> bool
-    ensures { λ b. ⌜ b ≡ samePair p q r s ⌝ }
+// Of the rows (c d) and (-c -d) the first one.
+pub fn signed_row(n: u64, c: u64, d: u64) -> Residues
+    requires { ⌜ Modulus n × (c < n) × (d < n) ⌝ }
+    ensures { λ r. ⌜ SignedRow n c d r ⌝ }
 {
-    if p == r {
-        return q == s;
+    if !turns(n, c, d) {
+        return Residues {
+            a: 0,
+            b: 0,
+            c: c,
+            d: d,
+        };
     }
-    false
-}
-
-// Whether x and y have the numbers equal that tell cosets of the family apart.
-pub fn same_entry(f: Family, x: Residues, y: Residues) -> bool
-    ensures { λ r. ⌜ r ≡ sameEntry f x y ⌝ }
-{
-    match f {
-        Family::Gamma0 => same_pair(x.a, x.b, y.a, y.b),
-        Family::Gamma1 => same_pair(x.c, x.d, y.c, y.d),
-        Family::Gamma => {
-            if !same_pair(x.a, x.b, y.a, y.b) {
-                return false;
-            }
-            same_pair(x.c, x.d, y.c, y.d)
-        }
+    Residues {
+        a: 0,
+        b: 0,
+        c: opposite(n, c),
+        d: opposite(n, d),
     }
 }
 
-// A number of those numbers, below 4096.
-pub fn bucket(f: Family, n: u64, x: Residues) -> usize
-    requires { ⌜ Modulus n × SmallOf x ⌝ }
-    ensures { λ k. ⌜ k ≡ bucketOf f n x ⌝ }
-    ensures { λ k. ⌜ k < 4096 ⌝ }
+// The first number of the pair that tells cosets of the family apart.
+pub fn first(f: Family, x: Residues) -> u16
+    requires { ⌜ SmallOf x ⌝ }
+    ensures { λ r. ⌜ r ≡ firstOf f x ⌝ }
 {
     match f {
-        Family::Gamma0 => (3 * x.a + x.b) as usize,
-        Family::Gamma1 => ((x.c * n + x.d) % 4096) as usize,
-        Family::Gamma => ((x.a * 1162 + x.b * 1923 + x.c * 940 + x.d) % 4096) as usize,
+        Family::Gamma0 => x.a as u16,
+        Family::Gamma1 => x.c as u16,
+        Family::Gamma => (64 * x.a + x.b) as u16,
+    }
+}
+
+// The second.
+pub fn second(f: Family, x: Residues) -> u16
+    requires { ⌜ SmallOf x ⌝ }
+    ensures { λ r. ⌜ r ≡ secondOf f x ⌝ }
+{
+    match f {
+        Family::Gamma0 => x.b as u16,
+        Family::Gamma1 => x.d as u16,
+        Family::Gamma => (64 * x.c + x.d) as u16,
+    }
+}
+
+// A multiplier that spreads the pairs of the family over the buckets.
+pub fn multiplier(f: Family, n: u64) -> usize
+    ensures { λ r. ⌜ r ≡ multiplierOf f n ⌝ }
+{
+    match f {
+        Family::Gamma0 => 3,
+        Family::Gamma1 => n as usize,
+        Family::Gamma => 3942,
     }
 }

@@ -1,5 +1,5 @@
 -- A visit: both images of a pair take the next numbers, if they are new (`enters-S`, `enters-R`), and their places are stored (`visited`).
--- In order: lists that grow; stores outside the places of the pairs; a visit.
+-- In order: lists that grow; a visit.
 -- Why: a visit adds the S image and next the R image, as the numbering does.
 -- Assumes nothing.
 use mathlib.Core.Path.{_≡_, refl, sym, _∙_}
@@ -18,8 +18,10 @@ use Rattle.numbering.specs.Table.{imageAt}
 use Rattle.numbering.specs.Inner.Space.{S-TABLE, R-TABLE}
 use Rattle.numbering.proofs.Find.{getD-find, in-last}
 use Rattle.numbering.proofs.Order.{Grows, visit-grows, add-old, add-new, to-more, to-done}
+use Rattle.buckets.specs.Inner.Pairs.{FORMER, LATTER, bucketOf, HoldsPairs, EnterPair, PairEntered}
+use Rattle.buckets.proofs.Chain.{holds-kept}
 use Rattle.containment.specs.Pairs.{both, pairByS, pairByR}
-use Rattle.intersections.specs.Inner.Pairs.{FIRST-OF, SECOND-OF, LAST-WITH, PAIR-BEFORE, LatestPair, HoldsPairs, EnterPair, PairEntered}
+use Rattle.containment.proofs.Pairs.{first-low}
 use Rattle.intersections.specs.Inner.Pairs.{PairTables, VisitPair, PairVisited}
 
 -- ---- a list with one more
@@ -59,41 +61,10 @@ module _ (σ ρ : ℕ → ℕ) where
         | no h ↦ rw (e, to-done σ ρ 0 (i + k) (omega arith)) (to-begins i k)
       ]
 
--- ---- stores outside the places of the pairs
-
-module _ {k : ℕ} {l w : List ℕ} {count : ℕ} (w' : List ℕ) (same : length w' ≡ length w) (h : HoldsPairs k l w count)
-    (kept : (p : ℕ) → FIRST-OF ≤ p → p < R-TABLE → getD w' p 0 ≡ getD w p 0) where
-  first-kept : (j : ℕ) → j < count → getD w' (FIRST-OF + j) 0 ≡ getD w (FIRST-OF + j) 0
-  first-kept j i = kept (FIRST-OF + j) (omega arith) (omega (arith, h .room))
-
-  latest-kept : (x i p : ℕ) → i ≤ count → LatestPair w x i p → LatestPair w' x i p
-  latest-kept x i p u a = record {
-    low = a .low;
-    hit = λ q e. first-kept q (omega (arith, a .low)) ∙ a .hit q e;
-    none = λ j v z e. a .none j v z (sym (first-kept j (omega arith)) ∙ e);
-  }
-
-  pub holds-kept : HoldsPairs k l w' count
-  holds-kept =
-      let few = h .room in
-      record {
-        long = omega (arith, h .long);
-        room = few;
-        some = h .some;
-        size = h .size;
-        once = h .once;
-        first = λ j i. first-kept j i ∙ h .first j i;
-        second = λ j i. kept (SECOND-OF + j) (omega arith) (omega arith) ∙ h .second j i;
-        low = λ j i. omega (arith, first-kept j i, h .low j i);
-        lasts = λ x i. rw (kept (LAST-WITH + x) (omega arith) (omega arith)) (latest-kept x count (getD w (LAST-WITH + x) 0) (omega arith) (h .lasts x i));
-        earlier = λ j i. rw (first-kept j i, kept (PAIR-BEFORE + j) (omega arith) (omega arith))
-            (latest-kept (getD w (FIRST-OF + j) 0) j (getD w (PAIR-BEFORE + j) 0) (omega arith) (h .earlier j i));
-      }
-
 -- ---- a visit: the pair of x and y at i, its images by S and by R entered, and their places stored
 
-module _ {w a b c d : List ℕ} {i count x y : ℕ} (v : VisitPair w a b c d i count) (ex : x ≡ getD w (FIRST-OF + i) 0) (ey : y ≡ getD w (SECOND-OF + i) 0) where
-  module _ (n k : ℕ) (l : List ℕ) (t : PairTables n k a b c d) (h : HoldsPairs k l w count) where
+module _ {w a b c d : List ℕ} {m i count x y : ℕ} (v : VisitPair w a b c d m i count) (ex : x ≡ getD w (FORMER + i) 0) (ey : y ≡ getD w (LATTER + i) 0) where
+  module _ (n k : ℕ) (l : List ℕ) (t : PairTables n k a b c d) (h : HoldsPairs (bucketOf m) k l w count) where
     abbrev z : ℕ
     z = getD l i 0
 
@@ -115,14 +86,19 @@ module _ {w a b c d : List ℕ} {i count x y : ℕ} (v : VisitPair w a b c d i c
     image-R = rw (x-is, y-is) refl
 
   pub x-low : x < 4096
-  x-low = omega (arith, ex, v .holds .low i (v .low))
+  x-low = omega (
+    arith,
+    x-is (v .points) (v .modulus) (v .list) (v .tables) (v .holds),
+    first-low (v .points) (v .modulus) (getD (v .list) i 0) (v .tables .some) (v .inside),
+    v .tables .few-first,
+  )
 
   pub y-few : y < 4096
   y-few = omega (arith, y-low (v .points) (v .modulus) (v .list) (v .tables) (v .holds), v .tables .few)
 
-  pub enters-S : EnterPair w (imageAt a x) (imageAt c y) count
+  pub enters-S : EnterPair m w (imageAt a x) (imageAt c y) count
   enters-S = record {
-    low = v .tables .low-a x;
+    multiplier = v .multiplier;
     fits = omega (arith, v .room);
     some = record {
       modulus = v .modulus;
@@ -132,13 +108,14 @@ module _ {w a b c d : List ℕ} {i count x y : ℕ} (v : VisitPair w a b c d i c
     };
   }
 
-  module _ {w1 : List ℕ} {p c1 : ℕ} (eS : PairEntered w (imageAt a x) (imageAt c y) count w1 p c1) where
-    one : (n k : ℕ) (l : List ℕ) → PairTables n k a b c d → HoldsPairs k l w count → HoldsPairs k (add l (pairByS n k a b c d (getD l i 0))) w1 c1
+  module _ {w1 : List ℕ} {p c1 : ℕ} (eS : PairEntered (bucketOf m) w (imageAt a x) (imageAt c y) count w1 p c1) where
+    one : (n k : ℕ) (l : List ℕ) → PairTables n k a b c d → HoldsPairs (bucketOf m) k l w count
+        → HoldsPairs (bucketOf m) k (add l (pairByS n k a b c d (getD l i 0))) w1 c1
     one n k l t h = rw (image-S n k l t h) at (eS .holds k l (t .low-c y (y-low n k l t h)) h)
 
-    pub enters-R : EnterPair w1 (imageAt b x) (imageAt d y) c1
+    pub enters-R : EnterPair m w1 (imageAt b x) (imageAt d y) c1
     enters-R = record {
-      low = v .tables .low-b x;
+      multiplier = v .multiplier;
       fits = omega (arith, v .room, eS .upto);
       some = record {
         modulus = v .modulus;
@@ -148,7 +125,7 @@ module _ {w a b c d : List ℕ} {i count x y : ℕ} (v : VisitPair w a b c d i c
       };
     }
 
-    module _ {w2 : List ℕ} {q c2 : ℕ} (eR : PairEntered w1 (imageAt b x) (imageAt d y) c1 w2 q c2) where
+    module _ {w2 : List ℕ} {q c2 : ℕ} (eR : PairEntered (bucketOf m) w1 (imageAt b x) (imageAt d y) c1 w2 q c2) where
       pub p-low : p < 4096
       p-low = omega (arith, eS .inside, eS .upto, v .room)
 
@@ -184,19 +161,21 @@ module _ {w a b c d : List ℕ} {i count x y : ℕ} (v : VisitPair w a b c d i c
       at-R : getD w4 (R-TABLE + i) 0 ≡ q
       at-R = getD-set-same w3 (R-TABLE + i) q 0 (omega (arith, v .holds .long, same-3, i-few))
 
-      two : (n k : ℕ) (l : List ℕ) → PairTables n k a b c d → HoldsPairs k l w count
-          → HoldsPairs k (visit (pairByS n k a b c d) (pairByR n k a b c d) l i) w2 c2
+      two : (n k : ℕ) (l : List ℕ) → PairTables n k a b c d → HoldsPairs (bucketOf m) k l w count
+          → HoldsPairs (bucketOf m) k (visit (pairByS n k a b c d) (pairByR n k a b c d) l i) w2 c2
       two n k l t h =
           rw (image-R n k l t h) at (eR .holds k (add l (pairByS n k a b c d (getD l i 0))) (t .low-d y (y-low n k l t h)) (one n k l t h))
 
-      pub visited : {p' q' : ℕ} → p' ≡ p → q' ≡ q → PairVisited w a b c d i count (set (set w2 (S-TABLE + i) p') (R-TABLE + i) q') c2
+      pub visited : {p' q' : ℕ} → p' ≡ p → q' ≡ q → PairVisited w a b c d m i count (set (set w2 (S-TABLE + i) p') (R-TABLE + i) q') c2
       visited ep eq =
           let few = i-few in
           rw (ep, eq) (record {
             same = length-set w3 (R-TABLE + i) q ∙ same-3;
             upto = omega (arith, eR .upto, eS .upto);
-            S-kept = λ j u. at-other (S-TABLE + j) (λ e. omega arith) (λ e. omega arith) ∙ eR .S-kept j (omega arith) ∙ eS .S-kept j (omega arith);
-            R-kept = λ j u. at-other (R-TABLE + j) (λ e. omega arith) (λ e. omega arith) ∙ eR .R-kept j (omega arith) ∙ eS .R-kept j (omega arith);
+            S-kept = λ j u.
+                at-other (S-TABLE + j) (λ e. omega arith) (λ e. omega arith) ∙ eR .below (S-TABLE + j) (omega arith) ∙ eS .below (S-TABLE + j) (omega arith);
+            R-kept = λ j u.
+                at-other (R-TABLE + j) (λ e. omega arith) (λ e. omega arith) ∙ eR .above (R-TABLE + j) (omega arith) ∙ eS .above (R-TABLE + j) (omega arith);
             holds = λ n k l t h. holds-kept w4 (length-set w3 (R-TABLE + i) q ∙ length-set w2 (S-TABLE + i) p) (two n k l t h)
                 (λ j u f. at-other j (λ e. omega arith) (λ e. omega arith));
             S-is = λ n k l t h. at-S ∙ (rw (image-S n k l t h) at (eS .place-is k l (t .low-c y (y-low n k l t h)) h));

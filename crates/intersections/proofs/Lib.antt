@@ -1,5 +1,4 @@
--- Why the promises of the crate `intersections` hold, in reading order: a pair is sought along a chain and put in; a visit to a pair; the walk over the pairs.
-pub mod Chain
+-- Why the promises of the crate `intersections` hold, in reading order: a visit to a pair; the walk over the pairs.
 pub mod Images
 pub mod Walk
 pub mod Given

@@ -7,7 +7,7 @@ use mathlib.Core.List.{List, [], _∷_, _++_}
 use Prim.Native.Nat.{ℕ, _+_, _*_, _≤_, _<_}
 use native.Mathlib.Omega.{arith}
 use native.Mathlib.Decide.{decLt}
-use lib.ListN.{length, getD, drop, length-append, length-drop, List·getD-eq-default}
+use lib.ListN.{length, getD, drop, length-append, length-drop}
 use lib.Seq.{getD-drop}
 use lib.IntN.{ℤ}
 use Rattle.call.specs.Refusal.{_orElse_, largeIntersection}
@@ -22,7 +22,7 @@ use Rattle.symbol.specs.Symbol.{IsSymbol}
 use Rattle.pairing.specs.Generator.{generators}
 use Rattle.pairing.specs.Subgroup.{InH}
 use Rattle.numbering.specs.Order.{orderOf, Maps}
-use Rattle.numbering.specs.Table.{imageAt, renamed, _thenTable_, Permutes}
+use Rattle.numbering.specs.Table.{imageAt, renamed, _thenTable_}
 use Rattle.numbering.specs.Inner.Space.{S-TABLE, R-TABLE}
 use Rattle.numbering.proofs.Space.{entries-length}
 use Rattle.coset.specs.Tables.{tableS, tableR, indexOf}
@@ -48,13 +48,6 @@ kept-as s l table empty k none e f = fun-ext (λ y.
 kept-size : (s empty w : List ℕ) (off k : ℕ) → length empty ≡ 4096 → off + k ≤ length w → k ≤ 4096 → s ≡ entries off k w ++ drop k empty → length s ≡ 4096
 kept-size s empty w off k size long few e =
     ap length e ∙ omega (arith, length-append (entries off k w) (drop k empty), entries-length off k w long, length-drop k empty)
-
--- an image in a permutation's table, or 0 past its end
-image-small : (l : List ℕ) → Permutes l → length l ≤ 4096 → (y : ℕ) → imageAt l y < 4096
-image-small l p few y = elim (decLt y (length l)) [
-  | yes h ↦ omega (arith, p .low y h)
-  | no h ↦ omega (arith, List·getD-eq-default l 0 {n = y} (omega arith))
-]
 
 -- ---- maps that are the same have the same pairs
 
@@ -115,12 +108,11 @@ module _ {v : ℕ} {t : List ℤ} {v' : ℕ} {t' : List ℤ} (ok : IsSymbol v t)
   pair-tables few few' za zb zc zd = record {
     some = some-points other;
     few = few';
+    few-first = few;
     size-a = za;
     size-b = zb;
     size-c = zc;
     size-d = zd;
-    low-a = λ x. omega (arith, at a (tableS v t) ea x, image-small (tableS v t) (one .permutes-S) (omega (arith, one .size-S)) x);
-    low-b = λ x. omega (arith, at b (tableR v t) eb x, image-small (tableR v t) (one .permutes-R) (omega (arith, one .size-R)) x);
     low-c = λ y h. omega (arith, at c (tableS v' t') ec y, S-low other y h);
     low-d = λ y h. omega (arith, at d (tableR v' t') ed y, R-low other y h);
     maps = maps-as n k ea eb ec ed (maps one other);
@@ -184,8 +176,8 @@ module _ {v : ℕ} {t : List ℤ} {v' : ℕ} {t' : List ℤ} {k m : ℕ} {w w' :
       (kept-size a empty w S-TABLE k size (omega arith) few ea) (kept-size b empty w R-TABLE k size (omega arith) few eb)
       (kept-size c empty w' S-TABLE m size (omega arith) few' ec) (kept-size d empty w' R-TABLE m size (omega arith) few' ed)
 
-  pub walks : WalkPairs w' a b c d
-  walks = record { long = r' .long; points = indexOf v t; modulus = indexOf v' t'; tables = both-tables }
+  pub walks : WalkPairs w' a b c d 2526
+  walks = record { multiplier = omega arith; long = r' .long; points = indexOf v t; modulus = indexOf v' t'; tables = both-tables }
 
   pub listed-common : {u : List ℕ} {count : ℕ} → PairsListed w' a b c d u count → Common v t v' t' u count
   listed-common l = common ok ok' a b c d kept-a kept-b kept-c kept-d both-tables l

@@ -2,34 +2,35 @@
 -- `walked-large`). Why: the list after i visits is that of the numbering, and begins the whole list; so a place in it is the place in the whole list, and if it
 -- is longer than 3,066, so is the whole. Assumes nothing.
 use mathlib.Core.Path.{_≡_, refl, sym, _∙_, ap}
-use mathlib.Core.List.{List, []}
+use mathlib.Core.List.{List, [], _∷_}
 use Prim.Native.Nat.{ℕ, suc, _+_, _*_, _-_, _≤_, _<_}
 use native.Mathlib.Omega.{arith}
 use native.Mathlib.Decide.{decLt}
 use lib.ListN.{length, getD}
 use native.Mathlib.Numerals.{add-one}
-use Rattle.call.specs.Space.{workLength, zeros}
+use Rattle.call.specs.Space.{workLength}
 use Rattle.numbering.specs.Find.{find, Once}
 use Rattle.numbering.specs.Order.{add, visit, orderTo}
 use Rattle.numbering.specs.Table.{imageAt}
 use Rattle.numbering.specs.Inner.Space.{S-TABLE, R-TABLE}
-use Rattle.numbering.proofs.Find.{once-none, none-below, once-le}
-use Rattle.numbering.proofs.Order.{Grows, visit-grows, to-more, to-once, to-in, order-stop, numbering}
+use Rattle.numbering.proofs.Find.{none-below, once-le, getD-in}
+use Rattle.numbering.proofs.Order.{Grows, add-new, visit-grows, to-more, to-once, to-in, to-low, order-stop, numbering}
 use Rattle.numbering.proofs.Table.{renamed-length, renamed-at}
 use Rattle.numbering.proofs.Space.{entries-ext}
 use Rattle.containment.specs.Pairs.{pairByS, pairByR, pairsReached, pairsS, pairsR}
-use Rattle.call.proofs.Zeros.{length-zeros, getD-zeros}
-use Rattle.intersections.specs.Inner.Pairs.{LAST-WITH, HoldsPairs, withPair, PushPair, PairTables, VisitPair, PairVisited, WalkPairs, PairsListed}
-use Rattle.intersections.proofs.Chain.{pushed-holds}
+use Rattle.buckets.specs.Inner.Pairs.{buckets, bucketOf, HoldsPairs, BucketsBegun, EnterPair, PairEntered}
+use Rattle.buckets.proofs.Chain.{none-held}
+use Rattle.intersections.specs.Inner.Pairs.{PairTables, VisitPair, PairVisited, WalkPairs, PairsListed}
 use Rattle.intersections.proofs.Images.{add-has, grows-add, grows-trans, grows-place, to-begins}
 
-pub record Walked (a b c d w : List ℕ) (i count : ℕ) : Type 0 where
+pub record Walked (a b c d : List ℕ) (m : ℕ) (w : List ℕ) (i count : ℕ) : Type 0 where
+  pub multiplier : m ≤ 65536
   pub points : ℕ
   pub modulus : ℕ
   pub tables : PairTables points modulus a b c d
   pub upto : i ≤ count
   pub few : count ≤ 3066
-  pub holds : (n k : ℕ) → PairTables n k a b c d → HoldsPairs k (orderTo (pairByS n k a b c d) (pairByR n k a b c d) 0 i) w count
+  pub holds : (n k : ℕ) → PairTables n k a b c d → HoldsPairs (bucketOf m) k (orderTo (pairByS n k a b c d) (pairByR n k a b c d) 0 i) w count
   pub S-is : (n k : ℕ) → PairTables n k a b c d → (j : ℕ) → j < i → getD w (S-TABLE + j) 0 ≡ imageAt (pairsS n k a b c d) j
   pub R-is : (n k : ℕ) → PairTables n k a b c d → (j : ℕ) → j < i → getD w (R-TABLE + j) 0 ≡ imageAt (pairsR n k a b c d) j
 
@@ -111,66 +112,66 @@ module _ {n k : ℕ} {a b c d : List ℕ} (t : PairTables n k a b c d) where
 
 -- ---- the start: the pair of the two points 0 alone
 
-holds-none : {k m : ℕ} → 0 < k → workLength ≤ m → HoldsPairs k [] (zeros m) 0
-holds-none {k} {m} some long = record {
-  long = omega (arith, length-zeros m);
-  room = omega arith;
-  some = some;
-  size = refl;
-  once = once-none;
-  first = λ j h. none-below h;
-  second = λ j h. none-below h;
-  low = λ j h. none-below h;
-  lasts = λ x h. rw (getD-zeros m (LAST-WITH + x)) (record { low = omega arith; hit = λ q e. absurd (omega arith); none = λ j p q e. absurd (omega arith) });
-  earlier = λ j h. none-below h;
-}
+module _ {w a b c d w' : List ℕ} {m : ℕ} (p : WalkPairs w a b c d m) (begun : BucketsBegun buckets w w') where
+  none : (k : ℕ) → 0 < k → HoldsPairs (bucketOf m) k [] w' 0
+  none = none-held (p .long) begun (bucketOf m)
 
-module _ {w a b c d w' : List ℕ} (p : WalkPairs w a b c d) (cleared : w' ≡ zeros (length w)) where
-  pub start-pushes : PushPair w' 0 0
-  start-pushes = record {
-    long = rw cleared (omega (arith, p .long, length-zeros (length w)));
-    low = omega arith;
-    room = omega arith;
+  pub start-enters : EnterPair m w' 0 0 0
+  start-enters = record {
+    multiplier = p .multiplier;
+    fits = omega arith;
+    some = record { modulus = p .modulus; list = []; below = p .tables .some; holds = none (p .modulus) (p .tables .some) };
   }
 
-  started : (n k : ℕ) → PairTables n k a b c d → HoldsPairs k (orderTo (pairByS n k a b c d) (pairByR n k a b c d) 0 0) (withPair w' 0 0 0) 1
-  unfolding orderTo
-  started n k t =
-      let h : HoldsPairs k [] w' 0 = rw cleared (holds-none (t .some) (p .long)) in
-      let e : 0 * k + 0 ≡ 0 = omega arith in
-      rw e at (pushed-holds w' 0 0 0 (h .long) (omega arith) (omega arith) k [] (t .some) h (omega arith))
+  module _ {u : List ℕ} {place count : ℕ} (e : PairEntered (bucketOf m) w' 0 0 0 u place count) where
+    started : (n k : ℕ) → PairTables n k a b c d → HoldsPairs (bucketOf m) k (orderTo (pairByS n k a b c d) (pairByR n k a b c d) 0 0) u 1
+    unfolding orderTo
+    started n k t =
+        let z : 0 * k + 0 ≡ 0 = omega arith in
+        let h : HoldsPairs (bucketOf m) k (add [] 0) u count = rw z at (e .holds k [] (t .some) (none k (t .some))) in
+        let g : HoldsPairs (bucketOf m) k (0 ∷ []) u count = rw (add-new [] 0 (omega arith)) at h in
+        let one : count ≡ 1 = sym (g .size) in
+        rw one at g
 
-  pub walked-start : {u : List ℕ} → u ≡ withPair w' 0 0 0 → Walked a b c d u 0 1
-  walked-start e = rw e (record {
-    points = p .points;
-    modulus = p .modulus;
-    tables = p .tables;
-    upto = omega arith;
-    few = omega arith;
-    holds = started;
-    S-is = λ n k t j h. none-below h;
-    R-is = λ n k t j h. none-below h;
-  })
+    pub walked-start : Walked a b c d m u 0 1
+    walked-start = record {
+      multiplier = p .multiplier;
+      points = p .points;
+      modulus = p .modulus;
+      tables = p .tables;
+      upto = omega arith;
+      few = omega arith;
+      holds = started;
+      S-is = λ n k t j h. none-below h;
+      R-is = λ n k t j h. none-below h;
+    }
 
 -- ---- a turn, and the end
 
-module _ {a b c d w : List ℕ} {i count : ℕ} (p : Walked a b c d w i count) where
-  pub walked-visits : i < count → VisitPair w a b c d i count
+module _ {a b c d w : List ℕ} {m i count : ℕ} (p : Walked a b c d m w i count) where
+  pub walked-visits : i < count → VisitPair w a b c d m i count
   walked-visits low = record {
+    multiplier = p .multiplier;
     points = p .points;
     modulus = p .modulus;
     list = orderTo (pairByS (p .points) (p .modulus) a b c d) (pairByR (p .points) (p .modulus) a b c d) 0 i;
     tables = p .tables;
     holds = p .holds (p .points) (p .modulus) (p .tables);
     low = low;
+    inside =
+        let s = pairByS (p .points) (p .modulus) a b c d in
+        let r = pairByR (p .points) (p .modulus) a b c d in
+        let l = orderTo s r 0 i in
+        to-low s r 0 (p .points * p .modulus) (p .tables .maps) i (getD l i 0)
+        (getD-in l i (omega (arith, p .holds (p .points) (p .modulus) (p .tables) .size)));
     room = p .few;
   }
 
-  module _ {w' : List ℕ} {count' : ℕ} (low : i < count) (v : PairVisited w a b c d i count w' count') where
+  module _ {w' : List ℕ} {count' : ℕ} (low : i < count) (v : PairVisited w a b c d m i count w' count') where
     listed : {n k : ℕ} (t : PairTables n k a b c d) → i < length (orderTo (pairByS n k a b c d) (pairByR n k a b c d) 0 i)
     listed {n} {k} t = omega (arith, p .holds n k t .size)
 
-    next-holds : (n k : ℕ) → PairTables n k a b c d → HoldsPairs k (orderTo (pairByS n k a b c d) (pairByR n k a b c d) 0 (suc i)) w' count'
+    next-holds : (n k : ℕ) → PairTables n k a b c d → HoldsPairs (bucketOf m) k (orderTo (pairByS n k a b c d) (pairByR n k a b c d) 0 (suc i)) w' count'
     next-holds n k t =
         let s = pairByS n k a b c d in
         let r = pairByR n k a b c d in
@@ -188,8 +189,9 @@ module _ {a b c d w : List ℕ} {i count : ℕ} (p : Walked a b c d w i count) w
     pub walked-large : 3066 < count' → (n k : ℕ) → PairTables n k a b c d → 3066 < length (pairsReached n k a b c d)
     walked-large h n k t = omega (arith, next-holds n k t .size, to-few t (suc i))
 
-    pub walked-more : count' ≤ 3066 → Walked a b c d w' (i + 1) count'
+    pub walked-more : count' ≤ 3066 → Walked a b c d m w' (i + 1) count'
     walked-more few = rw (add-one i) (record {
+      multiplier = p .multiplier;
       points = p .points;
       modulus = p .modulus;
       tables = p .tables;

@@ -1,6 +1,9 @@
 // The tables of S, R and T of the intersection of two symbols' subgroups. Its points are the pairs of cosets that are
-// reached from the pair of the two subgroups, numbered as they are met; a pair is found again by the chain of its first
-// coset. specs/Answer.antt says what the call answers and means.
+// reached from the pair of the two subgroups, numbered as they are met; a pair is found again by its bucket (crate
+// `buckets`). specs/Answer.antt says what the call answers and means.
+use buckets::FORMER;
+use buckets::LATTER;
+use buckets::enter;
 use call::refusal::Checked;
 use call::refusal::Filled;
 use call::refusal::LARGE_INTERSECTION;
@@ -23,95 +26,37 @@ ghost use Rattle.numbering.specs.Table.{_thenTable_};
 ghost use Rattle.numbering.specs.Inner.Space.{S-TABLE, R-TABLE};
 ghost use Rattle.containment.specs.TwoSymbols.{commonCosets, commonS, commonR, commonT};
 ghost use Rattle.intersections.specs.Answer.{intersectionCall};
-ghost use Rattle.intersections.specs.Inner.Pairs.{SeekPair, PairFound, PushPair, withPair, EnterPair};
-ghost use Rattle.intersections.specs.Inner.Pairs.{PairEntered};
 ghost use Rattle.intersections.specs.Inner.Pairs.{VisitPair, PairVisited, WalkPairs, PairsListed, GiveTables};
 ghost use Rattle.intersections.specs.Inner.Pairs.{giveSteps};
 
 // The most points that the tables of an intersection have.
 pub const MOST: usize = 3066;
 
-// The places of the tables in the work space.
-pub const FIRST_OF: usize = 8192;
-
-pub const SECOND_OF: usize = 12288;
-
-pub const LAST_WITH: usize = 16384;
-
-pub const PAIR_BEFORE: usize = 20480;
-
-// What `enter` answers: the number of the pair, and how many there are now.
-struct Entry {
-    place: usize,
-    count: usize,
-}
-
-// The number of the pair of x and y, or `count` if it has none.
-fn find(w: &[u16], x: usize, y: u16, count: usize) -> usize
-    requires { ⌜ SeekPair (now w) x y count ⌝ }
-    ensures { λ p. ⌜ PairFound (now (w .entry)) x y count p ⌝ }
-{
-    let mut p = call::workspace::index(w[LAST_WITH + x]);
-    while 0 < p {
-        let q = p - 1;
-        if w[SECOND_OF + q] == y {
-            return q;
-        }
-        p = call::workspace::index(w[PAIR_BEFORE + q]);
-    }
-    count
-}
-
-// The pair of x and y takes the number i, at the head of the chain of x.
-fn push(w: &mut [u16], x: usize, y: u16, i: usize)
-    requires { ⌜ PushPair (now w) x i ⌝ }
-    ensures { λ _. ⌜ now (w .exit) ≡ withPair (now (w .entry)) x y i ⌝ }
-{
-    w[FIRST_OF + i] = x as u16;
-    w[SECOND_OF + i] = y;
-    w[PAIR_BEFORE + i] = w[LAST_WITH + x];
-    w[LAST_WITH + x] = (i + 1) as u16;
-}
-
-// The pair of x and y takes the next number, if it is new.
-fn enter(w: &mut [u16], x: u16, y: u16, count: usize) -> Entry
-    requires { ⌜ EnterPair (now w) x y count ⌝ }
-    ensures { λ e. ⌜ PairEntered (now (w .entry)) x y count (now (w .exit)) (e .place) (e .count) ⌝ }
-{
-    let i = call::workspace::index(x);
-    let p = find(w, i, y, count);
-    if p < count {
-        return Entry {
-            place: p,
-            count: count,
-        };
-    }
-    push(w, i, y, count);
-    Entry {
-        place: count,
-        count: count + 1,
-    }
-}
+// The multiplier of the buckets: near 4,096 times the golden ratio, so that multiples of it lie far apart, and even, so
+// that those of the number after it are different for different cosets. So pairs of all cosets, and those of a group
+// beside itself, have short chains.
+const SPREAD: usize = 2526;
 
 // The images of the pair i by S, and next by R, take the next numbers if they are new; these are its images in the
-// tables. How many pairs there are now.
+// tables. How many pairs there are now. m is the multiplier of the buckets.
 fn visit(
     w: &mut [u16],
     s: &[u16],
     r: &[u16],
     s2: &[u16],
     r2: &[u16],
+    m: usize,
     i: usize,
     count: usize,
 ) -> usize
-    requires { ⌜ VisitPair (now w) (now s) (now r) (now s2) (now r2) i count ⌝ }
+    requires { ⌜ VisitPair (now w) (now s) (now r) (now s2) (now r2) m i count ⌝ }
     ensures { λ k. ⌜ PairVisited (now (w .entry)) (now (s .entry)) (now (r .entry)) (now (s2 .entry))
-        (now (r2 .entry)) i count (now (w .exit)) k ⌝ }
+        (now (r2 .entry)) m i count (now (w .exit)) k ⌝ }
 {
-    let x = call::workspace::index(w[FIRST_OF + i]);
-    let y = call::workspace::index(w[SECOND_OF + i]);
-    let a = enter(w, s[x], s2[y], count);
-    let b = enter(w, r[x], r2[y], a.count);
+    let x = call::workspace::index(w[FORMER + i]);
+    let y = call::workspace::index(w[LATTER + i]);
+    let a = enter(w, m, s[x], s2[y], count);
+    let b = enter(w, m, r[x], r2[y], a.count);
     w[S_TABLE + i] = a.place as u16;
     w[R_TABLE + i] = b.place as u16;
     b.count
@@ -119,17 +64,17 @@ fn visit(
 
 // The pairs that are reached, by number, and their tables of S and R. How many there are, or how many there were when
 // they became more than 3,066.
-fn list_pairs(w: &mut [u16], s: &[u16], r: &[u16], s2: &[u16], r2: &[u16]) -> usize
-    requires { ⌜ WalkPairs (now w) (now s) (now r) (now s2) (now r2) ⌝ }
+fn list_pairs(w: &mut [u16], s: &[u16], r: &[u16], s2: &[u16], r2: &[u16], m: usize) -> usize
+    requires { ⌜ WalkPairs (now w) (now s) (now r) (now s2) (now r2) m ⌝ }
     ensures { λ n. ⌜ PairsListed (now (w .entry)) (now (s .entry)) (now (r .entry)) (now (s2 .entry))
         (now (r2 .entry)) (now (w .exit)) n ⌝ }
 {
-    call::workspace::clear(w);
-    push(w, 0, 0, 0);
+    buckets::begin(w);
+    enter(w, m, 0, 0, 0);
     let mut count: usize = 1;
     let mut i: usize = 0;
     while i < count {
-        count = visit(w, s, r, s2, r2, i, count);
+        count = visit(w, s, r, s2, r2, m, i, count);
         if MOST < count {
             return count;
         }
@@ -183,7 +128,7 @@ fn intersect(
     let m = arrange(n, u, w);
     keep(w, S_TABLE, m, &mut s2);
     keep(w, R_TABLE, m, &mut r2);
-    let count = list_pairs(w, &s, &r, &s2, &r2);
+    let count = list_pairs(w, &s, &r, &s2, &r2, SPREAD);
     let made = give(w, count, a, b, c);
     call::workspace::clear(w);
     made

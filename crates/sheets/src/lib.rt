@@ -8,7 +8,7 @@ use call::refusal::Refusal;
 use call::refusal::TOO_SHORT;
 use symbol::check;
 use word::Queried;
-use word::answer_ready;
+use word::answer_by;
 use word::four_at;
 use word::pair_check;
 use word::sign_number;
@@ -21,6 +21,7 @@ ghost use Rattle.call.specs.Space.{zeros};
 ghost use Rattle.call.specs.Inner.Fills.{Fills, madeIf};
 ghost use Rattle.word.specs.Answer.{four, foundIf};
 ghost use Rattle.coset.specs.Inner.Steps.{BuiltSteps};
+ghost use Rattle.walk_runs.specs.Inner.Rounds.{Rounds};
 ghost use Rattle.sheets.specs.Sheet.{pairsIn, badCount, wordEnd, spaceAt, lineOf, linesTo, lineSteps, sheetSteps};
 ghost use Rattle.sheets.specs.Inner.Pairs.{pairSteps, SheetReady, lineAt, Fitting};
 
@@ -96,27 +97,30 @@ fn write_line(lines: &mut [i64], i: usize, answer: Queried)
     }
 }
 
-// The answer for the pair in eight entries, by the tables in the work space.
+// The answer for the pair in eight entries, by the tables in the work space and those of rounds, which are kept for the
+// next pair.
 fn answer_pair(
     t: &[i64],
     v: usize,
     w: &[u16],
+    r: &mut [u16],
     home: usize,
     pair: &[i64],
     out: &mut [i16],
     start: usize,
 ) -> Queried
-    requires { ⌜ BuiltSteps (now t) v (now w) home × (length (now pair) ≡ 8) ⌝ }
-    ensures { λ r. ⌜ Fills
+    requires { ⌜ BuiltSteps (now t) v (now w) home × (length (now pair) ≡ 8) × Rounds v (now t) (now r) ⌝ }
+    ensures { λ k. ⌜ Fills
         (pairSteps v (now (t .entry)) (four (now (pair .entry)) 0) (four (now (pair .entry)) 4) out start)
-        (foundIf v (now (t .entry)) (four (now (pair .entry)) 0) (four (now (pair .entry)) 4) start) r ⌝ }
+        (foundIf v (now (t .entry)) (four (now (pair .entry)) 0) (four (now (pair .entry)) 4) start) k ⌝ }
+    ensures { λ k. ⌜ Rounds v (now (t .entry)) (now (r .exit)) ⌝ }
 {
     let a = four_at(pair, 0);
     let b = four_at(pair, 4);
     let paired = pair_check(a, b);
     match paired {
         Checked::Refused(refusal) => Queried::Refused(refusal),
-        Checked::Accepted => answer_ready(t, v, w, home, a, b, out, start),
+        Checked::Accepted => answer_by(t, v, w, r, home, a, b, out, start),
     }
 }
 
@@ -125,13 +129,14 @@ fn answer_pairs(
     t: &[i64],
     v: usize,
     w: &[u16],
+    r: &mut [u16],
     home: usize,
     p: &[i64],
     lines: &mut [i64],
     out: &mut [i16],
 )
     requires { ⌜ BuiltSteps (now t) v (now w) home × SheetReady v (now t) (now p) (now w)
-        × (4 * pairsIn (now p) ≤ length (now lines)) ⌝ }
+        × (4 * pairsIn (now p) ≤ length (now lines)) × Rounds v (now t) (now r) ⌝ }
     ensures { λ _. ⌜ now (lines .exit)
         ≡ linesTo v (now (t .entry)) (now (p .entry)) (length (now (w .entry))) (now (out .entry))
         (pairsIn (now (p .entry))) ++ drop (4 * pairsIn (now (p .entry))) (now (lines .entry)) ⌝ }
@@ -143,7 +148,7 @@ fn answer_pairs(
     let mut next: usize = 0;
     let mut i: usize = 0;
     while i < n {
-        let answer = answer_pair(t, v, w, home, &p[8 * i..8 * i + 8], out, next);
+        let answer = answer_pair(t, v, w, r, home, &p[8 * i..8 * i + 8], out, next);
         write_line(lines, i, answer);
         next = word_end(answer, next);
         i += 1;
@@ -166,7 +171,8 @@ fn fill(v: usize, t: &[i64], p: &[i64], w: &mut [u16], lines: &mut [i64], out: &
         });
     }
     let home = coset::steps::build(t, v, w);
-    answer_pairs(t, v, w, home, p, lines, out);
+    let mut rounds = [0u16; 20481];
+    answer_pairs(t, v, w, &mut rounds, home, p, lines, out);
     call::workspace::clear(w);
     Filled::Made(n)
 }

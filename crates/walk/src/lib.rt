@@ -1,7 +1,7 @@
 // The walk of a matrix over the positions of a symbol, letter by letter, with the rest of the matrix as four naturals.
 //
-// It is made twice: the first time no letter has room, so that the letters are counted and nothing is stored; the
-// second time the word is known to fit. specs/Inner/Way.antt has the state and what each part leaves.
+// A letter is stored where its number is below a limit, and counted everywhere. A query makes the walk where its word
+// is known to fit. specs/Inner/Way.antt has the state and what each part leaves.
 use coset::steps::back;
 use coset::steps::forth;
 use coset::steps::letter;
@@ -128,7 +128,7 @@ fn power(
 }
 
 // Whether more than S is left.
-fn is_proper(way: Way) -> bool
+pub fn is_proper(way: Way) -> bool
     requires { ⌜ total (formOf way) ≤ 2 ^ 60 ⌝ }
     ensures { λ r. ⌜ r ≡ properOf (formOf way) ⌝ }
 {
@@ -189,7 +189,7 @@ fn block(
 }
 
 // The last S, if there is one.
-fn finish(
+pub fn finish(
     t: &[i64],
     v: usize,
     w: &[u16],
@@ -281,7 +281,7 @@ fn whole(m: [i64; 4], home: usize) -> Way
 }
 
 // The first power of Q, if the word begins with one.
-fn begin(
+pub fn begin(
     t: &[i64],
     v: usize,
     w: &[u16],

@@ -1,5 +1,5 @@
 -- Laws for the functions that walk: the matrix that is followed, within its bounds (`between-room`, `between-small`, `ready`, `pair-ready`), and the steps
--- of its walk (`as-found`); what a walk finds (`Result`, `setting`, `result`) and leaves (`kept-out`, `placed-out`); the answers by it (`not-home`, `too-far`,
+-- of its walk (`as-found`); what a walk finds (`Result`, `setting`, `result`, `told`) and leaves (`placed-out`); the answers by it (`not-home`, `too-far`,
 -- `too-long`, `fitting`), by whether it came home (`away`, `at-home`).
 -- Assumes nothing.
 use mathlib.Core.Path.{_≡_, refl, sym, _∙_, ap, subst}
@@ -22,7 +22,9 @@ use Rattle.coset.specs.Inner.Steps.{BuiltSteps}
 use Rattle.coset.proofs.Positions.{positions}
 use Rattle.walk.specs.Inner.Way.{stored, Setting, Walked}
 use Rattle.walk.specs.declared.Way.{Way}
-use Rattle.walk.proofs.Stored.{stored-none, stored-all}
+use Rattle.walk.proofs.Stored.{stored-all}
+use Rattle.walk_runs.specs.Inner.Tally.{WalkTallied}
+use Rattle.walk_runs.specs.declared.Stop.{Stop}
 use Rattle.call.specs.Refusal.{noWord, tooShort}
 use Rattle.call.specs.declared.refusal.Checked.{Checked}
 use Rattle.call.specs.Call.{Step, Asks, Gives}
@@ -79,6 +81,15 @@ as-found v t a b m-is out out' start r g =
     subst (λ (l : List ℤ). Fills (walkRun (homeAlong v t (ofList l)) (lettersAlong v t (ofList l)) out out' start)
     (wordIf start (length (lettersAlong v t (ofList l))) (signAlongWalk v t (ofList l))) r) m-is g
 
+-- the same where the space was left as it was first
+pub as-found-after : (v : ℕ) (t a b : List ℤ) {m : List ℤ} → m ≡ toList (followed v t (ofList b ⊗ adj (ofList a))) → (out out1 out' : List ℤ) (start : ℕ)
+    (r : Queried) → out1 ≡ out → Fills (walkRun (homeAlong v t (ofList m)) (lettersAlong v t (ofList m)) out1 out' start)
+    (wordIf start (length (lettersAlong v t (ofList m))) (signAlongWalk v t (ofList m))) r
+    → Fills (walkRun (closes v t (ofList a) (ofList b)) (foundWord v t (ofList a) (ofList b)) out out' start) (foundIf v t a b start) r
+as-found-after v t a b m-is out out1 out' start r e g =
+    subst (λ (l : List ℤ). Fills (walkRun (closes v t (ofList a) (ofList b)) (foundWord v t (ofList a) (ofList b)) l out' start) (foundIf v t a b start) r) e
+    (as-found v t a b m-is out1 out' start r g)
+
 -- ---- what a walk finds
 
 pub record Result (v : ℕ) (t : List ℤ) (m : Mat) (start limit : ℕ) (out : List ℤ) (b : Way) (out' : List ℤ) : Type 0 where
@@ -105,16 +116,18 @@ module _ {v : ℕ} {t m : List ℤ} {w : List ℕ} {x : ℕ} (q : WalkReady t v 
       let k' = subst (λ (y : ℕ). Walked v t start limit (ofList m) y out end out') (q .start) k in
       record { at = k' .at; count = k' .count; left = k' .left; sign = k' .sign }
 
--- no letter had room, and then all had
-pub kept-out : {v : ℕ} {t : List ℤ} {m : Mat} {start : ℕ} {out out' : List ℤ} {end : Way} → Result v t m start 0 out end out' → out' ≡ out
-kept-out {v} {t} {m} {start} {out} r = r .left ∙ stored-none start (lettersAlong v t m) 0 out
+  -- where it ends, and how many letters it writes
+  pub told : {end : Stop} → WalkTallied v t (ofList m) x end → (end .at ≡ ends v t (startOf v t) (wordOf (ofList m)))
+      × (end .count ≡ length (lettersAlong v t (ofList m)))
+  unfolding lettersAlong
+  told {end} k = let k' = subst (λ (y : ℕ). WalkTallied v t (ofList m) y end) (q .start) k in (k' .at, k' .count)
 
-pub placed-out : {v : ℕ} {t : List ℤ} {m : Mat} {start n : ℕ} {out out1 out2 : List ℤ} {end : Way} → out1 ≡ out → n ≡ length (lettersAlong v t m)
-    → start ≤ length out → n ≤ length out - start
-    → Result v t m start n out1 end out2 → out2 ≡ placed start (lettersAlong v t m) out
-placed-out {v} {t} {m} {start} {n} {out} {out1} {out2} e f h k r =
+-- all letters have room
+pub placed-out : {v : ℕ} {t : List ℤ} {m : Mat} {start n : ℕ} {out out' : List ℤ} {end : Way} → n ≡ length (lettersAlong v t m)
+    → start ≤ length out → n ≤ length out - start → Result v t m start n out end out' → out' ≡ placed start (lettersAlong v t m) out
+placed-out {v} {t} {m} {start} {n} {out} f h k r =
     let l = lettersAlong v t m in
-    r .left ∙ ap (λ (i : ℕ). stored start i 0 l out1) f ∙ ap (stored start (length l) 0 l) e ∙ stored-all start l out h (omega (arith, f))
+    r .left ∙ ap (λ (i : ℕ). stored start i 0 l out) f ∙ stored-all start l out h (omega (arith, f))
 
 -- ---- the answers
 

@@ -16,6 +16,9 @@ use matrix::matrix_s;
 use matrix::product;
 use symbol::check;
 use walk::walk;
+use walk_runs::Stop;
+use walk_runs::tally;
+use walk_runs::tally_by;
 ghost use mathlib.Core.Path.{_≡_};
 ghost use Prim.Native.Nat.{_+_, _-_, _≤_, _<_};
 ghost use lib.Dec.{leb};
@@ -27,6 +30,8 @@ ghost use Rattle.call.specs.Space.{zeros};
 ghost use Rattle.basics.specs.Count.{first};
 ghost use Rattle.symbol.specs.Symbol.{IsSymbol};
 ghost use Rattle.coset.specs.Positions.{followed};
+ghost use Rattle.walk_runs.specs.Inner.Rounds.{Rounds};
+ghost use Rattle.walk_runs.specs.Inner.Tally.{WalkTallied};
 ghost use Rattle.call.specs.Inner.Fills.{Fills};
 ghost use Rattle.word.specs.Answer.{queryRefusal, signNumber, four, entryAt, large, unit, matricesCheck, partOf};
 ghost use Rattle.word.specs.Answer.{wordSteps, wordIf, foundSteps, foundIf, querySteps};
@@ -132,24 +137,24 @@ fn matrix_between(t: &[i64], v: usize, a: [i64; 4], b: [i64; 4]) -> [i64; 4]
     x
 }
 
-// The answer by the walk along m from home, by the tables in the work space: the letters are counted first, and stored
-// once they are known to fit.
+// The answer by the walk along m from home, which ends at `end`, by the tables in the work space: the letters are
+// stored once they are known to fit.
 fn find(
     t: &[i64],
     v: usize,
     w: &[u16],
     m: [i64; 4],
     home: usize,
+    end: Stop,
     out: &mut [i16],
     start: usize,
 ) -> Queried
-    requires { ⌜ WalkReady (now t) v (now w) m home ⌝ }
+    requires { ⌜ WalkReady (now t) v (now w) m home × WalkTallied v (now t) (ofList m) home end ⌝ }
     ensures { λ r. ⌜ Fills
         (wordSteps (homeAlong v (now (t .entry)) (ofList m)) (lettersAlong v (now (t .entry)) (ofList m)) out start)
         (wordIf start (length (lettersAlong v (now (t .entry)) (ofList m)))
         (signAlongWalk v (now (t .entry)) (ofList m))) r ⌝ }
 {
-    let end = walk(t, v, w, m, home, out, start, 0);
     if end.at != home {
         return Queried::Refused(Refusal {
             number: NO_WORD,
@@ -169,8 +174,8 @@ fn find(
             place: n,
         });
     }
-    walk(t, v, w, m, home, out, start, n);
-    Queried::Word(start, n, end.sign)
+    let way = walk(t, v, w, m, home, out, start, n);
+    Queried::Word(start, n, way.sign)
 }
 
 // The answer for a pair that passed 8 and 9, by the tables in the work space and the start of the symbol.
@@ -188,7 +193,29 @@ pub fn answer_ready(
     ensures { λ r. ⌜ Fills (foundSteps v (now (t .entry)) a b out start) (foundIf v (now (t .entry)) a b start) r ⌝ }
 {
     let m = matrix_between(t, v, a, b);
-    find(t, v, w, m, home, out, start)
+    let end = tally(t, v, w, m, home, out, start);
+    find(t, v, w, m, home, end, out, start)
+}
+
+// The same by tables of rounds that are lent, and kept for the next pair.
+pub fn answer_by(
+    t: &[i64],
+    v: usize,
+    w: &[u16],
+    r: &mut [u16],
+    home: usize,
+    a: [i64; 4],
+    b: [i64; 4],
+    out: &mut [i16],
+    start: usize,
+) -> Queried
+    requires { ⌜ PairReady (now t) v (now w) a b home × Rounds v (now t) (now r) ⌝ }
+    ensures { λ k. ⌜ Fills (foundSteps v (now (t .entry)) a b out start) (foundIf v (now (t .entry)) a b start) k ⌝ }
+    ensures { λ k. ⌜ Rounds v (now (t .entry)) (now (r .exit)) ⌝ }
+{
+    let m = matrix_between(t, v, a, b);
+    let end = tally_by(t, v, w, r, m, home, out, start);
+    find(t, v, w, m, home, end, out, start)
 }
 
 // The answer for an accepted symbol and pair; the work space is cleared after.

@@ -1,83 +1,89 @@
--- `congruence_tables::load` meets its contract: four reads.
+-- `congruence_tables::load` meets its contract: two reads, and for Γ0 two more.
 -- Assumes nothing.
 use borrow.Author.Needs.{needs}
+use Rattle.congruence_tables.proofs.Entries.{loaded-0, loaded-1, loaded-2}
 use Rattle.congruence_tables.proofs.load.Statement.{statement}
 use Rattle.congruence_tables.proofs.load.Tie as tie
-use Rattle.congruence_tables.proofs.load.Reads as reads
-use Rattle.congruence_tables.proofs.load.Lts as lts
-use Rattle.congruence_tables.proofs.wide.Reads as wide-reads
 
--- src/lib.rt:40:19
 add-wide : tie.Need-add-wide
 add-wide c = search needs
 
--- src/lib.rt:40:17
 mul-wide : tie.Need-mul-wide
 mul-wide c = search needs
 
--- src/lib.rt:40:17
 shared-slice-read-wide : tie.Need-shared-slice-read-wide
 shared-slice-read-wide c = search needs
 
--- src/lib.rt:40:12
 wide-requires : tie.Need-wide-requires
 wide-requires c κs = search needs
 
--- src/lib.rt:41:19
 add-wide-2 : tie.Need-add-wide-2
 add-wide-2 c = search needs
 
--- src/lib.rt:41:17
 mul-wide-2 : tie.Need-mul-wide-2
 mul-wide-2 c = search needs
 
--- src/lib.rt:41:17
 shared-slice-read-wide-2 : tie.Need-shared-slice-read-wide-2
 shared-slice-read-wide-2 c = search needs
 
--- src/lib.rt:41:12
 wide-requires-2 : tie.Need-wide-requires-2
 wide-requires-2 c κs = search needs
 
--- src/lib.rt:42:19
+enum-told : tie.Need-enum-told
+enum-told c = search needs
+
 add-wide-3 : tie.Need-add-wide-3
 add-wide-3 c = search needs
 
--- src/lib.rt:42:17
 mul-wide-3 : tie.Need-mul-wide-3
 mul-wide-3 c = search needs
 
--- src/lib.rt:42:17
 shared-slice-read-wide-3 : tie.Need-shared-slice-read-wide-3
 shared-slice-read-wide-3 c = search needs
 
--- src/lib.rt:42:12
 wide-requires-3 : tie.Need-wide-requires-3
 wide-requires-3 c κs = search needs
 
--- src/lib.rt:43:19
 add-wide-4 : tie.Need-add-wide-4
 add-wide-4 c = search needs
 
--- src/lib.rt:43:17
 mul-wide-4 : tie.Need-mul-wide-4
 mul-wide-4 c = search needs
 
--- src/lib.rt:43:17
 shared-slice-read-wide-4 : tie.Need-shared-slice-read-wide-4
 shared-slice-read-wide-4 c = search needs
 
--- src/lib.rt:43:12
 wide-requires-4 : tie.Need-wide-requires-4
 wide-requires-4 c κs = search needs
 
--- src/lib.rt:35:1
+enum-told-2 : tie.Need-enum-told-2
+enum-told-2 c = search needs
+
+enum-told-3 : tie.Need-enum-told-3
+enum-told-3 c = search needs
+
 returns : tie.Need-returns
 returns c =
-    let a = c .before .before .before .before .before .before .wide in
-    let b = c .before .before .before .before .wide2 in
-    let d = c .before .before .wide3 in
-    rw (a .ensures, b .ensures, d .ensures, c .wide4 .ensures)
+    let told = c .before .before .before .before in
+    let two = told .before .before in
+    let one = two .before .before in
+    let s = one .before .before .before in
+    loaded-0 (s .args .w .now) (s .args .j) (one .wide .ensures) (two .wide2 .ensures) (told .enum-told .given .1) (c .before .before .wide3 .ensures)
+    (c .wide4 .ensures)
+
+returns-2 : tie.Need-returns-2
+returns-2 c =
+    let two = c .before .before in
+    let one = two .before .before in
+    let s = one .before .before .before in
+    loaded-1 (s .args .w .now) (s .args .j) (one .wide .ensures) (two .wide2 .ensures) (c .enum-told2 .given .1)
+
+returns-3 : tie.Need-returns-3
+returns-3 c =
+    let two = c .before .before in
+    let one = two .before .before in
+    let s = one .before .before .before in
+    loaded-2 (s .args .w .now) (s .args .j) (one .wide .ensures) (two .wide2 .ensures) (c .enum-told3 .given .1)
 
 pub load-spec : {M : Type 1} → statement M
 load-spec =
@@ -91,6 +97,7 @@ load-spec =
     mul-wide-2
     shared-slice-read-wide-2
     wide-requires-2
+    enum-told
     add-wide-3
     mul-wide-3
     shared-slice-read-wide-3
@@ -99,4 +106,8 @@ load-spec =
     mul-wide-4
     shared-slice-read-wide-4
     wide-requires-4
-    returns)
+    enum-told-2
+    enum-told-3
+    returns
+    returns-2
+    returns-3)

@@ -1,35 +1,31 @@
--- The right cosets of a family in the work space: an entry of each, chains of those in one bucket, and what entries are
--- made with.
+-- The right cosets of a family in the work space: a pair of numbers of each, as the crate `buckets` keeps them, and
+-- what entries are made with.
 --
 --     place   code         here         holds, for the coset with the number j
---      4096   ENTRY_A      ENTRY-A      the number a of its entry
---      8192   ENTRY_B      ENTRY-B      b
---     12288   ENTRY_C      ENTRY-C      c
---     16384   ENTRY_D      ENTRY-D      d
---     20480   HEAD         HEAD         for each bucket, one more than the last coset in it, or 0
---     24576   EARLIER      EARLIER      one more than the last coset before j in its bucket, or 0
---     28672   PART         PART         for each c below n, n / g with g the greatest common divisor of c and n
---     29696   MULTIPLIER   MULTIPLIER   for each c below n, s with s c = g modulo n
+--      4096   ROW_C        ROW-C        for Γ0, c of its row (c d)
+--      8192   FIRST        FIRST        the first number of its pair
+--     12288   SECOND       SECOND       the second
+--     16384   the buckets, and the chains from 20480
+--     24576   ROW_D        ROW-D        for Γ0, d of its row
+--     28672   PART         PART         for Γ0, for each c below n, n / g with g the greatest common divisor of c and n
+--     29696   MULTIPLIER   MULTIPLIER   for Γ0, for each c below n, s with s c = g modulo n
 --
---   residuesAt w j          the entry j
---   Columns n w             w holds the parts and multipliers
+--   residuesAt f w j           the entry j
+--   Columns n w             w holds the parts and multipliers; ColumnsFor f n w: if f is Γ0
 --   withColumn w c h s      w with those of c; ColumnsMade n w w': made in w, all below untouched
---   Latest f n w b i p      of the entries before i, p - 1 is the last one in the bucket b; 0 is for none
---   HoldsCosets f n l w count  w holds entries of the list l of `count` matrices, no two in one coset, with their
---                              chains
+--   ColumnsReady f n w w'       made if f is Γ0, all below untouched
+--   Keys f n w count l      w holds the list l of pairs
+--   HoldsCosets f n l w count  w holds entries of the list l of `count` matrices, no two in one coset, with their pairs
 --   HoldsSome f n w count   it holds some list
 --   Group f n               n is a modulus, and the index of the family is at most 3,066
 --   Points, PointAt         what is asked for the entry of a point, and what it is
 --   TakesImage f n w x      what is asked for an image
---   Finds f n w count x p   p is the place of the coset of x in the list that w holds
---   withMatrix w i x k      w with x as entry i, in the bucket k
---   Pushes w i x k          what is asked for that
---   Seeks, Enters           what is asked where a coset is sought, and where it joins
---   StandsSome f n x        x is an entry of some unit
---   EntersAs f n w count x w' place count'    x has joined the list, if its coset was new; it is at that place
+--   withRow f w i x         w with the row of x at i, if f is Γ0
+--   Enters f n w count x    what is asked where the pair of x joins the list
+--   EntersAs f n w count x w' place count'    it has joined, if it was new; it is at that place
 use mathlib.Core.Path.{_≡_}
 use mathlib.Core.List.{List}
-use Prim.Native.Nat.{ℕ, suc, _+_, _≤_, _<_}
+use Prim.Native.Nat.{ℕ, _+_, _/_, _%_, _≤_, _<_}
 use lib.ListN.{length, getD, set}
 use Rattle.matrix.specs.Matrix.{Mat, _⊗_, matS, matR}
 use Rattle.call.specs.Space.{workLength}
@@ -37,29 +33,20 @@ use Rattle.congruence.specs.Congruence.{Meets, meets}
 use Rattle.congruence.specs.Index.{familyIndex}
 use Rattle.right_cosets.specs.Cosets.{cosetIn, withCoset, afterVisit, cosetsTo}
 use Rattle.congruence.specs.declared.Family.{Family}
+use Rattle.congruence.specs.declared.Family.the-variants as family
+use Rattle.buckets.specs.Inner.Pairs.{FORMER, LATTER, bucketOf, HoldsPairs, PairEntered}
 use Rattle.right_cosets.specs.Inner.Listed.{matrixAt, CosetList}
 use Rattle.congruence.specs.Inner.Common.{Modulus, CommonOf}
 use Rattle.congruence_tables.specs.declared.residues.Residues.{Residues}
 use Rattle.congruence.specs.declared.modular.Common.{Common}
-use Rattle.congruence_tables.specs.Inner.Residues.{SmallOf, PointOf, EntryOf, Stands, bucketOf}
+use Rattle.congruence_tables.specs.Inner.Residues.{SmallOf, PointOf, EntryOf, Stands, firstOf, secondOf}
+use Rattle.congruence_tables.specs.Inner.Residues.{multiplierOf}
 
-abbrev pub ENTRY-A : ℕ
-ENTRY-A = 4096
+abbrev pub ROW-C : ℕ
+ROW-C = 4096
 
-abbrev pub ENTRY-B : ℕ
-ENTRY-B = 8192
-
-abbrev pub ENTRY-C : ℕ
-ENTRY-C = 12288
-
-abbrev pub ENTRY-D : ℕ
-ENTRY-D = 16384
-
-abbrev pub HEAD : ℕ
-HEAD = 20480
-
-abbrev pub EARLIER : ℕ
-EARLIER = 24576
+abbrev pub ROW-D : ℕ
+ROW-D = 24576
 
 abbrev pub PART : ℕ
 PART = 28672
@@ -67,12 +54,19 @@ PART = 28672
 abbrev pub MULTIPLIER : ℕ
 MULTIPLIER = 29696
 
-abbrev pub residuesAt : List ℕ → ℕ → Residues
-residuesAt w j = record {
-  a = getD w (ENTRY-A + j) 0;
-  b = getD w (ENTRY-B + j) 0;
-  c = getD w (ENTRY-C + j) 0;
-  d = getD w (ENTRY-D + j) 0;
+abbrev pub residuesAt : Family → List ℕ → ℕ → Residues
+residuesAt family.Gamma0 w j = record {
+  a = getD w (FORMER + j) 0;
+  b = getD w (LATTER + j) 0;
+  c = getD w (ROW-C + j) 0;
+  d = getD w (ROW-D + j) 0;
+}
+residuesAt family.Gamma1 w j = record { a = 0; b = 0; c = getD w (FORMER + j) 0; d = getD w (LATTER + j) 0 }
+residuesAt family.Gamma w j = record {
+  a = getD w (FORMER + j) 0 / 64;
+  b = getD w (FORMER + j) 0 % 64;
+  c = getD w (LATTER + j) 0 / 64;
+  d = getD w (LATTER + j) 0 % 64;
 }
 
 pub record Group (f : Family) (n : ℕ) : Type 0 where
@@ -90,6 +84,11 @@ pub record ColumnAt (n : ℕ) (w : List ℕ) (c : ℕ) : Type 0 where
 abbrev pub Columns : ℕ → List ℕ → Type 0
 Columns n w = (c : ℕ) → c < n → ColumnAt n w c
 
+abbrev pub ColumnsFor : Family → ℕ → List ℕ → Type 0
+ColumnsFor family.Gamma0 n w = Columns n w
+ColumnsFor family.Gamma1 n w = Unit {0}
+ColumnsFor family.Gamma n w = Unit {0}
+
 abbrev pub withColumn : List ℕ → (c h s : ℕ) → List ℕ
 withColumn w c h s = set (set w (PART + c) h) (MULTIPLIER + c) s
 
@@ -97,6 +96,11 @@ pub record ColumnsMade (n : ℕ) (w w' : List ℕ) : Type 0 where
   pub same : length w' ≡ length w
   pub below : (p : ℕ) → p < PART → getD w' p 0 ≡ getD w p 0
   pub columns : Columns n w'
+
+pub record ColumnsReady (f : Family) (n : ℕ) (w w' : List ℕ) : Type 0 where
+  pub same : length w' ≡ length w
+  pub below : (p : ℕ) → p < PART → getD w' p 0 ≡ getD w p 0
+  pub columns : ColumnsFor f n w'
 
 pub record Points (n : ℕ) (w : List ℕ) (c d : ℕ) : Type 0 where
   pub modulus : Modulus n
@@ -113,70 +117,46 @@ pub record PointAt (n c d : ℕ) (r : Residues) : Type 0 where
 pub record TakesImage (f : Family) (n : ℕ) (w : List ℕ) (x : Residues) : Type 0 where
   pub modulus : Modulus n
   pub long : workLength ≤ length w
-  pub columns : Columns n w
+  pub columns : ColumnsFor f n w
   pub entry : EntryOf f n x
 
 -- ---- the entries
 
-pub record Latest (f : Family) (n : ℕ) (w : List ℕ) (b i p : ℕ) : Type 0 where
-  pub low : p ≤ i
-  pub hit : (q : ℕ) → p ≡ suc q → bucketOf f n (residuesAt w q) ≡ b
-  pub none : (j : ℕ) → p ≤ j → j < i → bucketOf f n (residuesAt w j) ≡ b → ⊥
+abbrev pub Keys : (f : Family) (n : ℕ) (w : List ℕ) (count : ℕ) (l : List ℕ) → Type 0
+Keys f n w count l = HoldsPairs (bucketOf (multiplierOf f n)) 4096 l w count
 
 pub record HoldsCosets (f : Family) (n : ℕ) (l : List Mat) (w : List ℕ) (count : ℕ) : Type 0 where
   pub long : workLength ≤ length w
   pub room : count ≤ 3066
   pub size : length l ≡ count
   pub listed : CosetList (Meets f n) l
-  pub columns : Columns n w
-  pub stands : (j : ℕ) → j < count → Stands f n (residuesAt w j) (matrixAt l j)
-  pub heads : (b : ℕ) → b < 4096 → Latest f n w b count (getD w (HEAD + b) 0)
-  pub nexts : (j : ℕ) → j < count → Latest f n w (bucketOf f n (residuesAt w j)) j (getD w (EARLIER + j) 0)
+  pub columns : ColumnsFor f n w
+  pub stands : (j : ℕ) → j < count → Stands f n (residuesAt f w j) (matrixAt l j)
+  pub pairs : List ℕ
+  pub keys : Keys f n w count pairs
 
 pub record HoldsSome (f : Family) (n : ℕ) (w : List ℕ) (count : ℕ) : Type 0 where
   pub list : List Mat
   pub holds : HoldsCosets f n list w count
 
-abbrev pub Finds : Family → ℕ → List ℕ → ℕ → Residues → ℕ → Type 0
-Finds f n w count x p = (l : List Mat) (m : Mat) → HoldsCosets f n l w count → Stands f n x m → p
-    ≡ cosetIn (meets f n) l m
-
-abbrev pub withEntries : List ℕ → ℕ → Residues → List ℕ
-withEntries w i x = set (set (set (set w (ENTRY-A + i) (x .a)) (ENTRY-B + i) (x .b)) (ENTRY-C + i) (x .c)) (ENTRY-D + i)
-    (x .d)
-
-abbrev pub withMatrix : List ℕ → ℕ → Residues → ℕ → List ℕ
-withMatrix w i x k = set (set (withEntries w i x) (EARLIER + i) (getD (withEntries w i x) (HEAD + k) 0)) (HEAD + k)
-    (i + 1)
-
-pub record Pushes (w : List ℕ) (i : ℕ) (x : Residues) (k : ℕ) : Type 0 where
-  pub long : workLength ≤ length w
-  pub room : i < 3066
-  pub small : SmallOf x
-  pub bucket : k < 4096
-
-pub record Seeks (f : Family) (n : ℕ) (w : List ℕ) (count : ℕ) (x : Residues) (k : ℕ) : Type 0 where
-  pub modulus : Modulus n
-  pub is : k ≡ bucketOf f n x
-  pub bucket : k < 4096
-  pub some : HoldsSome f n w count
-
-pub record StandsSome (f : Family) (n : ℕ) (x : Residues) : Type 0 where
-  pub matrix : Mat
-  pub stands : Stands f n x matrix
+abbrev pub withRow : Family → List ℕ → ℕ → Residues → List ℕ
+withRow family.Gamma0 w i x = set (set w (ROW-C + i) (x .c)) (ROW-D + i) (x .d)
+withRow family.Gamma1 w i x = w
+withRow family.Gamma w i x = w
 
 pub record Enters (f : Family) (n : ℕ) (w : List ℕ) (count : ℕ) (x : Residues) : Type 0 where
-  pub group : Group f n
-  pub some : HoldsSome f n w count
-  pub stands : StandsSome f n x
+  pub modulus : Modulus n
+  pub long : workLength ≤ length w
+  pub fits : count < 4096
+  pub small : SmallOf x
+  pub low : secondOf f x < 4096
+  pub pairs : List ℕ
+  pub keys : Keys f n w count pairs
 
 pub record EntersAs (f : Family) (n : ℕ) (w : List ℕ) (count : ℕ) (x : Residues) (w' : List ℕ) (place count' : ℕ) : Type
     0 where
-  pub same : length w' ≡ length w
-  pub holds : (l : List Mat) (m : Mat) → HoldsCosets f n l w count → Stands f n x m
-      → HoldsCosets f n (withCoset (meets f n) l m) w' count'
-  pub place-is : (l : List Mat) (m : Mat) → HoldsCosets f n l w count → Stands f n x m → place
-      ≡ cosetIn (meets f n) (withCoset (meets f n) l m) m
+  pub joined : PairEntered (bucketOf (multiplierOf f n)) (withRow f w count x) (firstOf f x) (secondOf f x) count w'
+      place count'
 
 -- ---- the walk over the cosets
 

@@ -6,29 +6,29 @@ use mathlib.Core.Path.{_≡_, refl, _∙_}
 use Prim.Native.Nat.{_-_}
 use native.Mathlib.Omega.{arith}
 use lib.ListN.{length}
-use Rattle.intersections.proofs.Walk.{Walked, start-pushes, walked-start, walked-visits, walked-more, listed-large, listed-all}
+use Rattle.intersections.proofs.Walk.{Walked, start-enters, walked-start, walked-visits, walked-more, listed-large, listed-all}
 use Rattle.intersections.proofs.list_pairs.Statement.{statement}
 use Rattle.intersections.proofs.list_pairs.Tie as tie
 
 abbrev Inv-loop : tie.InvT-loop
-Inv-loop w₀ s r s2 r2 count₀ i₀ w count i = Walked s r s2 r2 w i count × (length w ≡ length w₀)
+Inv-loop w₀ s r s2 r2 m count₀ i₀ w count i = Walked s r s2 r2 m w i count × (length w ≡ length w₀)
 
 abbrev μ-loop : tie.MeasureT-loop
-μ-loop w₀ s r s2 r2 count₀ i₀ w count i = 3066 - i
+μ-loop w₀ s r s2 r2 m count₀ i₀ w count i = 3066 - i
 
-clear-requires : tie.Need-clear-requires Inv-loop μ-loop
-clear-requires c κs = search needs
+begin-requires : tie.Need-begin-requires Inv-loop μ-loop
+begin-requires c κs = search needs
 
-push-requires : tie.Need-push-requires Inv-loop μ-loop
-push-requires c κs =
+enter-requires : tie.Need-enter-requires Inv-loop μ-loop
+enter-requires c κs =
     let at = c .before .before .before in
-    start-pushes (at .before .before .before .before .before .before .before .pre) (at .clear .ensures)
+    start-enters (at .before .before .before .before .before .before .before .pre) (at .begin .ensures)
 
 loop-holds : tie.Need-loop-holds Inv-loop μ-loop
 loop-holds c =
     let pushed = c .before .before in
     let at = pushed .before .before .before .before in
-    (walked-start (at .before .before .before .before .before .before .before .pre) (at .clear .ensures) (pushed .push .ensures), refl)
+    (walked-start (at .before .before .before .before .before .before .before .pre) (at .begin .ensures) (pushed .enter .ensures), refl)
 
 visit-requires : tie.Need-visit-requires Inv-loop μ-loop
 visit-requires c κs =
@@ -69,8 +69,8 @@ list-pairs-spec =
     (tie.spec
     Inv-loop
     μ-loop
-    clear-requires
-    push-requires
+    begin-requires
+    enter-requires
     loop-holds
     visit-requires
     same-length

@@ -6,6 +6,7 @@ use mathlib.Core.List.{_++_}
 use lib.ListN.{length, drop}
 use Rattle.call.specs.Space.{zeros}
 use Rattle.call.proofs.Laws.{fills-as}
+use Rattle.walk_runs.proofs.Tallying.{fresh-rounds}
 use Rattle.sheets.specs.Sheet.{pairsIn, spaceAt, linesTo}
 use Rattle.sheets.proofs.Whole.{no-room, in-room}
 use borrow.Author.Needs.{needs}
@@ -29,13 +30,17 @@ returns c =
 build-requires : tie.Need-build-requires
 build-requires c κs = search needs
 
+slice-aggregate-answer-pairs : tie.Need-slice-aggregate-answer-pairs
+slice-aggregate-answer-pairs c = search needs
+
 answer-pairs-requires : tie.Need-answer-pairs-requires
 answer-pairs-requires c κs =
-    let b = c .before .before .before .before .before in
+    let b = c .before .before .before .before .before .before in
     let s = b .before .before .before .before in (
       b .build .ensures .0,
       record { symbol = s .pre .symbol; count = s .pre .count; work = b .build .ensures .0 .prepared .tables .long },
       omega (arith, b .before .before .if1 .left),
+      fresh-rounds (s .args .v) (s .args .t .now) 20481 refl,
     )
 
 clear-requires-2 : tie.Need-clear-requires-2
@@ -52,8 +57,8 @@ same-length-4 c = search needs
 
 returns-2 : tie.Need-returns-2
 returns-2 c =
-    let a = c .before .before .before .before .before .before in
-    let b = a .before .before .before .before .before .before in
+    let a = c .before .before .before .before .before .before .before in
+    let b = a .before .before .before .before .before .before .before in
     let s = b .before .before .before .before in
     let g = s .args in
     let n = pairsIn (g .p .now) in
@@ -73,6 +78,7 @@ fill-spec =
     same-length
     returns
     build-requires
+    slice-aggregate-answer-pairs
     answer-pairs-requires
     clear-requires-2
     same-length-2

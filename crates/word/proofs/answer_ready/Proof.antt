@@ -1,6 +1,7 @@
--- `answer_ready` follows the matrix from a to b. Why: the walk along that matrix is the one that the definition of the answer makes (`as-found`).
+-- `answer_ready` follows the matrix from a to b. Why: the walk along that matrix is the one that the definition of the answer makes (`as-found-after`).
 -- Assumes nothing.
-use Rattle.word.proofs.Finding.{ready, as-found}
+use native.Mathlib.Omega.{arith}
+use Rattle.word.proofs.Finding.{ready, setting, as-found-after}
 use borrow.Author.Needs.{needs}
 use Rattle.word.proofs.answer_ready.Statement.{statement}
 use Rattle.word.proofs.answer_ready.Tie as tie
@@ -8,19 +9,29 @@ use Rattle.word.proofs.answer_ready.Tie as tie
 matrix-between-requires : tie.Need-matrix-between-requires
 matrix-between-requires c κs = (c .before .pre .prepared .tables .symbol, c .before .pre .entries-A, c .before .pre .entries-B)
 
+tally-requires : tie.Need-tally-requires
+tally-requires c κs =
+    let s = c .before .before .before in
+    let q = ready (s .pre) (c .before .matrix-between .ensures) in
+    let h = setting q (s .args .start) 0 (s .args .out .now) (omega arith) in
+    (q .prepared, h .1, h .2, h .3)
+
 find-requires : tie.Need-find-requires
-find-requires c κs = ready (c .before .before .before .pre) (c .before .matrix-between .ensures)
+find-requires c κs = (
+  ready (c .before .before .before .before .before .before .pre) (c .before .before .before .before .matrix-between .ensures),
+  c .before .before .tally .ensures .0,
+)
 
 same-length : tie.Need-same-length
 same-length c = search needs
 
 returns : tie.Need-returns
 returns c =
-    let s = c .before .before .before .before .before in
+    let s = c .before .before .before .before .before .before .before .before in
     let f = c .before .find in
-    as-found (s .args .v) (s .args .t .now) (s .args .a) (s .args .b) (c .before .before .before .matrix-between .ensures) (s .args .out .now) _
-    (s .args .start)
-    (f .result) (f .ensures)
+    as-found-after (s .args .v) (s .args .t .now) (s .args .a) (s .args .b) (c .before .before .before .before .before .before .matrix-between .ensures)
+    (s .args .out .now) _ _ (s .args .start)
+    (f .result) (c .before .before .before .before .tally .ensures .1) (f .ensures)
 
 pub answer-ready-spec : {M : Type 1} → statement M
-answer-ready-spec = tie.close (tie.spec matrix-between-requires find-requires same-length returns)
+answer-ready-spec = tie.close (tie.spec matrix-between-requires tally-requires find-requires same-length returns)
