@@ -1,8 +1,9 @@
 /* The Farey symbol engine: finite index subgroups of PSL2(Z) from C.
  *
  * MATRICES COUNT UP TO SIGN, as in PSL2(Z). Whoever works in SL2(Z), where B and -B are two matrices, takes
- * farey_signed_query for farey_query, farey_named_signed_query for farey_named_query and farey_named_signed_query_wide
- * for farey_named_query_wide: the same word, with the sign that tells which of the two it gives.
+ * farey_signed_query for farey_query, farey_signed_matrix_word for farey_matrix_word, farey_named_signed_query for
+ * farey_named_query and farey_named_signed_query_wide for farey_named_query_wide: the same word, with the sign that
+ * tells which of the two it gives.
  *
  * Link with libengine.a, or with libfarey.so (./farey library), on x86-64 Linux. The code of every function below is
  * proved to answer and to leave what its comment says, though not how often it does something on the way, and is then
@@ -69,6 +70,7 @@
  *   27  at byte P the text gets too long, breaks the form of cycle notation, repeats a point, names one outside 1 to
  *       the index or ends too early. P: where the first piece begins that no ending could make right; the text's
  *       length; for a program's text that is too long 65536.
+ *   28  entry P of the matrix is over 10^18 in size.
  *
  * NAMED GROUPS are given by a family and an N from 1 to 1,000. A matrix (a b; c d) is in the group where it meets,
  * modulo N, the condition of its family:
@@ -92,12 +94,12 @@ extern "C" {
 /* Stack that is enough for every call, in bytes, with what it calls in turn. This is measured and not proved, on
  * x86-64: the queries of named groups, which keep two tables, a symbol and the rounds of a walk there, take under
  * 100,000, the symbols of named groups, which keep two tables and a symbol, under 65,536, farey_query,
- * farey_signed_query and farey_sheet, which keep the rounds of a walk, under 50,000, farey_intersection, which keeps
- * four tables, and farey_read_cycles, which keeps two with marks for their points, under 40,000, farey_contains and
- * farey_tower, which keep three, and farey_preview, which keeps a symbol, under 30,000, farey_same, which keeps two
- * tables, under 20,000, the other calls under 10,000, on the largest inputs, by a thread whose stack was filled
- * beforehand (rust/differential/tests/stack.rs, which the gate runs). A call that the dynamic linker has to look up at
- * its first use (memset) may take some thousand more, once. */
+ * farey_signed_query, farey_sheet and the three calls for one matrix, which keep the rounds of a walk, under 50,000,
+ * farey_intersection, which keeps four tables, and farey_read_cycles, which keeps two with marks for their points,
+ * under 40,000, farey_preview, which keeps a symbol, under 30,000, farey_same, farey_contains and farey_tower, which
+ * keep one table, under 20,000, the other calls under 10,000, on the largest inputs, by a thread whose stack was
+ * filled beforehand (rust/differential/tests/stack.rs, which the gate runs). A call that the dynamic linker has to
+ * look up at its first use (memset) may take some thousand more, once. */
 #define FAREY_STACK 131072
 /* The length of the work space. */
 #define FAREY_WORK 32768
@@ -247,6 +249,27 @@ uint64_t farey_same_coset(size_t v, const int64_t *t, size_t t_len, const int64_
  * for lines, which are counted in whole lines of two, with the number of pairs for the place. Count: how many pairs. */
 uint64_t farey_same_cosets(size_t v, const int64_t *t, size_t t_len, const int64_t *p, size_t p_len, uint16_t *work,
                            size_t work_len, int64_t *lines, size_t lines_len, size_t *place);
+
+/* A word in the generators that carries the identity to M, UP TO SIGN: the product of its letters is M or -M, and
+ * the answer doesn't tell which; farey_signed_matrix_word does. m points to four numbers, each up to 10^18 in size.
+ * The word is that of farey_query from the identity to M: it stands in out from the place `start` on, it is the only
+ * reduced word for M up to sign, and none is shorter. 10 says that M isn't in the group. Its length is found without
+ * its letters, which are written only where they fit: it may be over 10^18. Refused: 1 to 7, then 28, then 9 with
+ * place 0, then 11 for work, then 10, then 11 for out, with the word's true length. Count: how many letters. */
+uint64_t farey_matrix_word(size_t v, const int64_t *t, size_t t_len, const int64_t *m, uint16_t *work, size_t work_len,
+                           int16_t *out, size_t out_len, size_t start, size_t *place);
+
+/* The same word, number and count, WITH THE SIGN, for SL2(Z): where it returns 0 it writes 1 or -1 to *sign, and the
+ * product of the word's letters is that number times M, exactly. Where it refuses, *sign is as it was. */
+uint64_t farey_signed_matrix_word(size_t v, const int64_t *t, size_t t_len, const int64_t *m, uint16_t *work,
+                                  size_t work_len, int16_t *out, size_t out_len, size_t start, int64_t *sign,
+                                  size_t *place);
+
+/* WHETHER M IS IN THE GROUP, up to sign, yes or no, without a word: yes exactly where farey_matrix_word would find a
+ * word, given enough space, and no where it gives 10. m points to four numbers, each up to 10^18 in size. Refused: 1 to
+ * 7, then 28, then 9 with place 0, then 11 for work. Count: 1 for yes, 0 for no. */
+uint64_t farey_contains_matrix(size_t v, const int64_t *t, size_t t_len, const int64_t *m, uint16_t *work,
+                               size_t work_len, size_t *place);
 
 /* Whether two symbols generate the same subgroup: yes precisely when every generator of each is, up to sign, a word in
  * the other's generators and inverses. So two symbols of one group are the same, whatever their vertices are, and

@@ -85,6 +85,10 @@ int main(void)
     say("same coset without work", number, place);
     number = farey_same_cosets(2, t, 7, NULL, 0, NULL, 0, NULL, 0, &place);
     say("same cosets without work", number, place);
+    number = farey_matrix_word(2, t, 7, one, NULL, 0, NULL, 0, 0, &place);
+    say("matrix word without work", number, place);
+    number = farey_contains_matrix(2, t, 7, one, NULL, 0, &place);
+    say("contains matrix without work", number, place);
     number = farey_same(2, t, 7, 2, t, 7, NULL, 0, &place);
     say("same without work", number, place);
     number = farey_contains(2, t, 7, 3, g, 10, NULL, 0, &place);

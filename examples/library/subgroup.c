@@ -147,6 +147,16 @@ int main(void)
     expect(farey_same_coset(v, table, length, one, six, work, FAREY_WORK, &count), &count);
     printf("coset %s\n", count == 1 ? "yes" : "no");
 
+    /* One matrix, with entries up to 10^18: whether it is in the group, its word, and the length of one without room. */
+    static const int64_t far[4] = {1, 600000000000000000, 0, 1};
+    int64_t sign;
+    expect(farey_contains_matrix(v, table, length, six, work, FAREY_WORK, &count), &count);
+    printf("matrix %s\n", count == 1 ? "yes" : "no");
+    expect(farey_signed_matrix_word(v, table, length, one, work, FAREY_WORK, word, 16, 0, &sign, &place), &place);
+    printf("matrix %zu %" PRId64 "\n", place, sign);
+    uint64_t number = farey_matrix_word(v, table, length, far, work, FAREY_WORK, word, 16, 0, &place);
+    printf("matrix refused %" PRIu64 " %zu\n", number, place);
+
     /* The same symbol with another label. */
     static const int64_t relabelled[10] = {-1, 1, 0, 1, 1, 1, -2, -3, 4, 4};
     expect(farey_same(v, table, length, 3, relabelled, 10, work, FAREY_WORK, &place), &place);

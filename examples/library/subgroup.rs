@@ -82,6 +82,15 @@ fn main() -> Result<(), Refusal> {
         }
     }
     println!("coset {}", yes_or_no(symbol.same_coset(&one, &six)?));
+    // One matrix, with entries up to 10^18: whether it is in the group, its word, and
+    // the length of one without room.
+    println!("matrix {}", yes_or_no(symbol.contains_matrix(&six)?));
+    if let Some(word) = symbol.matrix_word(&one, 16)? {
+        println!("matrix {} {}", word.letters.len(), word.sign);
+    }
+    if let Err(refusal) = symbol.matrix_word(&[1, 600_000_000_000_000_000, 0, 1], 16) {
+        println!("matrix refused {} {}", refusal.number, refusal.place);
+    }
     let relabelled = Symbol::new(&[(-1, 1), (0, 1), (1, 1)], &[-2, -3, 4, 4])?;
     println!("same {}", yes_or_no(symbol.is_same(&relabelled)));
     // The rule that splits the leftmost open side: whichever symbol it finds, it

@@ -13,7 +13,7 @@ from .action import Action
 from .arguments import Matrix, Pair, matrix
 from .figures import Figures
 from .library import Fixed
-from .matrices import fits, unit, within
+from .matrices import fits, fits_alone, inverse, times, unit
 from .records import Cusp
 from .refusal import Refusal
 
@@ -87,9 +87,9 @@ class Cosets(Figures):
     def same_coset(self, A: Matrix, B: Matrix) -> bool:
         """Whether A and B share a right coset of H: True exactly where `word` would give
         a word, False where it would give None. No word is made, and long runs of T
-        cost no more than short ones. The engine is asked where A and B, or the identity and
-        B A⁻¹, have entries up to 1,000,000 in size, and its answer is proved; larger ones
-        are followed in its tables, as `coset_of` does. Refusal 9.
+        cost no more than short ones. The engine is asked where A and B have entries up to
+        1,000,000 in size, or B A⁻¹ has entries up to 10¹⁸, and its answer is proved; larger
+        ones are followed in its tables, as `coset_of` does. Refusal 9.
 
         >>> from farey import Symbol
         >>> gamma0_2 = Symbol([0, 1], [1, -2, 1])
@@ -97,12 +97,16 @@ class Cosets(Figures):
         >>> gamma0_2.same_coset(one, (1, 123456, 0, 1)), gamma0_2.same_coset(one, (1, 0, 123457, 1))
         (True, False)
         """
-        a, b = within(unit(matrix(A, "A"), "A"), unit(matrix(B, "B"), "B", 1))
-        if not fits(*a, *b):
-            action = self._action()
-            return action.image(0, a) == action.image(0, b)
-        spaces = [Fixed((c_int64 * 4)(*entries)) for entries in (a, b)]
-        return library.call("farey_same_coset", self._v, self._space, *spaces, library.work()) == 1
+        a, b = unit(matrix(A, "A"), "A"), unit(matrix(B, "B"), "B", 1)
+        if fits(*a, *b):
+            spaces = [Fixed((c_int64 * 4)(*entries)) for entries in (a, b)]
+            return library.call("farey_same_coset", self._v, self._space, *spaces, library.work()) == 1
+        between = times(b, inverse(a))
+        if fits_alone(between):
+            space = Fixed((c_int64 * 4)(*between))
+            return library.call("farey_contains_matrix", self._v, self._space, space, library.work()) == 1
+        action = self._action()
+        return action.image(0, a) == action.image(0, b)
 
     def same_cosets(self, pairs: Iterable[Pair]) -> List[Union[bool, Refusal]]:
         """The answers of `same_coset` for many pairs (A, B), up to a million at once, in

@@ -15,6 +15,8 @@ Q: Entries = (0, -1, 1, -1)
 
 #: The engine's queries take entries up to this size.
 LARGEST = 1_000_000
+#: The largest entry, in size, of the one matrix of the engine's call for one.
+MOST_ENTRY = 10**18
 
 
 def times(x: Entries, y: Entries) -> Entries:
@@ -56,13 +58,9 @@ def fits(*entries: int) -> bool:
     return max(map(abs, entries)) <= LARGEST
 
 
-def within(a: Entries, b: Entries) -> Tuple[Entries, Entries]:
-    """A and B, or I and B A⁻¹ where the queries take these only: they have the same words."""
-    if not fits(*a, *b):
-        between = times(b, inverse(a))
-        if fits(*between):
-            return I, between
-    return a, b
+def fits_alone(x: Entries) -> bool:
+    """Whether the engine's call for one matrix takes it."""
+    return max(map(abs, x)) <= MOST_ENTRY
 
 
 def unit(x: Entries, name: str, place: int = 0) -> Entries:

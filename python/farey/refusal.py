@@ -42,6 +42,7 @@ SENTENCES: Dict[int, str] = {
     26: "entry {place} of the tower isn't contained in the one that it names",
     27: "at byte {place} the text gets too long, breaks the form of cycle notation, repeats a point, names one "
         "outside 1 to the index or ends too early",
+    28: "entry {place} of the matrix is over 10^18 in size",
 }
 
 

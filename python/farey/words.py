@@ -4,6 +4,7 @@ from __future__ import annotations
 
 import sys
 from ctypes import c_int16, c_int64
+from functools import partial
 from typing import Any, Iterable, List, Optional, Sequence, Tuple, Union
 
 from . import arguments, library
@@ -11,7 +12,7 @@ from .arguments import Matrix, Pair, integer, integers, matrix, shown
 from .cosets import Cosets, with_large
 from .large import Walk
 from .library import Fixed
-from .matrices import I, Entries, fits, inverse, product, times, unit, within
+from .matrices import I, Entries, fits, fits_alone, inverse, product, times, unit
 from .normal_forms import reduced
 from .random_words import Randrange, draw
 from .records import Evidence, Word
@@ -21,6 +22,9 @@ from .refusal import Refusal
 _LETTERS = 1024
 #: The same for a sheet of pairs.
 _SHEET_LETTERS = 16384
+#: The engine goes along each T of a word that it writes: a longer word for large entries is
+#: written here, where what goes round is copied.
+_BY_LETTERS = 16384
 #: Where one matrix is given, and not two.
 _ABSENT: Any = object()
 #: A word with more letters is refused, unless the caller allows it.
@@ -44,8 +48,9 @@ class Words(Cosets):
         inverses, of any length, takes A to B up to sign. `why_none` gives evidence
         that can be checked without the engine.
 
-        Where A and B, or the identity and B A⁻¹, have entries up to 1,000,000 in size,
-        the engine is asked, and its answer is proved. With larger ones the answer
+        Where A and B have entries up to 1,000,000 in size, or B A⁻¹ has entries up to
+        10¹⁸ and its word at most 16,384 letters, the engine is asked, and its answer is
+        proved; None is proved in both cases. With larger ones the answer
         is None where A and B lead to two cosets in the engine's tables. A word for them
         is multiplied out in whole numbers, and is given only if it is reduced and its
         product is right: there is no other reduced word for B A⁻¹ up to sign, which is
@@ -76,22 +81,26 @@ class Words(Cosets):
         return self._word(unit(matrix(A, "A"), "A"), unit(matrix(B, "B"), "B", 1), integer(most, "most"))
 
     def _word(self, a: Entries, b: Entries, most: int) -> Optional[Word]:
-        a, b = within(a, b)
-        if not fits(*a, *b):
+        between = b if a == I else times(b, inverse(a))
+        small = fits(*a, *b)
+        if small:
+            ask = partial(self._query, a, b)
+        elif fits_alone(between):
+            ask = partial(self._matrix_query, between)
+        else:
             action = self._action()
             if action.image(0, a) != action.image(0, b):
                 return None
-            found = self._walk().word(times(b, inverse(a)))
-            if found.length > min(most, sys.maxsize):
-                raise _too_long(found.length, min(most, sys.maxsize))
-            return Word(found.letters(), found.sign)
+            return self._large_word(between, most)
         out, sign = (c_int16 * _LETTERS)(), (c_int64 * 1)()
-        number, place = self._query(a, b, out, sign)
+        number, place = ask(out, sign)
         if number == 11:
             if place > most:
                 raise _too_long(place, most)
+            if not small and place > _BY_LETTERS:
+                return self._large_word(between, most)
             out = (c_int16 * place)()
-            number, place = self._query(a, b, out, sign)
+            number, place = ask(out, sign)
         if number == 10:
             return None
         if number != 0:
@@ -99,6 +108,12 @@ class Words(Cosets):
         if place > most:
             raise _too_long(place, most)
         return Word(out[:place], sign[0])
+
+    def _large_word(self, between: Entries, most: int) -> Word:
+        found = self._walk().word(between)
+        if found.length > min(most, sys.maxsize):
+            raise _too_long(found.length, min(most, sys.maxsize))
+        return Word(found.letters(), found.sign)
 
     def words(self, pairs: Iterable[Pair]) -> List[Union[Word, None, Refusal]]:
         """The answers of `word` for many pairs (A, B), in their order: for each its
@@ -198,6 +213,10 @@ class Words(Cosets):
     def _query(self, a: Entries, b: Entries, out: Any, sign: Any) -> Tuple[int, int]:
         spaces = [Fixed((c_int64 * 4)(*entries)) for entries in (a, b)]
         return library.answer("farey_signed_query", self._v, self._space, *spaces, library.work(), out, 0, Fixed(sign))
+
+    def _matrix_query(self, m: Entries, out: Any, sign: Any) -> Tuple[int, int]:
+        space = Fixed((c_int64 * 4)(*m))
+        return library.answer("farey_signed_matrix_word", self._v, self._space, space, library.work(), out, 0, Fixed(sign))
 
     def _sheet(self, pairs: Sequence[Sequence[int]]) -> List[Union[Word, None, Refusal]]:
         """The answers for a sheet. Where its words have no room, they are asked for

@@ -205,8 +205,8 @@ class Lengths(unittest.TestCase):
         """With one letter of the tables altered nothing is answered but the right word."""
         rng = by_hand.seeded("altered")
         for H in (Symbol.gamma0(11), Symbol.gamma0(13), Symbol.gamma(3)):
-            X = by_hand.product(*(g.matrix for g in rng.choices(H.generators, k=40)))
-            self.assertGreater(max(map(abs, X)), 10**6)
+            X = by_hand.product(*(g.matrix for g in rng.choices(H.generators, k=120)))
+            self.assertGreater(max(map(abs, X)), 10**18)
             steps = H._walk().steps
             wrong = 0
             for name, table in steps.items():
@@ -241,11 +241,11 @@ class Kept(unittest.TestCase):
                     self.assertIs((1, 0, N, 1) in H, N % 30 == 0)
                 H.coset_of(by_hand.S), H.permutation(by_hand.R), H.cusp_of(by_hand.T), hash(H)
                 H.index, H.genus, H.level, H.widths, H.generators, H.S, H.R, H.T, H.coset_steps, H.sides(), H.box()
-                H.word((1, 0, 30 * 10**5, 1))
+                H.word(by_hand.product(*(g.matrix for g in H.generators * 5)))
         self.assertEqual(len(asked), len(set(asked)), asked)
 
     def test_the_engine_is_asked_where_it_can_be(self):
-        """Of large A and B with a small B A⁻¹ the engine is asked; of a large B A⁻¹ it isn't."""
+        """Of large A and B the engine is asked for B A⁻¹ where its entries are up to 10^18."""
         H, asked, answer = Symbol.gamma0(30), [], library.answer
 
         def noted(name, *arguments):
@@ -253,12 +253,13 @@ class Kept(unittest.TestCase):
             return answer(name, *arguments)
 
         A = by_hand.product((1, 10**9, 0, 1), (1, 0, 10**9, 1))
-        for X in ((1, 1, 0, 1), (1, 0, 30, 1), (1, 0, 29, 1), (1, 10**6 + 30, 0, 1)):
+        for X in ((1, 1, 0, 1), (1, 0, 30, 1), (1, 0, 29, 1), (1, 0, 10**18, 1), (1, 0, 10**18 + 1, 1)):
             del asked[:]
             with mock.patch.object(library, "answer", noted):
                 B = by_hand.product(X, A)
                 self.assertEqual((H.same_coset(A, B), H.word(A, B)), (X[2] % 30 == 0, H.word(X)))
-            self.assertEqual("farey_same_coset" in asked and "farey_signed_query" in asked, max(X) <= 10**6)
+            one = "farey_contains_matrix" in asked and "farey_signed_matrix_word" in asked
+            self.assertEqual(one, max(X) <= 10**18)
 
     def test_generators_of_deep_symbols(self):
         """By the leftmost rule generators have entries over 1,000,000: each is in its group, and is its own letter."""

@@ -29,7 +29,7 @@ class Sentences(unittest.TestCase):
     def test_all_lists(self):
         """The lists of the header and of the handbook, and the names and numbers of statements and code, are those of the table."""
         came = subprocess.run([TOOL], capture_output=True, text=True, timeout=60)
-        self.assertEqual((came.returncode, came.stdout, came.stderr), (0, "27 refusals, all lists as the table\n", ""))
+        self.assertEqual((came.returncode, came.stdout, came.stderr), (0, "28 refusals, all lists as the table\n", ""))
 
     def test_a_difference_is_found(self):
         """In a copy with one wrong word the tool names the file."""

@@ -5,12 +5,11 @@
 --   Refusal            a number and a place
 --   noRefusal          none: the number 0, and the place 0
 --   refusal n p        the refusal with the number n at the place p
---   badVertexCount .. badCycles  the refusals 1 to 27 by name, each at its place
+--   badVertexCount .. largeEntry  the refusals 1 to 28 by name, each at its place
 --   Checked            the answer of checks: accepted, or refused
 --   c orElse d         the first refusal of the two
 --   checkedRefusal     the refusal that an answer of checks is
 --   Filled             the answer of a call that fills a result space: how many things it made, or its refusal
---   filledBy c a       the refusal of the checks, or else the answer a
 --   filledRefusal      the refusal that such an answer is
 use Prim.Native.Nat.{ℕ}
 use Rattle.call.specs.declared.refusal.Refusal.{Refusal}
@@ -156,6 +155,12 @@ falseClaim i = refusal 26 i
 abbrev pub badCycles : ℕ → Refusal
 badCycles p = refusal 27 p
 
+-- ---- whoever sends one matrix
+
+-- an entry beyond 10¹⁸ in size: its index, 0 to 3
+abbrev pub largeEntry : ℕ → Refusal
+largeEntry i = refusal 28 i
+
 -- ---- the answers of checks
 
 infixr 5 _orElse_
@@ -172,8 +177,3 @@ checkedRefusal (checked.Refused f) = f
 abbrev pub filledRefusal : Filled → Refusal
 filledRefusal (filled.Made n) = noRefusal
 filledRefusal (filled.Refused f) = f
-
--- the checks come first
-abbrev pub filledBy : Checked → Filled → Filled
-filledBy (checked.Refused f) a = filled.Refused f
-filledBy checked.Accepted a = a

@@ -78,6 +78,8 @@ pub const NOT_LISTED_BEFORE: u64 = 25;
 pub const FALSE_CLAIM: u64 = 26;
 // Whoever writes cycles.
 pub const BAD_CYCLES: u64 = 27;
+// Whoever sends one matrix.
+pub const LARGE_ENTRY: u64 = 28;
 
 // The refusal that an answer of checks is.
 pub fn checked_refusal(answer: Checked) -> Refusal

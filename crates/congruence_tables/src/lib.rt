@@ -79,7 +79,7 @@ fn load(f: Family, w: &[u16], j: usize) -> Residues
 }
 
 // The part h and the multiplier s of the column c.
-fn put(w: &mut [u16], c: usize, h: u64, s: u64)
+fn store_column(w: &mut [u16], c: usize, h: u64, s: u64)
     requires { ⌜ (workLength ≤ length (now w)) × (c ≤ 1000) × (h ≤ 1000) × (s ≤ 1000) ⌝ }
     ensures { λ _. ⌜ now (w .exit) ≡ withColumn (now (w .entry)) c h s ⌝ }
 {
@@ -95,8 +95,8 @@ fn columns(n: u64, w: &mut [u16])
     let mut c: u64 = 0;
     while c + c <= n {
         let r = common_divisor(n, c);
-        put(w, c as usize, r.h, r.s);
-        put(w, (n - c) as usize, r.h, n - r.s);
+        store_column(w, c as usize, r.h, r.s);
+        store_column(w, (n - c) as usize, r.h, n - r.s);
         c += 1;
     }
 }

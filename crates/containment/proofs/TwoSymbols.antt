@@ -67,7 +67,7 @@ module _ (v : ℕ) (t : List ℤ) (v' : ℕ) (t' : List ℤ) (ok : IsSymbol v t)
   inside-words : LiesIn (InH gens) (InH gens') → EachIn gens gens'
   inside-words i j h = i (getD gens j 𝟙) (units v t ok j) (own-in gens j h)
 
-  inside-all : LiesIn (InH gens) (InH gens') ↔ Contained gens gens'
+  pub inside-all : LiesIn (InH gens) (InH gens') ↔ Contained gens gens'
   inside-all = (λ i. words-all (inside-words i), λ h m u. h m)
 
   decided-words : contained v t v' t' ≡ true → EachIn gens gens'

@@ -3,7 +3,7 @@
 -- In order: which places are positions (`real-low`, `real-high`); signs of frames (`frame-low`, `frame-high`, `edge-low`, `edge-high`, `crossing-none`,
 -- `crossing-some`); codes of letters (`coded-…`, `decoded-fits`, `letter-most`) and of signs (`code-plus`, `code-minus`); one step noted
 -- (`prepared-none`, `prepared-skip`, `prepared-more`, `prepared-all`); its sign (`sign-step`); where S leads is a position, and so it is after a turn
--- (`step-low`, `forth-low`, `back-low`); Q twice on an outer face (`back-face`).
+-- (`step-low`, `turn-low`); turns of an outer face and of a corner (`turn-stays`, `turn-is`); which table is read (`table-is`, `table-low`).
 -- Assumes nothing.
 use mathlib.Core.Path.{_≡_, refl, sym, _∙_, ap}
 use mathlib.Core.Bool.{Bool, true, false, not, _||_}
@@ -16,7 +16,7 @@ use lib.Seq.{getD-set-same, getD-set-other}
 use lib.IntN.{ℤ, pos, negsuc, natAbs, _+ℤ_, _-ℤ_, +ℤ-negℤ-cancel}
 use lib.Signed.{ltZ}
 use mir.Syntax.{w16}
-use mir.Val.{SFits, toZ, ofZ}
+use mir.Val.{SFits, toZ, ofZ, boolByte}
 use mir.Facts.{toZ-ofZ, toZ-pos}
 use borrow.Author.Tests.{lt-ltb, le-ltb, ltb-true, ltb-false, eq-eqb, ne-eqb}
 use borrow.Author.Count.{below-more}
@@ -24,17 +24,21 @@ use Rattle.matrix.specs.Words.{S, Q, P}
 use Rattle.symbol.specs.Symbol.{IsSymbol}
 use Rattle.pairing.specs.Generator.{generators, isLeader}
 use Rattle.pairing.specs.Subgroup.{IsWord}
+use Rattle.basics.specs.Choice.{pick}
 use Rattle.basics.proofs.Choice.{clash, pick-true, pick-false}
 use Rattle.polygon.specs.Cut.{corners, outer, places}
 use Rattle.polygon.specs.Step.{oddAt, real, Real, stepS, turnQ, written}
+use Rattle.polygon.specs.Walk.{goes}
+use Rattle.polygon.specs.Corner.{TurnsTo}
 use Rattle.polygon.specs.Inner.Tables.{PolygonTables, lettersOf}
 use Rattle.polygon.proofs.Flip.{real-in, turn-face}
+use Rattle.polygon.proofs.Corner.{forth-is, back-is}
 use Rattle.polygon.proofs.Polygon.{polygon}
 use Rattle.polygon.proofs.Partners.{tables-set}
 use Rattle.polygon.proofs.SymbolFacts.{length-generators, count-most}
 use Rattle.signs.specs.Sign.{_·_}
 use Rattle.signs.specs.Step.{leftToRight, frameSign, crossingSign, stepSign}
-use Rattle.coset.specs.Inner.Steps.{NEXT, LETTER, FORTH, BACK, letterIn, signIn, StepsReady}
+use Rattle.coset.specs.Inner.Steps.{NEXT, LETTER, FORTH, BACK, blockTable, turnBy, letterIn, signIn, StepsReady}
 use Rattle.coset.proofs.Positions.{crossing-equation}
 
 -- ---- which places are positions
@@ -142,8 +146,7 @@ prepared-none g = record {
   codes = λ p h. absurd (omega arith);
   letters = λ p h. absurd (omega arith);
   signs = λ p h. absurd (omega arith);
-  forths = λ p h. absurd (omega arith);
-  backs = λ p h. absurd (omega arith);
+  blocks = λ b p h. absurd (omega arith);
   crossings = λ p h. absurd (omega arith);
 }
 
@@ -155,8 +158,7 @@ module _ {t : List ℤ} {v : ℕ} {w : List ℕ} {p : ℕ} (g : StepsReady t v w
     codes = below-more _ p (g .codes) (λ r. clash r e);
     letters = below-more _ p (g .letters) (λ r. clash r e);
     signs = below-more _ p (g .signs) (λ r. clash r e);
-    forths = below-more _ p (g .forths) (λ r. clash r e);
-    backs = below-more _ p (g .backs) (λ r. clash r e);
+    blocks = λ b. below-more _ p (g .blocks b) (λ r. clash r e);
     crossings = below-more _ p (g .crossings) (λ r. clash r e);
   }
 
@@ -183,8 +185,22 @@ module _ {t : List ℤ} {v : ℕ} {w : List ℕ} {p : ℕ} (g : StepsReady t v w
     pub noted-long : length noted ≡ length w
     noted-long = length-set w3 (BACK + p) b ∙ length-set w2 (FORTH + p) f ∙ length-set w1 (LETTER + p) code ∙ length-set w (NEXT + p) to
 
+    -- both tables of turns: below p they stay, and at p is what is noted
+    block-other : (d : Bool) (j : ℕ) → j < p → getD noted (blockTable d + j) 0 ≡ getD w (blockTable d + j) 0
+    block-other true j a = let most = g .tables .symbol .most in
+        other (BACK + j) (λ n. omega arith) (λ n. omega arith) (λ n. omega arith) (λ n. omega arith)
+    block-other false j a = let most = g .tables .symbol .most in
+        other (FORTH + j) (λ n. omega arith) (λ n. omega arith) (λ n. omega arith) (λ n. omega arith)
+
+    block-here : (d : Bool) → BACK + p < length w → f ≡ turnBy v false to → b ≡ turnBy v true to
+        → getD noted (blockTable d + p) 0 ≡ goes v t (pick d P Q) to
+    block-here true l y x = getD-set-same w3 (BACK + p) b 0 (omega (arith, noted-long, length-set w3 (BACK + p) b)) ∙ x
+    block-here false l y x =
+        getD-set-other w3 (BACK + p) (FORTH + p) b 0 (λ n. omega arith)
+        ∙ getD-set-same w2 (FORTH + p) f 0 (omega (arith, length-set w1 (LETTER + p) code, length-set w (NEXT + p) to)) ∙ y
+
     pub prepared-more : (z : ℤ) → to ≡ stepS v t p → code / 2 ≤ 2048 → pos (code / 2) -ℤ pos 1024 ≡ z → lettersOf z ≡ written v t S p
-        → eqb (code % 2) 1 ≡ stepSign v t S p → f ≡ turnQ v to → b ≡ turnQ v (turnQ v to) → StepsReady t v noted (p + 1)
+        → eqb (code % 2) 1 ≡ stepSign v t S p → f ≡ turnBy v false to → b ≡ turnBy v true to → StepsReady t v noted (p + 1)
     prepared-more z e c k l i y x =
         let most = g .tables .symbol .most in
         let long = g .tables .long in
@@ -199,8 +215,6 @@ module _ {t : List ℤ} {v : ℕ} {w : List ℕ} {p : ℕ} (g : StepsReady t v w
         let here : getD noted (LETTER + p) 0 ≡ code =
         getD-set-other w3 (BACK + p) (LETTER + p) b 0 (λ n. omega arith) ∙ getD-set-other w2 (FORTH + p) (LETTER + p) f 0 (λ n. omega arith)
         ∙ getD-set-same w1 (LETTER + p) code 0 (omega arith) in
-        let on : getD noted (FORTH + p) 0 ≡ f =
-        getD-set-other w3 (BACK + p) (FORTH + p) b 0 (λ n. omega arith) ∙ getD-set-same w2 (FORTH + p) f 0 (omega arith) in
         let letter : (j : ℕ) → j < p → getD noted (LETTER + j) 0 ≡ getD w (LETTER + j) 0 =
         λ j a. other (LETTER + j) (λ n. omega arith) (λ n. omega arith) (λ n. omega arith) (λ n. omega arith) in
         let steps' : (j : ℕ) → j < p + 1 → Real v t j → getD noted (NEXT + j) 0 ≡ stepS v t j =
@@ -213,18 +227,15 @@ module _ {t : List ℤ} {v : ℕ} {w : List ℕ} {p : ℕ} (g : StepsReady t v w
         let signs' : (j : ℕ) → j < p + 1 → Real v t j → signIn noted j ≡ stepSign v t S j =
         below-more _ p (λ j a r. ap (λ (n : ℕ). eqb (n % 2) 1) (letter j a) ∙ g .signs j a r)
         (λ r. ap (λ (n : ℕ). eqb (n % 2) 1) here ∙ i) in
+        let blocks' : (d : Bool) (j : ℕ) → j < p + 1 → Real v t j → getD noted (blockTable d + j) 0 ≡ goes v t (pick d P Q) (stepS v t j) = λ d.
+        below-more _ p (λ j a r. block-other d j a ∙ g .blocks d j a r) (λ r. block-here d (omega arith) y x ∙ ap (goes v t (pick d P Q)) e) in
         record {
           tables = tables-set (BACK + p) b tables3 (omega arith) (omega arith);
           steps = steps';
           codes = below-more _ p (λ j a r. rw (letter j a) (g .codes j a r)) (λ r. rw here c);
           letters = letters';
           signs = signs';
-          forths = below-more _ p
-              (λ j a r. other (FORTH + j) (λ n. omega arith) (λ n. omega arith) (λ n. omega arith) (λ n. omega arith) ∙ g .forths j a r)
-              (λ r. on ∙ y ∙ ap (turnQ v) e);
-          backs = below-more _ p
-              (λ j a r. other (BACK + j) (λ n. omega arith) (λ n. omega arith) (λ n. omega arith) (λ n. omega arith) ∙ g .backs j a r)
-              (λ r. getD-set-same w3 (BACK + p) b 0 (omega arith) ∙ x ∙ ap (λ (i : ℕ). turnQ v (turnQ v i)) e);
+          blocks = blocks';
           crossings = λ j a r.
               crossing-equation v t (g .tables .symbol) j (getD noted (NEXT + j) 0) (lettersOf (letterIn noted j)) (signIn noted j) r
               (steps' j a r) (letters' j a r) (signs' j a r);
@@ -247,14 +258,26 @@ module _ (v : ℕ) (t : List ℤ) (ok : IsSymbol v t) (p to : ℕ) (r : Real v t
   pub step-low : to < places v
   step-low = real-in v t ok to step-real
 
-  pub forth-low : (q : ℕ) → q ≡ turnQ v to → q < places v
-  forth-low q f = rw f (real-in v t ok (turnQ v to) (polygon v t ok .closed Q to step-real))
+  pub turn-low : (b : Bool) (q : ℕ) → q ≡ turnBy v b to → q < places v
+  turn-low true q f = rw f (real-in v t ok (turnQ v (turnQ v to)) (polygon v t ok .closed P to step-real))
+  turn-low false q f = rw f (real-in v t ok (turnQ v to) (polygon v t ok .closed Q to step-real))
 
-  pub back-low : (q : ℕ) → q ≡ turnQ v (turnQ v to) → q < places v
-  back-low q f = rw f (real-in v t ok (turnQ v (turnQ v to)) (polygon v t ok .closed P to step-real))
-
--- ---- Q twice
+-- ---- turns
 
 module _ (v p : ℕ) where
-  pub back-face : corners v ≤ p → p ≡ turnQ v (turnQ v p)
-  back-face h = let e = turn-face v p h in sym (ap (turnQ v) e ∙ e)
+  pub turn-stays : (b : Bool) → corners v ≤ p → p ≡ turnBy v b p
+  turn-stays true h = let e = turn-face v p h in sym (ap (turnQ v) e ∙ e)
+  turn-stays false h = sym (turn-face v p h)
+
+  pub turn-is : (b : Bool) (d : ℕ) → p < corners v → d < 3 → TurnsTo b (p % 3) d → p - p % 3 + d ≡ turnBy v b p
+  turn-is true d h low t = back-is v p d h low t
+  turn-is false d h low t = forth-is v p d h low t
+
+-- the table of a turn, as the code finds it
+pub table-is : (b : Bool) → FORTH + 4096 * boolByte b ≡ blockTable b
+table-is true = refl
+table-is false = refl
+
+pub byte-most : (b : Bool) → boolByte b ≤ 1
+byte-most true = omega arith
+byte-most false = omega arith

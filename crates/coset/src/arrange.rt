@@ -17,7 +17,7 @@ ghost use Rattle.polygon.specs.Inner.Tables.{PolygonTables};
 ghost use Rattle.coset.specs.Inner.Work.{FilledS, Inside, FilledR, Arranged};
 
 // The S image of the place p; the outer face of a side that isn't odd stays.
-fn image_s(t: &[i64], v: usize, w: &[u16], p: usize) -> usize
+pub fn image_s(t: &[i64], v: usize, w: &[u16], p: usize) -> usize
     requires { ⌜ PolygonTables (now t) v (now w) × (p < places v) ⌝ }
     ensures { λ r. ⌜ r ≡ stepS v (now (t .entry)) p ⌝ }
 {
@@ -66,7 +66,7 @@ fn fill_r(v: usize, w: &mut [u16])
 }
 
 // The position that stands for H, from the one where the walk starts.
-fn origin(t: &[i64], v: usize, w: &[u16], start: usize) -> usize
+pub fn origin(t: &[i64], v: usize, w: &[u16], start: usize) -> usize
     requires { ⌜ PolygonTables (now t) v (now w) × (start ≡ startOf v (now t)) ⌝ }
     ensures { λ r. ⌜ r ≡ originOf v (now (t .entry)) ⌝ }
 {

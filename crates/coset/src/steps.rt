@@ -13,12 +13,13 @@ ghost use Rattle.basics.specs.Choice.{pick};
 ghost use Rattle.matrix.specs.Words.{S, Q, P};
 ghost use Rattle.symbol.specs.Symbol.{IsSymbol};
 ghost use Rattle.polygon.specs.Cut.{places};
-ghost use Rattle.polygon.specs.Step.{real, Real, stepS, turnQ, written, turned};
+ghost use Rattle.polygon.specs.Step.{real, Real, stepS, written, turned};
+ghost use Rattle.polygon.specs.Walk.{goes};
 ghost use Rattle.polygon.specs.Inner.Tables.{PolygonTables, lettersOf};
 ghost use Rattle.signs.specs.Sign.{plus, _·_};
 ghost use Rattle.signs.specs.Step.{leftToRight, frameSign, crossingSign, stepSign};
 ghost use Rattle.coset.specs.Positions.{StepEquation};
-ghost use Rattle.coset.specs.Inner.Steps.{StepsReady, StepTables, BuiltSteps};
+ghost use Rattle.coset.specs.Inner.Steps.{turnBy, StepsReady, StepTables, BuiltSteps};
 
 pub const NEXT: usize = 8192;
 
@@ -131,8 +132,8 @@ fn note_step(t: &[i64], v: usize, w: &mut [u16], p: usize)
     let both = with_sign(code, sign);
     w[NEXT + p] = to as u16;
     w[LETTER + p] = both;
-    let forth = turn_q(v, to);
-    let back = turn_back(v, to);
+    let forth = turn(v, to, false);
+    let back = turn(v, to, true);
     w[FORTH + p] = forth as u16;
     w[BACK + p] = back as u16;
 }
@@ -209,40 +210,25 @@ pub fn sign_of_s(t: &[i64], v: usize, w: &[u16], p: usize) -> bool
     w[LETTER + p] % 2 == 1
 }
 
-// Q at p: the next corner of the triangle, or p itself where p is an outer face.
-pub fn turn_q(v: usize, p: usize) -> usize
+// Q at p, or Q⁻¹ where `inverse` holds: another corner of the triangle, or p itself where p is an outer face.
+pub fn turn(v: usize, p: usize, inverse: bool) -> usize
     requires { ⌜ (1 ≤ v) × (v ≤ 1023) ⌝ }
-    ensures { λ r. ⌜ r ≡ turnQ v p ⌝ }
-{
-    polygon::walking::turn_q(v, p)
-}
-
-// Q⁻¹ at p, which is Q twice.
-pub fn turn_back(v: usize, p: usize) -> usize
-    requires { ⌜ (1 ≤ v) × (v ≤ 1023) ⌝ }
-    ensures { λ r. ⌜ r ≡ turnQ v (turnQ v p) ⌝ }
+    ensures { λ r. ⌜ r ≡ turnBy v inverse p ⌝ }
 {
     if 3 * (v - 1) <= p {
         return p;
     }
     let c = p % 3;
-    p - c + next_corner(c, true)
+    p - c + next_corner(c, inverse)
 }
 
-// S and then Q at the real position p.
-pub fn forth(t: &[i64], v: usize, w: &[u16], p: usize) -> usize
+// S and then Q, or Q⁻¹ where `inverse` holds, at the real position p: the second table lies behind the first.
+pub fn block_end(t: &[i64], v: usize, w: &[u16], p: usize, inverse: bool) -> usize
     requires { ⌜ StepTables (now t) v (now w) × Real v (now t) p ⌝ }
-    ensures { λ r. ⌜ r ≡ turnQ v (stepS v (now (t .entry)) p) ⌝ }
+    ensures { λ r. ⌜ r ≡ goes v (now (t .entry)) (pick inverse P Q) (stepS v (now (t .entry)) p) ⌝ }
 {
-    call::workspace::index(w[FORTH + p])
-}
-
-// S and then Q⁻¹ there.
-pub fn back(t: &[i64], v: usize, w: &[u16], p: usize) -> usize
-    requires { ⌜ StepTables (now t) v (now w) × Real v (now t) p ⌝ }
-    ensures { λ r. ⌜ r ≡ turnQ v (turnQ v (stepS v (now (t .entry)) p)) ⌝ }
-{
-    call::workspace::index(w[BACK + p])
+    let table = FORTH + 4096 * (inverse as usize);
+    call::workspace::index(w[table + p])
 }
 
 // The letter that Q, or Q⁻¹ where `inverse` holds, writes at the real position p, 0 where it writes none. The sign of a

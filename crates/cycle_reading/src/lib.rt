@@ -12,7 +12,7 @@ use phases::quiet;
 use pieces::digit;
 use pieces::digits_at;
 use pieces::piece_at;
-use points::turn;
+use points::take_piece;
 ghost use mathlib.Core.Path.{_≡_};
 ghost use mathlib.Core.Bool.{true, false, not};
 ghost use mathlib.Core.List.{[], _++_};
@@ -157,7 +157,7 @@ fn go_through(
         let found = piece_at(text, at);
         let piece = found.piece;
         let to = found.to;
-        part = turn(semi, n, piece, part, marks, table);
+        part = take_piece(semi, n, piece, part, marks, table);
         let phase = part.phase;
         if phase == STOP {
             return PartEnd::Lost(at);

@@ -124,7 +124,7 @@ pub(crate) fn shut(part: Part, phase: u8) -> Part
 }
 
 // What a piece does to a permutation.
-pub(crate) fn turn(
+pub(crate) fn take_piece(
     semi: bool,
     n: u64,
     piece: Piece,

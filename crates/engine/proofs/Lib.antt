@@ -1,6 +1,7 @@
 -- What the proofs of the exported functions share.
 pub mod Numbers
 pub mod Said
+pub mod MatrixSaid
 pub mod Lent
 pub mod Drawn
 pub mod Written

@@ -120,7 +120,7 @@ module _ (v : ℕ) (t : List ℤ) (w : List ℕ) where
   )
 
 -- the walk's checks
-walk-numbered : (home : Bool) (n : ℕ) (fits : Bool) → Numbered (Asks (refuse (not home) noWord) ∷ Asks (refuse (not fits) (tooShort n)) ∷ [])
+pub walk-numbered : (home : Bool) (n : ℕ) (fits : Bool) → Numbered (Asks (refuse (not home) noWord) ∷ Asks (refuse (not fits) (tooShort n)) ∷ [])
 walk-numbered home n fits = (above-refuse (not home) noWord (omega arith), (above-short (not fits) n, tt))
 
 pub query-numbered : (v : ℕ) (t a b : List ℤ) (w w' : List ℕ) (out out' : List ℤ) (start : ℕ) → Numbered (queryRun v t a b w w' out out' start)

@@ -114,15 +114,15 @@ module _ {order : Order} {k n : ℕ} {a b : List ℤ} {w : List ℕ} {out : List
 -- ---- the calls
 
 module _ (start n : ℕ) (sign : Bool) where
-  place-if : (c : Checked) → queryPlace (wordIf start n sign c) ≡ ifAccepted c n (checkedRefusal c .place)
+  pub place-if : (c : Checked) → queryPlace (wordIf start n sign c) ≡ ifAccepted c n (checkedRefusal c .place)
   place-if Accepted = refl
   place-if (Refused f) = refl
 
-  sign-if : (c : Checked) (y : ℤ) → signWritten (wordIf start n sign c) y ≡ ifAccepted c (signNumber sign) y
+  pub sign-if : (c : Checked) (y : ℤ) → signWritten (wordIf start n sign c) y ≡ ifAccepted c (signNumber sign) y
   sign-if Accepted y = refl
   sign-if (Refused f) y = refl
 
-  number-if : (c : Checked) → checkedRefusal c .number ≡ queryRefusal (wordIf start n sign c) .number
+  pub number-if : (c : Checked) → checkedRefusal c .number ≡ queryRefusal (wordIf start n sign c) .number
   number-if c = same-number (sym (refusal-if start n sign c))
 
 -- the exported call, from the answer of the query beneath it

@@ -2,7 +2,24 @@
 use crate::answers::of_filled;
 ghost use Rattle.call.specs.Call.{Call};
 ghost use Rattle.import_rule.specs.Order.{leftmost, longestOpen};
+ghost use Rattle.import_symbol.specs.Answer.{orderBy};
 ghost use Rattle.import_call.specs.Import.{importCall, importLengthCall};
+
+// The symbol of the matrices that fix point 0, by the wide rule or by the rule.
+fn symbol_by(
+    s: &[u32],
+    r: &[u32],
+    w: &mut [u16],
+    out: &mut [i64],
+    wide: bool,
+    place: &mut usize,
+) -> u64
+    ensures { λ n. ⌜ Call (importCall (orderBy wide) (now (s .entry)) (now (r .entry)) w out) n (now (place .exit)) ⌝ }
+{
+    let said = of_filled(import_call::import_by(s, r, w, out, wide));
+    *place = said.place;
+    said.number
+}
 
 // The symbol of the matrices that fix point 0, from the tables of S and R, from the front of out.
 #[no_mangle]
@@ -15,9 +32,7 @@ pub extern "C" fn farey_import(
 ) -> u64
     ensures { λ n. ⌜ Call (importCall leftmost (now (s .entry)) (now (r .entry)) w out) n (now (place .exit)) ⌝ }
 {
-    let said = of_filled(import_call::import(s, r, w, out));
-    *place = said.place;
-    said.number
+    symbol_by(s, r, w, out, false, place)
 }
 
 // The same by the wide rule.
@@ -31,9 +46,7 @@ pub extern "C" fn farey_import_wide(
 ) -> u64
     ensures { λ n. ⌜ Call (importCall longestOpen (now (s .entry)) (now (r .entry)) w out) n (now (place .exit)) ⌝ }
 {
-    let said = of_filled(import_call::import_wide(s, r, w, out));
-    *place = said.place;
-    said.number
+    symbol_by(s, r, w, out, true, place)
 }
 
 // The length of the table that these two would write.

@@ -8,6 +8,7 @@ mod answers;
 pub mod cosets;
 pub mod exchanging;
 pub mod imports;
+pub mod matrices;
 pub mod named;
 pub mod notation;
 pub mod queries;

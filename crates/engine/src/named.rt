@@ -4,6 +4,7 @@ use crate::answers::of_query;
 use crate::answers::sign_written;
 ghost use Rattle.call.specs.Call.{Call};
 ghost use Rattle.import_rule.specs.Order.{leftmost, longestOpen};
+ghost use Rattle.import_symbol.specs.Answer.{orderBy};
 ghost use Rattle.named_groups.specs.Answer.{namedTablesCall, namedSymbolCall};
 ghost use Rattle.named_groups.specs.Claim.{namedQueryCall, namedSignedQueryCall};
 
@@ -24,6 +25,66 @@ pub extern "C" fn farey_named_tables(
     said.number
 }
 
+// The symbol of a congruence group, by the wide rule or by the rule.
+fn symbol_by(
+    family: u64,
+    n: u64,
+    w: &mut [u16],
+    out: &mut [i64],
+    wide: bool,
+    place: &mut usize,
+) -> u64
+    ensures { λ i. ⌜ Call (namedSymbolCall (orderBy wide) family n w out) i (now (place .exit)) ⌝ }
+{
+    let said = of_filled(named_groups::named_symbol_by(family, n, w, out, wide));
+    *place = said.place;
+    said.number
+}
+
+// A query on the group's symbol, by the wide rule or by the rule.
+fn query_by(
+    family: u64,
+    n: u64,
+    a: &[i64; 4],
+    b: &[i64; 4],
+    w: &mut [u16],
+    out: &mut [i16],
+    start: usize,
+    wide: bool,
+    place: &mut usize,
+) -> u64
+    ensures { λ i. ⌜ Call (namedQueryCall (orderBy wide) family n (now (a .entry)) (now (b .entry)) w out start)
+        i (now (place .exit)) ⌝ }
+{
+    let said = of_query(named_groups::named_query_by(family, n, *a, *b, w, out, start, wide));
+    *place = said.place;
+    said.number
+}
+
+// The same, with the sign of the word.
+fn signed_query_by(
+    family: u64,
+    n: u64,
+    a: &[i64; 4],
+    b: &[i64; 4],
+    w: &mut [u16],
+    out: &mut [i16],
+    start: usize,
+    wide: bool,
+    sign: &mut i64,
+    place: &mut usize,
+) -> u64
+    ensures { λ i. ⌜ Call
+        (namedSignedQueryCall (orderBy wide) family n (now (a .entry)) (now (b .entry)) w out start sign)
+        i (now (place .exit)) ⌝ }
+{
+    let answer = named_groups::named_query_by(family, n, *a, *b, w, out, start, wide);
+    *sign = sign_written(answer, *sign);
+    let said = of_query(answer);
+    *place = said.place;
+    said.number
+}
+
 // The symbol of a congruence group by the rule, from the front of out.
 #[no_mangle]
 pub extern "C" fn farey_named_symbol(
@@ -35,9 +96,7 @@ pub extern "C" fn farey_named_symbol(
 ) -> u64
     ensures { λ i. ⌜ Call (namedSymbolCall leftmost family n w out) i (now (place .exit)) ⌝ }
 {
-    let said = of_filled(named_groups::named_symbol(family, n, w, out));
-    *place = said.place;
-    said.number
+    symbol_by(family, n, w, out, false, place)
 }
 
 // The same by the wide rule.
@@ -51,9 +110,7 @@ pub extern "C" fn farey_named_symbol_wide(
 ) -> u64
     ensures { λ i. ⌜ Call (namedSymbolCall longestOpen family n w out) i (now (place .exit)) ⌝ }
 {
-    let said = of_filled(named_groups::named_symbol_wide(family, n, w, out));
-    *place = said.place;
-    said.number
+    symbol_by(family, n, w, out, true, place)
 }
 
 // A word in the generators of the group's symbol by the rule that takes A to B up to sign, or 10: B A⁻¹ is not in the
@@ -72,9 +129,7 @@ pub extern "C" fn farey_named_query(
     ensures { λ i. ⌜ Call (namedQueryCall leftmost family n (now (a .entry)) (now (b .entry)) w out start)
         i (now (place .exit)) ⌝ }
 {
-    let said = of_query(named_groups::named_query(family, n, *a, *b, w, out, start));
-    *place = said.place;
-    said.number
+    query_by(family, n, a, b, w, out, start, false, place)
 }
 
 // The same, with the sign of the word; a refusal leaves the number that stood there.
@@ -93,11 +148,7 @@ pub extern "C" fn farey_named_signed_query(
     ensures { λ i. ⌜ Call (namedSignedQueryCall leftmost family n (now (a .entry)) (now (b .entry)) w out start sign)
         i (now (place .exit)) ⌝ }
 {
-    let answer = named_groups::named_query(family, n, *a, *b, w, out, start);
-    *sign = sign_written(answer, *sign);
-    let said = of_query(answer);
-    *place = said.place;
-    said.number
+    signed_query_by(family, n, a, b, w, out, start, false, sign, place)
 }
 
 // The same on the symbol by the wide rule.
@@ -115,9 +166,7 @@ pub extern "C" fn farey_named_query_wide(
     ensures { λ i. ⌜ Call (namedQueryCall longestOpen family n (now (a .entry)) (now (b .entry)) w out start)
         i (now (place .exit)) ⌝ }
 {
-    let said = of_query(named_groups::named_query_wide(family, n, *a, *b, w, out, start));
-    *place = said.place;
-    said.number
+    query_by(family, n, a, b, w, out, start, true, place)
 }
 
 // The same on the symbol by the wide rule, with the sign of the word; a refusal leaves the number that stood there.
@@ -136,9 +185,5 @@ pub extern "C" fn farey_named_signed_query_wide(
     ensures { λ i. ⌜ Call (namedSignedQueryCall longestOpen family n (now (a .entry)) (now (b .entry)) w out start sign)
         i (now (place .exit)) ⌝ }
 {
-    let answer = named_groups::named_query_wide(family, n, *a, *b, w, out, start);
-    *sign = sign_written(answer, *sign);
-    let said = of_query(answer);
-    *place = said.place;
-    said.number
+    signed_query_by(family, n, a, b, w, out, start, true, sign, place)
 }

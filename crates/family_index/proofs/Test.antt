@@ -20,7 +20,7 @@ use Rattle.congruence.proofs.Factor.{lowest-is}
 use Rattle.congruence.proofs.Index0.{index0-is, index0-exact, index0-one, index0-splits}
 use Rattle.congruence.proofs.Theorem.{tables}
 use Rattle.congruence.specs.declared.Family.the-variants as family
-use Rattle.family_index.specs.Entry.{Gamma0Entry}
+use Rattle.family_index.specs.Gamma0Entry.{Gamma0Entry}
 use Rattle.family_index.specs.Inner.Test.{indexBy, rightFrom}
 
 module _ (n : ℕ) (h : 1 < n) where

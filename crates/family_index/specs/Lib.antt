@@ -1,4 +1,4 @@
 -- What a reader of the crate `family_index` must believe: what an entry of the table of Γ0(n) says. The index itself is
 -- defined in the crate `congruence`.
-pub mod Entry
+pub mod Gamma0Entry
 pub mod Inner

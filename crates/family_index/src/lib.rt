@@ -8,7 +8,7 @@ ghost use Prim.Native.Nat.{_≤_, _<_};
 ghost use lib.ListN.{length};
 ghost use Rattle.congruence.specs.Index.{index0, familyIndex};
 ghost use Rattle.congruence.specs.Inner.Common.{Modulus};
-ghost use Rattle.family_index.specs.Entry.{Gamma0Entry};
+ghost use Rattle.family_index.specs.Gamma0Entry.{Gamma0Entry};
 ghost use Rattle.family_index.specs.Inner.Test.{rightFrom};
 
 // What the program `index_table` writes is this file, byte for byte.

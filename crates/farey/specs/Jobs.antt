@@ -4,12 +4,19 @@
 --   FindsJob name found          the job that has this name, or that none has it
 --   bytesOf job longer t         the bytes for a text t, where `longer` says whether the input goes on behind it
 --   MeansOf job longer t bytes   what they mean
+--   AnswersName name buffer e out out' input
+--                                the answer to a name and an input: of the job that has the name, the bytes for the
+--                                input's text are printed, and they mean what they should; where none has it, nothing
+--                                is written; and it ends within the slice
 -- No two jobs have one name (`one-job` in proofs/Names.antt).
-use Prim.Native.Nat.{ℕ}
+use Prim.Native.Nat.{ℕ, _≤_}
 use mathlib.Core.Path.{_≡_}
 use mathlib.Core.Bool.{Bool}
 use mathlib.Core.List.{List}
+use lib.ListN.{length}
 use Rattle.decimal.specs.Ascii.{ascii}
+use Rattle.text.specs.Input.{AnswersInput}
+use Rattle.text.specs.declared.input.Input.{Input}
 use Rattle.import_rule.specs.Order.{leftmost, longestOpen}
 use Rattle.query_text.specs.Printed.{sheetBytes, SheetPrintMeans}
 use Rattle.symbol_texts.specs.ImportAnswer.{requestOf, importedBy}
@@ -65,3 +72,8 @@ MeansOf job.Intersection longer t bytes = IntersectionPrintMeans longer t bytes
 MeansOf job.Tower longer t bytes = TowerPrintMeans longer t bytes
 MeansOf job.Cycles longer t bytes = CyclesPrinted t longer bytes
 MeansOf job.ToCycles longer t bytes = ExportPrintMeans (requestOf longer t) bytes
+
+pub record AnswersName (name buffer : List ℕ) (e : ℕ) (out out' : List ℕ) (input : Input) : Type 0 where
+  pub job : (j : Job) → name ≡ nameOf j → AnswersInput (bytesOf j) (MeansOf j) buffer e out out' input
+  pub no-job : ((j : Job) → name ≡ nameOf j → ⊥) → (e ≡ 0) × (out' ≡ out)
+  pub inside : e ≤ length out'

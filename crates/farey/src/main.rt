@@ -9,7 +9,7 @@ mod jobs;
 ghost use mathlib.Core.Path.{_≡_};
 ghost use Rattle.farey.specs.Jobs.{FindsJob};
 ghost use Rattle.farey.specs.Inner.Says.{Says};
-use jobs::answer;
+use jobs::answer_named;
 use libc::STDERR_FILENO;
 
 // What the program can be asked for.
@@ -41,15 +41,15 @@ fn main() {
     // The longest name has 12 bytes. Of an argument that is longer than 16 none is taken.
     let mut name = [0u8; 16];
     let n = os::arg(1, &mut name);
-    let found = find_job(&name[..n]);
-    let Found::Job(job) = found else {
+    // A name of no job waits for no input.
+    let Found::Job(_) = find_job(&name[..n]) else {
         tell_names();
         return;
     };
     let mut text = [0u8; 65536];
     let input = stdio::read_whole(&mut text);
     let mut out = [0u8; 131072];
-    let end = answer(job, &text, input, &mut out);
+    let end = answer_named(&name[..n], &text, input, &mut out);
     stdio::write_whole(&out[..end]);
 }
 

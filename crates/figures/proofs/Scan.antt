@@ -1,5 +1,5 @@
 -- One law for each place in the code of the figures.
--- In order: `mark_cycle`; `turn`; `cusp_widths`; `fixed_points`; `level_of`; `figures_of`.
+-- In order: `mark_cycle`; `list_cycle`; `cusp_widths`; `fixed_points`; `level_of`; `figures_of`.
 -- Assumes nothing.
 use mathlib.Core.Path.{_≡_, refl, sym, ap, _∙_}
 use mathlib.Core.Logic.{_≢_, inl, inr}
@@ -133,7 +133,7 @@ module _ {n x c₀ : ℕ} {w₀ : List ℕ} (p : NewCycle n x c₀ w₀) where
           ] in
           record { sparse = v .sparse; frame = walk-frame; list = rw s at walk-list }
 
--- ---- `turn`
+-- ---- `list_cycle`
 frame-refl : (k : ℕ) (w : List ℕ) → CuspFrame k w w
 frame-refl k w = record { same = refl; below = λ i h. refl; between = λ i h g. refl; above = λ i h. refl }
 

@@ -64,7 +64,7 @@ struct Counts {
 }
 
 // One point of the scan: if it is in no cycle so far, its cycle is the next cusp's, and it is the smallest point there.
-fn turn(w: &mut [u16], n: usize, i: usize, c: usize, k: usize) -> Counts
+fn list_cycle(w: &mut [u16], n: usize, i: usize, c: usize, k: usize) -> Counts
     requires { ⌜ CycleDue n i c k (now w) ⌝ }
     ensures { λ r. ⌜ CycleTaken n i (now (w .entry)) (now (w .exit)) (r .c) (r .k) ⌝ }
 {
@@ -85,7 +85,7 @@ pub fn cusp_widths(w: &mut [u16], n: usize) -> usize
     let mut k: usize = 0;
     let mut i: usize = 0;
     while i < n {
-        let r = turn(w, n, i, c, k);
+        let r = list_cycle(w, n, i, c, k);
         c = r.c;
         k = r.k;
         i += 1;

@@ -1,7 +1,7 @@
 -- WHAT AN IMPORT MEANS.
 --
 -- In order: the symbol that the rule makes of a passport (`ruled-means`), and the length of its table (`has-room`); the steps behind the work space, as a run
--- (`no-room`, `grown-in-room`); the verdict of an import, and what the number 0 says (`import-says`, `length-says`).
+-- (`no-room`, `grown-in-room`); the verdict of an import, and what the exported calls say (`import-says`, `length-says`).
 -- Assumes nothing.
 use mathlib.Core.Path.{_≡_, refl, sym, _∙_, ap, subst}
 use mathlib.Core.List.{List, [], _∷_, _++_}
@@ -18,7 +18,7 @@ use Rattle.call.specs.declared.refusal.Filled.the-variants as filled
 use Rattle.call.proofs.Apart.{refused-accepted}
 use Rattle.call.proofs.Answers.{both-pass, then-next}
 use Rattle.call.specs.Space.{workLength}
-use Rattle.call.specs.Call.{Step, Asks, Clears, Gives, lengthCheck, atFront, ifAccepted, Leaves}
+use Rattle.call.specs.Call.{Lent, Step, Asks, Gives, lengthCheck, atFront, ifAccepted, Leaves, numberOf, placeOf}
 use Rattle.call.specs.Inner.Fills.{Fills, madeIf}
 use Rattle.call.proofs.Laws.{Above, run-end, run-stop, run-pass, run-put, room-short, room-long, above-room, above-among, made-says, fills-as}
 use Rattle.permutations.specs.Pair.{image}
@@ -33,7 +33,7 @@ use Rattle.import_symbol.specs.Inner.Answer.{ruledAnswer, ruledLeft}
 use Rattle.import_symbol.specs.Inner.Writing.{HasRoom}
 use Rattle.import_rule.proofs.Theorem.{rule-precisely}
 use Rattle.permutations.specs.Check.{pairCheck, Passport}
-use Rattle.import_call.specs.Import.{neededVertices, neededLength, SymbolOfPair, LengthOfImport}
+use Rattle.import_call.specs.Import.{neededVertices, neededLength, importSteps, SymbolOfPair, importCall, LengthOfImport}
 use Rattle.permutations.proofs.Accepted.{accepted, permuting-of}
 use Rattle.permutations.proofs.Numbers.{pairs-among}
 use Rattle.import_call.proofs.Thirds.{thirds-needed}
@@ -144,29 +144,23 @@ module _ (order : Order) (s r w : List ℕ) (o : List ℤ) where
       let d = both-pass (lengthCheck (neededLength r) (length o)) last (b .1) in
       made-means order s r (accepted s r .0 (a .0)) (both-pass (check16 (ruledBy order s r)) Accepted (d .1) .0)
 
-  -- what the number 0 says of the result space
-  module _ (w' : List ℕ) (o' : List ℤ)
-      (l : Leaves (Asks (pairCheck s r) ∷ Asks (lengthCheck workLength (length w)) ∷ Clears w w' ∷ symbolSteps order s r o o')) where
-    in-space : importVerdict ≡ Accepted → SymbolOfPair s r (neededVertices r) (take (3 * neededVertices r + 1) o')
-    in-space e =
-        let m = accepted-means e in
-        subst (SymbolOfPair s r (neededVertices r)) (sym (front-of (ruledTable (ruledBy order s r)) o o' importVerdict (3 * neededVertices r + 1)
-        (m .precisely .symbol .long) (l .1 .0) e)) m
+-- what the exported call says
+module _ (order : Order) (s r : List ℕ) (w : Lent (List ℕ)) (out : Lent (List ℤ)) (l : Leaves (importSteps order s r w out)) where
+  abbrev o : List ℤ
+  o = out .entry .now
 
-    abbrev place : ℕ
-    place = ifAccepted importVerdict (neededVertices r) (checkedRefusal importVerdict .place)
+  in-space : importVerdict order s r (w .entry .now) o ≡ Accepted → SymbolOfPair s r (neededVertices r) (take (3 * neededVertices r + 1) (out .exit .now))
+  in-space e =
+      let m = accepted-means order s r (w .entry .now) o e in
+      subst (SymbolOfPair s r (neededVertices r)) (sym (front-of (ruledTable (ruledBy order s r)) o (out .exit .now) (importVerdict order s r (w .entry .now) o)
+      (3 * neededVertices r + 1) (m .precisely .symbol .long) (l .1 .0) e)) m
 
-    pub import-says : checkedRefusal importVerdict .number ≡ 0 → SymbolOfPair s r place (take (3 * place + 1) o')
-    import-says =
-        made-says (record {
-          steps = Asks (pairCheck s r) ∷ Asks (lengthCheck workLength (length w)) ∷ Asks (lengthCheck (neededLength r) (length o))
-              ∷ Asks (check16 (ruledBy order s r)) ∷ [];
-          count = neededVertices r;
-          Says = λ number place. Unit {0};
-        }) (λ (v : ℕ). SymbolOfPair s r v (take (3 * v + 1) o')) (
-          above-among 12 15 (pairCheck s r) (omega arith) (pairs-among s r),
-          (above-room workLength (length w), (above-room (neededLength r) (length o), (above16 (ruledBy order s r), tt))),
-        ) in-space
+  pub import-says : importCall order s r w out .Says (numberOf (importCall order s r w out)) (placeOf (importCall order s r w out))
+  import-says =
+      made-says (importCall order s r w out) (λ (v : ℕ). SymbolOfPair s r v (take (3 * v + 1) (out .exit .now))) (
+        above-among 12 15 (pairCheck s r) (omega arith) (pairs-among s r),
+        (above-room workLength (length (w .entry .now)), (above-room (neededLength r) (length o), (above16 (ruledBy order s r), tt))),
+      ) in-space
 
 -- ---- the length alone
 

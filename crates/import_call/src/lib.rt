@@ -12,7 +12,6 @@ ghost use lib.ListN.{length};
 ghost use Rattle.call.specs.Space.{zeros};
 ghost use Rattle.call.specs.Inner.Fills.{Fills, madeIf};
 ghost use Rattle.permutations.specs.Check.{Passport};
-ghost use Rattle.import_rule.specs.Order.{leftmost, longestOpen};
 ghost use Rattle.import_symbol.specs.Answer.{orderBy};
 ghost use Rattle.import_call.specs.Import.{neededVertices, neededLength};
 ghost use Rattle.import_call.specs.Import.{symbolInto, importSteps, importLengthCall};
@@ -47,7 +46,9 @@ fn import_accepted(s: &[u32], r: &[u32], w: &mut [u16], out: &mut [i64], wide: b
     grown
 }
 
-// The import by the wide rule, or by the rule.
+// The symbol of the matrices that fix point 0, from the tables of S and R, by the wide rule or by the rule: the number
+// of its vertices, its table at the front of the result space; or 12 to 15, then the work space, then the result space,
+// then 16.
 pub fn import_by(s: &[u32], r: &[u32], w: &mut [u16], out: &mut [i64], wide: bool) -> Filled
     ensures { λ a. ⌜ Fills (importSteps (orderBy wide) (now (s .entry)) (now (r .entry)) w out)
         (madeIf (neededVertices (now (r .entry)))) a ⌝ }
@@ -65,23 +66,6 @@ pub fn import_by(s: &[u32], r: &[u32], w: &mut [u16], out: &mut [i64], wide: boo
             import_accepted(s, r, w, out, wide)
         }
     }
-}
-
-// The symbol of the matrices that fix point 0, from the tables of S and R: the number of its vertices, its table at
-// the front of the result space; or 12 to 15, then the work space, then the result space, then 16.
-pub fn import(s: &[u32], r: &[u32], w: &mut [u16], out: &mut [i64]) -> Filled
-    ensures { λ a. ⌜ Fills (importSteps leftmost (now (s .entry)) (now (r .entry)) w out)
-        (madeIf (neededVertices (now (r .entry)))) a ⌝ }
-{
-    import_by(s, r, w, out, false)
-}
-
-// The same by the wide rule: it splits the side that has been open longest.
-pub fn import_wide(s: &[u32], r: &[u32], w: &mut [u16], out: &mut [i64]) -> Filled
-    ensures { λ a. ⌜ Fills (importSteps longestOpen (now (s .entry)) (now (r .entry)) w out)
-        (madeIf (neededVertices (now (r .entry)))) a ⌝ }
-{
-    import_by(s, r, w, out, true)
 }
 
 // The length of the table of the symbol that an import would make, 3v + 1, for a caller who books the result space:

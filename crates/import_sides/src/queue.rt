@@ -33,7 +33,7 @@ pub const QUEUE: usize = 28672;
 
 // How one turn ends: whether it stops, and how many sides there are; where it stops, the number of the side that can't
 // be split.
-pub struct Progress {
+pub struct QueueTurn {
     pub stop: bool,
     pub k: usize,
 }
@@ -47,7 +47,7 @@ fn entry(w: &[u16], j: usize) -> usize
 }
 
 // Puts x at j.
-fn put(w: &mut [u16], j: usize, x: usize)
+fn store(w: &mut [u16], j: usize, x: usize)
     requires { ⌜ (j < length (now w)) × (x < 65536) ⌝ }
     ensures { λ _. ⌜ now (w .exit) ≡ set (now (w .entry)) j x ⌝ }
 {
@@ -60,9 +60,9 @@ fn put_three(w: &mut [u16], i: usize, x: usize, j: usize, y: usize, k: usize, z:
         × (z < 65536) ⌝ }
     ensures { λ _. ⌜ now (w .exit) ≡ set (set (set (now (w .entry)) i x) j y) k z ⌝ }
 {
-    put(w, i, x);
-    put(w, j, y);
-    put(w, k, z);
+    store(w, i, x);
+    store(w, j, y);
+    store(w, k, z);
 }
 
 // The numerator plus 10^9 of the right end of the cell that l links.
@@ -100,8 +100,8 @@ fn join(w: &mut [u16], c: usize, k: usize, l: usize)
     requires { ⌜ (c < 1024) × (k < 1024) × (l < 65536) × (32768 ≤ length (now w)) ⌝ }
     ensures { λ _. ⌜ now (w .exit) ≡ linked (now (w .entry)) c k l ⌝ }
 {
-    put(w, LINK + k, l);
-    put(w, LINK + c, k + 1);
+    store(w, LINK + k, l);
+    store(w, LINK + c, k + 1);
 }
 
 // The points a and b come to the end t of the queue.
@@ -109,8 +109,8 @@ fn enqueue(w: &mut [u16], t: usize, a: usize, b: usize)
     requires { ⌜ (t < 2048) × (a < 65536) × (b < 65536) × (32768 ≤ length (now w)) ⌝ }
     ensures { λ _. ⌜ now (w .exit) ≡ queued (now (w .entry)) t a b ⌝ }
 {
-    put(w, QUEUE + t, a);
-    put(w, QUEUE + t + 1, b);
+    store(w, QUEUE + t, a);
+    store(w, QUEUE + t + 1, b);
 }
 
 // The side in the cell c is split at the vertex with numerator e - 10^9 and denominator d, where there are k sides.
@@ -128,7 +128,7 @@ fn split_cell(s: &[u32], r: &[u32], w: &mut [u16], c: usize, k: usize, e: u64, d
     let b = image(s, q);
     let l = entry(w, LINK + c);
     hold(w, m, a, b, k + 1, c + 1);
-    put(w, at + 4, b);
+    store(w, at + 4, b);
     put_cell(w, TODO + 5 * k, e, d, a);
     join(w, c, k, l);
     enqueue(w, 2 * k - 3, a, b);
@@ -150,7 +150,7 @@ fn count(w: &[u16], l: usize) -> usize
 }
 
 // The open side in the cell c is split, where there are k sides and its vertex keeps to the limit.
-fn split_open(s: &[u32], r: &[u32], w: &mut [u16], c: usize, k: usize) -> Progress
+fn split_open(s: &[u32], r: &[u32], w: &mut [u16], c: usize, k: usize) -> QueueTurn
     requires { ⌜ AtCell (now s) (now r) (now w) c k ⌝ }
     ensures { λ t. ⌜ Opened (image (now (s .entry))) (byQ (image (now (s .entry))) (image (now (r .entry))))
         (now (w .entry)) c k (now (w .exit)) (t .stop) (t .k) ⌝ }
@@ -160,24 +160,24 @@ fn split_open(s: &[u32], r: &[u32], w: &mut [u16], c: usize, k: usize) -> Progre
     let d = low_den(w, l) + number_at(w, TODO + 5 * c + 2);
     if within(e, d) {
         split_cell(s, r, w, c, k, e - 1000000000, d);
-        return Progress {
+        return QueueTurn {
             stop: false,
             k: k + 1,
         };
     }
     let i = count(w, l);
-    Progress { stop: true, k: i }
+    QueueTurn { stop: true, k: i }
 }
 
 // One turn: the first of the queue, at its place h, where there are k sides.
-fn turn(s: &[u32], r: &[u32], w: &mut [u16], h: usize, k: usize) -> Progress
+fn take_next_side(s: &[u32], r: &[u32], w: &mut [u16], h: usize, k: usize) -> QueueTurn
     requires { ⌜ Turn (now s) (now r) (now w) h k ⌝ }
     ensures { λ t. ⌜ Turned (image (now (s .entry))) (byQ (image (now (s .entry))) (image (now (r .entry))))
         (now (w .entry)) h k (now (w .exit)) (t .stop) (t .k) ⌝ }
 {
     let m = entry(w, QUEUE + h);
     if is_closed(s, r, w, m) {
-        return Progress { stop: false, k };
+        return QueueTurn { stop: false, k };
     }
     let x = entry(w, HELD + m);
     split_open(s, r, w, x - 1, k)
@@ -220,7 +220,7 @@ pub fn walk(s: &[u32], r: &[u32], w: &mut [u16]) -> Outcome
     let mut h: usize = 0;
     let mut k: usize = 3;
     while h + 3 < 2 * k {
-        let t = turn(s, r, w, h, k);
+        let t = take_next_side(s, r, w, h, k);
         if t.stop {
             return Outcome { stop: true, d: t.k };
         }

@@ -20,7 +20,7 @@ ghost use Rattle.import_sides.specs.Inner.Work.{topPoint, movedIn, split
 ghost use Rattle.import_sides.specs.Inner.Work.{startIn, Ground, WalkLeaves};
 
 // How one turn of the walk ends: whether it stops, and how many sides are done and to do.
-pub struct Progress {
+pub struct WalkTurn {
     pub stop: bool,
     pub d: usize,
     pub k: usize,
@@ -124,7 +124,7 @@ fn split_top(s: &[u32], r: &[u32], w: &mut [u16], k: usize, e: u64, c: u64)
 }
 
 // One turn of the walk, with d sides done and k to do.
-fn turn(s: &[u32], r: &[u32], w: &mut [u16], d: usize, k: usize) -> Progress
+fn take_side(s: &[u32], r: &[u32], w: &mut [u16], d: usize, k: usize) -> WalkTurn
     requires { ⌜ Top (now s) (now r) (now w) d k ⌝ }
     ensures { λ t. ⌜ SideTaken (image (now (s .entry))) (byQ (image (now (s .entry))) (image (now (r .entry))))
         (now (w .entry)) d k (now (w .exit)) (t .stop) (t .d) (t .k) ⌝ }
@@ -133,7 +133,7 @@ fn turn(s: &[u32], r: &[u32], w: &mut [u16], d: usize, k: usize) -> Progress
     let m = point_at(w, top);
     if is_closed(s, r, w, m) {
         move_top(w, d, k);
-        return Progress {
+        return WalkTurn {
             stop: false,
             d: d + 1,
             k: k - 1,
@@ -143,13 +143,13 @@ fn turn(s: &[u32], r: &[u32], w: &mut [u16], d: usize, k: usize) -> Progress
     let c = left_den(w, d) + number_at(w, top + 2);
     if within(e, c) {
         split_top(s, r, w, k, e - 1000000000, c);
-        return Progress {
+        return WalkTurn {
             stop: false,
             d,
             k: k + 1,
         };
     }
-    Progress { stop: true, d, k }
+    WalkTurn { stop: true, d, k }
 }
 
 // Three sides to do, the finite vertices of which have the numerators e2 - 10^9 and e1 - 10^9.
@@ -195,7 +195,7 @@ pub fn walk(s: &[u32], r: &[u32], w: &mut [u16]) -> Outcome
     let mut d: usize = 0;
     let mut k: usize = 3;
     while 0 < k {
-        let t = turn(s, r, w, d, k);
+        let t = take_side(s, r, w, d, k);
         if t.stop {
             return Outcome { stop: true, d: t.d };
         }

@@ -18,7 +18,7 @@ ghost use Rattle.import_sides.specs.Inner.Work.{LABEL, DONE, Done, cellPlace, e
 ghost use Rattle.import_symbol.specs.Inner.Writing.{verticesTo, Paired, paired, tableWritten, SideToWrite};
 
 // Puts x at j.
-fn put(out: &mut [i64], j: usize, x: i64)
+fn store_entry(out: &mut [i64], j: usize, x: i64)
     requires { ⌜ j < length (now out) ⌝ }
     ensures { λ _. ⌜ now (out .exit) ≡ set (now (out .entry)) j x ⌝ }
 {
@@ -47,10 +47,10 @@ pub(crate) fn write_four(out: &mut [i64], x: i64)
     requires { ⌜ 4 ≤ length (now out) ⌝ }
     ensures { λ _. ⌜ now (out .exit) ≡ ((pos 0 ∷ pos 1 ∷ x ∷ negsuc 2 ∷ []) ++ drop 4 (now (out .entry))) ⌝ }
 {
-    put(out, 0, 0);
-    put(out, 1, 1);
-    put(out, 2, x);
-    put(out, 3, -3);
+    store_entry(out, 0, 0);
+    store_entry(out, 1, 1);
+    store_entry(out, 2, x);
+    store_entry(out, 3, -3);
 }
 
 // Writes vertex i.
@@ -65,8 +65,8 @@ fn write_vertex(w: &[u16], i: usize, out: &mut [i64])
     let c = number_at(w, at + 2);
     let a = numerator(e);
     let b = signed(c);
-    put(out, 2 * i, a);
-    put(out, 2 * i + 1, b);
+    store_entry(out, 2 * i, a);
+    store_entry(out, 2 * i + 1, b);
 }
 
 // Writes the first v vertices.
@@ -117,24 +117,24 @@ fn write_pairing(
     let m = point_at(w, DONE + 5 * i);
     let x = image(s, m);
     if x == m {
-        put(out, j, -2);
+        store_entry(out, j, -2);
         return c;
     }
     let q = turned(s, r, m);
     if q == m {
-        put(out, j, -3);
+        store_entry(out, j, -3);
         return c;
     }
     let l = least(m, x);
     let k = label_at(w, l);
     if k == 0 {
         let n = signed((c + 1) as u64);
-        put(out, j, n);
+        store_entry(out, j, n);
         w[LABEL + l] = (c + 1) as u16;
         return c + 1;
     }
     let n = signed(k);
-    put(out, j, n);
+    store_entry(out, j, n);
     c
 }
 

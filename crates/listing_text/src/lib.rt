@@ -7,12 +7,11 @@ use lines::figure_lines;
 use lines::generator_part;
 use lines::table_lines;
 use pairing::generator::generators;
-use text::Format;
 use text::Reading;
 use text::input::Input;
 use text::input::text_end;
 use text::line::refusal_line;
-use text::read_input;
+use text::read_symbol;
 use text::vertex_count;
 ghost use mathlib.Core.Path.{_≡_};
 ghost use Prim.Native.Nat.{_*_, _≤_};
@@ -84,17 +83,7 @@ fn list_text(
     requires { ⌜ (length (now numbers) ≡ 3071) × ListingSpaces (now w) (now table) (now out) ⌝ }
     ensures { λ e. ⌜ Puts (listingOf longer (now (text .entry))) 0 e (now (out .entry)) (now (out .exit)) ⌝ }
 {
-    let read = read_input(
-        text,
-        longer,
-        Format {
-            least: 1,
-            most: 1023,
-            each: 3,
-            more: 2,
-        },
-        numbers,
-    );
+    let read = read_symbol(text, longer, 2, numbers);
     match read {
         Reading::Refused(refusal) => refusal_line(refusal, out),
         Reading::Numbers(k) => {

@@ -16,7 +16,7 @@ use Rattle.call.specs.declared.refusal.Filled.the-variants as filled
 use Rattle.call.proofs.Answers.{both-pass}
 use Rattle.call.proofs.Numbered.{Among}
 use Rattle.call.specs.Space.{workLength, zeros}
-use Rattle.call.specs.Call.{Step, Asks, Clears, Gives, lengthCheck, atFront, ifAccepted, Leaves}
+use Rattle.call.specs.Call.{Lent, Step, Asks, Gives, lengthCheck, atFront, ifAccepted, Leaves, numberOf, placeOf}
 use Rattle.call.specs.Inner.Fills.{Fills, madeIf}
 use Rattle.call.proofs.Laws.{run-end, run-write, run-hold, short-write, fills-as, above-room, above-among, made-says}
 use Rattle.congruence.specs.Index.{familyIndex}
@@ -31,7 +31,7 @@ use Rattle.import_call.specs.Import.{neededVertices, neededLength}
 use Rattle.permutations.proofs.Accepted.{accepted}
 use Rattle.import_call.proofs.Means.{symbolSteps, front-of, above16, made-means}
 use Rattle.import_call.proofs.Answering.{admitted, work-back}
-use Rattle.named_groups.specs.Answer.{NamedTables, namedRule, NamedSymbol}
+use Rattle.named_groups.specs.Answer.{NamedTables, namedRule, NamedSymbol, namedSymbolSteps, namedSymbolCall}
 use Rattle.named_groups.proofs.Checked.{check-named, group-of, group-numbers}
 use Rattle.named_groups.proofs.Tables.{family-cosets, passport}
 use Rattle.named_groups.proofs.Symbols.{symbol-named}
@@ -174,29 +174,27 @@ module _ (order : Order) (k n : ℕ) (w : List ℕ) (o : List ℤ) where
       (made-means order (familyS (familyOf k) n) (familyR (familyOf k) n) (passport (familyOf k) n g)
       (both-pass (check16 (namedRule order k n)) checked.Accepted (d .1) .0))
 
-  -- it stands at the front of the result space
-  module _ (w' : List ℕ) (o' : List ℤ)
-      (l : Leaves (Asks (groupCheck k n) ∷ Asks (lengthCheck workLength (length w)) ∷ Clears w w'
-      ∷ symbolSteps order (familyS (familyOf k) n) (familyR (familyOf k) n) o o')) where
-    abbrev vertices : ℕ
-    vertices = neededVertices (familyR (familyOf k) n)
+-- what the exported call says: it stands at the front of the result space
+module _ (order : Order) (k n : ℕ) (w : Lent (List ℕ)) (out : Lent (List ℤ)) (l : Leaves (namedSymbolSteps order k n w out)) where
+  abbrev o : List ℤ
+  o = out .entry .now
 
-    symbol-in-space : symbolVerdict ≡ checked.Accepted → NamedSymbol (familyOf k) n vertices (take (3 * vertices + 1) o')
-    symbol-in-space e =
-        let m = symbol-accepted e in
-        subst (NamedSymbol (familyOf k) n vertices) (sym (front-of table o o' symbolVerdict (3 * vertices + 1) (m .symbol .long) (l .1 .0) e)) m
+  abbrev vertices : ℕ
+  vertices = neededVertices (familyR (familyOf k) n)
 
-    abbrev place : ℕ
-    place = ifAccepted symbolVerdict vertices (checkedRefusal symbolVerdict .place)
+  symbol-in-space : symbolVerdict order k n (w .entry .now) o ≡ checked.Accepted
+      → NamedSymbol (familyOf k) n vertices (take (3 * vertices + 1) (out .exit .now))
+  symbol-in-space e =
+      let m = symbol-accepted order k n (w .entry .now) o e in
+      subst (NamedSymbol (familyOf k) n vertices) (sym (front-of (table order k n (w .entry .now) o) o (out .exit .now)
+      (symbolVerdict order k n (w .entry .now) o) (3 * vertices + 1) (m .symbol .long) (l .1 .0) e)) m
 
-    pub symbol-says : checkedRefusal symbolVerdict .number ≡ 0 → NamedSymbol (familyOf k) n place (take (3 * place + 1) o')
-    symbol-says =
-        made-says (record {
-          steps = Asks (groupCheck k n) ∷ Asks (lengthCheck workLength (length w)) ∷ Asks (lengthCheck needed (length o))
-              ∷ Asks (check16 (namedRule order k n)) ∷ [];
-          count = vertices;
-          Says = λ number place. Unit {0};
-        }) (λ (v : ℕ). NamedSymbol (familyOf k) n v (take (3 * v + 1) o')) (
-          above-among 20 21 (groupCheck k n) (omega arith) (groups-among k n),
-          (above-room workLength (length w), (above-room needed (length o), (above16 (namedRule order k n), tt))),
-        ) symbol-in-space
+  pub symbol-says : namedSymbolCall order k n w out .Says (numberOf (namedSymbolCall order k n w out)) (placeOf (namedSymbolCall order k n w out))
+  symbol-says =
+      made-says (namedSymbolCall order k n w out) (λ (v : ℕ). NamedSymbol (familyOf k) n v (take (3 * v + 1) (out .exit .now))) (
+        above-among 20 21 (groupCheck k n) (omega arith) (groups-among k n),
+        (
+          above-room workLength (length (w .entry .now)),
+          (above-room (neededLength (familyR (familyOf k) n)) (length o), (above16 (namedRule order k n), tt)),
+        ),
+      ) symbol-in-space

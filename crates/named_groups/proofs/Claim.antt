@@ -31,13 +31,13 @@ use Rattle.congruence_tables.specs.Inner.Held.{Group}
 use Rattle.import_rule.specs.Order.{Order}
 use Rattle.import_rule.specs.Symbol.{Ruled, made, over, ruledBy}
 use Rattle.call.specs.Call.{verdict}
-use Rattle.word.specs.Answer.{queryRefusal, large, foundWord, foundSign, foundIf, foundChecks, wordLeft}
+use Rattle.word.specs.Answer.{queryRefusal, large, matricesCheck, foundWord, foundSign, foundIf, foundChecks, wordLeft}
 use Rattle.word.specs.Claim.{SameRightCoset, Found, Answered, ShortWork}
 use Rattle.word.specs.declared.Queried.{Queried}
 use Rattle.word.proofs.Pair.{small-clear, unit-is, is-unit}
 use Rattle.word.proofs.Claim.{same-number, answered}
 use Rattle.word.proofs.Order.{passed-small}
-use Rattle.word.proofs.Refused.{Passed, pair-passes, pair-among, inOrder, Gets, Short, Stopped, checked, paired, reached, reaches}
+use Rattle.word.proofs.Refused.{Passed, passed-by, pair-passes, pair-among, inOrder, Gets, Short, Stopped, checked, second, reached, reaches}
 use Rattle.named_groups.specs.Group.{familyOf, groupCheck, NamedGroup}
 use Rattle.named_groups.specs.Answer.{namedRule, NamedSymbol, ruledWord, ruledIf, ruledChecks, namedQueryBy}
 use Rattle.named_groups.specs.Claim.{ValidNamedQuery, NamedAnswered, RuleMakes, NamedClaim}
@@ -71,18 +71,19 @@ module _ (order : Order) (k n : ℕ) (a b : List ℤ) (w : List ℕ) (out : List
   found = verdict (ruledChecks G a b start (length out))
 
   abbrev all : Checked
-  all = inOrder (groupCheck k n) found a b w
+  all = inOrder (groupCheck k n) (matricesCheck a b) found w
 
-  asked-of : Gets (groupCheck k n) found a b w → ValidNamedQuery k n a b w
+  asked-of : Gets (groupCheck k n) (matricesCheck a b) found w → ValidNamedQuery k n a b w
   asked-of g =
-      let s = passed-small a b (g .passed .entries) in
+      let p = passed-by a b (g .passed) in
+      let s = passed-small a b (p .entries) in
       record {
         group = check-named k n (g .accepted);
         work = g .work;
         entries-A = s .0;
         entries-B = s .1;
-        unit-A = unit-is a (g .passed .A);
-        unit-B = unit-is b (g .passed .B);
+        unit-A = unit-is a (p .A);
+        unit-B = unit-is b (p .B);
       }
 
   module _ (e : r ≡ namedQueryBy order k n a b (length w) (length out) start) where
@@ -90,7 +91,7 @@ module _ (order : Order) (k n : ℕ) (a b : List ℤ) (w : List ℕ) (out : List
     found-of : ValidNamedQuery k n a b w → r ≡ ruledIf G a b start found
     found-of q =
         let p = pair-passed a b (q .entries-A) (q .entries-B) (q .unit-A) (q .unit-B) in
-        e ∙ ap (ruledIf G a b start) (reached (groupCheck k n) found a b w (check-accepts k n (q .group)) (sym (pair-passes a b p)) (q .work))
+        e ∙ ap (ruledIf G a b start) (reached (groupCheck k n) (matricesCheck a b) found w (check-accepts k n (q .group)) (sym (pair-passes a b p)) (q .work))
 
     by : {c : Checked} → all ≡ c → r ≡ ruledIf G a b start c
     by z = e ∙ ap (ruledIf G a b start) z
@@ -105,7 +106,7 @@ module _ (order : Order) (k n : ℕ) (a b : List ℤ) (w : List ℕ) (out : List
     asked-by : (queryRefusal r .number < 8) ⊎ (queryRefusal r .number ≡ 10) ⊎ (queryRefusal r .number ≡ 11)
         → (queryRefusal r .number ≡ 11 → workLength ≤ length w)
         → ValidNamedQuery k n a b w × RuleMakes order k n
-    asked-by h long = go (reaches (groupCheck k n) found a b w)
+    asked-by h long = go (reaches (groupCheck k n) (matricesCheck a b) found w)
       where
         no : {f : Refusal} → all ≡ Refused f → (f .number < 8 → ⊥) → (f .number ≡ 10 → ⊥) → (f .number ≡ 11 → ⊥)
             → ValidNamedQuery k n a b w × RuleMakes order k n
@@ -113,13 +114,13 @@ module _ (order : Order) (k n : ℕ) (a b : List ℤ) (w : List ℕ) (out : List
             let q = same-number (ap queryRefusal (by s)) in
             elim h [ inl l ↦ absurd (x (omega (arith, l, q))) | inr (inl l) ↦ absurd (y (sym q ∙ l)) | inr (inr l) ↦ absurd (z (sym q ∙ l)) ]
 
-        stopped : Stopped (groupCheck k n) found a b w → ValidNamedQuery k n a b w × RuleMakes order k n
+        stopped : Stopped (groupCheck k n) (matricesCheck a b) found w → ValidNamedQuery k n a b w × RuleMakes order k n
         stopped (checked f q s) = let z = group-numbers k n q in no s (λ y. omega (arith, z .0, y)) (λ y. omega (arith, z .0, y)) (λ y. omega (arith, z .0, y))
-        stopped (paired f q s) =
+        stopped (second f q s) =
             let z = subst (Among 8 9) q (pair-among a b) in no s (λ y. omega (arith, z .0, y)) (λ y. omega (arith, z .1, y)) (λ y. omega (arith, z .1, y))
 
-        go : Gets (groupCheck k n) found a b w ⊎ Short (groupCheck k n) found a b w ⊎ Stopped (groupCheck k n) found a b w
-            → ValidNamedQuery k n a b w × RuleMakes order k n
+        go : Gets (groupCheck k n) (matricesCheck a b) found w ⊎ Short (groupCheck k n) (matricesCheck a b) found w
+            ⊎ Stopped (groupCheck k n) (matricesCheck a b) found w → ValidNamedQuery k n a b w × RuleMakes order k n
         go (inl g) = (
           asked-of g,
           makes G refl (by (g .is)) (λ z. elim h [ inl l ↦ omega (arith, l, z) | inr (inl l) ↦ omega (arith, l, z) | inr (inr l) ↦ omega (arith, l, z) ]),
@@ -134,14 +135,14 @@ module _ (order : Order) (k n : ℕ) (a b : List ℤ) (w : List ℕ) (out : List
     ]
 
     short-by : (m : ℕ) → queryRefusal r .number ≡ tooShort m .number → (ValidNamedQuery k n a b w × RuleMakes order k n) ⊎ ShortWork w r
-    short-by m h = elim (reaches (groupCheck k n) found a b w) [
+    short-by m h = elim (reaches (groupCheck k n) (matricesCheck a b) found w) [
       | inl g ↦ inl (asked-by (inr (inr h)) (λ y. g .work))
       | inr (inl s) ↦ inr (s .low, ap queryRefusal (by (s .is)))
       | inr (inr (checked f q s)) ↦ (
           let z = group-numbers k n q in
           absurd (omega (arith, z .0, same-number (ap queryRefusal (by s)), h))
           )
-      | inr (inr (paired f q s)) ↦ (
+      | inr (inr (second f q s)) ↦ (
           let z = subst (Among 8 9) q (pair-among a b) in
           absurd (omega (arith, z .1, same-number (ap queryRefusal (by s)), h))
           )

@@ -21,7 +21,6 @@ ghost use Rattle.call.specs.Inner.Fills.{Fills, madeIf};
 ghost use Rattle.congruence.specs.Index.{familyIndex};
 ghost use Rattle.congruence.specs.Cosets.{familyS, familyR};
 ghost use Rattle.congruence_tables.specs.Inner.Held.{Group};
-ghost use Rattle.import_rule.specs.Order.{leftmost, longestOpen};
 ghost use Rattle.import_rule.specs.Symbol.{ruledBy};
 ghost use Rattle.import_symbol.specs.Answer.{orderBy};
 ghost use Rattle.import_call.specs.Import.{neededVertices, symbolInto};
@@ -140,7 +139,8 @@ fn make_symbol(f: Family, n: u64, w: &mut [u16], out: &mut [i64], wide: bool) ->
     import_call::import_by(&s[..k], &r[..k], w, out, wide)
 }
 
-// The symbol of the group, by the wide rule or by the rule.
+// The symbol of the group, by the wide rule or by the rule, its table at the front of out: 20, 21, then the work space,
+// then out, then 16.
 pub fn named_symbol_by(k: u64, n: u64, w: &mut [u16], out: &mut [i64], wide: bool) -> Filled
     ensures { λ a. ⌜ Fills (namedSymbolSteps (orderBy wide) k n w out)
         (madeIf (neededVertices (familyR (familyOf k) n))) a ⌝ }
@@ -158,22 +158,6 @@ pub fn named_symbol_by(k: u64, n: u64, w: &mut [u16], out: &mut [i64], wide: boo
             make_symbol(family_of(k), n, w, out, wide)
         }
     }
-}
-
-// The symbol of the group by the rule, its table at the front of out: 20, 21, then the work space, then out, then 16.
-pub fn named_symbol(k: u64, n: u64, w: &mut [u16], out: &mut [i64]) -> Filled
-    ensures { λ a. ⌜ Fills (namedSymbolSteps leftmost k n w out)
-        (madeIf (neededVertices (familyR (familyOf k) n))) a ⌝ }
-{
-    named_symbol_by(k, n, w, out, false)
-}
-
-// The same by the wide rule.
-pub fn named_symbol_wide(k: u64, n: u64, w: &mut [u16], out: &mut [i64]) -> Filled
-    ensures { λ a. ⌜ Fills (namedSymbolSteps longestOpen k n w out)
-        (madeIf (neededVertices (familyR (familyOf k) n))) a ⌝ }
-{
-    named_symbol_by(k, n, w, out, true)
 }
 
 // The answer for an accepted group and pair: by the symbol that the rule gives, or 16. The work space is cleared after.
@@ -200,7 +184,8 @@ fn answer_query(
     }
 }
 
-// A query on the group's symbol, by the wide rule or by the rule.
+// A word in the generators of the group's symbol, by the wide rule or by the rule, that takes A to B up to sign: 20,
+// 21, then 8 and 9, A before B under each, then the work space, then 16, then 10, then the word space.
 pub fn named_query_by(
     k: u64,
     n: u64,
@@ -233,37 +218,4 @@ pub fn named_query_by(
             }
         }
     }
-}
-
-// A word in the generators of the group's symbol by the rule that takes A to B up to sign: 20, 21, then 8 and 9, A
-// before B under each, then the work space, then 16, then 10, then the word space.
-pub fn named_query(
-    k: u64,
-    n: u64,
-    a: [i64; 4],
-    b: [i64; 4],
-    w: &mut [u16],
-    out: &mut [i16],
-    start: usize,
-) -> Queried
-    ensures { λ r. ⌜ Fills (namedQuerySteps leftmost k n a b w out start)
-        (ruledIf (namedRule leftmost k n) a b start) r ⌝ }
-{
-    named_query_by(k, n, a, b, w, out, start, false)
-}
-
-// The same on the symbol by the wide rule.
-pub fn named_query_wide(
-    k: u64,
-    n: u64,
-    a: [i64; 4],
-    b: [i64; 4],
-    w: &mut [u16],
-    out: &mut [i16],
-    start: usize,
-) -> Queried
-    ensures { λ r. ⌜ Fills (namedQuerySteps longestOpen k n a b w out start)
-        (ruledIf (namedRule longestOpen k n) a b start) r ⌝ }
-{
-    named_query_by(k, n, a, b, w, out, start, true)
 }

@@ -2,7 +2,6 @@
 --     said-other                 the line for an answer that is no word
 --     replied-as                 the line for an answer of `query`
 --     few-line, enough-line      the line for the numbers of a text, by the test that the code makes
---     reply-by                   the same for an answer of `read_input`
 --     reply-means                what the bytes mean
 -- Assumes nothing.
 use mathlib.Core.Path.{_≡_, refl, sym, ap, _∙_}
@@ -66,11 +65,6 @@ module _ (ns : List ℤ) where
   pub enough-line : 10 ≤ length ns → replied (countIn ns) (symbolIn ns) (firstIn ns) (secondIn ns) ≡ repliedTo ns
   unfolding repliedTo replied
   enough-line h = enough _ _ h
-
-pub reply-by : (longer : Bool) (text : List ℕ) (r : Reading) → r ≡ inputOf longer queryFormat text 3079
-    → byReading repliedTo refusalLine r (numbers (pieces text)) ≡ replyOf longer text
-unfolding replyOf
-reply-by longer text r e = ap (λ (x : Reading). byReading repliedTo refusalLine x (numbers (pieces text))) e
 
 -- the claim holds of what a query in such spaces answers
 pub reply-means : (longer : Bool) (text : List ℕ) {bytes : List ℕ} → bytes ≡ replyOf longer text → ReplyMeans longer text bytes

@@ -3,13 +3,12 @@
 // A sheet of pairs is read and answered in `sheet_text`.
 use call::refusal::BAD_VERTEX_COUNT;
 use call::refusal::Refusal;
-use text::Format;
 use text::Reading;
 use text::input::Input;
 use text::input::text_end;
 use text::line::line_of_letters;
 use text::line::refusal_line;
-use text::read_input;
+use text::read_symbol;
 use text::vertex_count;
 use word::Queried;
 use word::four_at;
@@ -96,17 +95,7 @@ fn reply_text(
     requires { ⌜ (length (now numbers) ≡ 3079) × ReplySpaces (now w) (now letters) (now out) ⌝ }
     ensures { λ e. ⌜ Puts (replyOf longer (now (text .entry))) 0 e (now (out .entry)) (now (out .exit)) ⌝ }
 {
-    let read = read_input(
-        text,
-        longer,
-        Format {
-            least: 1,
-            most: 1023,
-            each: 3,
-            more: 10,
-        },
-        numbers,
-    );
+    let read = read_symbol(text, longer, 10, numbers);
     match read {
         Reading::Refused(refusal) => refusal_line(refusal, out),
         Reading::Numbers(k) => reply_numbers(&numbers[..k], w, letters, out),

@@ -1,12 +1,11 @@
--- The lines of many pairs, one after another: two stores are a line (`two-stores`); the lines of the first i pairs, with one more (`pairs-more`); the line of
--- each answer (`line-…`). And one pair of many: its answer is the single call's (`single`). Assumes nothing.
+-- The lines of many pairs, one after another: the lines of the first i pairs, with one more (`pairs-more`); the line of an answer in other words (`line-is`).
+-- And one pair of many: its answer is the single call's (`single`). Assumes nothing.
 use mathlib.Core.Path.{_≡_, refl, sym, _∙_, ap, subst}
 use mathlib.Core.Bool.{Bool, true, false}
 use mathlib.Core.List.{List, [], _∷_, _++_}
 use Prim.Native.Nat.{ℕ, zero, suc, _+_, _-_, _*_, _^_, _≤_, _<_}
 use native.Mathlib.Omega.{arith}
-use lib.ListN.{length, set, take, drop, length-append}
-use lib.Seq.{sets-eq, take-at, drop-at, drop-drop}
+use lib.ListN.{length, take, drop}
 use lib.IntN.{ℤ, pos}
 use Rattle.call.specs.Space.{workLength}
 use Rattle.call.specs.declared.refusal.Refusal.{Refusal}
@@ -26,31 +25,24 @@ use Rattle.symbol.proofs.Accepted.{accepted}
 use Rattle.same_coset.specs.Inner.Places.{SymbolPlaces}
 use Rattle.word.specs.Answer.{four, matricesCheck, closes}
 use Rattle.sheets.specs.Sheet.{matrixA, matrixB}
+use Rattle.sheets.specs.Inner.Pairs.{rowAt}
+use Rattle.sheets.proofs.Rows.{rows-length, rows-more}
 use Rattle.sheets.proofs.Single as sheet
 use Rattle.sheets.proofs.Single.{SmallRefusal}
 use Rattle.same_coset.specs.Answer.{sameCosetOf}
 use Rattle.same_coset.specs.Pairs.{cosetLine, cosetAt, cosetLines}
-use Rattle.same_coset.specs.Inner.Ready.{yesNo, pairShared, PairShared, LineFits, pairLineAt, PairsShared}
+use Rattle.same_coset.specs.Inner.Ready.{yesNo, pairShared, PairShared, LineFits, PairsShared}
 use Rattle.same_coset.proofs.Single.{refused-not-yes, refused-not-no}
 
 -- ---- one line
-
-pub two-stores : (lines : List ℤ) (i : ℕ) (a b : ℤ) → 2 * i + 2 ≤ length lines → set (set lines (2 * i) a) (2 * i + 1) b ≡ pairLineAt i (a ∷ b ∷ []) lines
-two-stores lines i a b h = let next : 2 * i + 1 ≡ suc (2 * i) = omega arith in rw next (sets-eq (a ∷ b ∷ []) lines (2 * i) h)
 
 length-line : (r : Decision) → length (cosetLine r) ≡ 2
 length-line decision.Yes = refl
 length-line decision.No = refl
 length-line (decision.Refused f) = refl
 
-pub line-is : (i : ℕ) (lines : List ℤ) (r s : Decision) → r ≡ s → pairLineAt i (cosetLine s) lines ≡ pairLineAt i (cosetLine r) lines
-line-is i lines r s e = ap (λ (x : Decision). pairLineAt i (cosetLine x) lines) (sym e)
-
-pub line-refused : (i : ℕ) (lines : List ℤ) (r : Decision) (f : Refusal) → r ≡ decision.Refused f → (x y : ℤ) → x ≡ pos (f .number) → y ≡ pos (f .place)
-    → pairLineAt i (x ∷ y ∷ []) lines ≡ pairLineAt i (cosetLine r) lines
-line-refused i lines r f e x y g h =
-    let line : (x ∷ y ∷ []) ≡ cosetLine (decision.Refused f) = cc (g, h) in
-    ap (λ (l : List ℤ). pairLineAt i l lines) line ∙ line-is i lines r (decision.Refused f) e
+pub line-is : (i : ℕ) (lines : List ℤ) (r s : Decision) → r ≡ s → rowAt 2 i (cosetLine s) lines ≡ rowAt 2 i (cosetLine r) lines
+line-is i lines r s e = ap (λ (x : Decision). rowAt 2 i (cosetLine x) lines) (sym e)
 
 -- ---- its numbers fit
 
@@ -76,25 +68,20 @@ module _ (v : ℕ) (t p : List ℤ) (work : ℕ) where
   abbrev front : ℕ → List ℤ
   front i = cosetLines v t p work i
 
-  pub front-length : (i : ℕ) → length (front i) ≡ 2 * i
+  lines-none : front 0 ≡ []
   unfolding cosetLines
-  front-length zero = refl
-  front-length (suc i) =
-      let e = front-length i in
-      length-append (front i) (cosetLine (cosetAt v t p work i)) ∙ omega (arith, length-line (cosetAt v t p work i))
+  lines-none = refl
+
+  lines-next : (i : ℕ) → front (suc i) ≡ front i ++ cosetLine (cosetAt v t p work i)
+  unfolding cosetLines
+  lines-next i = refl
+
+  pub front-length : (i : ℕ) → length (front i) ≡ 2 * i
+  front-length = rows-length 2 (λ i. cosetLine (cosetAt v t p work i)) (λ i. length-line (cosetAt v t p work i)) front lines-none lines-next
 
   lines-more : (i : ℕ) (lines lines' : List ℤ) → lines' ≡ front i ++ drop (2 * i) lines
-      → pairLineAt i (cosetLine (cosetAt v t p work i)) lines' ≡ front (suc i) ++ drop (2 * suc i) lines
-  unfolding cosetLines
-  lines-more i lines lines' e =
-      let line = cosetLine (cosetAt v t p work i) in
-      let rest = drop (2 * i) lines in
-      let sum : 2 * i + 2 ≡ 2 * suc i = omega arith in
-      let before = ap (take (2 * i)) e ∙ take-at (front i) rest (2 * i) (front-length i) in
-      let behind =
-      ap (drop (2 * i + 2)) e ∙ sym (drop-drop 2 (2 * i) (front i ++ rest)) ∙ ap (drop 2) (drop-at (front i) rest (2 * i) (front-length i))
-      ∙ drop-drop 2 (2 * i) lines ∙ ap (λ (k : ℕ). drop k lines) sum in
-      ap (λ (x : List ℤ). x ++ line ++ drop (2 * i + 2) lines') before ∙ ap (λ (x : List ℤ). front i ++ line ++ x) behind
+      → rowAt 2 i (cosetLine (cosetAt v t p work i)) lines' ≡ front (suc i) ++ drop (2 * suc i) lines
+  lines-more = rows-more 2 (λ i. cosetLine (cosetAt v t p work i)) (λ i. length-line (cosetAt v t p work i)) front lines-none lines-next
 
 pub pairs-none : (n : ℕ) (w : List ℕ) (p lines : List ℤ) → PairsShared n w p 0 lines lines
 unfolding cosetLines
@@ -102,7 +89,7 @@ pairs-none n w p lines v t w₀ ok g = refl
 
 pub pairs-more : (n : ℕ) (w : List ℕ) (p lines : List ℤ) {lines' : List ℤ} (i : ℕ) → PairsShared n w p i lines lines'
     → {part : List ℤ} → part ≡ take 8 (drop (8 * i) p)
-    → {r : Decision} → PairShared n w (four part 0) (four part 4) r → {lines₁ : List ℤ} → lines₁ ≡ pairLineAt i (cosetLine r) lines'
+    → {r : Decision} → PairShared n w (four part 0) (four part 4) r → {lines₁ : List ℤ} → lines₁ ≡ rowAt 2 i (cosetLine r) lines'
     → PairsShared n w p (i + 1) lines lines₁
 pairs-more n w p lines {lines'} i f {part} cut {r} a {lines₁} e v t w₀ ok g =
     let is-A : four part 0 ≡ matrixA p i = ap (λ (l : List ℤ). four l 0) cut ∙ sheet.part-A p (8 * i) in
@@ -112,5 +99,5 @@ pairs-more n w p lines {lines'} i f {part} cut {r} a {lines₁} e v t w₀ ok g 
     a v t w₀ ok g ∙ ap (λ (x : List ℤ). pairShared v t x (four part 4)) is-A ∙ ap (pairShared v t (matrixA p i)) is-B
     ∙ single ok (length w) long (matrixA p i) (matrixB p i) in
     let more : suc i ≡ i + 1 = omega arith in
-    e ∙ ap (λ (x : Decision). pairLineAt i (cosetLine x) lines') is ∙ lines-more v t p (length w) i lines lines' (f v t w₀ ok g)
+    e ∙ ap (λ (x : Decision). rowAt 2 i (cosetLine x) lines') is ∙ lines-more v t p (length w) i lines lines' (f v t w₀ ok g)
     ∙ ap (λ (k : ℕ). cosetLines v t p (length w) k ++ drop (2 * k) lines) more

@@ -46,7 +46,7 @@ use Rattle.word.specs.Answer.{matricesCheck, closes, foundWord, foundSign, foun
 use Rattle.word.specs.Claim.{ValidQuery, SameRightCoset, Fits, Answered, Claim}
 use Rattle.word.proofs.Claim.{same-number, joined-home, home-joined, joined-same, same-joined}
 use Rattle.word.proofs.Order.{asked, asked-passed, claim}
-use Rattle.word.proofs.Refused.{pair-passes, pair-among, inOrder, reached, reaches, checked, paired}
+use Rattle.word.proofs.Refused.{passed-by, pair-passes, pair-among, inOrder, reached, reaches, checked, second}
 use Rattle.same_coset.specs.Answer.{sameCosetOf, CosetMeans, SharedSays}
 use Rattle.same_coset.specs.Inner.Ready.{yesNo, Shares}
 
@@ -152,22 +152,23 @@ module _ (v : ℕ) (t a b : List ℤ) (w : List ℕ) where
   found = closes v t M N
 
   abbrev all : Checked
-  all = inOrder (symbolCheck v t) Accepted a b w
+  all = inOrder (symbolCheck v t) (matricesCheck a b) Accepted w
 
   abbrev r : Decision
   r = sameCosetOf v t a b (length w)
 
   -- all checks pass exactly where the query gets to its walk
   pub accepted-asked : all ≡ Accepted → ValidQuery v t a b w
-  accepted-asked e = elim (reaches (symbolCheck v t) Accepted a b w) [
-    | inl g ↦ asked a b (accepted v t .0 (g .accepted)) (g .work) (g .passed)
+  accepted-asked e = elim (reaches (symbolCheck v t) (matricesCheck a b) Accepted w) [
+    | inl g ↦ asked a b (accepted v t .0 (g .accepted)) (g .work) (passed-by a b (g .passed))
     | inr (inl s) ↦ refused-accepted (sym (s .is) ∙ e)
     | inr (inr (checked f g s)) ↦ refused-accepted (sym s ∙ e)
-    | inr (inr (paired f g s)) ↦ refused-accepted (sym s ∙ e)
+    | inr (inr (second f g s)) ↦ refused-accepted (sym s ∙ e)
   ]
 
   asked-accepted : ValidQuery v t a b w → all ≡ Accepted
-  asked-accepted q = reached (symbolCheck v t) Accepted a b w (accepted v t .1 (q .symbol)) (sym (pair-passes a b (asked-passed a b q))) (q .work)
+  asked-accepted q =
+      reached (symbolCheck v t) (matricesCheck a b) Accepted w (accepted v t .1 (q .symbol)) (sym (pair-passes a b (asked-passed a b q))) (q .work)
 
   is-found : ValidQuery v t a b w → r ≡ yesNo found
   is-found q = ap (decided found) (asked-accepted q)

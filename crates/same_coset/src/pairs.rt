@@ -7,21 +7,22 @@ use call::refusal::Checked;
 use call::refusal::Filled;
 use call::refusal::Refusal;
 use call::refusal::TOO_SHORT;
-use sheets::signed;
+use sheets::put_refusal;
+use sheets::put_two;
 use symbol::check;
 use word::four_at;
 use word::pair_check;
 ghost use mathlib.Core.Path.{_≡_};
-ghost use mathlib.Core.List.{[], _∷_};
 ghost use Prim.Native.Nat.{_+_, _*_, _≤_};
 ghost use lib.ListN.{length};
 ghost use Rattle.call.specs.Space.{zeros};
 ghost use Rattle.call.specs.Inner.Fills.{Fills, madeIf};
 ghost use Rattle.word.specs.Answer.{four};
 ghost use Rattle.sheets.specs.Sheet.{pairsIn};
+ghost use Rattle.sheets.specs.Inner.Pairs.{rowAt};
 ghost use Rattle.same_coset.specs.Inner.Places.{Prepared};
 ghost use Rattle.same_coset.specs.Pairs.{ragged, cosetLine, linesInto, sameCosetsSteps};
-ghost use Rattle.same_coset.specs.Inner.Ready.{PairShared, LineFits, pairLineAt, PairsShared, PairsReady};
+ghost use Rattle.same_coset.specs.Inner.Ready.{PairShared, LineFits, PairsShared, PairsReady};
 
 // Whether n entries are no number of whole pairs.
 fn is_ragged(n: usize) -> bool
@@ -30,31 +31,15 @@ fn is_ragged(n: usize) -> bool
     n % 8 != 0
 }
 
-// The two numbers of a line at the place i of the table.
-fn put_two(lines: &mut [i64], i: usize, a: i64, b: i64)
-    requires { ⌜ 2 * i + 2 ≤ length (now lines) ⌝ }
-    ensures { λ _. ⌜ now (lines .exit) ≡ pairLineAt i (a ∷ b ∷ []) (now (lines .entry)) ⌝ }
-{
-    lines[2 * i] = a;
-    lines[2 * i + 1] = b;
-}
-
 // The line of an answer at the place i of the table.
 fn write_line(lines: &mut [i64], i: usize, answer: Decision)
     requires { ⌜ (2 * i + 2 ≤ length (now lines)) × LineFits answer ⌝ }
-    ensures { λ _. ⌜ now (lines .exit) ≡ pairLineAt i (cosetLine answer) (now (lines .entry)) ⌝ }
+    ensures { λ _. ⌜ now (lines .exit) ≡ rowAt 2 i (cosetLine answer) (now (lines .entry)) ⌝ }
 {
     match answer {
         Decision::Yes => put_two(lines, i, 0, 1),
         Decision::No => put_two(lines, i, 0, 0),
-        Decision::Refused(refusal) => {
-            put_two(
-                lines,
-                i,
-                signed(refusal.number),
-                signed(refusal.place as u64),
-            );
-        }
+        Decision::Refused(refusal) => put_refusal(lines, i, refusal),
     }
 }
 

@@ -1,5 +1,5 @@
--- The lines of a sheet, one after another: four stores are a line (`four-stores`); the lines of the first i pairs, with one more (`lines-more`); the line i
--- of them is that of the answer for the pair i (`line-there`); and what the loop over the pairs holds (`Going`, `going-none`, `going-more`).
+-- The lines of a sheet, one after another: the lines of the first i pairs, with one more (`lines-more`); the line i of them is that of the answer for the
+-- pair i (`line-there`); what the loop over the pairs holds (`Going`, `going-none`, `going-more`); and the line of either answer (`line-…`).
 -- Assumes nothing.
 use mathlib.Core.Path.{_≡_, refl, sym, _∙_, ap, subst}
 use mathlib.Core.Bool.{Bool}
@@ -7,8 +7,8 @@ use mathlib.Core.List.{List, [], _∷_, _++_, append-assoc}
 use Prim.Native.Nat.{ℕ, zero, suc, _+_, _*_, _≤_, _<_}
 use native.Mathlib.Decide.{decLt}
 use native.Mathlib.Omega.{arith}
-use lib.ListN.{length, set, take, drop, length-append}
-use lib.Seq.{sets-eq, take-at, drop-at, drop-drop}
+use lib.ListN.{length, take, drop}
+use lib.Seq.{take-at, drop-at}
 use lib.IntN.{ℤ, pos}
 use Rattle.matrix.specs.Matrix.{ofList}
 use Rattle.call.specs.Space.{workLength}
@@ -19,16 +19,9 @@ use Rattle.word.specs.Answer.{four, foundWord, signNumber, foundIf, queryOf, wo
 use Rattle.word.specs.declared.Queried.{Queried}
 use Rattle.word.specs.declared.Queried.the-variants as queried
 use Rattle.sheets.specs.Sheet.{matrixA, matrixB, wordEnd, WordSpace, spaceAt, answerAt, lineOf, linesTo, lineIn}
-use Rattle.sheets.specs.Inner.Pairs.{pairOf, lineAt}
+use Rattle.sheets.specs.Inner.Pairs.{pairOf, rowAt}
+use Rattle.sheets.proofs.Rows.{two-rows, rows-length, rows-more}
 use Rattle.sheets.proofs.Single.{single, pairRun, pair-as, pair-left, part-A, part-B}
-
-pub four-stores : (lines : List ℤ) (i : ℕ) (a b c d : ℤ) → 4 * i + 4 ≤ length lines
-    → set (set (set (set lines (4 * i) a) (4 * i + 1) b) (4 * i + 2) c) (4 * i + 3) d ≡ lineAt i (a ∷ b ∷ c ∷ d ∷ []) lines
-four-stores lines i a b c d h =
-    let one : 4 * i + 1 ≡ suc (4 * i) = omega arith in
-    let two : 4 * i + 2 ≡ suc (suc (4 * i)) = omega arith in
-    let three : 4 * i + 3 ≡ suc (suc (suc (4 * i))) = omega arith in
-    rw (one, two, three) (sets-eq (a ∷ b ∷ c ∷ d ∷ []) lines (4 * i) h)
 
 pub length-line : (r : Queried) → length (lineOf r) ≡ 4
 length-line (queried.Word start n sign) = refl
@@ -38,27 +31,20 @@ module _ (v : ℕ) (t p : List ℤ) (work : ℕ) (out : List ℤ) where
   abbrev front : ℕ → List ℤ
   front i = linesTo v t p work out i
 
-  pub length-lines : (i : ℕ) → length (front i) ≡ 4 * i
+  lines-none : front 0 ≡ []
   unfolding linesTo
-  length-lines zero = refl
-  length-lines (suc i) =
-      let e = length-lines i in
-      length-append (front i) (lineOf (answerAt v t p work out i)) ∙ omega (arith, length-line (answerAt v t p work out i))
+  lines-none = refl
+
+  lines-next : (i : ℕ) → front (suc i) ≡ front i ++ lineOf (answerAt v t p work out i)
+  unfolding linesTo
+  lines-next i = refl
+
+  pub length-lines : (i : ℕ) → length (front i) ≡ 4 * i
+  length-lines = rows-length 4 (λ i. lineOf (answerAt v t p work out i)) (λ i. length-line (answerAt v t p work out i)) front lines-none lines-next
 
   pub lines-more : (i : ℕ) (lines lines' : List ℤ) → lines' ≡ front i ++ drop (4 * i) lines
-      → lineAt i (lineOf (answerAt v t p work out i)) lines' ≡ front (suc i) ++ drop (4 * suc i) lines
-  unfolding linesTo
-  lines-more i lines lines' e =
-      let line = lineOf (answerAt v t p work out i) in
-      let count : 4 * i + 4 ≡ 4 * suc i = omega arith in
-      let behind : drop (4 * i + 4) lines' ≡ drop (4 * suc i) lines =
-      ap (drop (4 * i + 4)) e
-      ∙ sym (drop-drop 4 (4 * i) (front i ++ drop (4 * i) lines))
-      ∙ ap (drop 4) (drop-at (front i) (drop (4 * i) lines) (4 * i) (length-lines i))
-      ∙ drop-drop 4 (4 * i) lines
-      ∙ ap (λ (k : ℕ). drop k lines) count in
-      let before : take (4 * i) lines' ≡ front i = ap (take (4 * i)) e ∙ take-at (front i) (drop (4 * i) lines) (4 * i) (length-lines i) in
-      ap (λ (x : List ℤ). x ++ line ++ drop (4 * i + 4) lines') before ∙ ap (λ (x : List ℤ). front i ++ line ++ x) behind
+      → rowAt 4 i (lineOf (answerAt v t p work out i)) lines' ≡ front (suc i) ++ drop (4 * suc i) lines
+  lines-more = rows-more 4 (λ i. lineOf (answerAt v t p work out i)) (λ i. length-line (answerAt v t p work out i)) front lines-none lines-next
 
   line-last : (i : ℕ) (rest : List ℤ) → lineIn (front (suc i) ++ rest) i ≡ lineOf (answerAt v t p work out i)
   unfolding linesTo
@@ -124,14 +110,14 @@ module _ {v : ℕ} {t p : List ℤ} {w : List ℕ} {lines out : List ℤ} {i : �
 
   pub going-more : (r : Queried) (lines₁ out₁ : List ℤ) (next₁ : ℕ)
       → Fills (pairRun v t (four part 0) (four part 4) out' out₁ next) (foundIf v t (four part 0) (four part 4) next) r
-      → lines₁ ≡ lineAt i (lineOf r) lines' → next₁ ≡ wordEnd r next
+      → lines₁ ≡ rowAt 4 i (lineOf r) lines' → next₁ ≡ wordEnd r next
       → (j : ℕ) → j ≡ suc i → Going v t p w lines out j lines₁ out₁ next₁
   unfolding spaceAt
   going-more r lines₁ out₁ next₁ e q n j m =
       let f = pair-as v t is-A is-B {out = out'} {out' = out₁} e in
       let z = answer-is r (f .answer) in
       subst (λ (k : ℕ). Going v t p w lines out k lines₁ out₁ next₁) (sym m) (record {
-        table = q ∙ ap (λ (x : Queried). lineAt i (lineOf x) lines') z ∙ lines-more v t p (length w) out i lines lines' (g .table);
+        table = q ∙ ap (λ (x : Queried). rowAt 4 i (lineOf x) lines') z ∙ lines-more v t p (length w) out i lines lines' (g .table);
         space =
             pair-left v t a b out' out₁ next f
             ∙ ap (λ (x : Queried). wordLeft x (foundWord v t (ofList a) (ofList b)) out') z
@@ -141,15 +127,18 @@ module _ {v : ℕ} {t p : List ℤ} {w : List ℕ} {lines out : List ℤ} {i : �
 
 -- ---- the line of either answer
 
-pub line-word : (i : ℕ) (lines : List ℤ) (r : Queried) (s n : ℕ) (sign : Bool) → r ≡ queried.Word s n sign → (x y z : ℤ) → x ≡ pos s → y ≡ pos n
-    → z ≡ signNumber sign
-    → lineAt i (pos 0 ∷ x ∷ y ∷ z ∷ []) lines ≡ lineAt i (lineOf r) lines
-line-word i lines r s n sign e x y z f g h =
-    let line : (pos 0 ∷ x ∷ y ∷ z ∷ []) ≡ lineOf (queried.Word s n sign) = cc (f, g, h) in
-    ap (λ (l : List ℤ). lineAt i l lines) (line ∙ ap lineOf (sym e))
+module _ (i : ℕ) (lines : List ℤ) {lines₁ lines₂ : List ℤ} (h : 4 * i + 4 ≤ length lines) (r : Queried) where
+  -- by two rows
+  by-rows : (x y : List ℤ) → length x ≡ 2 → x ++ y ≡ lineOf r → lines₁ ≡ rowAt 2 (2 * i) x lines → lines₂ ≡ rowAt 2 (2 * i + 1) y lines₁
+      → lines₂ ≡ rowAt 4 i (lineOf r) lines
+  by-rows x y l e f g = g ∙ ap (rowAt 2 (2 * i + 1) y) f ∙ two-rows i x y lines l h ∙ ap (λ (z : List ℤ). rowAt 4 i z lines) e
 
-pub line-refused : (i : ℕ) (lines : List ℤ) (r : Queried) (f : Refusal) → r ≡ queried.Refused f → (x y : ℤ) → x ≡ pos (f .number) → y ≡ pos (f .place)
-    → lineAt i (x ∷ y ∷ pos 0 ∷ pos 0 ∷ []) lines ≡ lineAt i (lineOf r) lines
-line-refused i lines r f e x y g h =
-    let line : (x ∷ y ∷ pos 0 ∷ pos 0 ∷ []) ≡ lineOf (queried.Refused f) = cc (g, h) in
-    ap (λ (l : List ℤ). lineAt i l lines) (line ∙ ap lineOf (sym e))
+  pub line-word : (s n : ℕ) (sign : Bool) → r ≡ queried.Word s n sign → (x y z : ℤ) → x ≡ pos s → y ≡ pos n → z ≡ signNumber sign
+      → lines₁ ≡ rowAt 2 (2 * i) (pos 0 ∷ x ∷ []) lines → lines₂ ≡ rowAt 2 (2 * i + 1) (y ∷ z ∷ []) lines₁ → lines₂ ≡ rowAt 4 i (lineOf r) lines
+  line-word s n sign e x y z f g k =
+      let line : (pos 0 ∷ x ∷ y ∷ z ∷ []) ≡ lineOf (queried.Word s n sign) = cc (f, g, k) in
+      by-rows (pos 0 ∷ x ∷ []) (y ∷ z ∷ []) refl (line ∙ ap lineOf (sym e))
+
+  pub line-refused : (f : Refusal) → r ≡ queried.Refused f → lines₁ ≡ rowAt 2 (2 * i) (pos (f .number) ∷ pos (f .place) ∷ []) lines
+      → lines₂ ≡ rowAt 2 (2 * i + 1) (pos 0 ∷ pos 0 ∷ []) lines₁ → lines₂ ≡ rowAt 4 i (lineOf r) lines
+  line-refused f e = by-rows (pos (f .number) ∷ pos (f .place) ∷ []) (pos 0 ∷ pos 0 ∷ []) refl (ap lineOf (sym e))

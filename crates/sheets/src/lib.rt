@@ -23,7 +23,7 @@ ghost use Rattle.word.specs.Answer.{four, foundIf};
 ghost use Rattle.coset.specs.Inner.Steps.{BuiltSteps};
 ghost use Rattle.walk_runs.specs.Inner.Rounds.{Rounds};
 ghost use Rattle.sheets.specs.Sheet.{pairsIn, badCount, wordEnd, spaceAt, lineOf, linesTo, lineSteps, sheetSteps};
-ghost use Rattle.sheets.specs.Inner.Pairs.{pairSteps, SheetReady, lineAt, Fitting};
+ghost use Rattle.sheets.specs.Inner.Pairs.{pairSteps, SheetReady, rowAt, Fitting};
 
 // The entries of a sheet, at most.
 pub const ENTRIES: usize = 2048;
@@ -49,50 +49,50 @@ fn word_end(answer: Queried, next: usize) -> usize
     }
 }
 
-// The four numbers of a line at the place i of the table.
-fn put_line(lines: &mut [i64], i: usize, a: i64, b: i64, c: i64, d: i64)
-    requires { ⌜ 4 * i + 4 ≤ length (now lines) ⌝ }
-    ensures { λ _. ⌜ now (lines .exit) ≡ lineAt i (a ∷ b ∷ c ∷ d ∷ []) (now (lines .entry)) ⌝ }
-{
-    lines[4 * i] = a;
-    lines[4 * i + 1] = b;
-    lines[4 * i + 2] = c;
-    lines[4 * i + 3] = d;
-}
-
 // A number among the signed ones.
-pub fn signed(n: u64) -> i64
+fn signed(n: u64) -> i64
     requires { ⌜ n < 2 ^ 63 ⌝ }
     ensures { λ r. ⌜ r ≡ pos n ⌝ }
 {
     n as i64
 }
 
+// Two numbers at the place i of a table of such rows. Two rows are a line of a sheet.
+pub fn put_two(lines: &mut [i64], i: usize, a: i64, b: i64)
+    requires { ⌜ 2 * i + 2 ≤ length (now lines) ⌝ }
+    ensures { λ _. ⌜ now (lines .exit) ≡ rowAt 2 i (a ∷ b ∷ []) (now (lines .entry)) ⌝ }
+{
+    lines[2 * i] = a;
+    lines[2 * i + 1] = b;
+}
+
+// The number and the place of a refusal there.
+pub fn put_refusal(lines: &mut [i64], i: usize, refusal: Refusal)
+    requires { ⌜ (2 * i + 2 ≤ length (now lines)) × (refusal .number < 2 ^ 63) × (refusal .place < 2 ^ 63) ⌝ }
+    ensures { λ _. ⌜ now (lines .exit) ≡ rowAt 2 i (pos (refusal .number) ∷ pos (refusal .place) ∷ [])
+        (now (lines .entry)) ⌝ }
+{
+    put_two(
+        lines,
+        i,
+        signed(refusal.number),
+        signed(refusal.place as u64),
+    );
+}
+
 // The line of an answer at the place i of the table.
 fn write_line(lines: &mut [i64], i: usize, answer: Queried)
     requires { ⌜ (4 * i + 4 ≤ length (now lines)) × Fitting answer ⌝ }
-    ensures { λ _. ⌜ now (lines .exit) ≡ lineAt i (lineOf answer) (now (lines .entry)) ⌝ }
+    ensures { λ _. ⌜ now (lines .exit) ≡ rowAt 4 i (lineOf answer) (now (lines .entry)) ⌝ }
 {
     match answer {
         Queried::Word(start, n, sign) => {
-            put_line(
-                lines,
-                i,
-                0,
-                signed(start as u64),
-                signed(n as u64),
-                sign_number(sign),
-            );
+            put_two(lines, 2 * i, 0, signed(start as u64));
+            put_two(lines, 2 * i + 1, signed(n as u64), sign_number(sign));
         }
         Queried::Refused(refusal) => {
-            put_line(
-                lines,
-                i,
-                signed(refusal.number),
-                signed(refusal.place as u64),
-                0,
-                0,
-            );
+            put_refusal(lines, 2 * i, refusal);
+            put_two(lines, 2 * i + 1, 0, 0);
         }
     }
 }

@@ -1,7 +1,7 @@
 -- The lines.
 --     yes-line, no-line, refused-line     the line for an answer of `same`
---     rest-part                           the numbers behind v, as the code lends them
---     numbers-line                        the line for two symbols' numbers
+--     rest-part                           the rest of a list, as the code lends it
+--     same-for                            the line for two symbols
 --     print-means                         what the bytes mean
 -- Assumes nothing.
 use mathlib.Core.Path.{_≡_, sym, ap, _∙_}
@@ -11,7 +11,6 @@ use Prim.Native.Nat.{ℕ, _-_, _≤_}
 use lib.IntN.{ℤ}
 use lib.ListN.{length, take, drop, length-drop}
 use lib.Seq.{take-length}
-use Rattle.call.specs.Refusal.{_orElse_}
 use Rattle.call.specs.declared.refusal.Refusal.{Refusal}
 use Rattle.call.specs.Space.{workLength}
 use Rattle.call.specs.Call.{Asks, Clears, lengthCheck}
@@ -23,7 +22,8 @@ use Rattle.symbol.specs.Check.{symbolCheck}
 use Rattle.pairing.proofs.Both.{with-space}
 use Rattle.containment.specs.Group.{sameTables}
 use Rattle.containment.proofs.Means.{decides-same, decides-different}
-use Rattle.subgroup_texts.specs.SameAnswer.{sameLine, tableIn, two, twoLines, sameBytes, SamePrintMeans}
+use Rattle.subgroup_texts.specs.SameAnswer.{sameLine, tableIn, twoLines, sameBytes, SamePrintMeans}
+use Rattle.subgroup_texts.specs.Inner.TwoTexts.{sameFor}
 use Rattle.text.specs.Reading.{countIn}
 
 pub yes-line : (a : Decision) → a ≡ decision.Yes → 115 ∷ 97 ∷ 109 ∷ 101 ∷ 10 ∷ [] ≡ sameLine a
@@ -40,21 +40,12 @@ refused-line a f e = sym (ap sameLine e)
 pub rest-part : {A : Type 0} (k : ℕ) (l : List A) → take (length l - k) (drop k l) ≡ drop k l
 rest-part {A} k l = ap (λ (n : ℕ). take n (drop k l)) (sym (length-drop k l)) ∙ take-length (drop k l)
 
--- two tables by equals
-both-as : {X : Type 0} {v v' n n' : ℕ} {t t' u u' : List ℤ} (f : ℕ → List ℤ → ℕ → List ℤ → X) → v ≡ v' → t ≡ t' → n ≡ n' → u ≡ u' → f v t n u ≡ f v' t' n' u'
-both-as f e g h k = cc
-
-abbrev answered : (v : ℕ) (t : List ℤ) (n : ℕ) (u : List ℤ) → Decision
-answered v t n u = decided (sameTables v t n u) (symbolCheck v t orElse symbolCheck n u)
-
 -- in a work space that is long enough
-pub numbers-line : (one other : List ℤ) {v n : ℕ} {t u : List ℤ} → v ≡ countIn one → t ≡ tableIn one → n ≡ countIn other → u ≡ tableIn other
-    → {a : Decision} {w w' : List ℕ}
+pub same-for : (v : ℕ) (t : List ℤ) (n : ℕ) (u : List ℤ) (w : List ℕ) {a : Decision} {w' : List ℕ}
     → Fills (Asks (symbolCheck v t) ∷ Asks (symbolCheck n u) ∷ Asks (lengthCheck workLength (length w)) ∷ Clears w w' ∷ []) (decided (sameTables v t n u)) a
-    → workLength ≤ length w → sameLine a ≡ twoLines (two one other)
-numbers-line one other {v} {n} {t} {u} e g h k {a} {w} is l =
-    ap sameLine
-    (is .answer ∙ ap (decided (sameTables v t n u)) (with-space (symbolCheck v t) (symbolCheck n u) (length w) l) ∙ both-as answered e g h k)
+    → workLength ≤ length w → sameLine a ≡ sameLine (sameFor v t n u)
+same-for v t n u w is l =
+    ap sameLine (is .answer ∙ ap (decided (sameTables v t n u)) (with-space (symbolCheck v t) (symbolCheck n u) (length w) l))
 
 pub print-means : (longer : Bool) (t bytes : List ℕ) → bytes ≡ sameBytes longer t → SamePrintMeans longer t bytes
 unfolding sameBytes

@@ -1,14 +1,15 @@
 -- What a text gives, by the answers of `read`, and what is written.
 --     outcome                    a text that isn't too long, by what the first text's reading gives
---     first-told, first-left     the first text's reading, as the code makes it
---     second-told, second-left   the second's
+--     PartRead, part-as          one of the two texts was read, however the code lends it
+--     second-is                  the second text, as the code lends it
 --     few, enough                whether the first text has more than v
 --     counts, no-counts          the counts of the numbers that are handed on
 --     too-long                   a text that is too long
 --     not-longer                 a text that fits into the buffer
---     line-as                    the line, by what the reading gives
+--     lines-as                   the lines of what is asked, by what the reading gives
+--     refused-as, symbols-as     those for a refusal, and for two symbols
 -- Assumes nothing.
-use mathlib.Core.Path.{_≡_, sym, ap, _∙_}
+use mathlib.Core.Path.{_≡_, refl, sym, ap, _∙_}
 use mathlib.Core.Bool.{Bool, true, false, _||_}
 use mathlib.Core.List.{List}
 use Prim.Native.Nat.{ℕ, _-_, _≤_, _<_}
@@ -22,16 +23,20 @@ use Rattle.basics.proofs.Choice.{pick-true, pick-false}
 use Rattle.call.specs.Refusal.{badText, badVertexCount}
 use Rattle.call.specs.declared.refusal.Refusal.{Refusal}
 use Rattle.text.specs.Piece.{pieces, numbers}
-use Rattle.text.specs.Reading.{textMost, readingOf, symbolFormat}
+use Rattle.text.specs.Reading.{textMost, readingOf, symbolFormat, countIn}
+use Rattle.text.specs.Line.{refusalLine}
 use Rattle.text.specs.Inner.Inside.{leftBy}
 use Rattle.text.specs.declared.Reading.{Reading}
 use Rattle.text.specs.declared.Reading.the-variants as reading
+use Rattle.text.proofs.OnceRead.{Standing, read-numbers}
 use Rattle.decimal.specs.Writing.{Puts}
 use Rattle.decimal.proofs.Placing.{puts-as}
-use Rattle.subgroup_texts.specs.SameAnswer.{cutAt, firstText, secondText, firstReading, secondReading, TwoSymbols, none, bySecond, byFirst}
-use Rattle.subgroup_texts.specs.SameAnswer.{twoSymbols}
-use Rattle.subgroup_texts.specs.SameAnswer.{twoLines, sameBytes}
-use Rattle.subgroup_texts.specs.Inner.TwoTexts.{symbolsBy, CountsWithin, ReadsTwo}
+use Rattle.subgroup_texts.specs.SameAnswer.{cutAt, firstText, secondText, firstReading, secondReading, TwoSymbols, two, none, bySecond, byFirst}
+use Rattle.subgroup_texts.specs.SameAnswer.{tableIn, twoSymbols, sameBytes}
+use Rattle.subgroup_texts.specs.IntersectionAnswer.{intersectionBytes}
+use Rattle.subgroup_texts.specs.Inner.TwoTexts.{symbolsBy, CountsWithin, ReadsTwo, linesForTwo, linesOfTwo, bytesOfTwo}
+use Rattle.subgroup_texts.specs.declared.two_texts.Asked.{Asked}
+use Rattle.subgroup_texts.specs.declared.two_texts.Asked.the-variants as asked
 use Rattle.subgroup_texts.specs.declared.same_text.TwoReading.{TwoReading}
 use Rattle.subgroup_texts.specs.declared.same_text.TwoReading.the-variants.{Numbers, Refused}
 use Rattle.subgroup_texts.proofs.SameLines.{rest-part}
@@ -50,25 +55,24 @@ module _ (t : List ℕ) (h : length t ≤ 65536) (r : Reading) (e : r ≡ firstR
 
 -- ---- the readings, as the code makes them
 
-module _ (t : List ℕ) (at : ℕ) (cut : at ≡ cutAt t) where
-  pub first-told : {r : Reading} {room : ℕ} → r ≡ readingOf symbolFormat (take at t) room → room ≡ 3071 → r ≡ firstReading t
-  first-told {r} {room} e l = e ∙ ap (λ (n : ℕ). readingOf symbolFormat (take n t) room) cut ∙ ap (readingOf symbolFormat (firstText t)) l
+-- a text x that was read, however the code lends it
+pub record PartRead (x : List ℕ) (r : Reading) (out : List ℤ) : Type 0 where
+  pub told : r ≡ readingOf symbolFormat x 3071
+  pub standing : (k : ℕ) → r ≡ reading.Numbers k → Standing (numbers (pieces x)) 3071 k out
 
-  pub first-left : (r : Reading) (ns : List ℤ) {s : Reading} {ns' : List ℤ} → s ≡ r → ns' ≡ leftBy s (numbers (pieces (take at t))) ns
-      → ns' ≡ leftBy r (numbers (pieces (firstText t))) ns
-  first-left r ns {s} g e =
-      e ∙ ap (λ (n : ℕ). leftBy s (numbers (pieces (take n t))) ns) cut ∙ ap (λ (x : Reading). leftBy x (numbers (pieces (firstText t))) ns) g
+module _ {x : List ℕ} {r : Reading} (before : List ℤ) {out : List ℤ} (lent : length before ≡ 3071) where
+  part-read : (r ≡ readingOf symbolFormat x (length before)) × (out ≡ leftBy r (numbers (pieces x)) before) → PartRead x r out
+  part-read e = record {
+    told = e .0 ∙ ap (readingOf symbolFormat x) lent;
+    standing = read-numbers symbolFormat x before lent e (omega arith);
+  }
 
-  second-is : take (length t - at) (drop at t) ≡ secondText t
-  second-is = rest-part at t ∙ ap (λ (n : ℕ). drop n t) cut
+  pub part-as : {s : List ℕ} → s ≡ x → (r ≡ readingOf symbolFormat s (length before)) × (out ≡ leftBy r (numbers (pieces s)) before) → PartRead x r out
+  part-as {s} e f =
+      part-read (f .0 ∙ ap (λ (y : List ℕ). readingOf symbolFormat y (length before)) e, f .1 ∙ ap (λ (y : List ℕ). leftBy r (numbers (pieces y)) before) e)
 
-  pub second-told : {r : Reading} {room : ℕ} → r ≡ readingOf symbolFormat (take (length t - at) (drop at t)) room → room ≡ 3071 → r ≡ secondReading t
-  second-told {r} {room} e l = e ∙ ap (λ (x : List ℕ). readingOf symbolFormat x room) second-is ∙ ap (readingOf symbolFormat (secondText t)) l
-
-  pub second-left : (r : Reading) (ms : List ℤ) {s : Reading} {ms' : List ℤ} → s ≡ r → ms' ≡ leftBy s (numbers (pieces (take (length t - at) (drop at t)))) ms
-      → ms' ≡ leftBy r (numbers (pieces (secondText t))) ms
-  second-left r ms {s} g e =
-      e ∙ ap (λ (x : List ℕ). leftBy s (numbers (pieces x)) ms) second-is ∙ ap (λ (x : Reading). leftBy x (numbers (pieces (secondText t))) ms) g
+pub second-is : (t : List ℕ) (at : ℕ) → at ≡ cutAt t → take (length t - at) (drop at t) ≡ secondText t
+second-is t at cut = rest-part at t ∙ ap (λ (n : ℕ). drop n t) cut
 
 -- ---- the first text's numbers
 
@@ -109,7 +113,28 @@ module _ (longer : Bool) (t : List ℕ) where
 
 -- ---- what is then written
 
-pub line-as : {longer : Bool} {t : List ℕ} {ns ms : List ℤ} {r : TwoReading} → ReadsTwo longer t r ns ms → {q : TwoReading} → r ≡ q
-    → {out out' : List ℕ} {end : ℕ} → Puts (twoLines (symbolsBy q ns ms)) 0 end out out' → Puts (sameBytes longer t) 0 end out out'
-unfolding sameBytes
-line-as {longer} {t} {ns} {ms} m e p = puts-as (ap twoLines (sym (ap (λ (x : TwoReading). symbolsBy x ns ms) e) ∙ m .gives)) p
+asked-of : (a : Asked) (longer : Bool) (t : List ℕ) → linesOfTwo a (twoSymbols longer t) ≡ bytesOfTwo a longer t
+unfolding sameBytes intersectionBytes
+asked-of asked.Same longer t = refl
+asked-of asked.Intersection longer t = refl
+
+pub lines-as : (a : Asked) {longer : Bool} {t : List ℕ} {ns ms : List ℤ} {r : TwoReading} → ReadsTwo longer t r ns ms → {q : TwoReading} → r ≡ q
+    → {bytes out out' : List ℕ} {end : ℕ} → bytes ≡ linesOfTwo a (symbolsBy q ns ms) → Puts bytes 0 end out out' → Puts (bytesOfTwo a longer t) 0 end out out'
+lines-as a {longer} {t} {ns} {ms} m e b p =
+    puts-as (b ∙ ap (linesOfTwo a) (sym (ap (λ (x : TwoReading). symbolsBy x ns ms) e) ∙ m .gives) ∙ asked-of a longer t) p
+
+pub refused-as : (a : Asked) (f : Refusal) → refusalLine f ≡ linesOfTwo a (none f)
+refused-as asked.Same f = refl
+refused-as asked.Intersection f = refl
+
+-- two tables by equals
+both-as : {v v' n n' : ℕ} {t t' u u' : List ℤ} (f : ℕ → List ℤ → ℕ → List ℤ → List ℕ) → v ≡ v' → t ≡ t' → n ≡ n' → u ≡ u' → f v t n u ≡ f v' t' n' u'
+both-as f e g h k = cc
+
+pub symbols-as : {a b : Asked} → a ≡ b → (one other : List ℤ) {v n : ℕ} {t u : List ℤ} → v ≡ countIn one → t ≡ tableIn one
+    → n ≡ countIn other → u ≡ tableIn other → linesForTwo b v t n u ≡ linesOfTwo a (two one other)
+symbols-as {a} {b} told one other e g h k = both-as (linesForTwo b) e g h k ∙ go b ∙ ap (λ (x : Asked). linesOfTwo x (two one other)) (sym told)
+  where
+    go : (x : Asked) → linesForTwo x (countIn one) (tableIn one) (countIn other) (tableIn other) ≡ linesOfTwo x (two one other)
+    go asked.Same = refl
+    go asked.Intersection = refl

@@ -1,6 +1,7 @@
-// Texts about one subgroup beside another: two symbols of the same subgroup (`same_text`), the intersection of two
-// (`intersection_text`), towers (`tower_text`).
+// Texts about one subgroup beside another: two symbols, of the same subgroup or not, and the intersection of two
+// (`two_texts`); towers (`tower_text`).
 
-pub mod intersection_text;
-pub mod same_text;
+mod intersection_text;
+mod same_text;
 pub mod tower_text;
+pub mod two_texts;

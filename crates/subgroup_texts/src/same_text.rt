@@ -1,4 +1,4 @@
-// What the job `same` writes for a text: all of it, byte for byte, as specs/SameAnswer.antt says.
+// How two symbols' texts are read, and the line that the job `same` writes for two symbols (specs/SameAnswer.antt).
 use call::Decision;
 use call::refusal::BAD_TEXT;
 use call::refusal::BAD_VERTEX_COUNT;
@@ -11,14 +11,13 @@ use text::TEXT_MOST;
 use text::line::refusal_line;
 use text::part::part_end;
 use text::read;
-use text::vertex_count;
 ghost use mathlib.Core.Path.{_≡_};
 ghost use mathlib.Core.Bool.{false};
 ghost use Prim.Native.Nat.{_+_, _≤_};
 ghost use lib.ListN.{length};
 ghost use Rattle.decimal.specs.Writing.{Puts};
-ghost use Rattle.subgroup_texts.specs.SameAnswer.{sameLine, inWhole, two, twoLines, sameBytes};
-ghost use Rattle.subgroup_texts.specs.Inner.TwoTexts.{ReadsTwo};
+ghost use Rattle.subgroup_texts.specs.SameAnswer.{sameLine, inWhole};
+ghost use Rattle.subgroup_texts.specs.Inner.TwoTexts.{sameFor, ReadsTwo};
 
 // What reading two symbols' texts gives.
 pub enum TwoReading {
@@ -40,16 +39,14 @@ fn same_line(answer: Decision, out: &mut [u8]) -> usize
     }
 }
 
-// The line for the numbers of two symbols' texts.
-fn same_numbers(one: &[i64], other: &[i64], out: &mut [u8]) -> usize
-    requires { ⌜ (1 ≤ length (now one)) × (1 ≤ length (now other)) × (50 ≤ length (now out)) ⌝ }
-    ensures { λ e. ⌜ Puts (twoLines (two (now (one .entry)) (now (other .entry)))) 0 e (now (out .entry))
+// The line for two symbols.
+pub fn same_lines(v: usize, t: &[i64], n: usize, u: &[i64], out: &mut [u8]) -> usize
+    requires { ⌜ 50 ≤ length (now out) ⌝ }
+    ensures { λ e. ⌜ Puts (sameLine (sameFor v (now (t .entry)) n (now (u .entry)))) 0 e (now (out .entry))
         (now (out .exit)) ⌝ }
 {
     let mut w = [0u16; 32768];
-    let v = vertex_count(one[0]);
-    let n = vertex_count(other[0]);
-    let answer = same(v, &one[1..], n, &other[1..], &mut w);
+    let answer = same(v, t, n, u, &mut w);
     same_line(answer, out)
 }
 
@@ -112,19 +109,4 @@ pub fn read_two(text: &[u8], longer: bool, one: &mut [i64], other: &mut [i64]) -
         return TwoReading::Refused(refused);
     }
     read_texts(text, one, other)
-}
-
-// What the program writes for a text, from the front of `out`, where `longer` says that the input goes on behind the
-// text; where it ends.
-pub fn answer(text: &[u8], longer: bool, out: &mut [u8]) -> usize
-    requires { ⌜ 50 ≤ length (now out) ⌝ }
-    ensures { λ e. ⌜ Puts (sameBytes longer (now (text .entry))) 0 e (now (out .entry)) (now (out .exit)) ⌝ }
-{
-    let mut one = [0i64; 3071];
-    let mut other = [0i64; 3071];
-    let reading = read_two(text, longer, &mut one, &mut other);
-    match reading {
-        TwoReading::Refused(refusal) => refusal_line(refusal, out),
-        TwoReading::Numbers(k, j) => same_numbers(&one[..k], &other[..j], out),
-    }
 }

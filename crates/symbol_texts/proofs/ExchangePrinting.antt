@@ -2,7 +2,6 @@
 --
 --     made-lines, refused-lines      the answer of `exchange` in the program's table, and its lines
 --     few-lines, enough-lines        the lines for the numbers of a text, by the test that the code makes
---     lines-by                       the same for an answer of `read_input`
 --     print-means                    what the bytes mean
 -- Assumes nothing.
 use mathlib.Core.Path.{_≡_, refl, sym, ap, _∙_}
@@ -106,11 +105,6 @@ module _ (ns : List ℤ) where
   pub enough-lines : 4 ≤ length ns → exchangeLines (countIn ns) (exchangeSymbol ns) (firstLabel ns) (secondLabel ns) ≡ exchangeLinesOf ns
   unfolding exchangeLinesOf
   enough-lines h = sym (pick-false (ltb (length ns) 4) _ _ (le-ltb (length ns) 4 h))
-
-pub lines-by : (longer : Bool) (text : List ℕ) (r : Reading) → r ≡ inputOf longer exchangeFormat text 3073
-    → byReading exchangeLinesOf refusalLine r (numbers (pieces text)) ≡ exchangedText longer text
-unfolding exchangedText
-lines-by longer text r e = ap (λ (x : Reading). byReading exchangeLinesOf refusalLine x (numbers (pieces text))) e
 
 -- ---- what the bytes mean
 

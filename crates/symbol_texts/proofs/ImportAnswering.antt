@@ -3,8 +3,7 @@
 --     own-spaces                        what is refused where no space is too short
 --     lines-are, symbol-is, front-made  the lines of an import in the program's spaces; where a symbol was made, what it is and where its table stands
 --     few-numbers, enough-numbers       what the numbers of a text ask for
---     asked-by, numbers-by              what a text asks for by the answer of `read_input`, and what is then left of the numbers
---     handed-numbers                    the numbers handed on, where they stand
+--     numbers-by                        what is left of the numbers by the answer of `read_input`
 --     read-refused                      what is asked where `read_tables` refuses
 --     tables-none, tables-some, tables-as    no tables are read; two tables; the same in other words
 --     lines-as                          the lines for what is asked, in other words
@@ -17,7 +16,7 @@ use native.Mathlib.Omega.{arith}
 use lib.Dec.{ltb}
 use lib.IntN.{ℤ}
 use lib.ListN.{length, take, drop, length-append, length-drop}
-use lib.Seq.{take-at, length-take-le}
+use lib.Seq.{take-at}
 use borrow.Author.Tests.{lt-ltb, le-ltb}
 use Rattle.call.specs.Refusal.{_orElse_, pointCount}
 use Rattle.call.specs.declared.refusal.Refusal.{Refusal}
@@ -31,10 +30,9 @@ use Rattle.call.specs.Call.{lengthCheck, atFront, ifAccepted}
 use Rattle.call.specs.Inner.Fills.{Fills, madeIf}
 use Rattle.call.proofs.Laws.{room-long}
 use Rattle.text.specs.Piece.{pieces, numbers}
-use Rattle.text.specs.Reading.{inputOf, byReading}
+use Rattle.text.specs.Reading.{inputOf}
 use Rattle.text.specs.Inner.Inside.{leftBy}
 use Rattle.text.specs.declared.Reading.{Reading}
-use Rattle.text.specs.declared.Reading.the-variants.{Numbers}
 use Rattle.decimal.specs.Writing.{Puts}
 use Rattle.import_symbol.specs.Answer.{check16, ruledTable}
 use Rattle.permutations.specs.Check.{pairCheck}
@@ -103,22 +101,13 @@ unfolding tablesIn
 enough-numbers ns h = rw (le-ltb (length ns) 3 h) refl
 
 module _ (longer : Bool) (text : List ℕ) where
-  module _ (r : Reading) (e : r ≡ inputOf longer importFormat text 6133) where
-    pub asked-by : byReading tablesIn refused r (numbers (pieces text)) ≡ requestOf longer text
-    unfolding requestOf
-    asked-by = ap (λ (x : Reading). byReading tablesIn refused x (numbers (pieces text))) e
-
-    pub numbers-by : (ns : List ℤ) → leftBy r (numbers (pieces text)) ns ≡ numbersLeft longer text ns
-    unfolding numbersLeft
-    numbers-by ns = ap (λ (x : Reading). leftBy x (numbers (pieces text)) ns) e
+  pub numbers-by : (r : Reading) → r ≡ inputOf longer importFormat text 6133 → (ns : List ℤ) → leftBy r (numbers (pieces text)) ns ≡ numbersLeft longer text ns
+  unfolding numbersLeft
+  numbers-by r e ns = ap (λ (x : Reading). leftBy x (numbers (pieces text)) ns) e
 
   pub lines-as : (order : Order) {a : Request} → a ≡ requestOf longer text → linesFor order a ≡ importedBy order longer text
   unfolding importedBy
   lines-as order e = ap (linesFor order) e
-
-pub handed-numbers : (k : ℕ) (ns out : List ℤ) → k ≤ length ns → take k (leftBy (Numbers k) ns out) ≡ take k ns
-unfolding leftBy
-handed-numbers k ns out h = take-at (take k ns) (drop k out) k (length-take-le k ns h)
 
 -- ---- the tables that are read
 

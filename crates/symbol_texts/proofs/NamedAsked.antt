@@ -1,7 +1,6 @@
 -- What is asked and answered is known by the cases of the definitions; what is printed is read back as a symbol of the group because the symbol that the rule
 -- gives for the group's tables is one (`print-means`).
 --     few-numbers, enough-numbers       what the numbers of a text ask for
---     asked-by                          what a text asks for by the answer of `read_input`
 --     lines-as                          the lines for what is asked, in other words
 -- Assumes nothing.
 use mathlib.Core.Path.{_≡_, refl, sym, ap, subst, _∙_}
@@ -16,9 +15,7 @@ use Rattle.call.specs.Refusal.{_orElse_, badLevel}
 use Rattle.call.specs.declared.refusal.Filled.{Filled}
 use Rattle.call.specs.declared.refusal.Filled.the-variants as filled
 use Rattle.call.proofs.Answers.{both-pass}
-use Rattle.text.specs.Piece.{pieces, numbers}
-use Rattle.text.specs.Reading.{inputOf, byReading, vertexCount}
-use Rattle.text.specs.declared.Reading.{Reading}
+use Rattle.text.specs.Reading.{vertexCount}
 use Rattle.import_rule.specs.Order.{Order}
 use Rattle.import_symbol.specs.Answer.{check16, ruledTable}
 use Rattle.import_call.specs.Import.{SymbolOfPair}
@@ -32,7 +29,7 @@ use Rattle.named_groups.specs.Answer.{namedRule, NamedSymbol}
 use Rattle.named_groups.proofs.Checked.{check-named, group-of}
 use Rattle.named_groups.proofs.Symbols.{symbol-named}
 use Rattle.named_groups.proofs.Tables.{passport}
-use Rattle.symbol_texts.specs.NamedAnswer.{namedFormat, GroupRequest, group, refused, groupIn, groupRequest, madeBy, orderFor, groupLines}
+use Rattle.symbol_texts.specs.NamedAnswer.{GroupRequest, group, refused, groupIn, groupRequest, madeBy, orderFor, groupLines}
 use Rattle.symbol_texts.specs.NamedAnswer.{requestLines, namedBytes, NamedPrintMeans}
 
 -- ---- the numbers of a text
@@ -48,11 +45,6 @@ enough-numbers ns {k} {n} h e f = rw (le-ltb (length ns) 2 h) (ap (λ (x : ℕ).
 -- ---- a text
 
 module _ (longer : Bool) (text : List ℕ) where
-  module _ (r : Reading) (e : r ≡ inputOf longer namedFormat text 2) where
-    pub asked-by : byReading groupIn refused r (numbers (pieces text)) ≡ groupRequest longer text
-    unfolding groupRequest
-    asked-by = ap (λ (x : Reading). byReading groupIn refused x (numbers (pieces text))) e
-
   pub lines-as : {a : GroupRequest} → a ≡ groupRequest longer text → requestLines a ≡ namedBytes longer text
   unfolding namedBytes
   lines-as e = ap requestLines e

@@ -4,10 +4,9 @@ use call::refusal::BAD_VERTEX_COUNT;
 use call::refusal::Filled;
 use call::refusal::Refusal;
 use partner_exchange::exchange;
-use text::Format;
 use text::Reading;
 use text::line::refusal_line;
-use text::read_input;
+use text::read_symbol;
 use text::vertex_count;
 ghost use mathlib.Core.Path.{_≡_};
 ghost use Prim.Native.Nat.{_≤_};
@@ -62,17 +61,7 @@ fn exchange_text(
         × (65536 ≤ length (now out)) ⌝ }
     ensures { λ e. ⌜ Puts (exchangedText longer (now (text .entry))) 0 e (now (out .entry)) (now (out .exit)) ⌝ }
 {
-    let read = read_input(
-        text,
-        longer,
-        Format {
-            least: 1,
-            most: 1023,
-            each: 3,
-            more: 4,
-        },
-        numbers,
-    );
+    let read = read_symbol(text, longer, 4, numbers);
     match read {
         Reading::Refused(refusal) => refusal_line(refusal, out),
         Reading::Numbers(k) => exchange_numbers(&numbers[..k], table, out),

@@ -2,20 +2,19 @@
 --     numbers-count     a text without a bad piece has a number for each piece
 --     handed-on         the law
 --     input-longer, input-read, input-on     the same for a program's text
---     first-entry, other-entries     where they then stand
---     front-entries     all of them
+--     front-entries     where they then stand
 -- Assumes nothing.
 use mathlib.Core.Path.{_≡_, refl, sym, ap, _∙_}
 use mathlib.Core.Bool.{Bool, true, false, _&&_}
-use mathlib.Core.List.{List, [], _∷_, _++_}
+use mathlib.Core.List.{List, [], _∷_}
 use mathlib.Core.Option.{Option, none, some}
-use Prim.Native.Nat.{ℕ, suc, zero, _+_, _-_, _*_, _≤_, _<_}
+use Prim.Native.Nat.{ℕ, suc, _+_, _*_, _≤_, _<_}
 use native.Mathlib.Decide.{decLt}
 use native.Mathlib.Omega.{arith}
 use lib.Dec.{ltb, leb}
 use lib.IntN.{ℤ, pos, negsuc}
-use lib.ListN.{length, getD, take, drop, length-drop}
-use lib.Seq.{take-at, drop-append-le, length-take-le}
+use lib.ListN.{length, take, drop}
+use lib.Seq.{take-at, length-take-le}
 use borrow.Author.Tests.{lt-ltb, le-ltb}
 use Rattle.call.specs.Refusal.{tooShort, badText}
 use Rattle.basics.specs.Choice.{pick}
@@ -135,24 +134,7 @@ unfolding inputOf
 input-on true f t room k m e = clash cc
 input-on false f t room k m e = handed-on f t room k m e
 
--- the first number, and the others
-module _ (ns out : List ℤ) (k : ℕ) (some-one : 1 ≤ k) (there : k ≤ length ns) where
-  pub first-entry : getD (leftBy (reading.Numbers k) ns out) 0 (pos 0) ≡ getD ns 0 (pos 0)
-  unfolding leftBy
-  first-entry = go k ns some-one there
-    where
-      go : (k : ℕ) (ns : List ℤ) → 1 ≤ k → k ≤ length ns → getD (take k ns ++ drop k out) 0 (pos 0) ≡ getD ns 0 (pos 0)
-      go zero ns a b = absurd (omega arith)
-      go (suc k) [] a b = absurd (omega arith)
-      go (suc k) (z ∷ ns) a b = refl
-
-  pub other-entries : take (k - 1) (drop 1 (leftBy (reading.Numbers k) ns out)) ≡ drop 1 (take k ns)
-  unfolding leftBy
-  other-entries =
-      let long = length-take-le k ns there in
-      ap (take (k - 1)) (drop-append-le 1 (take k ns) (drop k out) (omega (arith, long)))
-      ∙ take-at (drop 1 (take k ns)) (drop k out) (k - 1) (length-drop 1 (take k ns) ∙ ap (λ (n : ℕ). n - 1) long)
-
-  pub front-entries : take k (leftBy (reading.Numbers k) ns out) ≡ take k ns
-  unfolding leftBy
-  front-entries = take-at (take k ns) (drop k out) k (length-take-le k ns there)
+-- where they then stand
+pub front-entries : (ns out : List ℤ) (k : ℕ) → k ≤ length ns → take k (leftBy (reading.Numbers k) ns out) ≡ take k ns
+unfolding leftBy
+front-entries ns out k there = take-at (take k ns) (drop k out) k (length-take-le k ns there)

@@ -16,5 +16,6 @@ pub mod Examples
 pub mod Spacing
 -- Where a part ends.
 pub mod Ends
--- The laws of an input's text.
+-- The laws of an input's text, and of what is answered once it is read.
 pub mod InputText
+pub mod OnceRead

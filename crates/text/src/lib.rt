@@ -14,7 +14,7 @@ ghost use lib.ListN.{length, take, drop};
 ghost use Rattle.text.specs.Blank.{isBlank};
 ghost use Rattle.text.specs.Piece.{pieces, numbers, firstBad, placeAt};
 ghost use Rattle.text.specs.Reading.{readingOf, inputOf, answer, wanted, vertexCount};
-ghost use Rattle.text.specs.Inner.Inside.{leftBy};
+ghost use Rattle.text.specs.Inner.Inside.{leftBy, symbolAnd};
 ghost use Rattle.text.specs.Inner.Inside.{wantedOf, stretch, Steps, surveyOf, countedOf};
 
 pub mod input;
@@ -285,6 +285,25 @@ pub fn read_input(text: &[u8], longer: bool, format: Format, out: &mut [i64]) ->
         });
     }
     read(text, format, out)
+}
+
+// The same for a program's text that is a symbol's, v from 1 to 1,023 and then 3v + 1 numbers, with others behind it:
+// `more` counts these, v and the last pairing.
+pub fn read_symbol(text: &[u8], longer: bool, more: u16, out: &mut [i64]) -> Reading
+    ensures { λ r. ⌜ (r ≡ inputOf longer (symbolAnd more) (now (text .entry)) (length (now (out .entry))))
+        × (now (out .exit) ≡ leftBy r (numbers (pieces (now (text .entry)))) (now (out .entry))) ⌝ }
+{
+    read_input(
+        text,
+        longer,
+        Format {
+            least: 1,
+            most: 1023,
+            each: 3,
+            more: more,
+        },
+        out,
+    )
 }
 
 // The first number of a text as a number of vertices.

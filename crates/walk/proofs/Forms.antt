@@ -1,6 +1,7 @@
 -- What is left of a matrix, as four naturals: one letter of its word at a time.
 --
--- In order: when a form is proper (`properly`, `improper`); one power of Q (`turn-view`, `rows-Q`, `rows-P`, `turn-apart`, `turn-less`);
+-- In order: when a form is proper (`properly`, `improper`); one power of Q (`turn-view`, `turn-apart`, `turn-less`), as the code makes it (`row-takes`,
+-- `turn-by`, `row-above`, `row-below`);
 -- S and a power of Q (`tail-two`), S alone and nothing (`tail-one`, `tail-none`); how a matrix's word begins (`apart-of`, `word-head`,
 -- `word-tail`).
 --
@@ -12,17 +13,19 @@ use mathlib.Core.Bool.{Bool, true, false, not}
 use mathlib.Core.List.{List, [], _∷_}
 use Prim.Native.Nat.{ℕ, zero, suc, _+_, _*_, _-_, _≤_, _<_}
 use native.Mathlib.Omega.{arith}
-use lib.Dec.{eqb}
+use lib.Dec.{ltb, eqb}
 use lib.IntN.{pos}
-use borrow.Author.Tests.{leb-true, leb-false, eqb-true, eqb-false, ne-eqb}
+use borrow.Author.Tests.{ltb-true, ltb-false, leb-true, leb-false, le-leb, lt-leb, eqb-true, eqb-false, ne-eqb}
 use Rattle.matrix.specs.Matrix.{Mat, det}
-use Rattle.matrix.specs.Words.{Letter, S}
+use Rattle.matrix.specs.Words.{Letter, S, Q, P}
 use Rattle.matrix.specs.Euclid.{Form, total, swap, turn, tailOf, headOf, agree, sizes, spell, wordOf}
 use Rattle.matrix.proofs.Matrix.{det-≈}
-use Rattle.matrix.proofs.Form.{Unimodular, unimodular-swap, unimodular-whole, Proper, rows, down, unimodular-down, tail-stop, tail-last, tail-more, tail-fuel}
+use Rattle.matrix.proofs.Form.{Unimodular, unimodular-swap, unimodular-whole, Proper, Rows, rows, form-eq, down, unimodular-down, tail-stop, tail-last}
+use Rattle.matrix.proofs.Form.{tail-more, tail-fuel}
 use Rattle.matrix.proofs.Existence.{shape, unimodular}
+use Rattle.basics.specs.Choice.{pick}
 use Rattle.basics.proofs.Choice.{either, clash, and-left, and-right}
-use Rattle.walk.specs.Inner.Way.{properOf, beginsWithQ, turnLetter, turnForm}
+use Rattle.walk.specs.Inner.Way.{properOf, beginsWithQ, turnLetter, turnForm, rowTaken, RowTakes}
 
 -- ---- proper forms
 
@@ -38,6 +41,9 @@ properly f h =
 
 pub proper-yes : (f : Form) → Proper f → properOf f ≡ true
 proper-yes f k = rw (ne-eqb (f .q + f .r) 0 (λ e. omega (arith, k .not-one)), ne-eqb (f .p + f .t) 0 (λ e. omega (arith, k .not-S)))
+
+pub proper-swap : (f : Form) → Proper f → Proper (swap f)
+proper-swap f k = record { not-one = omega (arith, k .not-S); not-S = omega (arith, k .not-one) }
 
 -- S is left where it isn't nothing
 pub improper : (f : Form) → properOf f ≡ false → 0 < f .q + f .r → f .p + f .t ≡ 0
@@ -56,33 +62,57 @@ pub turn-view : (next : Form → List Letter) (f : Form) → turn next f ≡ tur
 turn-view next f = elim (either (beginsWithQ f)) [ inl e ↦ rw e | inr e ↦ rw e ]
 
 module _ (f : Form) (u : Unimodular f) (k : Proper f) where
-  pub rows-Q : f .p + f .q ≤ f .r + f .t → (f .p ≤ f .r) × (f .q ≤ f .t)
-  rows-Q h = let m = rows (swap f) (unimodular-swap f u) (record { not-one = omega (arith, k .not-S); not-S = omega (arith, k .not-one) }) h in
-      (m .left, m .right)
+  low : beginsWithQ f ≡ true → Rows (swap f)
+  low e = rows (swap f) (unimodular-swap f u) (proper-swap f k) (leb-true (f .p + f .q) (f .r + f .t) e)
 
-  pub rows-P : f .r + f .t < f .p + f .q → (f .r ≤ f .p) × (f .t ≤ f .q)
-  rows-P h = let m = rows f u k (omega arith) in (m .left, m .right)
+  high : beginsWithQ f ≡ false → Rows f
+  high e = let h = leb-false (f .p + f .q) (f .r + f .t) e in rows f u k (omega arith)
 
   pub turn-apart : Unimodular (turnForm f)
   turn-apart = elim (either (beginsWithQ f)) [
-    | inl e ↦ rw e
-        (unimodular-down (swap f) (rows (swap f) (unimodular-swap f u) (record { not-one = omega (arith, k .not-S); not-S = omega (arith, k .not-one) })
-        (leb-true (f .p + f .q) (f .r + f .t) e))
-        (unimodular-swap f u))
-    | inr e ↦ rw e (let h = leb-false (f .p + f .q) (f .r + f .t) e in unimodular-swap (down f) (unimodular-down f (rows f u k (omega arith)) u))
+    | inl e ↦ rw e (unimodular-down (swap f) (low e) (unimodular-swap f u))
+    | inr e ↦ rw e (unimodular-swap (down f) (unimodular-down f (high e) u))
   ]
 
   pub turn-less : total (turnForm f) < total f
   turn-less =
       let w = unimodular-whole f u in
       elim (either (beginsWithQ f)) [
-        | inl e ↦ rw e (let m = rows-Q (leb-true (f .p + f .q) (f .r + f .t) e) in omega (arith, w .top, m .0, m .1))
-        | inr e ↦ rw e (let m = rows-P (leb-false (f .p + f .q) (f .r + f .t) e) in omega (arith, w .bottom, m .0, m .1))
+        | inl e ↦ rw e (let m = low e in omega (arith, w .top, m .left, m .right))
+        | inr e ↦ rw e (let m = high e in omega (arith, w .bottom, m .left, m .right))
       ]
 
   -- a word that begins with a power of Q, with more fuel than it needs
   pub head-more : (n : ℕ) → total (turnForm f) ≤ n → headOf n f ≡ turnLetter f ∷ tailOf (total (turnForm f)) (turnForm f)
   head-more n h = turn-view (tailOf n) f ∙ ap (λ (l : List Letter). turnLetter f ∷ l) (tail-fuel n (total (turnForm f)) (turnForm f) turn-apart h (omega arith))
+
+-- ---- the same as the code makes it: `inverse` holds where the lower row of f is the larger one
+
+pub row-takes : (inverse : Bool) (f : Form) → Unimodular f → Proper f → inverse ≡ ltb (f .p + f .q) (f .r + f .t) → RowTakes inverse 1 f
+row-takes true f u k e =
+    let h = ltb-true (f .p + f .q) (f .r + f .t) (sym e) in
+    let m = rows (swap f) (unimodular-swap f u) (proper-swap f k) (omega arith) in
+    record { left = omega (arith, m .left); right = omega (arith, m .right) }
+row-takes false f u k e =
+    let m = rows f u k (ltb-false (f .p + f .q) (f .r + f .t) (sym e)) in
+    record { left = omega (arith, m .left); right = omega (arith, m .right) }
+
+pub turn-by : (inverse : Bool) (f : Form) → inverse ≡ ltb (f .r + f .t) (f .p + f .q)
+    → (turnLetter f ≡ pick inverse P Q) × (turnForm f ≡ rowTaken inverse 1 (swap f))
+turn-by true f e =
+    let h = lt-leb (f .p + f .q) (f .r + f .t) (ltb-true (f .r + f .t) (f .p + f .q) (sym e)) in
+    (rw h refl, rw h (form-eq refl refl (omega arith) (omega arith)))
+turn-by false f e =
+    let h = le-leb (f .p + f .q) (f .r + f .t) (ltb-false (f .r + f .t) (f .p + f .q) (sym e)) in
+    (rw h refl, rw h (form-eq (omega arith) (omega arith) refl refl))
+
+-- which row is taken from
+module _ {inverse : Bool} {k : ℕ} {f : Form} (m : RowTakes inverse k f) where
+  pub row-below : inverse ≡ true → (k * f .p ≤ f .r) × (k * f .q ≤ f .t)
+  row-below e = let m' : RowTakes true k f = rw e at m in (m' .left, m' .right)
+
+  pub row-above : inverse ≡ false → (k * f .r ≤ f .p) × (k * f .t ≤ f .q)
+  row-above e = let m' : RowTakes false k f = rw e at m in (m' .left, m' .right)
 
 -- ---- a word that doesn't
 
@@ -98,7 +128,7 @@ module _ (f : Form) (u : Unimodular f) where
   pub tail-two : Proper f → tailOf (total f) f ≡ S ∷ turnLetter (swap f) ∷ tailOf (total (turnForm (swap f))) (turnForm (swap f))
   tail-two k =
       let n = fueled in
-      let k' : Proper (swap f) = record { not-one = omega (arith, k .not-S); not-S = omega (arith, k .not-one) } in
+      let k' = proper-swap f k in
       let less = turn-less (swap f) (unimodular-swap f u) k' in
       ap (λ (i : ℕ). tailOf i f) (n .is) ∙ tail-more (n .fuel) f k
       ∙ ap (λ (l : List Letter). S ∷ l) (head-more (swap f) (unimodular-swap f u) k' (n .fuel) (omega (arith, n .is)))

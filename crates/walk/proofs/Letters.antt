@@ -1,6 +1,6 @@
 -- Letters as signed 16-bit numbers, one at a time, and signs and sizes of 64-bit ones.
 --
--- In order: a letter that is 0 and one that isn't (`letter-zero`, `letter-some`); what `put` leaves (`put-none`, `put-in`, `put-out`); a step
+-- In order: a letter that is 0 and one that isn't (`letter-zero`, `letter-some`); what `put` leaves (`put-none`, `put-in`, `put-out`, `put-of`); a step
 -- from its letter (`stepped`); sizes (`size-below`, `size-above`); the sign of a product (`sign-above`, `sign-below`, `sign-zero`).
 -- Assumes nothing.
 use mathlib.Core.Path.{_≡_, refl, sym, _∙_, ap, subst}
@@ -22,8 +22,8 @@ use Rattle.matrix.specs.Matrix.{Mat}
 use Rattle.matrix.specs.Euclid.{positive, agree}
 use Rattle.matrix.proofs.Bounds.{minus, fits}
 use Rattle.basics.proofs.Choice.{clash}
-use Rattle.coset.specs.Positions.{written, goes, lettersOf, _·_, stepSign, FrameEquation}
-use Rattle.walk.specs.Inner.Way.{stored, signAdded, WayStepped}
+use Rattle.coset.specs.Positions.{written, goes, lettersOf, _·_, stepSign, FrameEquation, StepEquation}
+use Rattle.walk.specs.Inner.Way.{stored, signAdded, LetterPut, WayStepped}
 use Rattle.walk.specs.declared.Way.{Way}
 use Rattle.walk.proofs.Stored.{stored-in, stored-out}
 
@@ -55,16 +55,22 @@ module _ (start limit n : ℕ) (z : ℤ) (out : List ℤ) where
   put-out h k = let z-is = letter-some z h in
       (sym (ap (λ (l : List ℤ). n + length l) z-is), stored-out start limit z n out k ∙ sym (ap (λ (l : List ℤ). stored start limit n l out) z-is))
 
--- a step, from the letter that it writes and what `put` leaves
-pub stepped : {v : ℕ} {t : List ℤ} {start limit : ℕ} {x : Letter} {a b : Way} {out out' : List ℤ} (z : ℤ) → lettersOf z ≡ written v t x (a .at)
-    → b .at ≡ goes v t x (a .at)
-    → (b .count ≡ a .count + length (lettersOf z)) × (out' ≡ stored start limit (a .count) (lettersOf z) out) → b .sign ≡ a .sign · signAdded v t x (a .at)
-    → FrameEquation v t (a .at) (letter x) (stepSign v t x (a .at)) (written v t x (a .at)) (goes v t x (a .at))
-    → WayStepped v t start limit x a out b out'
-stepped {v} {t} {start} {limit} {x} {a} {b} {out} {out'} z e f k g i = record {
+-- the letter z of x at p, as the tables and `put` have it
+pub put-of : {v : ℕ} {t : List ℤ} {start limit : ℕ} {x : Letter} {p n k : ℕ} {out out' : List ℤ} (z : ℤ) → SFits w16 z → lettersOf z ≡ written v t x p
+    → (k ≡ n + length (lettersOf (toZ w16 (ofZ w16 z)))) × (out' ≡ stored start limit n (lettersOf (toZ w16 (ofZ w16 z))) out)
+    → LetterPut v t start limit x p n out k out'
+put-of {start} {limit} {n} {out} z fit e g =
+    let is = ap lettersOf (toZ-ofZ fit) ∙ e in
+    record { count = g .0 ∙ ap (λ (l : List ℤ). n + length l) is; left = g .1 ∙ ap (λ (l : List ℤ). stored start limit n l out) is }
+
+-- a step, from the letter that it writes
+pub stepped : {v : ℕ} {t : List ℤ} {start limit : ℕ} {x : Letter} {a b : Way} {out out' : List ℤ}
+    → LetterPut v t start limit x (a .at) (a .count) out (b .count) out' → b .at ≡ goes v t x (a .at) → b .sign ≡ a .sign · signAdded v t x (a .at)
+    → StepEquation v t x (a .at) (stepSign v t x (a .at)) (written v t x (a .at)) → WayStepped v t start limit x a out b out'
+stepped {v} {t} {x} {a} k f g i = record {
   at = f;
-  count = k .0 ∙ ap (λ (l : List ℤ). a .count + length l) e;
-  left = k .1 ∙ ap (λ (l : List ℤ). stored start limit (a .count) l out) e;
+  count = k .count;
+  left = k .left;
   sign = g;
   is = subst (FrameEquation v t (a .at) (letter x) (stepSign v t x (a .at)) (written v t x (a .at))) (sym f) i;
 }

@@ -1,31 +1,30 @@
 -- The walk, step by step: what is left to write, behind what is written, stays the same.
 --
 -- In order: ways put together (`onward-refl`, `onward-trans`), one letter (`onward-step`); before the first letter (`whole-sound`); what
--- each part of the walk leaves (`crossed-sound`, `block-going`, `block-less`, `ended-none`, `ended-S`, `begun-head`, `begun-tail`);
+-- each part of the walk leaves (`block-going`, `block-less`, `ended-none`, `ended-S`, `begun-head`, `begun-tail`);
 -- the whole walk (`walked`).
 -- Assumes nothing.
 use mathlib.Core.Path.{_≡_, refl, sym, _∙_, ap, subst}
 use mathlib.Core.Bool.{Bool, true, false}
 use mathlib.Core.List.{List, [], _∷_, _++_}
-use Prim.Native.Nat.{ℕ, zero, _+_, _-_, _^_, _≤_, _<_}
+use Prim.Native.Nat.{ℕ, zero, _+_, _^_, _≤_, _<_}
 use native.Mathlib.Omega.{arith}
 use lib.ListN.{length, length-append}
 use lib.IntN.{ℤ, pos}
-use borrow.Author.Tests.{le-leb, lt-leb}
 use Rattle.matrix.specs.Matrix.{Mat, det}
-use Rattle.matrix.specs.Words.{Letter, S, Q, P}
-use Rattle.matrix.specs.Euclid.{Form, form, total, swap, tailOf, agree, sizes, wordOf}
+use Rattle.matrix.specs.Words.{Letter, S}
+use Rattle.matrix.specs.Euclid.{Form, total, swap, tailOf, agree, sizes, wordOf}
 use Rattle.matrix.specs.Bounds.{Small}
 use Rattle.matrix.proofs.Form.{Proper, unimodular-swap}
-use Rattle.basics.proofs.Choice.{pick-true, pick-false}
 use Rattle.coset.specs.Positions.{Real, written, goes, ends, writes, Polygon, columnSign, FrameEquation, Positions}
 use Rattle.coset.proofs.Positions.{·-plus}
-use Rattle.walk.specs.Inner.Way.{formOf, restOf, properOf, beginsWithQ, turnLetter, turnForm, stored, signLeft, WayStepped, Onward, OneApart, Sound}
+use Rattle.walk.specs.Inner.Way.{formOf, restOf, properOf, turnLetter, turnForm, stored, signLeft, WayStepped, Onward, OneApart, Sound}
 use Rattle.walk.specs.Inner.Way.{Begun, Going, Ended, Walked}
 use Rattle.walk.specs.declared.Way.{Way}
 use Rattle.walk.proofs.Told.{sign-step, sign-merged}
 use Rattle.walk.proofs.Stored.{stored-++, length-stored}
-use Rattle.walk.proofs.Forms.{properly, proper-yes, turn-apart, turn-less, tail-two, tail-one, tail-none, apart-of, proper-of, word-head, word-tail}
+use Rattle.walk.proofs.Forms.{properly, proper-yes, proper-swap, turn-apart, turn-less, tail-two, tail-one}
+use Rattle.walk.proofs.Forms.{tail-none, apart-of, proper-of, word-head, word-tail}
 
 -- ---- the same way
 
@@ -69,9 +68,9 @@ module _ (m : Mat) (d : det m ≡ pos 1) (a : Way) (e : formOf a ≡ sizes m) wh
   pub whole-proper : agree m ≡ true → properOf (formOf a) ≡ true
   whole-proper h = ap properOf e ∙ proper-yes (sizes m) (proper-of m d h)
 
-module _ {v : ℕ} {t : List ℤ} (m : Mat) (d : det m ≡ pos 1) (small : Small (2 ^ 50) m) {x : ℕ} (real : Real v t x) {a : Way} (e : formOf a ≡ sizes m)
+module _ {v : ℕ} {t : List ℤ} (m : Mat) (d : det m ≡ pos 1) (small : Small (2 ^ 60) m) {x : ℕ} (real : Real v t x) {a : Way} (e : formOf a ≡ sizes m)
     (at-x : a .at ≡ x) (zero : a .count ≡ 0) where
-  pub whole-sound : Sound v t (2 ^ 60) a
+  pub whole-sound : Sound v t (2 ^ 63) a
   whole-sound = record {
     real = subst (Real v t) (sym at-x) real;
     apart = subst OneApart (sym e) (apart-of m d);
@@ -81,7 +80,7 @@ module _ {v : ℕ} {t : List ℤ} (m : Mat) (d : det m ≡ pos 1) (small : Small
 -- ---- S and a power of Q
 
 pub swap-proper : (f : Form) → properOf f ≡ true → Proper (swap f)
-swap-proper f h = let k = properly f h in record { not-one = omega (arith, k .not-S); not-S = omega (arith, k .not-one) }
+swap-proper f h = proper-swap f (properly f h)
 
 module _ {v : ℕ} {t : List ℤ} (g : Polygon v t) {start limit : ℕ} where
   stepped-few : {x : Letter} {a b : Way} {out out' : List ℤ} → WayStepped v t start limit x a out b out' → b .count ≤ a .count + 1
@@ -93,18 +92,8 @@ module _ {v : ℕ} {t : List ℤ} (g : Polygon v t) {start limit : ℕ} where
   pub stepped-long : {x : Letter} {a b : Way} {out out' : List ℤ} → WayStepped v t start limit x a out b out' → length out' ≡ length out
   stepped-long {x} {a} {b} {out} s = ap length (s .left) ∙ length-stored start limit (written v t x (a .at)) (a .count) out
 
-  module _ {a c : Way} {out out1 : List ℤ} (o : Sound v t (2 ^ 60) a) (h : properOf (formOf a) ≡ true) (s : WayStepped v t start limit S a out c out1)
+  module _ {a c : Way} {out out1 : List ℤ} (o : Sound v t (2 ^ 63) a) (h : properOf (formOf a) ≡ true) (s : WayStepped v t start limit S a out c out1)
       (e : formOf c ≡ swap (formOf a)) where
-    pub crossed-sound : Sound v t (2 ^ 61) c
-    crossed-sound = record {
-      real = stepped-real s (o .real);
-      apart = subst OneApart (sym e) (unimodular-swap (formOf a) (o .apart));
-      few = omega (arith, stepped-few s, o .few, ap total e);
-    }
-
-    pub crossed-proper : properOf (formOf c) ≡ true
-    crossed-proper = ap properOf e ∙ proper-yes (swap (formOf a)) (swap-proper (formOf a) h)
-
     module _ {b : Way} {out2 : List ℤ} (s' : WayStepped v t start limit (turnLetter (formOf c)) c out1 b out2) (e' : formOf b ≡ turnForm (formOf c)) where
       form-is : formOf b ≡ turnForm (swap (formOf a))
       form-is = e' ∙ ap turnForm e
@@ -135,7 +124,7 @@ module _ {v : ℕ} {t : List ℤ} (g : Polygon v t) {start limit : ℕ} where
 
   -- ---- the end
 
-  pub ended-none : {a : Way} {out : List ℤ} → Sound v t (2 ^ 60) a → a .q + a .r ≡ 0 → Ended v t start limit a out a out
+  pub ended-none : {a : Way} {out : List ℤ} → Sound v t (2 ^ 63) a → a .q + a .r ≡ 0 → Ended v t start limit a out a out
   unfolding restOf
   ended-none {a} {out} o h =
       let e = tail-none (formOf a) (o .apart) h in
@@ -144,7 +133,7 @@ module _ {v : ℕ} {t : List ℤ} (g : Polygon v t) {start limit : ℕ} where
         sign = sym (ap (signLeft v t (a .sign) (a .at)) e ∙ ·-plus (a .sign));
       }
 
-  pub ended-S : {a b : Way} {out out' : List ℤ} → Sound v t (2 ^ 60) a → 0 < a .q + a .r → a .p + a .s ≡ 0 → WayStepped v t start limit S a out b out'
+  pub ended-S : {a b : Way} {out out' : List ℤ} → Sound v t (2 ^ 63) a → 0 < a .q + a .r → a .p + a .s ≡ 0 → WayStepped v t start limit S a out b out'
       → Ended v t start limit a out b out'
   unfolding restOf
   ended-S {a} {b} o h k s =
@@ -156,7 +145,7 @@ module _ {v : ℕ} {t : List ℤ} (g : Polygon v t) {start limit : ℕ} where
 
   -- ---- the beginning
 
-  module _ (m : Mat) (d : det m ≡ pos 1) (small : Small (2 ^ 50) m) {x : ℕ} (real : Real v t x) {a : Way} (e : formOf a ≡ sizes m) (at-x : a .at ≡ x)
+  module _ (m : Mat) (d : det m ≡ pos 1) (small : Small (2 ^ 60) m) {x : ℕ} (real : Real v t x) {a : Way} (e : formOf a ≡ sizes m) (at-x : a .at ≡ x)
       (zero : a .count ≡ 0) (sign-is : a .sign ≡ columnSign m) where
     pub begun-tail : {out : List ℤ} → agree m ≡ false → Begun v t start limit m x out a out
     unfolding restOf
@@ -206,33 +195,10 @@ module _ {v : ℕ} {t : List ℤ} (g : Polygon v t) {start limit : ℕ} where
               ∙ ap (λ (r : Bool). signLeft v t r (a .at) (wordOf m)) sign-is ∙ ap (λ (y : ℕ). signLeft v t (columnSign m) y (wordOf m)) at-x;
         }
 
--- ---- a power of Q, by which row is the smaller one
-
-powered : {v : ℕ} {t : List ℤ} {start limit : ℕ} {a b : Way} {out out' : List ℤ} (x : Letter) (f : Form) → turnLetter (formOf a) ≡ x → turnForm (formOf a) ≡ f
-    → WayStepped v t start limit x a out b out' → formOf b ≡ f → WayStepped v t start limit (turnLetter (formOf a)) a out b out'
-    × (formOf b ≡ turnForm (formOf a))
-powered {v} {t} {start} {limit} {a} {b} {out} {out'} x f e g s h = (subst (λ (y : Letter). WayStepped v t start limit y a out b out') (sym e) s, h ∙ sym g)
-
-pub powered-Q : {v : ℕ} {t : List ℤ} {start limit : ℕ} {a b : Way} {out out' : List ℤ} → a .p + a .q ≤ a .r + a .s → WayStepped v t start limit Q a out b out'
-    → formOf b ≡ form (a .r - a .p) (a .s - a .q) (a .p) (a .q) → WayStepped v t start limit (turnLetter (formOf a)) a out b out'
-    × (formOf b ≡ turnForm (formOf a))
-powered-Q {a} h s e =
-    let k = le-leb (a .p + a .q) (a .r + a .s) h in
-    powered Q (form (a .r - a .p) (a .s - a .q) (a .p) (a .q)) (pick-true (beginsWithQ (formOf a)) Q P k)
-    (pick-true (beginsWithQ (formOf a)) (form (a .r - a .p) (a .s - a .q) (a .p) (a .q)) (form (a .r) (a .s) (a .p - a .r) (a .q - a .s)) k) s e
-
-pub powered-P : {v : ℕ} {t : List ℤ} {start limit : ℕ} {a b : Way} {out out' : List ℤ} → a .r + a .s < a .p + a .q → WayStepped v t start limit P a out b out'
-    → formOf b ≡ form (a .r) (a .s) (a .p - a .r) (a .q - a .s) → WayStepped v t start limit (turnLetter (formOf a)) a out b out'
-    × (formOf b ≡ turnForm (formOf a))
-powered-P {a} h s e =
-    let k = lt-leb (a .p + a .q) (a .r + a .s) h in
-    powered P (form (a .r) (a .s) (a .p - a .r) (a .q - a .s)) (pick-false (beginsWithQ (formOf a)) Q P k)
-    (pick-false (beginsWithQ (formOf a)) (form (a .r - a .p) (a .s - a .q) (a .p) (a .q)) (form (a .r) (a .s) (a .p - a .r) (a .q - a .s)) k) s e
-
 -- ---- the whole walk
 
 module _ {v : ℕ} {t : List ℤ} {start limit : ℕ} where
-  pub going-none : {a : Way} {out : List ℤ} → Sound v t (2 ^ 60) a → Going v t start limit a out a out
+  pub going-none : {a : Way} {out : List ℤ} → Sound v t (2 ^ 63) a → Going v t start limit a out a out
   going-none {a} {out} o = record { sound = o; onward = onward-refl (restOf a) (a .at) (a .count) out; sign = refl }
 
   pub going-more : {a b c : Way} {out out1 out2 : List ℤ} → Going v t start limit a out b out1 → Going v t start limit b out1 c out2

@@ -1,8 +1,8 @@
 -- The sign, step by step: what is told so far times what is left stays the same.
 --
 -- In order: one step (`sign-step`), and the signs of the letters with those of the steps (`sign-merged`); the sign of an entry and of a column, as the code
--- finds them (`entry-above`, `entry-below`, `entry-zero`, `column-is`); one letter's sign (`sign-S`, `sign-Q`, `sign-P`), and that of
--- two (`stride-Q`, `stride-P`).
+-- finds them (`entry-above`, `entry-below`, `entry-zero`, `column-is`); one letter's sign (`sign-S`, `sign-turn`), and that of
+-- two (`sign-block`).
 -- Assumes nothing.
 use mathlib.Core.Path.{_≡_, refl, sym, _∙_, ap}
 use mathlib.Core.Bool.{Bool, true, false, not}
@@ -15,9 +15,9 @@ use borrow.Author.Tests.{lt-ltb, le-ltb}
 use Rattle.matrix.specs.Matrix.{Mat}
 use Rattle.matrix.specs.Words.{Letter, S, Q, P}
 use Rattle.matrix.specs.Euclid.{positive, agree, wordOf}
+use Rattle.basics.specs.Choice.{pick}
 use Rattle.basics.proofs.Choice.{clash}
 use Rattle.coset.specs.Positions.{goes, _·_, letterSign, wordSign, entrySign, columnSign, matrixSign, stepSign, walkSign}
-use Rattle.coset.proofs.Positions.{·-plus}
 use Rattle.walk.specs.Inner.Way.{signAdded, signLeft, WayStepped}
 use Rattle.walk.specs.declared.Way.{Way}
 
@@ -76,29 +76,23 @@ module _ (v : ℕ) (t : List ℤ) (s : Bool) (p : ℕ) where
       out true b = refl
       out false b = refl
 
-  pub sign-Q : s ≡ s · signAdded v t Q p
+  -- Q, or Q⁻¹ where `inverse` holds, which adds a minus
+  pub sign-turn : (inverse : Bool) → s · not inverse ≡ s · signAdded v t (pick inverse P Q) p
   unfolding stepSign
-  sign-Q = sym (·-plus s)
-
-  pub sign-P : not s ≡ s · signAdded v t P p
-  unfolding stepSign
-  sign-P = out s
-    where
-      out : (a : Bool) → not a ≡ a · false
-      out true = refl
-      out false = refl
+  sign-turn true = refl
+  sign-turn false = refl
 
 -- S and a power of Q in one stride
-module _ (v : ℕ) (t : List ℤ) (s : Bool) (p q : ℕ) (r x : Bool) (e : x ≡ stepSign v t S p) (f : r ≡ s · x) where
-  pub stride-Q : not r ≡ s · signAdded v t S p · signAdded v t Q q
-  stride-Q = sign-S v t s p r x e f ∙ sign-Q v t (s · signAdded v t S p) q
-
-  pub stride-P : r ≡ s · signAdded v t S p · signAdded v t P q
-  stride-P = sym (not-not r) ∙ ap not (sign-S v t s p r x e f) ∙ sign-P v t (s · signAdded v t S p) q
-    where
-      not-not : (b : Bool) → not (not b) ≡ b
-      not-not true = refl
-      not-not false = refl
+pub sign-block : (v : ℕ) (t : List ℤ) (s : Bool) (p q : ℕ) (r x inverse : Bool) → x ≡ stepSign v t S p → r ≡ s · x
+    → r · inverse ≡ s · signAdded v t S p · signAdded v t (pick inverse P Q) q
+sign-block v t s p q r x inverse e f =
+    both r inverse ∙ ap (λ (y : Bool). y · not inverse) (sign-S v t s p r x e f) ∙ sign-turn v t (s · signAdded v t S p) q inverse
+  where
+    both : (a b : Bool) → a · b ≡ not a · not b
+    both true true = refl
+    both true false = refl
+    both false true = refl
+    both false false = refl
 
 -- ---- the sign of an entry and of the first column
 

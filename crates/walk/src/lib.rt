@@ -2,27 +2,26 @@
 //
 // A letter is stored where its number is below a limit, and counted everywhere. A query makes the walk where its word
 // is known to fit. specs/Inner/Way.antt has the state and what each part leaves.
-use coset::steps::back;
-use coset::steps::forth;
+use coset::steps::block_end;
 use coset::steps::letter;
 use coset::steps::letter_q;
 use coset::steps::next;
 use coset::steps::sign_of_s;
 use coset::steps::times;
-use coset::steps::turn_back;
-use coset::steps::turn_q;
+use coset::steps::turn;
 ghost use mathlib.Core.Path.{_≡_};
 ghost use mathlib.Core.Bool.{true, false};
 ghost use Prim.Native.Nat.{_+_, _-_, _*_, _^_, _≤_, _<_};
 ghost use lib.ListN.{length};
 ghost use lib.IntN.{pos, natAbs, _*ℤ_};
 ghost use Rattle.matrix.specs.Matrix.{ofList, det};
-ghost use Rattle.matrix.specs.Words.{S};
+ghost use Rattle.basics.specs.Choice.{pick};
+ghost use Rattle.matrix.specs.Words.{S, Q, P};
 ghost use Rattle.matrix.specs.Euclid.{total, swap, positive, agree, sizes};
 ghost use Rattle.matrix.specs.Bounds.{Small};
 ghost use Rattle.coset.specs.Positions.{Real, lettersOf, entrySign, columnSign};
 ghost use Rattle.walk.specs.Inner.Way.{formOf, properOf, turnLetter, turnForm, stored, Setting, WayStepped};
-ghost use Rattle.walk.specs.Inner.Way.{Sound, Begun, Going, Ended, Walked};
+ghost use Rattle.walk.specs.Inner.Way.{RowTakes, Taken, LetterPut, Sound, Begun, Going, Ended, Walked};
 
 // What is left of the matrix, (p q; r s) in size, the position, how many letters are written so far, and the sign so
 // far, plus for true.
@@ -39,7 +38,7 @@ pub struct Way {
 // One letter more, none for 0: it is stored where its number is below the limit. Returns how many letters there are
 // then.
 fn put(out: &mut [i16], start: usize, limit: usize, count: usize, letter: i16) -> usize
-    requires { ⌜ (limit ≤ length (now out) - start) × (count ≤ 2 ^ 61) ⌝ }
+    requires { ⌜ (limit ≤ length (now out) - start) × (count ≤ 2 ^ 63 + 1) ⌝ }
     ensures { λ r. ⌜ (r ≡ count + length (lettersOf letter))
         × (now (out .exit) ≡ stored start limit count (lettersOf letter) (now (out .entry))) ⌝ }
 {
@@ -53,6 +52,71 @@ fn put(out: &mut [i16], start: usize, limit: usize, count: usize, letter: i16) -
     count + 1
 }
 
+// The letter that S writes at p.
+fn put_s(
+    t: &[i64],
+    v: usize,
+    w: &[u16],
+    p: usize,
+    out: &mut [i16],
+    start: usize,
+    limit: usize,
+    count: usize,
+) -> usize
+    requires { ⌜ Setting (now t) v (now w) (now out) start limit × Real v (now t) p × (count ≤ 2 ^ 63 + 1) ⌝ }
+    ensures { λ r. ⌜ LetterPut v (now (t .entry)) start limit S p count (now (out .entry)) r (now (out .exit)) ⌝ }
+{
+    let z = letter(t, v, w, p);
+    put(out, start, limit, count, z)
+}
+
+// The letter that Q writes there, or Q⁻¹ where `inverse` holds.
+fn put_q(
+    t: &[i64],
+    v: usize,
+    w: &[u16],
+    p: usize,
+    inverse: bool,
+    out: &mut [i16],
+    start: usize,
+    limit: usize,
+    count: usize,
+) -> usize
+    requires { ⌜ Setting (now t) v (now w) (now out) start limit × Real v (now t) p × (count ≤ 2 ^ 63 + 1) ⌝ }
+    ensures { λ r. ⌜ LetterPut v (now (t .entry)) start limit (pick inverse P Q) p count (now (out .entry)) r
+        (now (out .exit)) ⌝ }
+{
+    let z = letter_q(t, v, w, p, inverse);
+    put(out, start, limit, count, z)
+}
+
+// The lower row taken k times from the upper one, or the upper from the lower where `inverse` holds.
+pub fn take(way: Way, k: u64, inverse: bool) -> Way
+    requires { ⌜ RowTakes inverse k (formOf way) ⌝ }
+    ensures { λ r. ⌜ Taken inverse k way r ⌝ }
+{
+    if inverse {
+        return Way {
+            p: way.p,
+            q: way.q,
+            r: way.r - k * way.p,
+            s: way.s - k * way.q,
+            at: way.at,
+            count: way.count,
+            sign: way.sign,
+        };
+    }
+    Way {
+        p: way.p - k * way.r,
+        q: way.q - k * way.s,
+        r: way.r,
+        s: way.s,
+        at: way.at,
+        count: way.count,
+        sign: way.sign,
+    }
+}
+
 // S: the rows change places.
 fn cross(
     t: &[i64],
@@ -63,13 +127,13 @@ fn cross(
     start: usize,
     limit: usize,
 ) -> Way
-    requires { ⌜ Setting (now t) v (now w) (now out) start limit × Real v (now t) (way .at) × (way .count ≤ 2 ^ 61) ⌝ }
+    requires { ⌜ Setting (now t) v (now w) (now out) start limit × Real v (now t) (way .at)
+        × (way .count ≤ 2 ^ 63 + 1) ⌝ }
     ensures { λ r. ⌜ WayStepped v (now (t .entry)) start limit S way (now (out .entry)) r (now (out .exit))
         × (formOf r ≡ swap (formOf way)) ⌝ }
 {
     let at = way.at;
-    let z = letter(t, v, w, at);
-    let count = put(out, start, limit, way.count, z);
+    let count = put_s(t, v, w, at, out, start, limit, way.count);
     let to = next(t, v, w, at);
     let sign = times(way.sign, sign_of_s(t, v, w, at));
     Way {
@@ -93,43 +157,31 @@ fn power(
     start: usize,
     limit: usize,
 ) -> Way
-    requires { ⌜ Setting (now t) v (now w) (now out) start limit × Sound v (now t) (2 ^ 61) way
+    requires { ⌜ Setting (now t) v (now w) (now out) start limit × Sound v (now t) (2 ^ 63 + 1) way
         × (properOf (formOf way) ≡ true) ⌝ }
     ensures { λ r. ⌜ WayStepped v (now (t .entry)) start limit (turnLetter (formOf way)) way (now (out .entry)) r
         (now (out .exit)) × (formOf r ≡ turnForm (formOf way)) ⌝ }
 {
     let at = way.at;
-    if way.p + way.q <= way.r + way.s {
-        let z = letter_q(t, v, w, at, false);
-        let count = put(out, start, limit, way.count, z);
-        let to = turn_q(v, at);
-        return Way {
-            p: way.r - way.p,
-            q: way.s - way.q,
-            r: way.p,
-            s: way.q,
-            at: to,
-            count,
-            sign: way.sign,
-        };
-    }
-    let z = letter_q(t, v, w, at, true);
-    let count = put(out, start, limit, way.count, z);
-    let to = turn_back(v, at);
-    Way {
+    let inverse = way.r + way.s < way.p + way.q;
+    let count = put_q(t, v, w, at, inverse, out, start, limit, way.count);
+    let to = turn(v, at, inverse);
+    let sign = times(way.sign, !inverse);
+    let turned = Way {
         p: way.r,
         q: way.s,
-        r: way.p - way.r,
-        s: way.q - way.s,
+        r: way.p,
+        s: way.q,
         at: to,
         count,
-        sign: !way.sign,
-    }
+        sign,
+    };
+    take(turned, 1, inverse)
 }
 
 // Whether more than S is left.
 pub fn is_proper(way: Way) -> bool
-    requires { ⌜ total (formOf way) ≤ 2 ^ 60 ⌝ }
+    requires { ⌜ total (formOf way) ≤ 2 ^ 62 ⌝ }
     ensures { λ r. ⌜ r ≡ properOf (formOf way) ⌝ }
 {
     if way.q + way.r == 0 {
@@ -150,42 +202,28 @@ fn block(
     start: usize,
     limit: usize,
 ) -> Way
-    requires { ⌜ Setting (now t) v (now w) (now out) start limit × Sound v (now t) (2 ^ 60) way
+    requires { ⌜ Setting (now t) v (now w) (now out) start limit × Sound v (now t) (2 ^ 63) way
         × (properOf (formOf way) ≡ true) ⌝ }
     ensures { λ r. ⌜ Going v (now (t .entry)) start limit way (now (out .entry)) r (now (out .exit))
         × (total (formOf r) < total (formOf way)) × (length (now (out .exit)) ≡ length (now (out .entry))) ⌝ }
 {
     let at = way.at;
-    let z = letter(t, v, w, at);
-    let sign = times(way.sign, sign_of_s(t, v, w, at));
-    if way.r + way.s <= way.p + way.q {
-        let to = forth(t, v, w, at);
-        let y = letter_q(t, v, w, to, false);
-        let count = put(out, start, limit, way.count, z);
-        let more = put(out, start, limit, count, y);
-        return Way {
-            p: way.p - way.r,
-            q: way.q - way.s,
-            r: way.r,
-            s: way.s,
-            at: to,
-            count: more,
-            sign: !sign,
-        };
-    }
-    let to = back(t, v, w, at);
-    let y = letter_q(t, v, w, to, true);
-    let count = put(out, start, limit, way.count, z);
-    let more = put(out, start, limit, count, y);
-    Way {
+    let inverse = way.p + way.q < way.r + way.s;
+    let to = block_end(t, v, w, at, inverse);
+    let count = put_s(t, v, w, at, out, start, limit, way.count);
+    let more = put_q(t, v, w, to, inverse, out, start, limit, count);
+    let crossed = times(way.sign, sign_of_s(t, v, w, at));
+    let sign = times(crossed, inverse);
+    let ahead = Way {
         p: way.p,
         q: way.q,
-        r: way.r - way.p,
-        s: way.s - way.q,
+        r: way.r,
+        s: way.s,
         at: to,
         count: more,
         sign,
-    }
+    };
+    take(ahead, 1, inverse)
 }
 
 // The last S, if there is one.
@@ -198,7 +236,7 @@ pub fn finish(
     start: usize,
     limit: usize,
 ) -> Way
-    requires { ⌜ Setting (now t) v (now w) (now out) start limit × Sound v (now t) (2 ^ 60) way
+    requires { ⌜ Setting (now t) v (now w) (now out) start limit × Sound v (now t) (2 ^ 63) way
         × (properOf (formOf way) ≡ false) ⌝ }
     ensures { λ r. ⌜ Ended v (now (t .entry)) start limit way (now (out .entry)) r (now (out .exit)) ⌝ }
 {
@@ -265,7 +303,7 @@ fn sign_of_column(m: [i64; 4]) -> bool
 
 // The state before the first letter.
 fn whole(m: [i64; 4], home: usize) -> Way
-    requires { ⌜ Small (2 ^ 50) (ofList m) ⌝ }
+    requires { ⌜ Small (2 ^ 60) (ofList m) ⌝ }
     ensures { λ r. ⌜ (formOf r ≡ sizes (ofList m)) × (r .at ≡ home) × (r .count ≡ 0)
         × (r .sign ≡ columnSign (ofList m)) ⌝ }
 {
@@ -292,7 +330,7 @@ pub fn begin(
     limit: usize,
 ) -> Way
     requires { ⌜ Setting (now t) v (now w) (now out) start limit × Real v (now t) home × (det (ofList m) ≡ pos 1)
-        × Small (2 ^ 50) (ofList m) ⌝ }
+        × Small (2 ^ 60) (ofList m) ⌝ }
     ensures { λ r. ⌜ Begun v (now (t .entry)) start limit (ofList m) home (now (out .entry)) r (now (out .exit))
         × (length (now (out .exit)) ≡ length (now (out .entry))) ⌝ }
 {
@@ -316,7 +354,7 @@ pub fn walk(
     limit: usize,
 ) -> Way
     requires { ⌜ Setting (now t) v (now w) (now out) start limit × Real v (now t) home × (det (ofList m) ≡ pos 1)
-        × Small (2 ^ 50) (ofList m) ⌝ }
+        × Small (2 ^ 60) (ofList m) ⌝ }
     ensures { λ r. ⌜ Walked v (now (t .entry)) start limit (ofList m) home (now (out .entry)) r (now (out .exit)) ⌝ }
 {
     let mut way = begin(t, v, w, m, home, out, start, limit);

@@ -1,9 +1,10 @@
 -- The walk along blocks: S and a power of Q, k times, is one map repeated.
 -- In order: words of blocks (`blocks-end`, `blocks-count`); positions stay real (`stepped-real`), and a block writes two letters at most (`block-low`); from
--- the state behind a run it is the same walk (`upper-ahead`, `lower-ahead`).
+-- the state behind a run it is the same walk (`run-ahead`).
 -- Why: k blocks take k times one row from the other, which leaves at least k less, so no more than two letters for each are left.
 -- Assumes nothing.
 use mathlib.Core.Path.{_≡_, refl, sym, ap, _∙_, subst}
+use mathlib.Core.Bool.{Bool, not}
 use mathlib.Core.List.{List, [], _∷_, _++_}
 use Prim.Native.Nat.{ℕ, zero, suc, _+_, _-_, _*_, _^_, _≤_, _<_}
 use native.Mathlib.Omega.{arith}
@@ -11,15 +12,16 @@ use lib.ListN.{length, length-append}
 use lib.IntN.{ℤ}
 use Rattle.matrix.specs.Words.{Letter, S, Q, P}
 use Rattle.matrix.specs.Euclid.{Form, total, tailOf}
-use Rattle.matrix.proofs.Form.{Unimodular, unimodular-whole}
+use Rattle.basics.specs.Choice.{pick}
+use Rattle.matrix.proofs.Form.{Unimodular}
 use Rattle.coset.specs.Positions.{Real, stepS, written, goes, ends, writes, Polygon}
-use Rattle.walk.specs.Inner.Way.{formOf, restOf, Sound}
+use Rattle.walk.specs.Inner.Way.{formOf, restOf, rowTaken, Taken, Sound}
 use Rattle.walk.specs.declared.Way.{Way}
-use Rattle.walk_runs.specs.Runs.{stepped, counted, blocks, takenUpper, takenLower, blockTo, blockCount}
-use Rattle.walk_runs.specs.Inner.Tally.{Ran, Ahead}
+use Rattle.walk_runs.specs.Runs.{stepped, counted, blocks, blockTo, blockCount}
+use Rattle.walk_runs.specs.Inner.Tally.{Ran, rowSum, RunTakes, Ahead}
 use Rattle.walk_runs.specs.declared.Stop.{Stop}
 use Rattle.walk_runs.proofs.Repeated.{counted-low}
-use Rattle.walk_runs.proofs.Quotients.{Run, run-Q, run-P}
+use Rattle.walk_runs.proofs.Quotients.{some-row, taken-total, Run, runs}
 
 module _ (v : ℕ) (t : List ℤ) where
   pub blocks-end : (y : Letter) (k x : ℕ) (l : List Letter) → ends v t x (blocks y k ++ l) ≡ ends v t (stepped (blockTo v t y) k x) l
@@ -51,7 +53,7 @@ module _ {v : ℕ} {t : List ℤ} (g : Polygon v t) where
   stepped-real y (suc k) x r = stepped-real y k (blockTo v t y x) (block-real y x r)
 
   -- a run of k blocks from the state a, with the rest h of its form
-  module _ (y : Letter) (k : ℕ) (a b : Way) (h : Form) (o : Sound v t (2 ^ 60) a) (r : Run y k (formOf a) h) (less : total h + k ≤ total (formOf a)) (s : Stop)
+  module _ (y : Letter) (k : ℕ) (a b : Way) (h : Form) (o : Sound v t (2 ^ 63) a) (r : Run y k (formOf a) h) (less : total h + k ≤ total (formOf a)) (s : Stop)
       (ran : Ran v t y (a .at) k s) (form-is : formOf b ≡ h) (at-is : b .at ≡ s .at) (count-is : b .count ≡ a .count + s .count) where
     abbrev left : List Letter
     left = tailOf (total h) h
@@ -91,21 +93,16 @@ module _ {v : ℕ} {t : List ℤ} (g : Polygon v t) where
   at-least zero b h = omega arith
   at-least (suc k) b h = omega (arith, at-least k b h)
 
-  module _ (k : ℕ) (a b : Way) (o : Sound v t (2 ^ 60) a) (some : 0 < k) (s : Stop) (at-is : b .at ≡ s .at) (count-is : b .count ≡ a .count + s .count) where
-    pub upper-ahead : k * (a .r + a .s) < a .p + a .q → Ran v t Q (a .at) k s → formOf b ≡ takenUpper k (formOf a)
-        → Ahead v t a b × (total (formOf b) < total (formOf a))
-    upper-ahead h ran e =
-        let f = formOf a in
-        let u = run-Q k f (o .apart) h in
-        let w = unimodular-whole f (o .apart) in
-        let less : total (takenUpper k f) + k ≤ total f = omega (arith, u .left, u .right, at-least k (a .r + a .s) (w .bottom)) in
-        (ahead Q k a b (takenUpper k f) o (u .run) less s ran e at-is count-is, omega (arith, ap total e, less, some))
-
-    pub lower-ahead : k * (a .p + a .q) < a .r + a .s → Ran v t P (a .at) k s → formOf b ≡ takenLower k (formOf a)
-        → Ahead v t a b × (total (formOf b) < total (formOf a))
-    lower-ahead h ran e =
-        let f = formOf a in
-        let u = run-P k f (o .apart) h in
-        let w = unimodular-whole f (o .apart) in
-        let less : total (takenLower k f) + k ≤ total f = omega (arith, u .left, u .right, at-least k (a .p + a .q) (w .top)) in
-        (ahead P k a b (takenLower k f) o (u .run) less s ran e at-is count-is, omega (arith, ap total e, less, some))
+  -- the state behind it, as the code makes it
+  pub run-ahead : (inverse : Bool) (k : ℕ) (a b : Way) (s : Stop) → Sound v t (2 ^ 63) a → RunTakes inverse k (formOf a)
+      → Ran v t (pick inverse P Q) (a .at) k s
+      → Taken inverse k (record { p = a .p; q = a .q; r = a .r; s = a .s; at = s .at; count = a .count + s .count; sign = a .sign }) b
+      → Ahead v t a b × (total (formOf b) < total (formOf a))
+  run-ahead inverse k a b s o n ran m =
+      let f = formOf a in
+      let u = runs inverse k f (o .apart) (n .leaves) in
+      let less : total (rowTaken inverse k f) + k ≤ total f =
+      omega (arith, taken-total k f inverse (u .takes), at-least k (rowSum (not inverse) f) (some-row (not inverse) f (o .apart))) in (
+        ahead (pick inverse P Q) k a b (rowTaken inverse k f) o (u .run) less s ran (m .rows) (m .at) (m .count),
+        omega (arith, ap total (m .rows), less, n .some),
+      )

@@ -1,9 +1,10 @@
 -- How many letters a step writes, as the code counts them; and what its stores leave.
--- In order: letters (`letter-none`, `letter-one`, `turn-none`, `turn-one`); a block (`forth-count`, `back-count`); a position entered (`entered-by`); the ends
+-- In order: letters (`letter-none`, `letter-one`, `turn-none`, `turn-one`); a block (`block-is`, `block-count`); a position entered (`entered-by`); the ends
 -- of a round (`filled-none`, `filled-more`, `filled-end`).
 -- Assumes nothing.
 use mathlib.Core.Path.{_≡_, refl, sym, ap, _∙_, subst}
 use mathlib.Core.Logic.{_⊎_, inl, inr}
+use mathlib.Core.Bool.{Bool, true, false}
 use mathlib.Core.List.{List, [], _∷_}
 use Prim.Native.Nat.{ℕ, suc, _+_, _-_, _≤_, _<_}
 use native.Mathlib.Omega.{arith}
@@ -14,14 +15,15 @@ use lib.ListN.{length, getD, set, length-set}
 use lib.Seq.{getD-set-same, getD-set-other}
 use lib.IntN.{ℤ, pos}
 use borrow.Author.Tests.{lt-ltb, le-ltb}
-use Rattle.matrix.specs.Words.{S, Q, P}
+use Rattle.basics.specs.Choice.{pick}
+use Rattle.matrix.specs.Words.{Letter, S, Q, P}
 use Rattle.symbol.specs.Symbol.{IsSymbol}
 use Rattle.polygon.specs.Cut.{corners}
-use Rattle.coset.specs.Positions.{stepS, turnQ, written, lettersOf}
+use Rattle.coset.specs.Positions.{stepS, turnQ, written, goes, lettersOf}
 use Rattle.coset.proofs.Positions.{positions}
 use Rattle.walk.proofs.Letters.{letter-zero, letter-some}
 use Rattle.walk_runs.specs.Runs.{blockTo, blockCount}
-use Rattle.walk_runs.specs.Inner.Rounds.{POSITION, BEGINNING, ENDING, SUM, roundsLength, forthTo, forthCount, endIn, RoundEntered, EndsFilled}
+use Rattle.walk_runs.specs.Inner.Rounds.{POSITION, BEGINNING, ENDING, SUM, roundsLength, endIn, RoundEntered, EndsFilled}
 use Rattle.walk_runs.proofs.Symmetry.{same-turn}
 
 pub letter-none : (z : ℤ) → SFits w16 z → ofZ w16 z ≡ 0 → 0 ≡ length (lettersOf z)
@@ -39,30 +41,20 @@ module _ (v : ℕ) (t : List ℤ) (p : ℕ) where
   unfolding written
   turn-one h = rw (le-ltb p (corners v) h) refl
 
-module _ {v : ℕ} {t : List ℤ} (ok : IsSymbol v t) (p to x y : ℕ) (by-S : x ≡ length (written v t S p)) (by-Q : y ≡ length (written v t Q to)) where
-  pub forth-count : to ≡ forthTo v t p → x + y ≡ forthCount v t p
-  unfolding blockTo blockCount
-  forth-count e = omega (arith, by-S, by-Q, ap (λ (q : ℕ). length (written v t Q q)) e, ap length (positions ok .turn-writes (stepS v t p)))
-
-  pub back-count : to ≡ blockTo v t P p → x + y ≡ blockCount v t P p
-  unfolding blockTo blockCount
-  back-count e =
-      omega (
-        arith,
-        by-S,
-        by-Q,
-        ap (λ (q : ℕ). length (written v t Q q)) e,
-        same-turn v t ok (turnQ v (turnQ v (stepS v t p))),
-        ap length (positions ok .back-writes (stepS v t p)),
-      )
-
-pub forth-is : (v : ℕ) (t : List ℤ) (p to : ℕ) → to ≡ turnQ v (stepS v t p) → to ≡ forthTo v t p
+pub block-is : (v : ℕ) (t : List ℤ) (x : Letter) (p to : ℕ) → to ≡ goes v t x (stepS v t p) → to ≡ blockTo v t x p
 unfolding blockTo
-forth-is v t p to e = e
+block-is v t x p to e = e
 
-pub back-is : (v : ℕ) (t : List ℤ) (p to : ℕ) → to ≡ turnQ v (turnQ v (stepS v t p)) → to ≡ blockTo v t P p
-unfolding blockTo
-back-is v t p to e = e
+-- a turn writes as many letters where it has led to, and Q as many as Q⁻¹
+pub block-count : {v : ℕ} {t : List ℤ} → IsSymbol v t → (inverse : Bool) (p to n : ℕ) → to ≡ goes v t (pick inverse P Q) (stepS v t p)
+    → n ≡ length (written v t S p) + length (written v t Q to) → n ≡ blockCount v t (pick inverse P Q) p
+unfolding blockCount
+block-count {v} {t} ok inverse p to n e f =
+    omega (arith, f, ap (λ (q : ℕ). length (written v t Q q)) e, there inverse (stepS v t p))
+  where
+    there : (b : Bool) (q : ℕ) → length (written v t Q (goes v t (pick b P Q) q)) ≡ length (written v t (pick b P Q) q)
+    there true q = sym (same-turn v t ok (turnQ v (turnQ v q))) ∙ ap length (positions ok .back-writes q)
+    there false q = ap length (positions ok .turn-writes q)
 
 -- ---- one position
 

@@ -1,22 +1,26 @@
 -- Euclid's algorithm with quotients spells the word that the subtractive one spells.
--- In order: runs of S Q and of S P (`run-Q`, `run-P`); the quotient (`quotient-low`, `quotient-some`, `quotient-most`); a run of a proper form takes at least
--- one block, and what is left is at most two thirds (`upper-run`, `lower-run`).
+-- In order: k times one row from the other (`taken-total`); runs of S Q, or of S P (`runs`); the quotient (`takes`); a run of a proper form takes at least
+-- one block, and what is left is at most two thirds (`one-run`, `upper-run`, `lower-run`).
 -- Why: (a - 1) / b blocks leave something of the larger row, so none of them is the last; the rows of a proper form differ.
 -- Assumes nothing.
 use mathlib.Core.Path.{_≡_, refl, sym, ap, _∙_, subst}
 use mathlib.Core.Logic.{inl, inr}
+use mathlib.Core.Bool.{Bool, true, false, not}
 use mathlib.Core.List.{List, [], _∷_, _++_}
 use Prim.Native.Nat.{ℕ, zero, suc, _+_, _-_, _*_, _/_, _%_, _≤_, _<_}
 use native.Mathlib.Nat.{mod-lt, div-add-mod'}
 use native.Mathlib.Omega.{arith}
 use native.Mathlib.Decide.{decLt}
-use borrow.Author.Tests.{le-leb, lt-leb}
+use lib.Dec.{ltb}
+use borrow.Author.Tests.{lt-ltb, le-ltb}
+use Rattle.basics.specs.Choice.{pick}
 use Rattle.matrix.specs.Words.{Letter, S, Q, P}
 use Rattle.matrix.specs.Euclid.{Form, form, total, swap, tailOf}
-use Rattle.matrix.proofs.Form.{Unimodular, unimodular-swap, unimodular-whole, unimodular-down, Proper, Rows, rows, form-eq, down, up}
-use Rattle.walk.specs.Inner.Way.{turnLetter, turnForm}
-use Rattle.walk.proofs.Forms.{tail-two}
+use Rattle.matrix.proofs.Form.{Unimodular, unimodular-swap, unimodular-whole, Proper, rows, form-eq}
+use Rattle.walk.specs.Inner.Way.{turnForm, rowTaken, RowTakes}
+use Rattle.walk.proofs.Forms.{proper-swap, turn-apart, row-takes, turn-by, tail-two}
 use Rattle.walk_runs.specs.Runs.{blocks, takenUpper, takenLower, runLength}
+use Rattle.walk_runs.specs.Inner.Tally.{rowSum}
 
 -- ---- proper forms
 
@@ -52,16 +56,55 @@ proper-by f u h = record {
     turned p q r t (inl e) = inr e
     turned p q r t (inr e) = inl e
 
-swap-proper : (f : Form) → Proper f → Proper (swap f)
-swap-proper f k = record { not-one = omega (arith, k .not-S); not-S = omega (arith, k .not-one) }
+-- ---- one row taken from the other: `b` holds where it is the upper one from the lower
+
+-- a row of sum above 1 is left to take from
+proper-of : (b : Bool) (f : Form) → Unimodular f → 1 < rowSum b f → Proper f
+proper-of true f u h = proper-swap (swap f) (proper-by (swap f) (unimodular-swap f u) h)
+proper-of false f u h = proper-by f u h
+
+pub some-row : (b : Bool) (f : Form) → Unimodular f → 0 < rowSum b f
+some-row true f u = unimodular-whole f u .bottom
+some-row false f u = unimodular-whole f u .top
+
+pub both-rows : (b : Bool) (f : Form) → rowSum b f + rowSum (not b) f ≡ total f
+both-rows true f = omega arith
+both-rows false f = omega arith
+
+tested : (b : Bool) (f : Form) → rowSum (not b) f < rowSum b f → b ≡ ltb (f .p + f .q) (f .r + f .t)
+tested true f h = sym (lt-ltb (f .p + f .q) (f .r + f .t) h)
+tested false f h = sym (le-ltb (f .p + f .q) (f .r + f .t) (omega arith))
+
+module _ (k : ℕ) (f : Form) where
+  taken-none : (b : Bool) → rowTaken b 0 f ≡ f
+  taken-none true = form-eq refl refl (omega arith) (omega arith)
+  taken-none false = form-eq (omega arith) (omega arith) refl refl
+
+  taken-more : (b : Bool) → rowTaken b k (rowTaken b 1 f) ≡ rowTaken b (suc k) f
+  taken-more true = form-eq refl refl (omega arith) (omega arith)
+  taken-more false = form-eq (omega arith) (omega arith) refl refl
+
+  takes-more : (b : Bool) → RowTakes b 1 f → RowTakes b k (rowTaken b 1 f) → RowTakes b (suc k) f
+  takes-more true m i = record { left = omega (arith, m .left, i .left); right = omega (arith, m .right, i .right) }
+  takes-more false m i = record { left = omega (arith, m .left, i .left); right = omega (arith, m .right, i .right) }
+
+  -- what is left in the row, and in all
+  taken-row : (b : Bool) → RowTakes b k f → (rowSum b (rowTaken b k f) + k * rowSum (not b) f ≡ rowSum b f)
+      × (rowSum (not b) (rowTaken b k f) ≡ rowSum (not b) f)
+  taken-row true m = (omega (arith, m .left, m .right), refl)
+  taken-row false m = (omega (arith, m .left, m .right), refl)
+
+  pub taken-total : (b : Bool) → RowTakes b k f → total (rowTaken b k f) + k * rowSum (not b) f ≡ total f
+  taken-total b m = omega (arith, both-rows b f, both-rows b (rowTaken b k f), taken-row b m .0, taken-row b m .1)
 
 -- ---- one block
 
-block-Q : (f : Form) → Unimodular f → Proper f → f .r + f .t ≤ f .p + f .q → tailOf (total f) f ≡ S ∷ Q ∷ tailOf (total (down f)) (down f)
-block-Q f u k h = rw (le-leb (f .r + f .t) (f .p + f .q) h) at (tail-two f u k)
-
-block-P : (f : Form) → Unimodular f → Proper f → f .p + f .q < f .r + f .t → tailOf (total f) f ≡ S ∷ P ∷ tailOf (total (up f)) (up f)
-block-P f u k h = rw (lt-leb (f .r + f .t) (f .p + f .q) h) at (tail-two f u k)
+block : (b : Bool) (f : Form) → Unimodular f → Proper f → b ≡ ltb (f .p + f .q) (f .r + f .t)
+    → tailOf (total f) f ≡ S ∷ pick b P Q ∷ tailOf (total (rowTaken b 1 f)) (rowTaken b 1 f)
+block b f u k e =
+    let i = turn-by b (swap f) e in
+    tail-two f u k ∙ ap (λ (x : Letter). S ∷ x ∷ tailOf (total (turnForm (swap f))) (turnForm (swap f))) (i .0)
+    ∙ ap (λ (g : Form). S ∷ pick b P Q ∷ tailOf (total g) g) (i .1)
 
 -- ---- runs
 
@@ -69,83 +112,39 @@ pub record Run (x : Letter) (k : ℕ) (f g : Form) : Type 0 where
   pub word : tailOf (total f) f ≡ blocks x k ++ tailOf (total g) g
   pub apart : Unimodular g
 
-pub record Upper (k : ℕ) (f : Form) : Type 0 where
-  pub run : Run Q k f (takenUpper k f)
-  pub left : k * f .r ≤ f .p
-  pub right : k * f .t ≤ f .q
+pub record Runs (b : Bool) (k : ℕ) (f : Form) : Type 0 where
+  pub run : Run (pick b P Q) k f (rowTaken b k f)
+  pub takes : RowTakes b k f
 
-upper-none : (f : Form) → Unimodular f → Upper 0 f
-upper-none f u =
-    let e : takenUpper 0 f ≡ f = form-eq (omega arith) (omega arith) refl refl in
+runs-none : (b : Bool) (f : Form) → Unimodular f → Runs b 0 f
+runs-none b f u =
+    let e = taken-none 0 f b in
     record {
-      run = record {
-        word = ap (λ (g : Form). tailOf (total g) g) (sym e);
-        apart = subst Unimodular
-            (sym e) u;
-      };
-      left = omega arith;
-      right = omega arith;
+      run = record { word = ap (λ (g : Form). tailOf (total g) g) (sym e); apart = subst Unimodular (sym e) u };
+      takes = record { left = omega arith; right = omega arith };
     }
 
-upper-more : (k : ℕ) (f : Form) → Unimodular f → Proper f → Rows f → f .r + f .t ≤ f .p + f .q → Upper k (down f) → Upper (suc k) f
-upper-more k f u k' m h i =
-    let e : takenUpper k (down f) ≡ takenUpper (suc k) f = form-eq (omega arith) (omega arith) refl refl in
+runs-more : (b : Bool) (k : ℕ) (f : Form) → Unimodular f → Proper f → b ≡ ltb (f .p + f .q) (f .r + f .t) → Runs b k (rowTaken b 1 f) → Runs b (suc k) f
+runs-more b k f u n e i =
+    let x = pick b P Q in
+    let j = taken-more k f b in
     record {
       run = record {
-        word = block-Q f u k' h ∙ ap (λ (l : List Letter). S ∷ Q ∷ l) (i .run .word) ∙ ap (λ (g : Form). S ∷ Q ∷ (blocks Q k ++ tailOf (total g) g)) e;
-        apart = subst Unimodular e (i .run .apart);
+        word = block b f u n e ∙ ap (λ (l : List Letter). S ∷ x ∷ l) (i .run .word) ∙ ap (λ (g : Form). S ∷ x ∷ (blocks x k ++ tailOf (total g) g)) j;
+        apart = subst Unimodular j (i .run .apart);
       };
-      left = omega (arith, i .left, m .left);
-      right = omega (arith, i .right, m .right);
+      takes = takes-more k f b (row-takes b f u n e) (i .takes);
     }
 
-pub run-Q : (k : ℕ) (f : Form) → Unimodular f → k * (f .r + f .t) < f .p + f .q → Upper k f
-run-Q zero f u h = upper-none f u
-run-Q (suc k) f u h =
-    let w = unimodular-whole f u in
-    let n = proper-by f u (omega (arith, w .bottom)) in
-    let m = rows f u n (omega arith) in
-    upper-more k f u n m (omega arith) (run-Q k (down f) (unimodular-down f m u) (omega (arith, m .left, m .right)))
-
-pub record Lower (k : ℕ) (f : Form) : Type 0 where
-  pub run : Run P k f (takenLower k f)
-  pub left : k * f .p ≤ f .r
-  pub right : k * f .q ≤ f .t
-
-lower-none : (f : Form) → Unimodular f → Lower 0 f
-lower-none f u =
-    let e : takenLower 0 f ≡ f = form-eq refl refl (omega arith) (omega arith) in
-    record {
-      run = record {
-        word = ap (λ (g : Form). tailOf (total g) g) (sym e);
-        apart = subst Unimodular
-            (sym e) u;
-      };
-      left = omega arith;
-      right = omega arith;
-    }
-
-lower-more : (k : ℕ) (f : Form) → Unimodular f → Proper f → Rows (swap f) → f .p + f .q < f .r + f .t → Lower k (up f) → Lower (suc k) f
-lower-more k f u k' m h i =
-    let e : takenLower k (up f) ≡ takenLower (suc k) f = form-eq refl refl (omega arith) (omega arith) in
-    record {
-      run = record {
-        word = block-P f u k' h ∙ ap (λ (l : List Letter). S ∷ P ∷ l) (i .run .word) ∙ ap (λ (g : Form). S ∷ P ∷ (blocks P k ++ tailOf (total g) g)) e;
-        apart = subst Unimodular e (i .run .apart);
-      };
-      left = omega (arith, i .left, m .left);
-      right = omega (arith, i .right, m .right);
-    }
-
-pub run-P : (k : ℕ) (f : Form) → Unimodular f → k * (f .p + f .q) < f .r + f .t → Lower k f
-run-P zero f u h = lower-none f u
-run-P (suc k) f u h =
-    let w = unimodular-whole f u in
-    let u' = unimodular-swap f u in
-    let n' = proper-by (swap f) u' (omega (arith, w .top)) in
-    let m = rows (swap f) u' n' (omega arith) in
-    lower-more k f u (swap-proper (swap f) n') m (omega arith)
-    (run-P k (up f) (unimodular-swap (down (swap f)) (unimodular-down (swap f) m u')) (omega (arith, m .left, m .right)))
+pub runs : (b : Bool) (k : ℕ) (f : Form) → Unimodular f → k * rowSum (not b) f < rowSum b f → Runs b k f
+runs b zero f u h = runs-none b f u
+runs b (suc k) f u h =
+    let w = some-row (not b) f u in
+    let e = tested b f (omega arith) in
+    let n = proper-of b f u (omega arith) in
+    let m = taken-row 1 f b (row-takes b f u n e) in
+    let u' = subst Unimodular (turn-by b (swap f) e .1) (turn-apart (swap f) (unimodular-swap f u) (proper-swap f n)) in
+    runs-more b k f u n e (runs b k (rowTaken b 1 f) u' (rw (m .1) (omega (arith, m .0))))
 
 -- ---- the quotient
 
@@ -192,40 +191,28 @@ pub record Onwards (x : Letter) (k : ℕ) (f g : Form) : Type 0 where
   pub less : total g < total f
   pub thirds : 3 * total g ≤ 2 * total f
 
-pub upper-run : (f : Form) → Unimodular f → Proper f → f .r + f .t ≤ f .p + f .q
-    → Onwards Q (runLength (f .p + f .q) (f .r + f .t)) f (takenUpper (runLength (f .p + f .q) (f .r + f .t)) f)
-upper-run f u k h =
-    let w = unimodular-whole f u in
-    let j = runLength (f .p + f .q) (f .r + f .t) in
-    let d = takes (f .p + f .q) (f .r + f .t) (w .top) (w .bottom) in
-    let i = run-Q j f u (d .leaves) in
-    let some = d .some (differ f u k h) in
-    let once : f .r + f .t ≤ j * (f .r + f .t) = at-least j (f .r + f .t) some in
+pub one-run : (b : Bool) (f : Form) → Unimodular f → rowSum (not b) f < rowSum b f
+    → Onwards (pick b P Q) (runLength (rowSum b f) (rowSum (not b) f)) f (rowTaken b (runLength (rowSum b f) (rowSum (not b) f)) f)
+one-run b f u h =
+    let j = runLength (rowSum b f) (rowSum (not b) f) in
+    let d = takes (rowSum b f) (rowSum (not b) f) (some-row b f u) (some-row (not b) f u) in
+    let i = runs b j f u (d .leaves) in
+    let all = taken-total j f b (i .takes) in
+    let once = at-least j (rowSum (not b) f) (d .some h) in
     record {
       run = i .run;
-      less = omega (arith, i .left, i .right, once, w .bottom);
-      thirds = omega (arith, i .left, i .right, once, d .most);
+      less = omega (arith, all, once, some-row (not b) f u);
+      thirds = omega (arith, all, once, d .most, both-rows b f);
     }
   where
     at-least : (k b : ℕ) → 0 < k → b ≤ k * b
     at-least zero b l = absurd (omega arith)
     at-least (suc k) b l = omega arith
 
+pub upper-run : (f : Form) → Unimodular f → Proper f → f .r + f .t ≤ f .p + f .q
+    → Onwards Q (runLength (f .p + f .q) (f .r + f .t)) f (takenUpper (runLength (f .p + f .q) (f .r + f .t)) f)
+upper-run f u k h = one-run false f u (differ f u k h)
+
 pub lower-run : (f : Form) → Unimodular f → f .p + f .q < f .r + f .t
     → Onwards P (runLength (f .r + f .t) (f .p + f .q)) f (takenLower (runLength (f .r + f .t) (f .p + f .q)) f)
-lower-run f u h =
-    let w = unimodular-whole f u in
-    let j = runLength (f .r + f .t) (f .p + f .q) in
-    let d = takes (f .r + f .t) (f .p + f .q) (w .bottom) (w .top) in
-    let i = run-P j f u (d .leaves) in
-    let some = d .some h in
-    let once : f .p + f .q ≤ j * (f .p + f .q) = at-least j (f .p + f .q) some in
-    record {
-      run = i .run;
-      less = omega (arith, i .left, i .right, once, w .top);
-      thirds = omega (arith, i .left, i .right, once, d .most);
-    }
-  where
-    at-least : (k b : ℕ) → 0 < k → b ≤ k * b
-    at-least zero b l = absurd (omega arith)
-    at-least (suc k) b l = omega arith
+lower-run f u h = one-run true f u h

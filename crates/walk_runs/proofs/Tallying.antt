@@ -1,24 +1,25 @@
 -- The walk run by run: what is left to walk, behind what is walked, stays the same.
 -- In order: block by block (`stepping-none`, `stepping-more`, `stepping-low`, `stepping-end`); a run of S P by one backward (`back-ran`); the next run
--- (`next-upper`, `next-lower`, `run-low`); ways put together (`ahead-none`, `ahead-more`); the whole walk (`tallied`, `kept`); no round yet (`no-rounds`,
+-- (`next-is`, `run-low`); ways put together (`ahead-none`, `ahead-more`); the whole walk (`tallied`, `kept`); no round yet (`no-rounds`,
 -- `fresh-rounds`).
 -- Assumes nothing.
 use mathlib.Core.Path.{_≡_, refl, sym, ap, _∙_, subst}
-use mathlib.Core.Logic.{inl, inr}
-use mathlib.Core.Bool.{Bool, true, false}
+use mathlib.Core.Bool.{Bool, true, false, not}
 use mathlib.Core.List.{List, []}
 use Prim.Native.Nat.{ℕ, zero, suc, _+_, _-_, _*_, _/_, _^_, _≤_, _<_}
 use native.Mathlib.Omega.{arith}
 use native.Mathlib.Decide.{decLt}
 use lib.ListN.{length, getD, replicate, length-replicate}
 use lib.IntN.{ℤ}
-use borrow.Author.Tests.{eq-eqb}
+use lib.Dec.{ltb}
+use borrow.Author.Tests.{ltb-true, ltb-false, eq-eqb}
+use Rattle.basics.specs.Choice.{pick}
 use Rattle.basics.specs.Count.{count}
 use Rattle.basics.proofs.Count.{count-eq}
 use Rattle.matrix.specs.Matrix.{Mat}
 use Rattle.matrix.specs.Words.{Letter, S, Q, P}
 use Rattle.matrix.specs.Euclid.{Form, total, wordOf}
-use Rattle.matrix.proofs.Form.{Unimodular, unimodular-whole}
+use Rattle.matrix.proofs.Form.{Unimodular}
 use Rattle.symbol.specs.Symbol.{IsSymbol}
 use Rattle.polygon.specs.Cut.{places}
 use Rattle.coset.specs.Positions.{Real, stepS, written, writes}
@@ -29,10 +30,10 @@ use Rattle.walk.proofs.Forms.{properly}
 use Rattle.walk.proofs.Stored.{stored-none}
 use Rattle.walk_runs.specs.Runs.{stepped, counted, runLength, blockTo, blockCount}
 use Rattle.walk_runs.specs.Inner.Rounds.{roundPlace, enteredIn, roundsLength, isPlaceless, Rounds}
-use Rattle.walk_runs.specs.Inner.Tally.{Ran, Stepping, Led, OneProper, NextRun, Ahead, WalkTallied}
+use Rattle.walk_runs.specs.Inner.Tally.{Ran, Stepping, Led, OneProper, rowSum, RunTakes, NextRun, Entrance, Ahead, WalkTallied}
 use Rattle.walk_runs.specs.declared.Stop.{Stop}
 use Rattle.walk_runs.proofs.Repeated.{counted-low}
-use Rattle.walk_runs.proofs.Quotients.{takes, differ}
+use Rattle.walk_runs.proofs.Quotients.{some-row, both-rows, takes, differ}
 use Rattle.walk_runs.proofs.Blocks.{block-real, block-low}
 use Rattle.walk_runs.proofs.Backward.{last-step, last-count, lower-run}
 
@@ -73,6 +74,15 @@ module _ {v : ℕ} {t : List ℤ} (ok : IsSymbol v t) where
 
   -- ---- a run of S P by one backward
 
+  pub entered-by-S : {p u : ℕ} {inverse : Bool} → inverse ≡ true → Real v t p → u ≡ stepS v t p → Entrance v t p inverse u
+  entered-by-S {p} e r i = rw e (record { real = rw i (positions ok .polygon .closed S p r); is = i })
+
+  pub entered-at : {p : ℕ} {inverse : Bool} → inverse ≡ false → Real v t p → Entrance v t p inverse p
+  entered-at e r = rw e (record { real = r; is = refl })
+
+  pub entered-here : {p u : ℕ} {inverse : Bool} → inverse ≡ false → Entrance v t p inverse u → u ≡ p
+  entered-here {p} e i = i .is ∙ ap (λ (b : Bool). pick b (stepS v t p) p) e
+
   pub led-low : (u k : ℕ) (s : Stop) → Led v t u k s → s .count ≤ 2 * k
   led-low u k s l = omega (arith, l .count, counted-low (blockTo v t Q) (blockCount v t Q) (block-low (positions ok .polygon) Q) k (s .at))
 
@@ -88,31 +98,16 @@ module _ {v : ℕ} {t : List ℤ} (ok : IsSymbol v t) where
 
 -- ---- the next run
 
-module _ (f : Form) (o : OneProper f) where
-  some-rows : (0 < f .p + f .q) × (0 < f .r + f .t)
-  some-rows = let w = unimodular-whole f (o .apart) in (w .top, w .bottom)
-
-  pub upper-some : 0 < f .p + f .q
-  upper-some = some-rows .0
-
-  pub lower-some : 0 < f .r + f .t
-  lower-some = some-rows .1
-
-  pub next-upper : f .r + f .t < f .p + f .q → NextRun f ((f .p + f .q - 1) / (f .r + f .t))
-  unfolding runLength
-  next-upper h =
-      let d = takes (f .p + f .q) (f .r + f .t) upper-some lower-some in
-      record { some = d .some h; upper = λ i. d .leaves; lower = λ i. absurd (omega arith) }
-
-  pub next-lower : f .p + f .q ≤ f .r + f .t → NextRun f ((f .r + f .t - 1) / (f .p + f .q))
-  unfolding runLength
-  next-lower h =
-      let d = takes (f .r + f .t) (f .p + f .q) lower-some upper-some in
-      let l : f .p + f .q < f .r + f .t = elim (decLt (f .p + f .q) (f .r + f .t)) [
-        | yes z ↦ z
-        | no z ↦ absurd (omega (arith, differ f (o .apart) (properly f (o .proper)) (omega arith)))
-      ] in
-      record { some = d .some l; upper = λ i. absurd (omega arith); lower = λ i. d .leaves }
+-- the quotient of the larger row's sum, less one, by that of the other
+pub next-is : (b : Bool) (f : Form) → OneProper f → ltb (f .p + f .q) (f .r + f .t) ≡ b → NextRun f ((rowSum b f - 1) / rowSum (not b) f)
+unfolding runLength
+next-is b f o e =
+    let d = takes (rowSum b f) (rowSum (not b) f) (some-row b f (o .apart)) (some-row (not b) f (o .apart)) in
+    rw e (record { some = d .some (larger b e); leaves = d .leaves })
+  where
+    larger : (b : Bool) → ltb (f .p + f .q) (f .r + f .t) ≡ b → rowSum (not b) f < rowSum b f
+    larger true e = ltb-true (f .p + f .q) (f .r + f .t) e
+    larger false e = differ f (o .apart) (properly f (o .proper)) (ltb-false (f .p + f .q) (f .r + f .t) e)
 
 pub run-few : (k a b : ℕ) → 0 < b → k * b < a → k < a
 run-few k zero b h l = absurd (omega arith)
@@ -123,21 +118,16 @@ run-few k (suc a) b h l = elim (decLt k (suc a)) [ yes z ↦ z | no z ↦ absurd
     more (suc k) b h = omega (arith, more k b h)
 
 -- a run has no more blocks than there is left
-pub run-low : (f : Form) (k : ℕ) → Unimodular f → NextRun f k → k ≤ total f
-run-low f k u n =
-    let w = unimodular-whole f u in
-    elim (decLt (f .r + f .t) (f .p + f .q)) [
-      | yes z ↦ omega (arith, run-few k (f .p + f .q) (f .r + f .t) (w .bottom) (n .upper z))
-      | no z ↦ omega (arith, run-few k (f .r + f .t) (f .p + f .q) (w .top) (n .lower (omega arith)))
-    ]
+pub run-low : (inverse : Bool) (f : Form) (k : ℕ) → Unimodular f → RunTakes inverse k f → k ≤ total f
+run-low b f k u n = omega (arith, run-few k (rowSum b f) (rowSum (not b) f) (some-row (not b) f u) (n .leaves), both-rows b f)
 
-pub one-proper : {v : ℕ} {t : List ℤ} {a : Way} → Sound v t (2 ^ 60) a → properOf (formOf a) ≡ true → OneProper (formOf a)
+pub one-proper : {v : ℕ} {t : List ℤ} {a : Way} → Sound v t (2 ^ 63) a → properOf (formOf a) ≡ true → OneProper (formOf a)
 one-proper o h = record { apart = o .apart; proper = h; low = omega (arith, o .few) }
 
 -- ---- ways put together
 
 module _ {v : ℕ} {t : List ℤ} where
-  pub ahead-none : {a : Way} → Sound v t (2 ^ 60) a → Ahead v t a a
+  pub ahead-none : {a : Way} → Sound v t (2 ^ 63) a → Ahead v t a a
   ahead-none o = record { sound = o; ends-at = refl; count = refl }
 
   pub ahead-more : {a b c : Way} → Ahead v t a b → Ahead v t b c → Ahead v t a c

@@ -5,22 +5,22 @@
 // specs/Runs.antt has the laws of runs, specs/Inner/Tally.antt what is promised.
 use crate::rounds::follow;
 use crate::rounds::follow_back;
-use crate::rounds::letters_back;
-use crate::rounds::letters_forth;
+use crate::rounds::letters;
 use crate::rounds::letters_of_s;
 use crate::rounds::place;
-use coset::steps::back;
-use coset::steps::forth;
+use coset::steps::block_end;
 use coset::steps::next;
 use walk::Way;
 use walk::begin;
 use walk::finish;
 use walk::is_proper;
+use walk::take;
 ghost use mathlib.Core.Path.{_≡_};
 ghost use mathlib.Core.Bool.{true, false};
-ghost use Prim.Native.Nat.{_+_, _*_, _^_, _≤_, _<_};
+ghost use Prim.Native.Nat.{_^_, _≤_, _<_};
 ghost use lib.IntN.{pos};
 ghost use lib.ListN.{length};
+ghost use Rattle.basics.specs.Choice.{pick};
 ghost use Rattle.matrix.specs.Matrix.{ofList, det};
 ghost use Rattle.matrix.specs.Words.{Q, P};
 ghost use Rattle.matrix.specs.Euclid.{total};
@@ -29,8 +29,8 @@ ghost use Rattle.symbol.specs.Symbol.{IsSymbol};
 ghost use Rattle.coset.specs.Positions.{Real};
 ghost use Rattle.coset.specs.Inner.Steps.{StepTables};
 ghost use Rattle.walk.specs.Inner.Way.{formOf, properOf, Setting, Sound};
-ghost use Rattle.walk_runs.specs.Inner.Rounds.{Rounds};
-ghost use Rattle.walk_runs.specs.Inner.Tally.{Ran, OneProper, NextRun, Ahead, WalkTallied};
+ghost use Rattle.walk_runs.specs.Inner.Rounds.{Rounds, HasPlace};
+ghost use Rattle.walk_runs.specs.Inner.Tally.{Ran, Entrance, OneProper, RunTakes, NextRun, Ahead, WalkTallied};
 
 pub mod rounds;
 
@@ -45,38 +45,32 @@ pub struct Stop {
 
 // ---- one run
 
-// k blocks of S Q from p, one by one.
-fn step_forth(t: &[i64], v: usize, w: &[u16], p: usize, k: usize) -> Stop
-    requires { ⌜ StepTables (now t) v (now w) × Real v (now t) p × (k ≤ 2 ^ 60) ⌝ }
-    ensures { λ s. ⌜ Ran v (now (t .entry)) Q p k s ⌝ }
+// k blocks of S Q from p, or of S Q⁻¹ where `inverse` holds, one by one.
+fn step_by(t: &[i64], v: usize, w: &[u16], p: usize, k: usize, inverse: bool) -> Stop
+    requires { ⌜ StepTables (now t) v (now w) × Real v (now t) p × (k ≤ 2 ^ 62) ⌝ }
+    ensures { λ s. ⌜ Ran v (now (t .entry)) (pick inverse P Q) p k s ⌝ }
 {
     let mut at = p;
     let mut count: usize = 0;
     let mut i: usize = 0;
     while i < k {
-        let to = forth(t, v, w, at);
-        count += letters_forth(t, v, w, at, to);
+        let to = block_end(t, v, w, at, inverse);
+        count += letters(t, v, w, at, to);
         at = to;
         i += 1;
     }
     Stop { at, count }
 }
 
-// k blocks of S Q⁻¹ from p, one by one.
-fn step_back(t: &[i64], v: usize, w: &[u16], p: usize, k: usize) -> Stop
-    requires { ⌜ StepTables (now t) v (now w) × Real v (now t) p × (k ≤ 2 ^ 60) ⌝ }
-    ensures { λ s. ⌜ Ran v (now (t .entry)) P p k s ⌝ }
+// The same, with a loop for each direction: which of the tables is read is known before it.
+fn step(t: &[i64], v: usize, w: &[u16], p: usize, k: usize, inverse: bool) -> Stop
+    requires { ⌜ StepTables (now t) v (now w) × Real v (now t) p × (k ≤ 2 ^ 62) ⌝ }
+    ensures { λ s. ⌜ Ran v (now (t .entry)) (pick inverse P Q) p k s ⌝ }
 {
-    let mut at = p;
-    let mut count: usize = 0;
-    let mut i: usize = 0;
-    while i < k {
-        let to = back(t, v, w, at);
-        count += letters_back(t, v, w, at, to);
-        at = to;
-        i += 1;
+    if inverse {
+        return step_by(t, v, w, p, k, true);
     }
-    Stop { at, count }
+    step_by(t, v, w, p, k, false)
 }
 
 // Whether k blocks are better walked one by one: they are few, or the round of p has no places yet and isn't worth it.
@@ -92,28 +86,23 @@ fn is_short(r: &[u16], v: usize, p: usize, k: usize) -> bool
     false
 }
 
-// k blocks of S Q from p.
-fn run_forth(t: &[i64], v: usize, w: &[u16], r: &mut [u16], p: usize, k: usize) -> Stop
-    requires { ⌜ StepTables (now t) v (now w) × Rounds v (now t) (now r) × Real v (now t) p × (k ≤ 2 ^ 60) ⌝ }
-    ensures { λ s. ⌜ Ran v (now (t .entry)) Q p k s × Rounds v (now (t .entry)) (now (r .exit)) ⌝ }
+// Where the round is entered that k blocks from p go along: at p, or at S p where they are blocks of S Q⁻¹.
+fn entrance(t: &[i64], v: usize, w: &[u16], p: usize, inverse: bool) -> usize
+    requires { ⌜ StepTables (now t) v (now w) × Real v (now t) p ⌝ }
+    ensures { λ u. ⌜ Entrance v (now (t .entry)) p inverse u ⌝ }
 {
-    if is_short(r, v, p, k) {
-        return step_forth(t, v, w, p, k);
+    if inverse {
+        return next(t, v, w, p);
     }
-    place(t, v, w, r, p);
-    follow(t, v, r, p, k)
+    p
 }
 
-// k blocks of S Q⁻¹ from p: S, k blocks of S Q backward, and S.
-fn run_back(t: &[i64], v: usize, w: &[u16], r: &mut [u16], p: usize, k: usize) -> Stop
-    requires { ⌜ StepTables (now t) v (now w) × Rounds v (now t) (now r) × Real v (now t) p × (k ≤ 2 ^ 60) ⌝ }
-    ensures { λ s. ⌜ Ran v (now (t .entry)) P p k s × Rounds v (now (t .entry)) (now (r .exit)) ⌝ }
+// k blocks of S Q⁻¹ from p: S, which leads to u, k blocks of S Q backward, and S.
+fn run_back(t: &[i64], v: usize, w: &[u16], r: &[u16], p: usize, u: usize, k: usize) -> Stop
+    requires { ⌜ StepTables (now t) v (now w) × HasPlace v (now t) (now r) u × Real v (now t) p
+        × Entrance v (now t) p true u × (k ≤ 2 ^ 62) ⌝ }
+    ensures { λ s. ⌜ Ran v (now (t .entry)) P p k s ⌝ }
 {
-    let u = next(t, v, w, p);
-    if is_short(r, v, u, k) {
-        return step_back(t, v, w, p, k);
-    }
-    place(t, v, w, r, u);
     let s = follow_back(t, v, r, u, k);
     let out = letters_of_s(t, v, w, p);
     let twice = letters_of_s(t, v, w, s.at);
@@ -121,6 +110,22 @@ fn run_back(t: &[i64], v: usize, w: &[u16], r: &mut [u16], p: usize, k: usize) -
         at: next(t, v, w, s.at),
         count: out + s.count - twice,
     }
+}
+
+// k blocks of S Q from p, or of S Q⁻¹ where `inverse` holds.
+fn run(t: &[i64], v: usize, w: &[u16], r: &mut [u16], p: usize, k: usize, inverse: bool) -> Stop
+    requires { ⌜ StepTables (now t) v (now w) × Rounds v (now t) (now r) × Real v (now t) p × (k ≤ 2 ^ 62) ⌝ }
+    ensures { λ s. ⌜ Ran v (now (t .entry)) (pick inverse P Q) p k s × Rounds v (now (t .entry)) (now (r .exit)) ⌝ }
+{
+    let u = entrance(t, v, w, p, inverse);
+    if is_short(r, v, u, k) {
+        return step(t, v, w, p, k, inverse);
+    }
+    place(t, v, w, r, u);
+    if inverse {
+        return run_back(t, v, w, r, p, u, k);
+    }
+    follow(t, v, r, p, k)
 }
 
 // ---- what is left
@@ -132,79 +137,58 @@ fn next_run(way: Way) -> u64
 {
     let upper = way.p + way.q;
     let lower = way.r + way.s;
-    if lower < upper {
-        return (upper - 1) / lower;
+    if upper < lower {
+        return (lower - 1) / upper;
     }
-    (lower - 1) / upper
+    (upper - 1) / lower
 }
 
-// The state behind k blocks of S Q, which end at s. The sign isn't followed.
-fn take_upper(t: &[i64], v: usize, way: Way, k: u64, s: Stop) -> Way
-    requires { ⌜ IsSymbol v (now t) × Sound v (now t) (2 ^ 60) way × (0 < k)
-        × (k * (way .r + way .s) < way .p + way .q) × Ran v (now t) Q (way .at) k s ⌝ }
+// The state behind k blocks of S Q, or of S Q⁻¹ where `inverse` holds, which end at s. The sign isn't followed.
+fn arrive(t: &[i64], v: usize, way: Way, k: u64, s: Stop, inverse: bool) -> Way
+    requires { ⌜ IsSymbol v (now t) × Sound v (now t) (2 ^ 63) way × RunTakes inverse k (formOf way)
+        × Ran v (now t) (pick inverse P Q) (way .at) k s ⌝ }
     ensures { λ b. ⌜ Ahead v (now (t .entry)) way b × (total (formOf b) < total (formOf way)) ⌝ }
 {
-    Way {
-        p: way.p - k * way.r,
-        q: way.q - k * way.s,
+    let count = way.count + s.count;
+    let behind = Way {
+        p: way.p,
+        q: way.q,
         r: way.r,
         s: way.s,
         at: s.at,
-        count: way.count + s.count,
+        count,
         sign: way.sign,
-    }
-}
-
-// The state behind k blocks of S Q⁻¹, which end at s. The sign isn't followed.
-fn take_lower(t: &[i64], v: usize, way: Way, k: u64, s: Stop) -> Way
-    requires { ⌜ IsSymbol v (now t) × Sound v (now t) (2 ^ 60) way × (0 < k)
-        × (k * (way .p + way .q) < way .r + way .s) × Ran v (now t) P (way .at) k s ⌝ }
-    ensures { λ b. ⌜ Ahead v (now (t .entry)) way b × (total (formOf b) < total (formOf way)) ⌝ }
-{
-    Way {
-        p: way.p,
-        q: way.q,
-        r: way.r - k * way.p,
-        s: way.s - k * way.q,
-        at: s.at,
-        count: way.count + s.count,
-        sign: way.sign,
-    }
+    };
+    take(behind, k, inverse)
 }
 
 // The next run, of k blocks, one by one.
 fn stride(t: &[i64], v: usize, w: &[u16], way: Way, k: u64) -> Way
-    requires { ⌜ StepTables (now t) v (now w) × Sound v (now t) (2 ^ 60) way × NextRun (formOf way) k ⌝ }
+    requires { ⌜ StepTables (now t) v (now w) × Sound v (now t) (2 ^ 63) way × NextRun (formOf way) k ⌝ }
     ensures { λ b. ⌜ Ahead v (now (t .entry)) way b × (total (formOf b) < total (formOf way)) ⌝ }
 {
-    if way.r + way.s < way.p + way.q {
-        let s = step_forth(t, v, w, way.at, k as usize);
-        return take_upper(t, v, way, k, s);
-    }
-    let s = step_back(t, v, w, way.at, k as usize);
-    take_lower(t, v, way, k, s)
+    let inverse = way.p + way.q < way.r + way.s;
+    let s = step(t, v, w, way.at, k as usize, inverse);
+    arrive(t, v, way, k, s, inverse)
 }
 
 // The next run, of k blocks, by the tables of rounds.
 fn leap(t: &[i64], v: usize, w: &[u16], r: &mut [u16], way: Way, k: u64) -> Way
-    requires { ⌜ StepTables (now t) v (now w) × Rounds v (now t) (now r) × Sound v (now t) (2 ^ 60) way
+    requires { ⌜ StepTables (now t) v (now w) × Rounds v (now t) (now r) × Sound v (now t) (2 ^ 63) way
         × NextRun (formOf way) k ⌝ }
     ensures { λ b. ⌜ Ahead v (now (t .entry)) way b × (total (formOf b) < total (formOf way))
         × Rounds v (now (t .entry)) (now (r .exit)) ⌝ }
 {
-    if way.r + way.s < way.p + way.q {
-        let s = run_forth(t, v, w, r, way.at, k as usize);
-        return take_upper(t, v, way, k, s);
-    }
-    let s = run_back(t, v, w, r, way.at, k as usize);
-    take_lower(t, v, way, k, s)
+    let inverse = way.p + way.q < way.r + way.s;
+    let s = run(t, v, w, r, way.at, k as usize, inverse);
+    arrive(t, v, way, k, s, inverse)
 }
 
 // ---- all runs
 
 // The walk up to its first long run, or its last S.
 fn walk_near(t: &[i64], v: usize, w: &[u16], way: Way) -> Way
-    requires { ⌜ StepTables (now t) v (now w) × Sound v (now t) (2 ^ 60) way ⌝ }
+    requires { ⌜ StepTables (now t) v (now w) × Sound v (now t) (2 ^ 63) way ⌝ }
     ensures { λ b. ⌜ Ahead v (now (t .entry)) way b ⌝ }
 {
     let mut now = way;
@@ -220,7 +204,7 @@ fn walk_near(t: &[i64], v: usize, w: &[u16], way: Way) -> Way
 
 // The walk up to its last S, by the tables of rounds.
 fn walk_far(t: &[i64], v: usize, w: &[u16], r: &mut [u16], way: Way) -> Way
-    requires { ⌜ StepTables (now t) v (now w) × Rounds v (now t) (now r) × Sound v (now t) (2 ^ 60) way ⌝ }
+    requires { ⌜ StepTables (now t) v (now w) × Rounds v (now t) (now r) × Sound v (now t) (2 ^ 63) way ⌝ }
     ensures { λ b. ⌜ Ahead v (now (t .entry)) way b × (properOf (formOf b) ≡ false)
         × Rounds v (now (t .entry)) (now (r .exit)) ⌝ }
 {
@@ -234,7 +218,7 @@ fn walk_far(t: &[i64], v: usize, w: &[u16], r: &mut [u16], way: Way) -> Way
 
 // The same with tables of its own.
 fn walk_alone(t: &[i64], v: usize, w: &[u16], way: Way) -> Way
-    requires { ⌜ StepTables (now t) v (now w) × Sound v (now t) (2 ^ 60) way ⌝ }
+    requires { ⌜ StepTables (now t) v (now w) × Sound v (now t) (2 ^ 63) way ⌝ }
     ensures { λ b. ⌜ Ahead v (now (t .entry)) way b × (properOf (formOf b) ≡ false) ⌝ }
 {
     let mut r = [0u16; 20481];
@@ -243,7 +227,7 @@ fn walk_alone(t: &[i64], v: usize, w: &[u16], way: Way) -> Way
 
 // The walk up to its last S. No tables are made where all runs are short.
 fn walk_on(t: &[i64], v: usize, w: &[u16], way: Way) -> Way
-    requires { ⌜ StepTables (now t) v (now w) × Sound v (now t) (2 ^ 60) way ⌝ }
+    requires { ⌜ StepTables (now t) v (now w) × Sound v (now t) (2 ^ 63) way ⌝ }
     ensures { λ b. ⌜ Ahead v (now (t .entry)) way b × (properOf (formOf b) ≡ false) ⌝ }
 {
     let near = walk_near(t, v, w, way);
@@ -264,7 +248,7 @@ pub fn tally(
     start: usize,
 ) -> Stop
     requires { ⌜ StepTables (now t) v (now w) × Real v (now t) home × (det (ofList m) ≡ pos 1)
-        × Small (2 ^ 50) (ofList m) ⌝ }
+        × Small (2 ^ 60) (ofList m) ⌝ }
     ensures { λ s. ⌜ WalkTallied v (now (t .entry)) (ofList m) home s × (now (out .exit) ≡ now (out .entry)) ⌝ }
 {
     let begun = begin(t, v, w, m, home, out, start, 0);
@@ -288,7 +272,7 @@ pub fn tally_by(
     start: usize,
 ) -> Stop
     requires { ⌜ StepTables (now t) v (now w) × Rounds v (now t) (now r) × Real v (now t) home
-        × (det (ofList m) ≡ pos 1) × Small (2 ^ 50) (ofList m) ⌝ }
+        × (det (ofList m) ≡ pos 1) × Small (2 ^ 60) (ofList m) ⌝ }
     ensures { λ s. ⌜ WalkTallied v (now (t .entry)) (ofList m) home s × (now (out .exit) ≡ now (out .entry))
         × Rounds v (now (t .entry)) (now (r .exit)) ⌝ }
 {

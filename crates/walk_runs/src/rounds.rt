@@ -2,18 +2,18 @@
 // run ends and how many letters it writes comes from them by one division. specs/Inner/Rounds.antt has their places.
 use crate::Stop;
 use call::workspace::index;
-use coset::steps::forth;
+use coset::steps::block_end;
 use coset::steps::letter;
 ghost use mathlib.Core.Path.{_≡_};
 ghost use Prim.Native.Nat.{_+_, _-_, _*_, _/_, _%_, _^_, _≤_, _<_};
 ghost use lib.ListN.{length};
-ghost use Rattle.matrix.specs.Words.{S, Q, P};
+ghost use Rattle.matrix.specs.Words.{S, Q};
 ghost use Rattle.symbol.specs.Symbol.{IsSymbol};
 ghost use Rattle.polygon.specs.Cut.{places};
 ghost use Rattle.coset.specs.Positions.{Real, written, lettersOf};
 ghost use Rattle.coset.specs.Inner.Steps.{StepTables};
-ghost use Rattle.walk_runs.specs.Inner.Rounds.{POSITION, roundsLength, roundPlace, sumIn, forthTo, forthCount};
-ghost use Rattle.walk_runs.specs.Runs.{roundOnward, backward, between, blockTo, blockCount};
+ghost use Rattle.walk_runs.specs.Inner.Rounds.{POSITION, roundsLength, roundPlace, sumIn};
+ghost use Rattle.walk_runs.specs.Runs.{roundOnward, backward, between};
 ghost use Rattle.walk_runs.specs.Inner.Rounds.{RoundsListed, Closed, Rounds, RoundOpened, RoundEntered};
 ghost use Rattle.walk_runs.specs.Inner.Rounds.{EndsFilled, HasPlace};
 ghost use Rattle.walk_runs.specs.Inner.Rounds.{Located, Sums};
@@ -50,24 +50,6 @@ fn letters_of_turn(t: &[i64], v: usize, p: usize) -> usize
     1
 }
 
-// How many letters S and then Q write from the real position p, where they lead to `to`.
-pub fn letters_forth(t: &[i64], v: usize, w: &[u16], p: usize, to: usize) -> usize
-    requires { ⌜ StepTables (now t) v (now w) × Real v (now t) p × (to ≡ forthTo v (now t) p) ⌝ }
-    ensures { λ r. ⌜ r ≡ forthCount v (now (t .entry)) p ⌝ }
-{
-    let z = letter(t, v, w, p);
-    letters_in(z) + letters_of_turn(t, v, to)
-}
-
-// How many letters S and then Q⁻¹ write from the real position p, where they lead to `to`.
-pub fn letters_back(t: &[i64], v: usize, w: &[u16], p: usize, to: usize) -> usize
-    requires { ⌜ StepTables (now t) v (now w) × Real v (now t) p × (to ≡ blockTo v (now t) P p) ⌝ }
-    ensures { λ r. ⌜ r ≡ blockCount v (now (t .entry)) P p ⌝ }
-{
-    let z = letter(t, v, w, p);
-    letters_in(z) + letters_of_turn(t, v, to)
-}
-
 // How many letters S writes at the real position p.
 pub fn letters_of_s(t: &[i64], v: usize, w: &[u16], p: usize) -> usize
     requires { ⌜ StepTables (now t) v (now w) × Real v (now t) p ⌝ }
@@ -75,6 +57,15 @@ pub fn letters_of_s(t: &[i64], v: usize, w: &[u16], p: usize) -> usize
 {
     let z = letter(t, v, w, p);
     letters_in(z)
+}
+
+// How many letters S writes at the real position p and a turn at `to`: those of a block from p that ends there.
+pub fn letters(t: &[i64], v: usize, w: &[u16], p: usize, to: usize) -> usize
+    requires { ⌜ StepTables (now t) v (now w) × Real v (now t) p ⌝ }
+    ensures { λ r. ⌜ r ≡ length (written v (now (t .entry)) S p) + length (written v (now (t .entry)) Q to) ⌝ }
+{
+    let first = letters_of_s(t, v, w, p);
+    first + letters_of_turn(t, v, to)
 }
 
 // ---- a round is entered
@@ -101,8 +92,8 @@ fn open_round(t: &[i64], v: usize, w: &[u16], r: &mut [u16], p: usize, a: usize)
     let mut n = a;
     let mut x = p;
     while r[x] == 0 {
-        let to = forth(t, v, w, x);
-        let more = letters_forth(t, v, w, x, to);
+        let to = block_end(t, v, w, x, false);
+        let more = letters(t, v, w, x, to);
         let s = index(r[SUM + n]) + more;
         enter(r, x, n, a, s);
         x = to;
@@ -218,7 +209,7 @@ fn count_between(r: &[u16], a: usize, b: usize, y: usize, j: usize) -> usize
 // How many letters are written in so many times round and j steps more, from the place y on.
 fn count_after(r: &[u16], a: usize, b: usize, y: usize, times: usize, j: usize) -> usize
     requires { ⌜ Sums (now r) b × (a ≤ y) × (y < b) × (j < b - a)
-        × (times * (sumIn (now r) b - sumIn (now r) a) ≤ 2 ^ 61) ⌝ }
+        × (times * (sumIn (now r) b - sumIn (now r) a) ≤ 2 ^ 63) ⌝ }
     ensures { λ s. ⌜ s ≡ times * (sumIn (now (r .entry)) b - sumIn (now (r .entry)) a)
         + between (sumIn (now (r .entry))) a b y j ⌝ }
 {
@@ -229,7 +220,7 @@ fn count_after(r: &[u16], a: usize, b: usize, y: usize, times: usize, j: usize) 
 
 // Where k blocks of S Q lead from p.
 pub fn follow(t: &[i64], v: usize, r: &[u16], p: usize, k: usize) -> Stop
-    requires { ⌜ IsSymbol v (now t) × HasPlace v (now t) (now r) p × Real v (now t) p × (k ≤ 2 ^ 60) ⌝ }
+    requires { ⌜ IsSymbol v (now t) × HasPlace v (now t) (now r) p × Real v (now t) p × (k ≤ 2 ^ 62) ⌝ }
     ensures { λ s. ⌜ Ran v (now (t .entry)) Q p k s ⌝ }
 {
     let arc = locate(r, p);
@@ -246,7 +237,7 @@ pub fn follow(t: &[i64], v: usize, r: &[u16], p: usize, k: usize) -> Stop
 
 // From where k blocks of S Q lead to p.
 pub fn follow_back(t: &[i64], v: usize, r: &[u16], p: usize, k: usize) -> Stop
-    requires { ⌜ IsSymbol v (now t) × HasPlace v (now t) (now r) p × Real v (now t) p × (k ≤ 2 ^ 60) ⌝ }
+    requires { ⌜ IsSymbol v (now t) × HasPlace v (now t) (now r) p × Real v (now t) p × (k ≤ 2 ^ 62) ⌝ }
     ensures { λ s. ⌜ Led v (now (t .entry)) p k s ⌝ }
 {
     let arc = locate(r, p);

@@ -58,7 +58,7 @@ module _ {v : ℕ} {t a b m : List ℤ} {w : List ℕ} {x : ℕ} (q : PairReady 
         prepared = q .prepared;
         start = q .start;
         unit = subst (λ (l : List ℤ). det (ofList l) ≡ pos 1) (sym m-is) (g .followed-unit (B ⊗ adj A) (det-one B (adj A) (q .unit-B) (det-adj A ∙ q .unit-A)));
-        small = subst (λ (l : List ℤ). Small (2 ^ 50) (ofList l)) (sym m-is) (followed-small g (B ⊗ adj A) (between-small A B (q .entries-A) (q .entries-B)));
+        small = subst (λ (l : List ℤ). Small (2 ^ 60) (ofList l)) (sym m-is) (followed-small g (B ⊗ adj A) (between-small A B (q .entries-A) (q .entries-B)));
       }
 
 -- a pair that is asked for, once the tables are there
@@ -100,7 +100,7 @@ pub record Result (v : ℕ) (t : List ℤ) (m : Mat) (start limit : ℕ) (out : 
 
 module _ {v : ℕ} {t m : List ℤ} {w : List ℕ} {x : ℕ} (q : WalkReady t v w m x) where
   pub setting : (start limit : ℕ) (out : List ℤ) → limit ≤ length out - start → Setting t v w out start limit × Real v t x × (det (ofList m) ≡ pos 1)
-      × Small (2 ^ 50) (ofList m)
+      × Small (2 ^ 60) (ofList m)
   setting start limit out h = (
     record { prepared = q .prepared; room = h },
     subst (Real v t) (sym (q .start))

@@ -21,6 +21,7 @@ use Rattle.symbol.specs.Symbol.{IsSymbol}
 use Rattle.symbol.proofs.Accepted.{accepted, check-among}
 use Rattle.basics.proofs.Count.{first-clear, clear-first, first-le}
 use Rattle.call.specs.Refusal.{_orElse_, noWord, tooShort, checkedRefusal}
+use Rattle.call.specs.declared.refusal.Refusal.{Refusal}
 use Rattle.call.specs.declared.refusal.Checked.{Checked}
 use Rattle.call.specs.declared.refusal.Checked.the-variants.{Accepted, Refused}
 use Rattle.call.proofs.Numbered.{Among}
@@ -30,7 +31,7 @@ use Rattle.word.specs.declared.Queried.{Queried}
 use Rattle.word.proofs.Pair.{small-clear, clear-small, unit-is, is-unit}
 use Rattle.word.proofs.Claim.{same-number, answered}
 use Rattle.word.proofs.Finding.{walkRun}
-use Rattle.word.proofs.Refused.{inOrder, Passed, pair-passes, pair-among, Gets, Short, Stopped, checked, paired, reached, reaches}
+use Rattle.word.proofs.Refused.{Passed, passed-by, pair-passes, pair-among, reached, Before, before-ten, gets-asked, gets-short}
 
 -- the tests that were passed, as the determinants and the walk ask for them
 pub passed-small : (a b : List ℤ) → 8 ≤ first (large a b) 8 → Small 1000000 (ofList a) × Small 1000000 (ofList b)
@@ -90,29 +91,7 @@ module _ (v : ℕ) (t a b : List ℤ) (w : List ℕ) (room start : ℕ) where
   pub asked-found : ValidQuery v t a b w → foundIf v t a b start found ≡ queryOf v t a b (length w) room start
   asked-found q =
       ap (wordIf start n sign)
-      (sym (reached (symbolCheck v t) found a b w (accepted v t .1 (q .symbol)) (sym (pair-passes a b (asked-passed a b q))) (q .work)))
-
-  -- a query gets to its walk, or it is refused: for its work space, or with 1 to 9 before that
-  pub gets : (r : Queried) → r ≡ queryOf v t a b (length w) room start → ValidQuery v t a b w ⊎ ShortWork w r ⊎
-      ((1 ≤ queryRefusal r .number) × (queryRefusal r .number ≤ 9))
-  gets r e = go (reaches (symbolCheck v t) found a b w)
-    where
-      by : {c : Checked} → inOrder (symbolCheck v t) found a b w ≡ c → queryRefusal r ≡ queryRefusal (wordIf start n sign c)
-      by z = ap queryRefusal (e ∙ ap (wordIf start n sign) z)
-
-      stopped : Stopped (symbolCheck v t) found a b w → (1 ≤ queryRefusal r .number) × (queryRefusal r .number ≤ 9)
-      stopped (checked f q s) =
-          let k = subst (Among 1 7) q (check-among v t) in
-          rw (by s) (omega (arith, k .0), omega (arith, k .1))
-      stopped (paired f q s) =
-          let k = subst (Among 8 9) q (pair-among a b) in
-          rw (by s) (omega (arith, k .0), k .1)
-
-      go : Gets (symbolCheck v t) found a b w ⊎ Short (symbolCheck v t) found a b w ⊎ Stopped (symbolCheck v t) found a b w
-          → ValidQuery v t a b w ⊎ ShortWork w r ⊎ ((1 ≤ queryRefusal r .number) × (queryRefusal r .number ≤ 9))
-      go (inl g) = inl (asked a b (accepted v t .0 (g .accepted)) (g .work) (g .passed))
-      go (inr (inl s)) = inr (inl (s .low, by (s .is)))
-      go (inr (inr s)) = inr (inr (stopped s))
+      (sym (reached (symbolCheck v t) (matricesCheck a b) found w (accepted v t .1 (q .symbol)) (sym (pair-passes a b (asked-passed a b q))) (q .work)))
 
 -- a query that gets to its walk fills the word space as the walk does, and clears the work space
 pub asked-fills : (v : ℕ) (t a b : List ℤ) (w w' : List ℕ) (out out' : List ℤ) (start : ℕ) {r : Queried} → ValidQuery v t a b w
@@ -124,7 +103,7 @@ asked-fills v t a b w w' out out' start q g =
     let space = lengthCheck workLength (length w) in
     let ok = accepted v t .1 (q .symbol) in
     let pair = sym (pair-passes a b (asked-passed a b q)) in
-    let is = reached (symbolCheck v t) c a b w ok pair (q .work) in
+    let is = reached (symbolCheck v t) (matricesCheck a b) c w ok pair (q .work) in
     let front =
     ap (λ (x : Checked). (x orElse matricesCheck a b) orElse space) ok ∙ ap (λ (x : Checked). x orElse space) pair
     ∙ room-long workLength (length w) (q .work) in (
@@ -137,21 +116,29 @@ asked-fills v t a b w w' out out' start q g =
 
 pub claim : {v : ℕ} {t a b : List ℤ} {w : List ℕ} {out : List ℤ} {start : ℕ} {r : Queried} {out' : List ℤ} → r ≡ queryOf v t a b (length w) (length out) start
     → out' ≡ wordLeft r (foundWord v t (ofList a) (ofList b)) out → Claim v t a b w out start r out'
-claim {v} {t} {a} {b} {w} {out} {start} {r} {out'} e f = record { asked = by-number; short = by-eleven; answered = by-walk }
+claim {v} {t} {a} {b} {w} {out} {start} {r} {out'} e f = record {
+  asked = gets-asked (symbolCheck v t) (matricesCheck a b) found w valid of-symbol of-pair start n sign e;
+  short = gets-short (symbolCheck v t) (matricesCheck a b) found w valid of-symbol of-pair start n sign e;
+  answered = by-walk;
+}
   where
-    by-number : (queryRefusal r .number ≡ 0) ⊎ (queryRefusal r .number ≡ noWord .number) → ValidQuery v t a b w
-    by-number h = elim (gets v t a b w (length out) start r e) [
-      | inl q ↦ q
-      | inr (inl s) ↦ elim h [ inl z ↦ absurd (omega (arith, same-number (s .1), z)) | inr z ↦ absurd (omega (arith, same-number (s .1), z)) ]
-      | inr (inr s) ↦ elim h [ inl z ↦ absurd (omega (arith, s .0, z)) | inr z ↦ absurd (omega (arith, s .1, z)) ]
-    ]
+    n : ℕ
+    n = length (foundWord v t (ofList a) (ofList b))
 
-    by-eleven : (n : ℕ) → queryRefusal r .number ≡ tooShort n .number → ValidQuery v t a b w ⊎ ShortWork w r
-    by-eleven n z = elim (gets v t a b w (length out) start r e) [
-      | inl q ↦ inl q
-      | inr (inl s) ↦ inr s
-      | inr (inr s) ↦ absurd (omega (arith, s .1, z))
-    ]
+    sign : Bool
+    sign = foundSign v t (ofList a) (ofList b)
+
+    found : Checked
+    found = verdict (foundChecks v t a b start (length out))
+
+    valid : symbolCheck v t ≡ Accepted → matricesCheck a b ≡ Accepted → workLength ≤ length w → ValidQuery v t a b w
+    valid s p k = asked a b (accepted v t .0 s) k (passed-by a b p)
+
+    of-symbol : (g : Refusal) → symbolCheck v t ≡ Refused g → Before g
+    of-symbol = before-ten 1 7 (symbolCheck v t) (omega arith) (omega arith) (check-among v t)
+
+    of-pair : (g : Refusal) → matricesCheck a b ≡ Refused g → Before g
+    of-pair = before-ten 8 9 (matricesCheck a b) (omega arith) (omega arith) (pair-among a b)
 
     by-walk : ValidQuery v t a b w
         → Answered v t (ofList a) (ofList b) (foundWord v t (ofList a) (ofList b)) (foundSign v t (ofList a) (ofList b)) out start r out'

@@ -56,7 +56,7 @@ module _ (a b : List ℤ) where
     },
   )
 
-small-at : (h : ℕ) (m : List ℤ) → Small h (ofList m) → (i : ℕ) → i < 4 → natAbs (nth m i) ≤ h
+pub small-at : (h : ℕ) (m : List ℤ) → Small h (ofList m) → (i : ℕ) → i < 4 → natAbs (nth m i) ≤ h
 small-at h m s zero l = s .in-a
 small-at h m s (suc zero) l = s .in-b
 small-at h m s (suc (suc zero)) l = s .in-c

@@ -1,10 +1,11 @@
--- THE ORDER OF REFUSALS of a query, whatever its first checks `ok` are and whatever follows: `ok`, then 8 and 9, then the work space.
+-- THE ORDER OF REFUSALS of a query, whatever its first checks `ok` and those of its matrices `next` are and whatever follows: `ok`, `next` (of a pair 8 and
+-- 9), then the work space.
 --
 -- In order: what 8 and 9 refuse (`pair-large`, `pair-A`, `pair-B`) and pass (`pair-passes`, `passed-by`), and their numbers (`pair-among`); the run of two
 -- checks, the work space and what follows, one law for each way out (`by-first`, `by-second`, `by-short`, `by-long`); which way it was (`reaches`), and what
--- is then found (`reached`).
+-- is then found (`reached`); what the number of the answer says of the checks (`gets-asked`, `gets-short`).
 -- Assumes nothing.
-use mathlib.Core.Path.{_≡_, refl, sym, _∙_, ap}
+use mathlib.Core.Path.{_≡_, refl, sym, _∙_, ap, subst}
 use mathlib.Core.Logic.{_⊎_, inl, inr}
 use mathlib.Core.Bool.{Bool, true, false, not}
 use mathlib.Core.List.{List, [], _∷_}
@@ -17,7 +18,7 @@ use lib.IntN.{ℤ}
 use borrow.Author.Tests.{lt-ltb, le-ltb, ltb-false, not-false}
 use Rattle.basics.specs.Count.{first}
 use Rattle.call.specs.Space.{workLength, zeros}
-use Rattle.call.specs.Refusal.{_orElse_, matrixEntry, badDeterminant, tooShort}
+use Rattle.call.specs.Refusal.{_orElse_, matrixEntry, badDeterminant, noWord, tooShort}
 use Rattle.call.specs.declared.refusal.Refusal.{Refusal}
 use Rattle.call.specs.declared.refusal.Checked.{Checked}
 use Rattle.call.specs.declared.refusal.Checked.the-variants.{Accepted, Refused}
@@ -27,7 +28,10 @@ use Rattle.call.specs.Call.{Step, Asks, Clears, lengthCheck}
 use Rattle.call.proofs.Laws.{Untouched, Run, run-stop, run-pass, run-work, short-work, room-short, room-long}
 use Rattle.symbol.specs.Check.{refuse, refuseAt}
 use Rattle.symbol.proofs.Accepted.{passes, among-refuse}
-use Rattle.word.specs.Answer.{large, unit, matricesCheck}
+use Rattle.word.specs.Answer.{queryRefusal, large, unit, matricesCheck, wordIf}
+use Rattle.word.specs.Claim.{ShortWork}
+use Rattle.word.specs.declared.Queried.{Queried}
+use Rattle.word.proofs.Claim.{same-number}
 
 -- ---- the pair
 
@@ -97,17 +101,17 @@ module _ (ok next : Checked) (w : List ℕ) (rest : List Step) where
 
 -- ---- which way it was
 
-module _ (ok found : Checked) (a b : List ℤ) (w : List ℕ) where
+module _ (ok next found : Checked) (w : List ℕ) where
   abbrev space : Checked
   space = lengthCheck workLength (length w)
 
   abbrev pub inOrder : Checked
-  inOrder = ok orElse matricesCheck a b orElse space orElse found
+  inOrder = ok orElse next orElse space orElse found
 
   -- all checks were passed, and the answer is what was found
   pub record Gets : Type 0 where
     pub accepted : ok ≡ Accepted
-    pub passed : Passed a b
+    pub passed : next ≡ Accepted
     pub work : workLength ≤ length w
     pub is : inOrder ≡ found
 
@@ -115,32 +119,68 @@ module _ (ok found : Checked) (a b : List ℤ) (w : List ℕ) where
     pub low : length w < workLength
     pub is : inOrder ≡ Refused (tooShort workLength)
 
-  -- the checks refused, or 8 or 9
+  -- the first checks refused, or the next
   pub data Stopped : Type 0 where
     checked : (f : Refusal) → ok ≡ Refused f → inOrder ≡ Refused f → Stopped
-    paired : (f : Refusal) → matricesCheck a b ≡ Refused f → inOrder ≡ Refused f → Stopped
+    second : (f : Refusal) → next ≡ Refused f → inOrder ≡ Refused f → Stopped
 
-  pub reached : ok ≡ Accepted → matricesCheck a b ≡ Accepted → workLength ≤ length w → inOrder ≡ found
+  pub reached : ok ≡ Accepted → next ≡ Accepted → workLength ≤ length w → inOrder ≡ found
   reached e g k =
-      sym (then-next space found (room-long workLength (length w) k) ∙ then-next (matricesCheck a b) (space orElse found) g
-      ∙ then-next ok (matricesCheck a b orElse space orElse found) e)
+      sym (then-next space found (room-long workLength (length w) k) ∙ then-next next (space orElse found) g
+      ∙ then-next ok (next orElse space orElse found) e)
 
   pub reaches : Gets ⊎ Short ⊎ Stopped
-  reaches = go ok refl (matricesCheck a b) refl
+  reaches = go ok refl next refl
     where
-      go : (c : Checked) → ok ≡ c → (d : Checked) → matricesCheck a b ≡ d → Gets ⊎ Short ⊎ Stopped
-      go (Refused f) e d g = inr (inr (checked f e (sym (first-refuses ok (matricesCheck a b orElse space orElse found) f e))))
+      go : (c : Checked) → ok ≡ c → (d : Checked) → next ≡ d → Gets ⊎ Short ⊎ Stopped
+      go (Refused f) e d g = inr (inr (checked f e (sym (first-refuses ok (next orElse space orElse found) f e))))
       go Accepted e (Refused f) g =
-          inr (inr (paired f g
-          (sym (first-refuses (matricesCheck a b) (space orElse found) f g ∙ then-next ok (matricesCheck a b orElse space orElse found) e))))
+          inr (inr (second f g
+          (sym (first-refuses next (space orElse found) f g ∙ then-next ok (next orElse space orElse found) e))))
       go Accepted e Accepted g = elim (decLt (length w) workLength) [
         | yes k ↦ inr (inl (record {
           low = k;
-          is = sym (first-refuses space found (tooShort workLength) (room-short workLength (length w) k) ∙ then-next (matricesCheck a b) (space orElse found) g
-              ∙ then-next ok (matricesCheck a b orElse space orElse found) e);
+          is = sym (first-refuses space found (tooShort workLength) (room-short workLength (length w) k) ∙ then-next next (space orElse found) g
+              ∙ then-next ok (next orElse space orElse found) e);
         }))
         | no k ↦ (
             let h : workLength ≤ length w = omega arith in
-            inl (record { accepted = e; passed = passed-by a b g; work = h; is = reached e g h })
+            inl (record { accepted = e; passed = g; work = h; is = reached e g h })
             )
       ]
+
+-- ---- what the number of an answer says of the checks
+
+-- the refusal of a check: none of the numbers that the walk and the spaces give
+abbrev pub Before : Refusal → Type 0
+Before f = (f .number ≡ 0 → ⊥) × (f .number ≡ noWord .number → ⊥) × (f .number ≡ tooShort 0 .number → ⊥)
+
+pub before-ten : (low high : ℕ) (c : Checked) → 0 < low → high < 10 → Among low high c → (f : Refusal) → c ≡ Refused f → Before f
+before-ten low high c l h k f e =
+    let z = subst (Among low high) e k in
+    (λ y. omega (arith, l, z .0, y), λ y. omega (arith, h, z .1, y), λ y. omega (arith, h, z .1, y))
+
+module _ (ok next found : Checked) (w : List ℕ) {Valid : Type 0} (valid : ok ≡ Accepted → next ≡ Accepted → workLength ≤ length w → Valid)
+    (of-ok : (f : Refusal) → ok ≡ Refused f → Before f) (of-next : (f : Refusal) → next ≡ Refused f → Before f) (start n : ℕ) (sign : Bool) {r : Queried}
+    (e : r ≡ wordIf start n sign (inOrder ok next found w)) where
+  by : {c : Checked} → inOrder ok next found w ≡ c → queryRefusal r ≡ queryRefusal (wordIf start n sign c)
+  by z = ap queryRefusal (e ∙ ap (wordIf start n sign) z)
+
+  pub gets-asked : (queryRefusal r .number ≡ 0) ⊎ (queryRefusal r .number ≡ noWord .number) → Valid
+  gets-asked h = elim (reaches ok next found w) [
+    | inl g ↦ valid (g .accepted) (g .passed) (g .work)
+    | inr (inl s) ↦ elim h [ inl z ↦ absurd (omega (arith, same-number (by (s .is)), z)) | inr z ↦ absurd (omega (arith, same-number (by (s .is)), z)) ]
+    | inr (inr (checked f q s)) ↦ stopped f (of-ok f q) (same-number (by s))
+    | inr (inr (second f q s)) ↦ stopped f (of-next f q) (same-number (by s))
+  ]
+    where
+      stopped : (f : Refusal) → Before f → queryRefusal r .number ≡ f .number → Valid
+      stopped f b i = elim h [ inl z ↦ absurd (b .0 (sym i ∙ z)) | inr z ↦ absurd (b .1 (sym i ∙ z)) ]
+
+  pub gets-short : (k : ℕ) → queryRefusal r .number ≡ tooShort k .number → Valid ⊎ ShortWork w r
+  gets-short k z = elim (reaches ok next found w) [
+    | inl g ↦ inl (valid (g .accepted) (g .passed) (g .work))
+    | inr (inl s) ↦ inr (s .low, by (s .is))
+    | inr (inr (checked f q s)) ↦ absurd (of-ok f q .2 (sym (same-number (by s)) ∙ z))
+    | inr (inr (second f q s)) ↦ absurd (of-next f q .2 (sym (same-number (by s)) ∙ z))
+  ]

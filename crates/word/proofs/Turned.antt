@@ -1,6 +1,6 @@
 -- Following S⁻¹ m S instead of m: it has small entries, and a word with at most two letters more.
 --
--- In order: a word doesn't get longer where it is made alternating (`length-reduce`); the matrix that is followed (`followed-small`); its word
+-- In order: a word doesn't get longer where it is made alternating (`length-reduce`); the matrix that is followed (`followed-by`, `followed-small`); its word
 -- (`followed-length`).
 --
 -- Why: the word of m between two letters S has that matrix, and it becomes alternating by crossing out.
@@ -48,7 +48,7 @@ length-reduce (x ∷ l) = omega (arith, length-pre x (reduce l), length-reduce l
 -- ---- the matrix that is followed
 
 -- what holds of m and of S⁻¹ m S holds of it
-followed-by : {v : ℕ} {t : List ℤ} → Positions v t → (m : Mat) (F : Mat → Type 0) → F (adj matS ⊗ (m ⊗ matS)) → F m → F (followed v t m)
+pub followed-by : {v : ℕ} {t : List ℤ} → Positions v t → (m : Mat) (F : Mat → Type 0) → F (adj matS ⊗ (m ⊗ matS)) → F m → F (followed v t m)
 followed-by {v} {t} g m F f h =
     elim (either (turned v t)) [ inl e ↦ subst F (g .followed-round m e) f | inr e ↦ subst F (g .followed-upright m e) h ]
 
@@ -56,11 +56,11 @@ pub S-small : Small 1 matS
 unfolding matS
 S-small = record { in-a = lit≤ tt; in-b = lit≤ tt; in-c = lit≤ tt; in-d = lit≤ tt }
 
-pub followed-small : {v : ℕ} {t : List ℤ} → Positions v t → (m : Mat) → Small (2 * (1000000 * 1000000)) m → Small (2 ^ 50) (followed v t m)
-followed-small g m s = followed-by g m (λ (n : Mat). Small (2 ^ 50) n)
-    (small-more (2 * (1 * (2 * (2 * (1000000 * 1000000) * 1)))) (2 ^ 50) (adj matS ⊗ (m ⊗ matS)) (lit≤ tt)
+pub followed-small : {v : ℕ} {t : List ℤ} → Positions v t → (m : Mat) → Small (2 * (1000000 * 1000000)) m → Small (2 ^ 60) (followed v t m)
+followed-small g m s = followed-by g m (λ (n : Mat). Small (2 ^ 60) n)
+    (small-more (2 * (1 * (2 * (2 * (1000000 * 1000000) * 1)))) (2 ^ 60) (adj matS ⊗ (m ⊗ matS)) (lit≤ tt)
     (small-⊗ 1 (2 * (2 * (1000000 * 1000000) * 1)) (adj matS) (m ⊗ matS) (small-adj 1 matS S-small) (small-⊗ (2 * (1000000 * 1000000)) 1 m matS s S-small)))
-    (small-more (2 * (1000000 * 1000000)) (2 ^ 50) m (lit≤ tt) s)
+    (small-more (2 * (1000000 * 1000000)) (2 ^ 60) m (lit≤ tt) s)
 
 -- ---- its word
 

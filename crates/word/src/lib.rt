@@ -139,7 +139,7 @@ fn matrix_between(t: &[i64], v: usize, a: [i64; 4], b: [i64; 4]) -> [i64; 4]
 
 // The answer by the walk along m from home, which ends at `end`, by the tables in the work space: the letters are
 // stored once they are known to fit.
-fn find(
+pub fn find(
     t: &[i64],
     v: usize,
     w: &[u16],

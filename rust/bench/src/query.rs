@@ -1,6 +1,7 @@
-//! Pair queries: the walk along B A^-1, one letter of its alternating word at a
-//! time. The walk itself knows no sign: that of a word which fits is read off
-//! its product with the first column of A, modulo 2^64.
+//! Pair queries: the walk along B A^-1, by the runs of its alternating word. A run
+//! that comes back to where it began goes round; each further time round writes
+//! the same letters. The walk itself knows no sign: that of a word which fits is
+//! read off its product with the first column of A, modulo 2^64.
 
 use crate::polygon::{Polygon, Step, Steps};
 use crate::symbol::Symbol;
@@ -33,15 +34,27 @@ fn try_query(text: &[u8]) -> Result<(bool, Vec<i16>), Refusal> {
         return Err((1, 0));
     }
     let (table, pair) = numbers.split_at(numbers.len() - 8);
-    let symbol = Symbol::new(table[0], &table[1..])?;
-    let pair = Pair::new(pair)?;
     let mut word = Vec::with_capacity(LENT);
-    walk(&Polygon::new(&symbol), pair.quotient(), LENT, &mut word)?;
-    let plus = match word.is_empty() {
-        true => pair.is_equal(),
-        false => pair.is_taken(&matrices(&symbol), &word),
-    };
+    let plus = signed_query(table[0], &table[1..], pair, LENT, &mut word)?;
     Ok((plus, word))
+}
+
+/// The word that takes A to B up to sign, where it has no more than `room` letters;
+/// whether it takes A to B.
+pub fn signed_query(
+    v: i64,
+    table: &[i64],
+    pair: &[i64],
+    room: usize,
+    word: &mut Vec<i16>,
+) -> Result<bool, Refusal> {
+    let symbol = Symbol::new(v, table)?;
+    let pair = Pair::new(pair)?;
+    walk(&Polygon::new(&symbol), pair.quotient(), room, word)?;
+    Ok(match word.is_empty() {
+        true => pair.is_equal(),
+        false => pair.is_taken(&matrices(&symbol), word),
+    })
 }
 
 /// A and B.
@@ -138,6 +151,51 @@ impl Walk<'_> {
             self.written += 1;
         }
     }
+
+    /// A power of Q and S, k times.
+    #[inline]
+    fn run(&mut self, turn: impl Fn(&Steps) -> Step, k: u64) {
+        let (home, before) = (self.position, self.written);
+        for done in 1..=k {
+            self.go(&turn);
+            self.go(|steps| steps.s);
+            if self.position == home {
+                self.repeat(before, (k - done) / done);
+                for _ in 0..(k - done) % done {
+                    self.go(&turn);
+                    self.go(|steps| steps.s);
+                }
+                return;
+            }
+        }
+    }
+
+    /// The letters from the number `from` on, so many times more.
+    fn repeat(&mut self, from: usize, times: u64) {
+        let length = self.written - from;
+        let all = self.written + length * times as usize;
+        if length > 0 && self.written < self.room {
+            let kept = all.min(self.room);
+            while self.letters.len() < kept {
+                let more = (self.letters.len() - from).min(kept - self.letters.len());
+                self.letters.extend_from_within(from..from + more);
+            }
+        }
+        self.written = all;
+    }
+}
+
+/// How many times the row (c d) can be taken from the row (a b).
+#[inline]
+fn times(a: u64, b: u64, c: u64, d: u64) -> u64 {
+    if a < 2 * c || b < 2 * d {
+        return 1;
+    }
+    match (c, d) {
+        (0, _) => b / d,
+        (_, 0) => a / c,
+        _ => (a / c).min(b / d),
+    }
 }
 
 /// Puts the word that the walk along x writes to `letters`, which are empty, where
@@ -176,19 +234,30 @@ pub fn walk(
     let [mut a, mut b, mut c, mut d] = [a, b, c, d].map(i64::unsigned_abs);
     // (1 1; 0 1) is Q^-1 S and (1 0; 1 1) is Q S.
     while b != 0 || c != 0 {
-        if a >= c && b >= d {
-            a -= c;
-            b -= d;
-            walk.go(|steps| steps.p);
+        let upper = a >= c && b >= d;
+        let mut k = if upper {
+            let k = times(a, b, c, d);
+            (a, b) = (a - k * c, b - k * d);
+            k
         } else {
-            c -= a;
-            d -= b;
-            walk.go(|steps| steps.q);
+            let k = times(c, d, a, b);
+            (c, d) = (c - k * a, d - k * b);
+            k
+        };
+        let last = ends_in_q && b == 0 && c == 0;
+        if last {
+            k -= 1;
         }
-        if ends_in_q && b == 0 && c == 0 {
-            break;
+        if upper {
+            walk.run(|steps| steps.p, k);
+        } else {
+            walk.run(|steps| steps.q, k);
         }
-        walk.go(|steps| steps.s);
+        match (last, upper) {
+            (false, _) => {}
+            (true, true) => walk.go(|steps| steps.p),
+            (true, false) => walk.go(|steps| steps.q),
+        }
     }
     if walk.position != polygon.start {
         return Err((10, 0));

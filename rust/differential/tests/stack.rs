@@ -207,6 +207,17 @@ fn calls_stay_within_the_stack_that_the_header_names() {
             let (work, lines) = (&mut work, &mut lines);
             let _ = black_box(calls::same_cosets(v, &t, &pairs, work, lines));
         });
+        let power = [1, 1_000_000_000_000_000_000, 0, 1];
+        measure("farey_matrix_word", &mut || {
+            let _ = black_box(calls::matrix_word(v, &t, &power, &mut work, &mut word, 0));
+        });
+        measure("farey_signed_matrix_word", &mut || {
+            let (work, word) = (&mut work, &mut word);
+            let _ = black_box(calls::signed_matrix_word(v, &t, &b, work, word, 0, &mut sign));
+        });
+        measure("farey_contains_matrix", &mut || {
+            let _ = black_box(calls::contains_matrix(v, &t, &power, &mut work));
+        });
         measure("farey_same", &mut || {
             let _ = black_box(calls::same(v, &t, v, &t, &mut work));
         });
@@ -307,7 +318,7 @@ fn calls_stay_within_the_stack_that_the_header_names() {
             }
         }
     }
-    assert_eq!(most.0.len(), 30);
+    assert_eq!(most.0.len(), 33);
     let promised = promised();
     println!("a thread by itself: {nothing}; FAREY_STACK: {promised}");
     for (call, bytes) in most.0 {

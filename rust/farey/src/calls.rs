@@ -202,6 +202,25 @@ exported! {
         v: usize, t: &[i64], p: &[i64], work: &mut [u16], lines: &mut [i64]
     ) -> usize;
 
+    /// A word whose value is m, up to sign, in out from `start` on: its letters. The
+    /// entries of m are up to 10^18 in size.
+    matrix_word = farey_matrix_word(
+        v: usize, t: &[i64], m: &[i64; 4], work: &mut [u16], out: &mut [i16], start: usize
+    ) -> usize;
+
+    /// The word of `matrix_word`, and 1 or -1 at `sign`: the word's value is that times
+    /// m. A refusal leaves `sign` as it was.
+    signed_matrix_word = farey_signed_matrix_word(
+        v: usize, t: &[i64], m: &[i64; 4], work: &mut [u16], out: &mut [i16], start: usize,
+        sign: &mut i64
+    ) -> usize;
+
+    /// Whether m is in the group: yes exactly where `matrix_word` would find a word,
+    /// given enough space, and no where it gives 10.
+    contains_matrix = farey_contains_matrix(
+        v: usize, t: &[i64], m: &[i64; 4], work: &mut [u16]
+    ) -> bool;
+
     /// Whether t and u hold symbols of the same subgroup.
     same = farey_same(v: usize, t: &[i64], m: usize, u: &[i64], work: &mut [u16]) -> bool;
 

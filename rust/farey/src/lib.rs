@@ -11,6 +11,7 @@
 //! | `cycles`  | cycle notation, read and written                          |
 //! | `family`  | the families Γ0, Γ1 and Γ, and their tables by name       |
 //! | `making`  | symbols from permutations, and of groups by name          |
+//! | `matrix`  | the word of one matrix, and whether it is in the group     |
 //! | `refusal` | the error: number, place and a sentence                   |
 //! | `sheet`   | the words of many pairs                                   |
 //! | `same_coset` | whether two matrices share a coset, for one pair or many |
@@ -31,6 +32,7 @@ pub mod calls;
 pub mod cycles;
 pub mod family;
 mod making;
+pub mod matrix;
 pub mod refusal;
 pub mod same_coset;
 pub mod sheet;

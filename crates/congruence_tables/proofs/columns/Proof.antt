@@ -22,19 +22,19 @@ add-loop c = let i = c .loop .inv in omega (arith, i .0 .modulus .most, i .1)
 common-divisor-requires : tie.Need-common-divisor-requires Inv-loop μ-loop
 common-divisor-requires c κs = let i = c .before .loop .inv in (i .0 .modulus, omega (arith, i .0 .modulus .some))
 
-put-requires : tie.Need-put-requires Inv-loop μ-loop
-put-requires c κs = let r = c .before .common-divisor in puts-first (c .before .before .before .loop .inv .0) (omega arith) (r .result) (r .ensures)
+store-column-requires : tie.Need-store-column-requires Inv-loop μ-loop
+store-column-requires c κs = let r = c .before .common-divisor in puts-first (c .before .before .before .loop .inv .0) (omega arith) (r .result) (r .ensures)
 
-sub-put : tie.Need-sub-put Inv-loop μ-loop
-sub-put c = omega (arith, c .before .before .before .before .before .before .before .loop .inv .1)
+sub-store-column : tie.Need-sub-store-column Inv-loop μ-loop
+sub-store-column c = omega (arith, c .before .before .before .before .before .before .before .loop .inv .1)
 
-sub-put-2 : tie.Need-sub-put-2 Inv-loop μ-loop
-sub-put-2 c = omega (arith, c .before .before .before .before .before .before .common-divisor .ensures .low)
+sub-store-column-2 : tie.Need-sub-store-column-2 Inv-loop μ-loop
+sub-store-column-2 c = omega (arith, c .before .before .before .before .before .before .common-divisor .ensures .low)
 
-put-requires-2 : tie.Need-put-requires-2 Inv-loop μ-loop
-put-requires-2 c κs =
+store-column-requires-2 : tie.Need-store-column-requires-2 Inv-loop μ-loop
+store-column-requires-2 c κs =
     let r = c .before .before .before .before .before .before .common-divisor in
-    let first = c .before .before .before .before .put in
+    let first = c .before .before .before .before .store-column in
     puts-second (c .before .before .before .before .before .before .before .before .loop .inv .0) (omega arith) (r .result) (r .ensures) (first .ensures)
 
 add-c : tie.Need-add-c Inv-loop μ-loop
@@ -50,8 +50,8 @@ loop-again : tie.Need-loop-again Inv-loop μ-loop
 loop-again c =
     let r = c .before .before .before .before .before .before .before .before .before .common-divisor in
     let i = c .before .before .before .before .before .before .before .before .before .before .before .loop .inv in
-    let first = c .before .before .before .before .before .before .before .put in
-    let second = c .before .before .put2 in
+    let first = c .before .before .before .before .before .before .before .store-column in
+    let second = c .before .before .store-column2 in
     (columns-next (i .0) (omega arith) (r .result) (r .ensures) (first .ensures) (second .ensures), omega (arith, i .0 .modulus .some))
 
 same-length : tie.Need-same-length Inv-loop μ-loop
@@ -69,10 +69,10 @@ columns-spec =
     loop-holds
     add-loop
     common-divisor-requires
-    put-requires
-    sub-put
-    sub-put-2
-    put-requires-2
+    store-column-requires
+    sub-store-column
+    sub-store-column-2
+    store-column-requires-2
     add-c
     loop-less
     loop-again

@@ -24,18 +24,18 @@ loop-holds c = begun _ _ _ _ _ _ _ _ (c .before .before .pre) (c .begin .ensures
 piece-at-requires : tie.Need-piece-at-requires Inv-loop μ-loop
 piece-at-requires c κs = search needs
 
-turn-requires : tie.Need-turn-requires Inv-loop μ-loop
-turn-requires c κs = (c .before .before .before .before .loop .inv .holds .fits, c .before .before .before .before .before .before .before .pre .most)
+take-piece-requires : tie.Need-take-piece-requires Inv-loop μ-loop
+take-piece-requires c κs = (c .before .before .before .before .loop .inv .holds .fits, c .before .before .before .before .before .before .before .pre .most)
 
 returns : tie.Need-returns Inv-loop μ-loop
 returns c = lost-here _ _ (c .before .before .before .before .before .before .before .before .before .pre .most) _ _ _ _ _ _ _
-    (c .before .before .before .before .before .before .loop .inv) _ (c .before .before .before .before .piece-at .ensures) _ _ _ (c .before .turn .ensures)
-    (c .if1 .taken)
+    (c .before .before .before .before .before .before .loop .inv) _ (c .before .before .before .before .piece-at .ensures) _ _ _
+    (c .before .take-piece .ensures) (c .if1 .taken)
 
 returns-2 : tie.Need-returns-2 Inv-loop μ-loop
 returns-2 c = over-here _ _ (c .before .before .before .before .before .before .before .before .before .before .pre .most) _ _ _ _ _ _ _
     (c .before .before .before .before .before .before .before .loop .inv) _ (c .before .before .before .before .before .piece-at .ensures) _ _ _
-    (c .before .before .turn .ensures) (c .if2 .taken)
+    (c .before .before .take-piece .ensures) (c .if2 .taken)
 
 loop-less : tie.Need-loop-less Inv-loop μ-loop
 loop-less c = let f = c .before .before .before .before .before .piece-at .ensures in omega (arith, f .onward, f .inside)
@@ -43,7 +43,7 @@ loop-less c = let f = c .before .before .before .before .before .piece-at .ensur
 loop-again : tie.Need-loop-again Inv-loop μ-loop
 loop-again c = again _ _ (c .before .before .before .before .before .before .before .before .before .before .pre .most) _ _ _ _ _ _ _
     (c .before .before .before .before .before .before .before .loop .inv) _ (c .before .before .before .before .before .piece-at .ensures) _ _ _
-    (c .before .before .turn .ensures) (c .before .if1 .left) (c .if2 .left)
+    (c .before .before .take-piece .ensures) (c .before .if1 .left) (c .if2 .left)
 
 quiet-requires : tie.Need-quiet-requires Inv-loop μ-loop
 quiet-requires c κs = search needs
@@ -60,7 +60,7 @@ go-through-spec =
     begin-requires
     loop-holds
     piece-at-requires
-    turn-requires
+    take-piece-requires
     returns
     returns-2
     loop-less

@@ -1,7 +1,7 @@
 -- `family_index::entry_of` meets its contract: a table that passes the test has the index at each place. Assumes nothing.
 use mathlib.Core.Path.{_∙_, subst⁻¹}
 use Prim.Native.Nat.{ℕ}
-use Rattle.family_index.specs.Entry.{Gamma0Entry}
+use Rattle.family_index.specs.Gamma0Entry.{Gamma0Entry}
 use Rattle.family_index.proofs.Test.{entry-is, entry-follows}
 use borrow.Author.Needs.{needs}
 use Rattle.family_index.proofs.entry_of.Statement.{statement}

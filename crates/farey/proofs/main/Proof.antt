@@ -1,8 +1,7 @@
--- `main` stays inside its arrays: what `answer` made ends within them. Assumes nothing.
+-- `main` stays inside its arrays: what `answer_named` made ends within them. Assumes nothing.
 use mathlib.Core.Path.{sym}
 use native.Mathlib.Omega.{arith}
 use lib.Seq.{length-take-le}
-use Rattle.text.proofs.InputText.{answer-within}
 use borrow.Author.Needs.{needs}
 use Rattle.farey.proofs.main.Statement.{statement}
 use Rattle.farey.proofs.main.Tie as tie
@@ -31,11 +30,11 @@ slice-aggregate-find-job c = search needs
 find-job-requires : tie.Need-find-job-requires
 find-job-requires c κs = search needs
 
-enum-known-found : tie.Need-enum-known-found
-enum-known-found c = search needs
-
 enum-told : tie.Need-enum-told
 enum-told c = search needs
+
+enum-told-2 : tie.Need-enum-told-2
+enum-told-2 c = search needs
 
 tell-names-requires-2 : tie.Need-tell-names-requires-2
 tell-names-requires-2 c κs = search needs
@@ -49,19 +48,25 @@ slice-aggregate-read-whole c = search needs
 read-whole-requires : tie.Need-read-whole-requires
 read-whole-requires c κs = search needs
 
-slice-aggregate-answer : tie.Need-slice-aggregate-answer
-slice-aggregate-answer c = search needs
+array-share-prefix-name-2 : tie.Need-array-share-prefix-name-2
+array-share-prefix-name-2 c = search needs
 
-answer-requires : tie.Need-answer-requires
-answer-requires c κs = search needs
+slice-aggregate-answer-named : tie.Need-slice-aggregate-answer-named
+slice-aggregate-answer-named c = search needs
+
+slice-aggregate-answer-named-2 : tie.Need-slice-aggregate-answer-named-2
+slice-aggregate-answer-named-2 c = search needs
+
+answer-named-requires : tie.Need-answer-named-requires
+answer-named-requires c κs = search needs
 
 array-share-prefix-out : tie.Need-array-share-prefix-out
-array-share-prefix-out c = omega (arith, answer-within (c .answer .ensures))
+array-share-prefix-out c = omega (arith, c .answer-named .ensures .inside)
 
 slice-aggregate-write-whole : tie.Need-slice-aggregate-write-whole
 slice-aggregate-write-whole c =
-    let made = c .before .answer in
-    sym (length-take-le (made .result) (made .last .1 .1 .1 .0) (answer-within (made .ensures)))
+    let made = c .before .answer-named in
+    sym (length-take-le (made .result) (made .last .1 .1 .1 .0) (made .ensures .inside))
 
 write-whole-requires : tie.Need-write-whole-requires
 write-whole-requires c κs = search needs
@@ -81,14 +86,16 @@ main-spec =
     array-share-prefix-name
     slice-aggregate-find-job
     find-job-requires
-    enum-known-found
     enum-told
+    enum-told-2
     tell-names-requires-2
     returns-2
     slice-aggregate-read-whole
     read-whole-requires
-    slice-aggregate-answer
-    answer-requires
+    array-share-prefix-name-2
+    slice-aggregate-answer-named
+    slice-aggregate-answer-named-2
+    answer-named-requires
     array-share-prefix-out
     slice-aggregate-write-whole
     write-whole-requires

@@ -16,8 +16,8 @@ abbrev μ-loop : tie.MeasureT-loop
 loop-holds : tie.Need-loop-holds Inv-loop μ-loop
 loop-holds c = scanning-start (c .before .pre)
 
-turn-requires : tie.Need-turn-requires Inv-loop μ-loop
-turn-requires c κs = scanning-turn (c .before .before .loop .inv) (omega arith)
+list-cycle-requires : tie.Need-list-cycle-requires Inv-loop μ-loop
+list-cycle-requires c κs = scanning-turn (c .before .before .loop .inv) (omega arith)
 
 add-i : tie.Need-add-i Inv-loop μ-loop
 add-i c = search needs
@@ -26,7 +26,7 @@ loop-less : tie.Need-loop-less Inv-loop μ-loop
 loop-less c = search needs
 
 loop-again : tie.Need-loop-again Inv-loop μ-loop
-loop-again c = scanning-more (c .before .before .before .before .before .loop .inv) (omega arith) (c .before .before .turn .ensures)
+loop-again c = scanning-more (c .before .before .before .before .before .loop .inv) (omega arith) (c .before .before .list-cycle .ensures)
 
 same-length : tie.Need-same-length Inv-loop μ-loop
 same-length c = c .before .loop .inv .frame .same
@@ -41,7 +41,7 @@ cusp-widths-spec =
     Inv-loop
     μ-loop
     loop-holds
-    turn-requires
+    list-cycle-requires
     add-i
     loop-less
     loop-again

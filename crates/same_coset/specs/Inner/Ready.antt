@@ -7,16 +7,15 @@
 --                        yes or no
 --   PairShared n w a b r r is that answer, for whatever symbol has its tables by place in w
 --   LineFits r           the numbers of the line of r fit 64 signed bits
---   pairLineAt i line lines    the line in place of the two numbers that stood at the place i of the table
 --   PairsShared n w p k lines lines'    the lines of the first k pairs, in place of what stood there, for whatever
 --                                       symbol has its tables by place in w
 --   PairsReady v t p w   the call passes its checks, and the work space is long enough
 use mathlib.Core.Path.{_≡_}
 use mathlib.Core.Bool.{Bool, false}
 use mathlib.Core.List.{List, _++_}
-use Prim.Native.Nat.{ℕ, _+_, _*_, _^_, _≤_, _<_}
+use Prim.Native.Nat.{ℕ, _*_, _^_, _≤_, _<_}
 use lib.Dec.{eqb}
-use lib.ListN.{length, take, drop}
+use lib.ListN.{length, drop}
 use lib.IntN.{ℤ, pos}
 use Rattle.basics.specs.Choice.{pick}
 use Rattle.matrix.specs.Matrix.{ofList, det}
@@ -50,9 +49,6 @@ PairShared n w a b r = (v : ℕ) (t : List ℤ) (w₀ : List ℕ) → IsSymbol v
 
 pub record LineFits (r : Decision) : Type 0 where
   pub refused : (f : Refusal) → r ≡ decision.Refused f → (f .number < 2 ^ 63) × (f .place < 2 ^ 63)
-
-abbrev pub pairLineAt : ℕ → (line lines : List ℤ) → List ℤ
-pairLineAt i line lines = take (2 * i) lines ++ line ++ drop (2 * i + 2) lines
 
 abbrev pub PairsShared : ℕ → List ℕ → (p : List ℤ) (k : ℕ) → (lines lines' : List ℤ) → Type 0
 PairsShared n w p k lines lines' = (v : ℕ) (t : List ℤ) (w₀ : List ℕ) → IsSymbol v t → SymbolPlaces v t w₀ w n

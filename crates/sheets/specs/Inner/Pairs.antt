@@ -4,7 +4,7 @@
 --                                  8 and 9, then 10, then the word space
 --   pairOf v t a b room start      the answer by them
 --   SheetReady v t p w             the sheet passes its checks, and the work space is long enough
---   lineAt i line lines            the line in place of the four numbers that stood at the place i of the table
+--   rowAt k i row lines            the row in place of the k numbers that stood at the place i of a table of such rows
 --   Fitting r                      the numbers of the line of r fit 64 signed bits, and so does the end of its word
 use mathlib.Core.Path.{_≡_}
 use mathlib.Core.Bool.{Bool, false}
@@ -32,8 +32,8 @@ pub record SheetReady (v : ℕ) (t p : List ℤ) (w : List ℕ) : Type 0 where
   pub count : badCount (length p) ≡ false
   pub work : workLength ≤ length w
 
-abbrev pub lineAt : ℕ → (line lines : List ℤ) → List ℤ
-lineAt i line lines = take (4 * i) lines ++ line ++ drop (4 * i + 4) lines
+abbrev pub rowAt : (k i : ℕ) → (row lines : List ℤ) → List ℤ
+rowAt k i row lines = take (k * i) lines ++ row ++ drop (k * i + k) lines
 
 pub record Fitting (r : Queried) : Type 0 where
   pub word : (start n : ℕ) (sign : Bool) → r ≡ queried.Word start n sign → start + n < 2 ^ 63

@@ -12,6 +12,7 @@
 --     surveyOf ps             where the first of the pieces ps begins that is no number, or else how many they are
 --     countedOf f t room      the answer to a text t whose pieces are all numbers
 --     leftBy r ns out         what the slice holds in the end, where it held `out` and the text's numbers are ns
+--     symbolAnd more          the format of a symbol's text with other numbers behind the symbol
 use Prim.Native.Nat.{ℕ, suc, _+_, _-_, _*_, _≤_, _<_}
 use mathlib.Core.Path.{_≡_}
 use mathlib.Core.Bool.{Bool, true, false, Bool·beq}
@@ -90,3 +91,6 @@ countedOf f t room =
 unfoldable pub leftBy : Reading → List ℤ → List ℤ → List ℤ
 leftBy (reading.Numbers k) ns out = take k ns ++ drop k out
 leftBy (reading.Refused f) ns out = out
+
+abbrev pub symbolAnd : (more : ℕ) → Format
+symbolAnd more = record { least = 1; most = 1023; each = 3; more = more }

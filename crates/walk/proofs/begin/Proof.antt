@@ -2,7 +2,7 @@
 -- they don't, all of the word is still to come (`begun-tail`). Assumes nothing.
 use native.Mathlib.Omega.{arith}
 use mathlib.Core.Path.{refl, sym, _∙_}
-use Prim.Native.Nat.{_^_}
+use Prim.Native.Nat.{_+_, _^_}
 use Rattle.matrix.specs.Matrix.{ofList}
 use Rattle.coset.proofs.Positions.{positions}
 use Rattle.walk.proofs.Onward.{whole-sound, whole-proper, sound-more, begun-tail, begun-head, stepped-long}
@@ -22,7 +22,7 @@ power-requires c κs =
     let e = c .before .before .before .whole .ensures in
     let m = ofList (s .args .m) in (
       s .pre .0,
-      sound-more (2 ^ 60) (2 ^ 61) (omega arith) (whole-sound m (s .pre .2) (s .pre .3) (s .pre .1) (e .0) (e .1) (e .2)),
+      sound-more (2 ^ 63) (2 ^ 63 + 1) (omega arith) (whole-sound m (s .pre .2) (s .pre .3) (s .pre .1) (e .0) (e .1) (e .2)),
       whole-proper m (s .pre .2)
           (c .before .before .before .whole .result) (e .0) (sym (c .before .before .rows-agree .ensures) ∙ c .before .if1 .taken),
     )

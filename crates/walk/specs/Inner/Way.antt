@@ -7,6 +7,9 @@
 --   restOf a                the alternating word that is left, where it doesn't begin with a power of Q
 --   properOf f              whether the form f is neither that of the identity nor that of S
 --   turnLetter f, turnForm f     the power of Q that a word with the form f begins with, and the form that is left
+--   rowTaken b k f          k times the lower row taken from the upper one, or the upper from the lower where b holds
+--   RowTakes b k f          there is enough of it, entry by entry
+--   Taken b k a c           the state c has that form, and all else is as in a
 --   stored start limit n l out   the letters l, of which the first is number n of the word, stored from the place start
 --                                on in `out`,
 --                           each where its number is below the limit
@@ -15,6 +18,7 @@
 --                           step
 --   signLeft v t s p l      the sign s times what the letters of l add to it from p on
 --   Setting                 the tables of steps are there, and `limit` letters fit from the start place on
+--   LetterPut x p n out k out'   what the letter x writes at p is counted, from n to k, and stored
 --   WayStepped x a out b out'  the letter x leads from the state a to b, what it writes is counted, and stored, and
 --                           what it adds to the sign is told; the step keeps its equation, sign included
 --   Onward                  from l at x with n letters it is the same way as from m at y with k letters
@@ -61,6 +65,20 @@ abbrev pub turnForm : Form → Form
 turnForm f = pick (beginsWithQ f) (form (f .r - f .p) (f .t - f .q) (f .p) (f .q))
     (form (f .r) (f .t) (f .p - f .r) (f .q - f .t))
 
+abbrev pub rowTaken : Bool → ℕ → Form → Form
+rowTaken inverse k f = pick inverse (form (f .p) (f .q) (f .r - k * f .p) (f .t - k * f .q))
+    (form (f .p - k * f .r) (f .q - k * f .t) (f .r) (f .t))
+
+pub record RowTakes (inverse : Bool) (k : ℕ) (f : Form) : Type 0 where
+  pub left : k * pick inverse (f .p) (f .r) ≤ pick inverse (f .r) (f .p)
+  pub right : k * pick inverse (f .q) (f .t) ≤ pick inverse (f .t) (f .q)
+
+pub record Taken (inverse : Bool) (k : ℕ) (a b : Way) : Type 0 where
+  pub rows : formOf b ≡ rowTaken inverse k (formOf a)
+  pub at : b .at ≡ a .at
+  pub count : b .count ≡ a .count
+  pub sign : b .sign ≡ a .sign
+
 abbrev pub stored : (start limit n : ℕ) → List ℤ → List ℤ → List ℤ
 stored start limit n [] out = out
 stored start limit n (z ∷ l) out = stored start limit (suc n) l (pick (ltb n limit) (set out (start + n) z) out)
@@ -77,6 +95,11 @@ signLeft v t s p l = s · signAlong (stepS v t) (turnQ v) (signAdded v t) p l
 pub record Setting (t : List ℤ) (v : ℕ) (w : List ℕ) (out : List ℤ) (start limit : ℕ) : Type 0 where
   pub prepared : StepTables t v w
   pub room : limit ≤ length out - start
+
+pub record LetterPut (v : ℕ) (t : List ℤ) (start limit : ℕ) (x : Letter) (p n : ℕ) (out : List ℤ) (k : ℕ)
+    (out' : List ℤ) : Type 0 where
+  pub count : k ≡ n + length (written v t x p)
+  pub left : out' ≡ stored start limit n (written v t x p) out
 
 pub record WayStepped (v : ℕ) (t : List ℤ) (start limit : ℕ) (x : Letter) (a : Way) (out : List ℤ) (b : Way)
     (out' : List ℤ) : Type 0 where
@@ -102,13 +125,13 @@ pub record Sound (v : ℕ) (t : List ℤ) (most : ℕ) (a : Way) : Type 0 where
 
 pub record Begun (v : ℕ) (t : List ℤ) (start limit : ℕ) (m : Mat) (x : ℕ) (out : List ℤ) (b : Way)
     (out' : List ℤ) : Type 0 where
-  pub sound : Sound v t (2 ^ 60) b
+  pub sound : Sound v t (2 ^ 63) b
   pub onward : Onward v t start limit (wordOf m) x 0 out (restOf b) (b .at) (b .count) out'
   pub sign : signLeft v t (b .sign) (b .at) (restOf b) ≡ signLeft v t (columnSign m) x (wordOf m)
 
 pub record Going (v : ℕ) (t : List ℤ) (start limit : ℕ) (a : Way) (out : List ℤ) (b : Way)
     (out' : List ℤ) : Type 0 where
-  pub sound : Sound v t (2 ^ 60) b
+  pub sound : Sound v t (2 ^ 63) b
   pub onward : Onward v t start limit (restOf a) (a .at) (a .count) out (restOf b) (b .at) (b .count) out'
   pub sign : signLeft v t (b .sign) (b .at) (restOf b) ≡ signLeft v t (a .sign) (a .at) (restOf a)
 

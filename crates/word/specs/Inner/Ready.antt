@@ -30,7 +30,7 @@ pub record WalkReady (t : List ℤ) (v : ℕ) (w : List ℕ) (m : List ℤ) (x :
   pub prepared : StepTables t v w
   pub start : x ≡ startOf v t
   pub unit : det (ofList m) ≡ pos 1
-  pub small : Small (2 ^ 50) (ofList m)
+  pub small : Small (2 ^ 60) (ofList m)
 
 pub record PairReady (t : List ℤ) (v : ℕ) (w : List ℕ) (a b : List ℤ) (x : ℕ) : Type 0 where
   pub prepared : StepTables t v w

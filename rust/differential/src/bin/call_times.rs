@@ -1,6 +1,6 @@
-//! Times of the calls by name, of sameness and of a sheet of pairs, beside the plain
-//! functions of `bench`, without any process: one after the other by turns, and the
-//! medians in microseconds. The sheet stands beside as many single queries too.
+//! Times of the calls by name, of sameness, of a query and of a sheet of pairs, beside
+//! the plain functions of `bench`, without any process: one after the other by turns,
+//! and the medians in microseconds. The sheet stands beside as many single queries too.
 //!
 //!     call-times [RUNS]
 
@@ -9,6 +9,7 @@ use std::hint::black_box;
 use std::time::{Duration, Instant};
 
 use bench::named::{named_symbol_wide, named_tables};
+use bench::query::signed_query;
 use bench::same::{same, same_by_tables};
 use bench::sheet::sheet;
 use farey::calls;
@@ -81,7 +82,48 @@ fn main() {
             &mut plain,
         );
     }
+    query_rows(runs, &mut work, &mut out);
     sheet_rows(runs, &mut work, &mut out);
+}
+
+/// Queries from I, short and long ones, on Γ0(990), of index 2,592.
+fn query_rows(runs: usize, work: &mut [u16], table: &mut [i64]) {
+    let v = calls::named_symbol_wide(0, 990, work, table).expect("a group");
+    let table = &table[..3 * v + 1];
+    let one = [1, 0, 0, 1];
+    let power = [1, 1_000_000, 0, 1];
+    println!(
+        "\n| from I to | room | number | engine | plain Rust | ratio |\n|---|---|---|---|---|---|"
+    );
+    for (name, to, room) in [
+        ("T^2", [1, 2, 0, 1], 1_000_000),
+        ("T^1000000", power, 0),
+        ("T^1000000", power, 1_000_000),
+        ("(999999 499999; 2 1)", [999_999, 499_999, 2, 1], 1_000_000),
+        ("(1 0; 990000 1)", [1, 0, 990_000, 1], 1_000_000),
+    ] {
+        let pair = [one, to].concat();
+        let (mut out, mut other) = (vec![0; room], Vec::with_capacity(room));
+        let mut sign = 0;
+        let mut number = 0;
+        let mut engine = || {
+            let came = calls::signed_query(v, table, &one, &to, work, &mut out, 0, &mut sign);
+            number = black_box(came.err().map_or(0, |refusal| refusal.number));
+        };
+        let mut plain_number = 0;
+        let mut plain = || {
+            other.clear();
+            let came = signed_query(v as i64, table, &pair, room, &mut other);
+            plain_number = black_box(came.err().map_or(0, |refusal| refusal.0));
+        };
+        let [engine, plain] = medians(runs.min(101), &mut engine, &mut plain);
+        let ratio = engine / plain;
+        assert_eq!(u64::from(plain_number), number as u64);
+        if number == 0 {
+            assert_eq!(out[..other.len()], other);
+        }
+        println!("| {name} | {room} | {number} | {engine:.1} | {plain:.1} | {ratio:.2} |");
+    }
 }
 
 /// A full sheet on Γ0(990), of index 2,592, beside plain Rust that builds once and
@@ -94,12 +136,18 @@ fn sheet_rows(runs: usize, work: &mut [u16], table: &mut [i64]) {
     println!(
         "\n| pairs | letters | sheet | beside it | its time | ratio |\n|---|---|---|---|---|---|"
     );
-    for (name, part) in [("with words", 100), ("one in two with a word", 50)] {
+    for (name, part) in [
+        ("with words", 100),
+        ("one in two with a word", 50),
+        ("any pair", 0),
+        ("from I to powers of T and (1 0; 1 1)", -1),
+    ] {
         let mut entries = Vec::new();
         while entries.len() < 8 * calls::SHEET {
-            let (a, b) = match rng.chance(part) {
-                true => found_pair(&mut rng, &symbol, &cosets),
-                false => any_pair(&mut rng, false),
+            let (a, b) = match (part, rng.chance(part.max(0) as usize)) {
+                (-1, _) => power(&mut rng),
+                (_, true) => found_pair(&mut rng, &symbol, &cosets),
+                (_, false) => any_pair(&mut rng, false),
             };
             entries.extend([a, b].concat());
         }
@@ -117,7 +165,8 @@ fn sheet_rows(runs: usize, work: &mut [u16], table: &mut [i64]) {
             };
             ask(&mut [])
         };
-        let (mut out, mut other) = (vec![0; letters as usize], vec![0; letters as usize]);
+        let room = letters.min(20_000) as usize;
+        let (mut out, mut other) = (vec![0; room], vec![0; room]);
         let mut other_work = vec![0; calls::WORK];
         let mut plain = || {
             let came = sheet(v as i64, table, &entries, &mut other);
@@ -145,6 +194,16 @@ fn sheet_rows(runs: usize, work: &mut [u16], table: &mut [i64]) {
         );
         assert_eq!(out, other);
     }
+}
+
+/// I and a power of T or of its transpose, up to a million.
+fn power(rng: &mut Rng) -> ([i64; 4], [i64; 4]) {
+    let k = 1 + rng.below(1_000_000) as i64;
+    let to = match rng.chance(50) {
+        true => [1, k, 0, 1],
+        false => [1, 0, k, 1],
+    };
+    ([1, 0, 0, 1], to)
 }
 
 /// Two symbols of one group, by `import` and by `import_wide`; and one of them with

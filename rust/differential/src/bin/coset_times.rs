@@ -1,6 +1,7 @@
-//! Times of `same_cosets` beside a plain function that steps one T at a time
-//! (`bench::same_coset`), without any process, by turns: the fastest of RUNS, in milliseconds.
-//! The tables' share is the time of a call with no pairs.
+//! Times of `same_cosets` beside two plain functions (`bench::same_coset`), one with a
+//! remainder for each quotient and one that steps one T at a time, without any process,
+//! by turns: the fastest of RUNS, in milliseconds. The tables' share is the time of a call
+//! with no pairs.
 //!
 //!     coset-times [PAIRS] [RUNS]
 
@@ -8,7 +9,7 @@ use std::env;
 use std::hint::black_box;
 use std::time::Instant;
 
-use bench::same_coset::same_cosets;
+use bench::same_coset::{same_cosets, same_cosets_by_steps};
 use farey::calls;
 use reference::random::pairs::{dice_pair, Pair};
 use reference::random::Rng;
@@ -98,8 +99,10 @@ fn main() {
         .collect();
     let count = numbers.first().map_or(100_000, |&pairs| pairs);
     let runs = numbers.get(1).map_or(11, |&runs| runs.max(1));
-    println!("| symbol | pairs | yes | engine | of it tables | plain, one T at a time | ratio |");
-    println!("|---|---|---|---|---|---|---|");
+    println!(
+        "| symbol | pairs | yes | engine | tables | plain | ratio | one T at a time | ratio |"
+    );
+    println!("|---|---|---|---|---|---|---|---|---|");
     let groups = [
         ("index 3,000, from dice", from_dice()),
         ("Γ0(990), index 2,592", named(0, 990)),
@@ -141,7 +144,8 @@ fn row(name: &str, kind: &str, (v, table): (usize, &[i64]), entries: &[i64], run
     let mut work = vec![0; calls::WORK];
     let mut lines = vec![0; entries.len() / 4];
     let mut plain_lines = Vec::new();
-    let mut times = [Vec::new(), Vec::new(), Vec::new()];
+    let mut stepped = Vec::new();
+    let mut times = [const { Vec::new() }; 4];
     for _ in 0..runs {
         times[0].push(milliseconds(&mut || {
             let came = calls::same_cosets(v, table, entries, &mut work, &mut lines);
@@ -154,11 +158,16 @@ fn row(name: &str, kind: &str, (v, table): (usize, &[i64]), entries: &[i64], run
         times[2].push(milliseconds(&mut || {
             plain_lines = same_cosets(v as i64, table, entries).expect("a symbol");
         }));
+        times[3].push(milliseconds(&mut || {
+            stepped = same_cosets_by_steps(v as i64, table, entries).expect("a symbol");
+        }));
     }
     assert_eq!(lines, plain_lines.concat());
+    assert_eq!(lines, stepped.concat());
     let pairs = plain_lines.len();
     let yes = plain_lines.iter().filter(|line| line[1] == 1).count();
-    let [engine, tables, plain] = times.map(fastest);
-    let ratio = engine / plain;
-    println!("| {name} | {pairs}, {kind} | {yes} | {engine:.3} | {tables:.3} | {plain:.1} | {ratio:.5} |");
+    let [engine, tables, plain, stepped] = times.map(fastest);
+    let (ratio, second) = (engine / plain, engine / stepped);
+    print!("| {name} | {pairs}, {kind} | {yes} | {engine:.3} | {tables:.3} ");
+    println!("| {plain:.3} | {ratio:.2} | {stepped:.1} | {second:.5} |");
 }

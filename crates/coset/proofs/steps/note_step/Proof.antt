@@ -1,8 +1,8 @@
 -- `note_step` stores where S leads from p, what it writes with the sign of the step (`sign-step`), and where a turn leads then; what is noted below p
--- stays, so now it is noted below p + 1 (`prepared-more`). All four numbers fit 16 bits (`step-low`, `letter-most`, `forth-low`, `back-low`). Assumes
--- nothing.
+-- stays, so now it is noted below p + 1 (`prepared-more`). All four numbers fit 16 bits (`step-low`, `letter-most`, `turn-low`). Assumes nothing.
 use native.Mathlib.Omega.{arith}
 use mathlib.Core.Path.{_∙_, ap}
+use mathlib.Core.Bool.{true, false}
 use Prim.Native.Nat.{ℕ}
 use lib.IntN.{ℤ, pos, _-ℤ_}
 use lib.ListN.{length-set}
@@ -11,7 +11,7 @@ use mir.Syntax.{w16}
 use Rattle.polygon.specs.Inner.Tables.{lettersOf}
 use Rattle.signs.specs.Sign.{_·_}
 use Rattle.signs.specs.Step.{leftToRight, frameSign, crossingSign}
-use Rattle.coset.proofs.Noted.{letter-most, sign-step, step-low, forth-low, back-low, noted-long, prepared-more}
+use Rattle.coset.proofs.Noted.{letter-most, sign-step, step-low, turn-low, noted-long, prepared-more}
 use borrow.Author.Needs.{needs}
 use Rattle.coset.proofs.steps.note_step.Statement.{statement}
 use Rattle.coset.proofs.steps.note_step.Tie as tie
@@ -64,11 +64,11 @@ slice-write-w-2 c =
     let s = c .before .before .before .before .before .before .before .before in
     simp length-set (omega (arith, s .pre .1, s .pre .0 .tables .symbol .most, s .pre .0 .tables .long))
 
-turn-q-requires : tie.Need-turn-q-requires
-turn-q-requires c κs = search needs
+turn-requires : tie.Need-turn-requires
+turn-requires c κs = search needs
 
-turn-back-requires : tie.Need-turn-back-requires
-turn-back-requires c κs = search needs
+turn-requires-2 : tie.Need-turn-requires-2
+turn-requires-2 c κs = search needs
 
 cast-w-2 : tie.Need-cast-w-2
 cast-w-2 c =
@@ -76,8 +76,8 @@ cast-w-2 c =
     let to = c .before .before .before .before .before .before .before .step-s in
     omega (
       arith,
-      forth-low (s .args .v) (s .args .t .now) (s .pre .0 .tables .symbol) (s .args .p) (to .result) (s .pre .2) (to .ensures)
-          (c .before .turn-q .result) (c .before .turn-q .ensures),
+      turn-low (s .args .v) (s .args .t .now) (s .pre .0 .tables .symbol) (s .args .p) (to .result) (s .pre .2) (to .ensures) false
+          (c .before .turn .result) (c .before .turn .ensures),
       s .pre .0 .tables .symbol .most,
     )
 
@@ -98,8 +98,8 @@ cast-w-3 c =
     let to = c .before .before .before .before .before .before .before .step-s in
     omega (
       arith,
-      back-low (s .args .v) (s .args .t .now) (s .pre .0 .tables .symbol) (s .args .p) (to .result) (s .pre .2) (to .ensures)
-          (c .turn-back .result) (c .turn-back .ensures),
+      turn-low (s .args .v) (s .args .t .now) (s .pre .0 .tables .symbol) (s .args .p) (to .result) (s .pre .2) (to .ensures) true
+          (c .turn2 .result) (c .turn2 .ensures),
       s .pre .0 .tables .symbol .most,
     )
 
@@ -123,8 +123,8 @@ returns c =
     let to = c .before .before .before .before .before .before .before .step-s in
     let l = c .before .before .before .before .before .letter-s in
     let k = c .before .before .before .before .coded in
-    let f = c .before .turn-q in
-    let b = c .turn-back in
+    let f = c .before .turn in
+    let b = c .turn2 in
     let y = c .before .before .with-sign in
     let x = c .before .before .before .sign-of-step in
     let e = toZ-ofZ {w = w16} {z = l .result} (record { sfits = l .ok }) in
@@ -154,8 +154,8 @@ note-step-spec =
     add-w-2
     mul-w-2
     slice-write-w-2
-    turn-q-requires
-    turn-back-requires
+    turn-requires
+    turn-requires-2
     cast-w-2
     add-w-3
     mul-w-3

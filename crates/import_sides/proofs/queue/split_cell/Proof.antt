@@ -60,11 +60,11 @@ hold-requires c κs =
     let kl = z .0 .room in
     (omega arith, alow, blow, omega arith, omega arith, z .0 .long)
 
-add-put : tie.Need-add-put
-add-put c = search needs
+add-store : tie.Need-add-store
+add-store c = search needs
 
-put-requires : tie.Need-put-requires
-put-requires c κs =
+store-requires : tie.Need-store-requires
+store-requires c κs =
     let z = c .before .before .before .before .before .before .before .before .before .before .before .before .before .before .before .before .pre in
     let blow =
     (let i = c .before .before .before .before .before .before .before in
@@ -159,7 +159,7 @@ returns c =
     let sg = image (s .s .now) in
     let ka = byQ sg (image (s .r .now)) in
     split-is sg ka (s .w .now) _ _ _ _ _ (s .c) (s .k) (s .e) (s .d) _ _ _ _ _ _ (g .point-at .ensures .0) (f .turned .ensures) (t .turned2 .ensures)
-    (d .image .ensures) (i .image2 .ensures) (b .entry .ensures .0) (h .hold .ensures) (a .put .ensures) (p .put-cell .ensures) (j .join .ensures)
+    (d .image .ensures) (i .image2 .ensures) (b .entry .ensures .0) (h .hold .ensures) (a .store .ensures) (p .put-cell .ensures) (j .join .ensures)
     (e .enqueue .ensures)
 
 pub split-cell-spec : {M : Type 1} → statement M
@@ -178,8 +178,8 @@ split-cell-spec =
     add-hold
     add-hold-2
     hold-requires
-    add-put
-    put-requires
+    add-store
+    store-requires
     mul-put-cell
     add-put-cell
     put-cell-requires

@@ -47,8 +47,8 @@ mul-loop c =
     let s = c .before .before .before .before .before .before .before .before .before .before .before .before in
     let m = between-most (s .args .s .now) (s .args .r .now) _ _ _ _ (c .loop .inv .0) in let a = m .0 in let b = m .1 in omega arith
 
-turn-requires : tie.Need-turn-requires Inv-loop μ-loop
-turn-requires c κs =
+take-next-side-requires : tie.Need-take-next-side-requires Inv-loop μ-loop
+take-next-side-requires c κs =
     let l = c .before .before in
     let s = l .before .before .before .before .before .before .before .before .before .before .before .before in
     turn-asks (s .args .s .now) (s .args .r .now) _ _ _ _ (l .loop .inv .0) (omega arith)
@@ -61,7 +61,7 @@ returns c =
     let t = c .before .before .before in
     let l = t .before .before .before in
     let s = l .before .before .before .before .before .before .before .before .before .before .before .before in
-    halted refl (turn-stops (s .args .s .now) (s .args .r .now) _ _ _ _ (l .loop .inv .0) (omega arith) _ _ _ (t .turn .ensures) (c .if1 .taken))
+    halted refl (turn-stops (s .args .s .now) (s .args .r .now) _ _ _ _ (l .loop .inv .0) (omega arith) _ _ _ (t .take-next-side .ensures) (c .if1 .taken))
 
 add-h : tie.Need-add-h Inv-loop μ-loop
 add-h c =
@@ -74,18 +74,18 @@ loop-less c =
     let t = c .before .before .before in
     let l = t .before .before .before in
     let s = l .before .before .before .before .before .before .before .before .before .before .before .before in
-    let g = turn-leaves (s .args .s .now) (s .args .r .now) _ _ _ _ (l .loop .inv .0) (omega arith) _ _ _ (t .turn .ensures) (c .if1 .left) in
+    let g = turn-leaves (s .args .s .now) (s .args .r .now) _ _ _ _ (l .loop .inv .0) (omega arith) _ _ _ (t .take-next-side .ensures) (c .if1 .left) in
     turn-less (s .args .s .now) (s .args .r .now) (startPlaced (image (s .args .s .now)) (byQ (image (s .args .s .now)) (image (s .args .r .now)))) _ _ _ _ _ _
-    (t .turn .ensures) (c .if1 .left) (omega arith) (between-most (s .args .s .now) (s .args .r .now) _ _ _ _ g .0)
+    (t .take-next-side .ensures) (c .if1 .left) (omega arith) (between-most (s .args .s .now) (s .args .r .now) _ _ _ _ g .0)
 
 loop-again : tie.Need-loop-again Inv-loop μ-loop
 loop-again c =
     let t = c .before .before .before in
     let l = t .before .before .before in
     let s = l .before .before .before .before .before .before .before .before .before .before .before .before in (
-      turn-leaves (s .args .s .now) (s .args .r .now) _ _ _ _ (l .loop .inv .0) (omega arith) _ _ _ (t .turn .ensures) (c .if1 .left),
+      turn-leaves (s .args .s .now) (s .args .r .now) _ _ _ _ (l .loop .inv .0) (omega arith) _ _ _ (t .take-next-side .ensures) (c .if1 .left),
       step-long
-          (s .args .s .now) (s .args .r .now) _ _ _ _ (l .loop .inv .0) (omega arith) _ _ _ (t .turn .ensures) ∙ l .loop .inv .1,
+          (s .args .s .now) (s .args .r .now) _ _ _ _ (l .loop .inv .0) (omega arith) _ _ _ (t .take-next-side .ensures) ∙ l .loop .inv .1,
     )
 
 lay-out-requires : tie.Need-lay-out-requires Inv-loop μ-loop
@@ -116,7 +116,7 @@ walk-spec =
     loop-holds
     add-loop
     mul-loop
-    turn-requires
+    take-next-side-requires
     same-length
     returns
     add-h

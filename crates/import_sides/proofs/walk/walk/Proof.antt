@@ -32,8 +32,8 @@ loop-holds c =
     let st = startPlaced (image S) (byQ (image S) (image R)) in
     (walk-start S R (s .args .w .now) (s .pre) _ (c .before .before .start .ensures), refl)
 
-turn-requires : tie.Need-turn-requires Inv-loop μ-loop
-turn-requires c κs =
+take-side-requires : tie.Need-take-side-requires Inv-loop μ-loop
+take-side-requires c κs =
     let s = c .before .before .before .before .before .before .before .before .before .before in
     let S = s .args .s .now in
     let R = s .args .r .now in
@@ -48,7 +48,7 @@ same-length c =
     let R = s .args .r .now in
     let st = startPlaced (image S) (byQ (image S) (image R)) in
     let l = c .before .before .before .before .before .before .loop in
-    turned-length S R st (l .w) _ (l .d) (l .k) _ _ _ (c .before .before .before .turn .ensures) ∙ l .inv .1
+    turned-length S R st (l .w) _ (l .d) (l .k) _ _ _ (c .before .before .before .take-side .ensures) ∙ l .inv .1
     ∙ start-length (image S) (byQ (image S) (image R)) (s .args .w .now) _
     (c .before .before .before .before .before .before .before .before .before .start .ensures)
 
@@ -59,7 +59,7 @@ returns c =
     let R = s .args .r .now in
     let st = startPlaced (image S) (byQ (image S) (image R)) in
     let l = c .before .before .before .before .before .before .loop in
-    halted refl (walk-stop S R st (l .w) _ (l .d) (l .k) _ _ _ (l .inv .0) (omega arith) (c .before .before .before .turn .ensures) (c .if1 .taken))
+    halted refl (walk-stop S R st (l .w) _ (l .d) (l .k) _ _ _ (l .inv .0) (omega arith) (c .before .before .before .take-side .ensures) (c .if1 .taken))
 
 loop-less : tie.Need-loop-less Inv-loop μ-loop
 loop-less c =
@@ -68,9 +68,9 @@ loop-less c =
     let R = s .args .r .now in
     let st = startPlaced (image S) (byQ (image S) (image R)) in
     let l = c .before .before .before .before .before .before .loop in
-    let g = walk-turn S R st (l .w) _ (l .d) (l .k) _ _ _ (l .inv .0) (omega arith) (c .before .before .before .turn .ensures) (c .if1 .left) in
+    let g = walk-turn S R st (l .w) _ (l .d) (l .k) _ _ _ (l .inv .0) (omega arith) (c .before .before .before .take-side .ensures) (c .if1 .left) in
     walk-less S R st (l .w) _ (l .d) (l .k) _ _ _ (walk-size S R st (l .w) (l .d) (l .k) (l .inv .0)) (walk-size S R st _ _ _ g) (omega arith)
-    (c .before .before .before .turn .ensures) (c .if1 .left)
+    (c .before .before .before .take-side .ensures) (c .if1 .left)
 
 loop-again : tie.Need-loop-again Inv-loop μ-loop
 loop-again c =
@@ -79,9 +79,9 @@ loop-again c =
     let R = s .args .r .now in
     let st = startPlaced (image S) (byQ (image S) (image R)) in
     let l = c .before .before .before .before .before .before .loop in (
-      walk-turn S R st (l .w) _ (l .d) (l .k) _ _ _ (l .inv .0) (omega arith) (c .before .before .before .turn .ensures) (c .if1 .left),
+      walk-turn S R st (l .w) _ (l .d) (l .k) _ _ _ (l .inv .0) (omega arith) (c .before .before .before .take-side .ensures) (c .if1 .left),
       turned-length S R st
-          (l .w) _ (l .d) (l .k) _ _ _ (c .before .before .before .turn .ensures) ∙ l .inv .1,
+          (l .w) _ (l .d) (l .k) _ _ _ (c .before .before .before .take-side .ensures) ∙ l .inv .1,
     )
 
 same-length-2 : tie.Need-same-length-2 Inv-loop μ-loop
@@ -110,7 +110,7 @@ walk-spec =
     μ-loop
     start-requires
     loop-holds
-    turn-requires
+    take-side-requires
     same-length
     returns
     loop-less

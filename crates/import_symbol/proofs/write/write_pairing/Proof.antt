@@ -27,8 +27,8 @@ point-at-requires c κs = search needs
 image-requires : tie.Need-image-requires
 image-requires c κs = search needs
 
-put-requires : tie.Need-put-requires
-put-requires c κs = search needs
+store-entry-requires : tie.Need-store-entry-requires
+store-entry-requires c κs = search needs
 
 same-length : tie.Need-same-length
 same-length c = search needs
@@ -43,13 +43,13 @@ returns c =
     let ka = byQ sg (image (s .args .r .now)) in
     let em = c .before .before .before .before .before .point-at .ensures .0 in
     let ex = c .before .before .before .before .image .ensures ∙ ap sg em in
-    is-even (sym ex ∙ c .before .before .before .if1 .taken ∙ em) refl (c .before .put .ensures) refl
+    is-even (sym ex ∙ c .before .before .before .if1 .taken ∙ em) refl (c .before .store-entry .ensures) refl
 
 turned-requires : tie.Need-turned-requires
 turned-requires c κs = search needs
 
-put-requires-2 : tie.Need-put-requires-2
-put-requires-2 c κs = search needs
+store-entry-requires-2 : tie.Need-store-entry-requires-2
+store-entry-requires-2 c κs = search needs
 
 same-length-3 : tie.Need-same-length-3
 same-length-3 c = search needs
@@ -66,7 +66,7 @@ returns-2 c =
     let ex = c .before .before .before .before .before .before .image .ensures ∙ ap sg em in
     let eq = c .before .before .before .before .turned .ensures ∙ ap ka em in
     is-odd (λ t. c .before .before .before .before .before .if1 .left (ex ∙ t ∙ sym em)) (sym eq ∙ c .before .before .before .if2 .taken ∙ em) refl
-    (c .before .put2 .ensures) refl
+    (c .before .store-entry2 .ensures) refl
 
 least-requires : tie.Need-least-requires
 least-requires c κs = search needs
@@ -92,8 +92,8 @@ add-signed c = search needs
 signed-requires : tie.Need-signed-requires
 signed-requires c κs = search needs
 
-put-requires-3 : tie.Need-put-requires-3
-put-requires-3 c κs = search needs
+store-entry-requires-3 : tie.Need-store-entry-requires-3
+store-entry-requires-3 c κs = search needs
 
 add-w : tie.Need-add-w
 add-w c = search needs
@@ -135,13 +135,13 @@ returns-3 c =
     (c .before .before .before .before .before .before .before .before .if2 .left)
     (c .before .before .before .before .before .before .before .least .ensures) (c .before .before .before .before .before .label-at .ensures .0)
     (c .before .before .before .before .if3 .taken) _ _ (c .before .before .before .signed .ensures) (c .before .before .before .signed .ok)
-    (c .before .put3 .ensures)
+    (c .before .store-entry3 .ensures)
 
 signed-requires-2 : tie.Need-signed-requires-2
 signed-requires-2 c κs = search needs
 
-put-requires-4 : tie.Need-put-requires-4
-put-requires-4 c κs = search needs
+store-entry-requires-4 : tie.Need-store-entry-requires-4
+store-entry-requires-4 c κs = search needs
 
 same-length-7 : tie.Need-same-length-7
 same-length-7 c = search needs
@@ -165,7 +165,7 @@ returns-4 c =
     (c .before .before .before .before .before .before .before .before .if2 .left)
     (c .before .before .before .before .before .before .before .least .ensures) (c .before .before .before .before .before .label-at .ensures .0)
     (c .before .before .before .before .if3 .left) _ _ (c .before .before .before .signed2 .ensures) (c .before .before .before .signed2 .ok)
-    (c .before .put4 .ensures)
+    (c .before .store-entry4 .ensures)
 
 pub write-pairing-spec : {M : Type 1} → statement M
 write-pairing-spec =
@@ -175,12 +175,12 @@ write-pairing-spec =
     add-point-at
     point-at-requires
     image-requires
-    put-requires
+    store-entry-requires
     same-length
     same-length-2
     returns
     turned-requires
-    put-requires-2
+    store-entry-requires-2
     same-length-3
     same-length-4
     returns-2
@@ -188,7 +188,7 @@ write-pairing-spec =
     label-at-requires
     add-signed
     signed-requires
-    put-requires-3
+    store-entry-requires-3
     add-w
     cast-w
     add-w-2
@@ -199,7 +199,7 @@ write-pairing-spec =
     same-length-6
     returns-3
     signed-requires-2
-    put-requires-4
+    store-entry-requires-4
     same-length-7
     same-length-8
     returns-4)

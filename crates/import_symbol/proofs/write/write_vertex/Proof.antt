@@ -29,20 +29,20 @@ numerator-requires c κs = search needs
 signed-requires : tie.Need-signed-requires
 signed-requires c κs = search needs
 
-mul-put : tie.Need-mul-put
-mul-put c = search needs
+mul-store-entry : tie.Need-mul-store-entry
+mul-store-entry c = search needs
 
-put-requires : tie.Need-put-requires
-put-requires c κs = search needs
+store-entry-requires : tie.Need-store-entry-requires
+store-entry-requires c κs = search needs
 
-mul-put-2 : tie.Need-mul-put-2
-mul-put-2 c = search needs
+mul-store-entry-2 : tie.Need-mul-store-entry-2
+mul-store-entry-2 c = search needs
 
-add-put : tie.Need-add-put
-add-put c = search needs
+add-store-entry : tie.Need-add-store-entry
+add-store-entry c = search needs
 
-put-requires-2 : tie.Need-put-requires-2
-put-requires-2 c κs = search needs
+store-entry-requires-2 : tie.Need-store-entry-requires-2
+store-entry-requires-2 c κs = search needs
 
 same-length : tie.Need-same-length
 same-length c = search needs
@@ -55,7 +55,7 @@ returns c =
     (c .before .before .before .before .before .before .before .before .number-at2 .ensures .0)
     (c .before .before .before .before .before .before .before .numerator .ensures) (c .before .before .before .before .before .before .signed .ensures)
     (c .before .before .before .before .before .before .before .numerator .ok) (c .before .before .before .before .before .before .signed .ok)
-    (c .before .before .before .before .put .ensures) (c .before .put2 .ensures)
+    (c .before .before .before .before .store-entry .ensures) (c .before .store-entry2 .ensures)
 
 pub write-vertex-spec : {M : Type 1} → statement M
 write-vertex-spec =
@@ -68,10 +68,10 @@ write-vertex-spec =
     number-at-requires-2
     numerator-requires
     signed-requires
-    mul-put
-    put-requires
-    mul-put-2
-    add-put
-    put-requires-2
+    mul-store-entry
+    store-entry-requires
+    mul-store-entry-2
+    add-store-entry
+    store-entry-requires-2
     same-length
     returns)

@@ -1,16 +1,14 @@
 -- `print_text` meets its contract: each answer of `read_sheet` has its bytes. Assumes nothing.
-use mathlib.Core.Path.{_≡_, refl, sym, ap, _∙_, subst}
+use mathlib.Core.Path.{_≡_, sym, ap, _∙_, subst}
 use mathlib.Core.List.{List}
-use Prim.Native.Nat.{ℕ, _≤_}
+use Prim.Native.Nat.{ℕ}
 use native.Mathlib.Omega.{arith}
 use lib.IntN.{ℤ}
-use lib.ListN.{length, take}
-use lib.Seq.{length-take-le, take-all}
+use lib.ListN.{take}
+use lib.Seq.{take-all}
 use Rattle.text.specs.Piece.{pieces, numbers}
-use Rattle.text.specs.Inner.Inside.{leftBy}
-use Rattle.text.specs.declared.Reading.{Reading}
 use Rattle.text.specs.declared.Reading.the-variants.{Numbers, Refused}
-use Rattle.text.proofs.Handed.{front-entries}
+use Rattle.text.proofs.OnceRead.{Standing, stands}
 use Rattle.decimal.proofs.Placing.{puts-as}
 use Rattle.query_text.specs.Printed.{sheetReading, printed}
 use Rattle.query_text.specs.Inner.SheetTable.{SheetNumbers}
@@ -20,24 +18,13 @@ use borrow.Author.Needs.{needs}
 use Rattle.query_text.proofs.sheet_text.print_text.Statement.{statement}
 use Rattle.query_text.proofs.sheet_text.print_text.Tie as tie
 
--- what stands in the space for the numbers after `read_sheet`
-module _ (r : tie.After-read-sheet) where
-  abbrev begun : tie.Start
-  begun = r .before .before .before .before .before
-
-  abbrev stood : List ℤ
-  stood = r .read-sheet .last .1 .1 .0
-
-  left : (x : Reading) → r .read-sheet .result ≡ x → stood ≡ leftBy x (numbers (pieces (begun .args .text .now))) (begun .args .ns .now)
-  left x e = r .read-sheet .ensures .1 ∙ ap (λ (y : Reading). leftBy y (numbers (pieces (begun .args .text .now))) (begun .args .ns .now)) e
-
 -- the numbers that were read
 module _ (d : tie.After-known-told2) where
   abbrev read : tie.After-read-sheet
   read = d .before .before .before .before
 
   abbrev start : tie.Start
-  start = d .before .before .before .before .before .before .before .before .before
+  start = read .before .before .before .before .before
 
   abbrev all : List ℤ
   all = numbers (pieces (start .args .text .now))
@@ -51,16 +38,16 @@ module _ (d : tie.After-known-told2) where
   whole : Whole all count
   whole = whole-reading (start .args .longer) (start .args .text .now) count (sym numbered)
 
-  front : take count (stood read) ≡ take count all
-  front =
-      ap (take count) (left read (Numbers count) (d .before .read2 .given .1))
-      ∙ front-entries all (start .args .ns .now) count (omega (arith, whole .all, whole .symbol .whole)) (omega (arith, whole .all))
+  abbrev stood : List ℤ
+  stood = read .read-sheet .last .1 .1 .0
 
-  whole-front : SheetNumbers (take count (stood read))
-  whole-front = subst SheetNumbers (sym (front ∙ take-all count all (omega (arith, whole .all)))) (whole .symbol)
+  standing : Standing all 5119 count stood
+  standing =
+      stands (start .args .ns .now) (omega (arith, whole .all, whole .symbol .whole)) (whole .most) (omega (arith, whole .all)) (read .read-sheet .ensures .1)
+      (d .before .read2 .given .1)
 
-  room : count ≤ length (stood read)
-  room = omega (arith, whole .most, d .before .before .before .ns .given, start .pre .0)
+  whole-front : SheetNumbers (take count stood)
+  whole-front = subst SheetNumbers (sym (standing .front ∙ take-all count all (omega (arith, whole .all)))) (whole .symbol)
 
 read-sheet-requires : tie.Need-read-sheet-requires
 read-sheet-requires c κs = search needs
@@ -75,15 +62,15 @@ enum-known-read-2 : tie.Need-enum-known-read-2
 enum-known-read-2 c = search needs
 
 slice-reshare-prefix-print-sheet : tie.Need-slice-reshare-prefix-print-sheet
-slice-reshare-prefix-print-sheet c = room c
+slice-reshare-prefix-print-sheet c = standing c .inside
 
 slice-aggregate-print-sheet : tie.Need-slice-aggregate-print-sheet
-slice-aggregate-print-sheet c = sym (length-take-le (count (c .before)) (stood (read (c .before))) (room (c .before)))
+slice-aggregate-print-sheet c = standing (c .before) .long
 
 print-sheet-requires : tie.Need-print-sheet-requires
 print-sheet-requires c κs =
     let d = c .before .before .before .before .before in
-    (whole-front d, d .before .before .before .before .before .before .before .before .before .pre .1)
+    (whole-front d, start d .pre .1)
 
 same-length : tie.Need-same-length
 same-length c = search needs
@@ -93,11 +80,11 @@ same-length-2 c = search needs
 
 returns : tie.Need-returns
 returns c =
-    let r = c .before .before .before .before .before .before .before .before in
+    let a = c .before .before .before .before .before in
+    let r = a .before .before .before in
     let s = r .before .before .before .before .before in
-    let told = c .before .before .before .before .before .read .given in
-    let x = Refused (told .0 .0) in
-    let e = sym (told .1) ∙ r .read-sheet .ensures .0 in
+    let x = Refused (a .read .given .0 .0) in
+    let e = sym (a .read .given .1) ∙ r .read-sheet .ensures .0 in
     puts-as (by-reading (s .args .longer) (s .args .text .now) x e) (c .before .before .refusal-line .ensures)
 
 same-length-3 : tie.Need-same-length-3
@@ -117,10 +104,10 @@ same-length-7 c = search needs
 
 returns-2 : tie.Need-returns-2
 returns-2 c =
-    let d = c .before .before .before .before .before .before .before .before .before .before .before .before in
-    let s = d .before .before .before .before .before .before .before .before .before in
-    let l = c .before .before .before .before .before .before .print-sheet .ensures in
-    puts-as (ap printed (front d) ∙ by-reading (s .args .longer) (s .args .text .now) (Numbers (count d)) (numbered d)) l
+    let l = c .before .before .before .before .before .before in
+    let d = l .before .before .before .before .before .before in
+    let s = start d in
+    puts-as (ap printed (standing d .front) ∙ by-reading (s .args .longer) (s .args .text .now) (Numbers (count d)) (numbered d)) (l .print-sheet .ensures)
 
 pub print-text-spec : {M : Type 1} → statement M
 print-text-spec =

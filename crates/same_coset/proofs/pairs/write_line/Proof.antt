@@ -1,8 +1,7 @@
 -- `write_line` puts the line of each answer, whose numbers fit. Assumes nothing.
 use mathlib.Core.Path.{_∙_}
-use Rattle.matrix.proofs.Bounds.{kept}
 use Rattle.call.specs.declared.Decision.the-variants as decision
-use Rattle.same_coset.proofs.Lines.{line-is, line-refused}
+use Rattle.same_coset.proofs.Lines.{line-is}
 use borrow.Author.Needs.{needs}
 use Rattle.same_coset.proofs.pairs.write_line.Statement.{statement}
 use Rattle.same_coset.proofs.pairs.write_line.Tie as tie
@@ -22,14 +21,12 @@ put-two-requires-2 c κs = search needs
 enum-known-answer : tie.Need-enum-known-answer
 enum-known-answer c = search needs
 
-signed-requires : tie.Need-signed-requires
-signed-requires c κs = c .before .before .before .before .pre .1 .refused _ (c .before .before .answer .given .1) .0
-
-signed-requires-2 : tie.Need-signed-requires-2
-signed-requires-2 c κs = c .before .before .before .before .before .pre .1 .refused _ (c .before .before .before .answer .given .1) .1
-
-put-two-requires-3 : tie.Need-put-two-requires-3
-put-two-requires-3 c κs = search needs
+put-refusal-requires : tie.Need-put-refusal-requires
+put-refusal-requires c κs =
+    let k = c .before .before in
+    let st = k .before .before in
+    let f = st .pre .1 .refused _ (k .answer .given .1) in
+    (st .pre .0, f .0, f .1)
 
 same-length : tie.Need-same-length
 same-length c = search needs
@@ -52,13 +49,9 @@ same-length-3 c = search needs
 
 returns-3 : tie.Need-returns-3
 returns-3 c =
-    let p = c .before .before .signed2 in
-    let n = c .before .before .before .signed in
-    let k = c .before .before .before .before .before .before in
+    let k = c .before .before .before .before in
     let st = k .before .before in
-    c .before .put-two3 .ensures
-    ∙ line-refused (st .args .i) (st .args .lines .now) (st .args .answer) _ (k .answer .given .1) _ _ (kept (n .result) (n .ok) ∙ n .ensures)
-    (kept (p .result) (p .ok) ∙ p .ensures)
+    c .before .put-refusal .ensures ∙ line-is (st .args .i) (st .args .lines .now) (st .args .answer) (decision.Refused _) (k .answer .given .1)
 
 pub write-line-spec : {M : Type 1} → statement M
 write-line-spec =
@@ -69,9 +62,7 @@ write-line-spec =
     enum-told-2
     put-two-requires-2
     enum-known-answer
-    signed-requires
-    signed-requires-2
-    put-two-requires-3
+    put-refusal-requires
     same-length
     returns
     same-length-2

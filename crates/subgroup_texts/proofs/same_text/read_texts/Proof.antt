@@ -9,16 +9,13 @@ use lib.ListN.{length, take, length-drop}
 use lib.Seq.{length-take-le}
 use Rattle.call.specs.Refusal.{badVertexCount}
 use Rattle.call.specs.declared.refusal.Refusal.{Refusal}
-use Rattle.text.specs.Reading.{symbolFormat}
-use Rattle.text.specs.Inner.Inside.{leftBy}
-use Rattle.text.specs.declared.Reading.{Reading}
 use Rattle.text.specs.declared.Reading.the-variants as reading
-use Rattle.text.proofs.Handed.{Handed, handed-on, front-entries}
+use Rattle.text.proofs.OnceRead.{Standing}
 use Rattle.text.specs.Piece.{pieces, numbers}
 use Rattle.subgroup_texts.specs.SameAnswer.{cutAt, firstText, secondText, firstReading, secondReading, two, none, inWhole}
 use Rattle.subgroup_texts.specs.declared.same_text.TwoReading.the-variants.{Numbers, Refused}
 use Rattle.subgroup_texts.proofs.SamePlaces.{refused-place}
-use Rattle.subgroup_texts.proofs.SameReadings.{outcome, first-told, first-left, second-told, second-left, few, enough, counts, no-counts}
+use Rattle.subgroup_texts.proofs.SameReadings.{PartRead, part-as, second-is, outcome, few, enough, counts, no-counts}
 use borrow.Author.Needs.{needs}
 use Rattle.subgroup_texts.proofs.same_text.read_texts.Statement.{statement}
 use Rattle.subgroup_texts.proofs.same_text.read_texts.Tie as tie
@@ -45,40 +42,25 @@ module _ (r : tie.After-read) where
   abbrev parted : tie.After-part-end
   parted = r .before .before .before
 
-  told : r .read .result ≡ firstReading (text parted)
-  told = first-told (text parted) (at parted) (cut parted) (r .read .ensures .0) (start parted .pre .1)
-
   abbrev stood : List ℤ
   stood = r .read .last .1 .1 .0
 
-  left : (x : Reading) → r .read .result ≡ x → stood ≡ leftBy x (numbers (pieces (firstText (text parted)))) (start parted .args .one .now)
-  left x e = first-left (text parted) (at parted) (cut parted) x (start parted .args .one .now) e (r .read .ensures .1)
+  first-read : PartRead (firstText (text parted)) (r .read .result) stood
+  first-read = part-as (start parted .args .one .now) (start parted .pre .1) (ap (λ (n : ℕ). take n (text parted)) (cut parted)) (r .read .ensures)
 
 -- the first text's numbers
 module _ (f : tie.After-first2) where
   abbrev read1 : tie.After-read
   read1 = f .before .before .before
 
-  abbrev ns : List ℤ
-  ns = numbers (pieces (firstText (text (parted read1))))
-
   abbrev count : ℕ
   count = f .first2 .given .0 .0
 
   numbered : reading.Numbers count ≡ firstReading (text (parted read1))
-  numbered = sym (f .first2 .given .1) ∙ told read1
+  numbered = sym (f .first2 .given .1) ∙ first-read read1 .told
 
-  some-numbers : Handed ns 3071 count
-  some-numbers = handed-on symbolFormat (firstText (text (parted read1))) 3071 count (omega arith) numbered
-
-  numbers-left : stood read1 ≡ leftBy (reading.Numbers count) ns (start (parted read1) .args .one .now)
-  numbers-left = left read1 (reading.Numbers count) (f .first2 .given .1)
-
-  front : take count (stood read1) ≡ take count ns
-  front = ap (take count) numbers-left ∙ front-entries ns (start (parted read1) .args .one .now) count (some-numbers .some-one) (some-numbers .there)
-
-  within : count ≤ length (stood read1)
-  within = omega (arith, some-numbers .fitting, f .before .before .one .given, start (parted read1) .pre .1)
+  ones : Standing (numbers (pieces (firstText (text (parted read1))))) 3071 count (stood read1)
+  ones = first-read read1 .standing count (f .first2 .given .1)
 
 -- the second reading
 module _ (q : tie.After-read2) where
@@ -91,41 +73,22 @@ module _ (q : tie.After-read2) where
   several : 2 ≤ count first
   several = omega (arith, q .before .before .before .if1 .left)
 
-  told2 : q .read2 .result ≡ secondReading (text begun)
-  told2 = second-told (text begun) (at begun) (cut begun) (q .read2 .ensures .0) (start begun .pre .2)
-
   abbrev stood2 : List ℤ
   stood2 = q .read2 .last .1 .1 .0
 
-  left2 : (x : Reading) → q .read2 .result ≡ x → stood2 ≡ leftBy x (numbers (pieces (secondText (text begun)))) (start begun .args .other .now)
-  left2 x e = second-left (text begun) (at begun) (cut begun) x (start begun .args .other .now) e (q .read2 .ensures .1)
+  second-read : PartRead (secondText (text begun)) (q .read2 .result) stood2
+  second-read = part-as (start begun .args .other .now) (start begun .pre .2) (second-is (text begun) (at begun) (cut begun)) (q .read2 .ensures)
 
 -- the second text's numbers
 module _ (d : tie.After-second2) where
   abbrev read2 : tie.After-read2
   read2 = d .before .before .before
 
-  abbrev ms : List ℤ
-  ms = numbers (pieces (secondText (text (begun read2))))
-
   abbrev count2 : ℕ
   count2 = d .second2 .given .0 .0
 
-  numbered2 : reading.Numbers count2 ≡ secondReading (text (begun read2))
-  numbered2 = sym (d .second2 .given .1) ∙ told2 read2
-
-  some-numbers2 : Handed ms 3071 count2
-  some-numbers2 = handed-on symbolFormat (secondText (text (begun read2))) 3071 count2 (omega arith) numbered2
-
-  numbers-left2 : stood2 read2 ≡ leftBy (reading.Numbers count2) ms (start (begun read2) .args .other .now)
-  numbers-left2 = left2 read2 (reading.Numbers count2) (d .second2 .given .1)
-
-  front2 : take count2 (stood2 read2) ≡ take count2 ms
-  front2 = ap (take count2) numbers-left2
-      ∙ front-entries ms (start (begun read2) .args .other .now) count2 (some-numbers2 .some-one) (some-numbers2 .there)
-
-  within2 : count2 ≤ length (stood2 read2)
-  within2 = omega (arith, some-numbers2 .fitting, d .before .before .other .given, start (begun read2) .pre .2)
+  others : Standing (numbers (pieces (secondText (text (begun read2))))) 3071 count2 (stood2 read2)
+  others = second-read read2 .standing count2 (d .second2 .given .1)
 
 part-end-requires : tie.Need-part-end-requires
 part-end-requires c κs = search needs
@@ -173,7 +136,8 @@ moved-requires c κs =
     let q = g .before .before .before in
     let p = begun q in
     let short : length (secondText (text p)) ≤ 65536 = omega (arith, length-drop (cutAt (text p)) (text p), start p .pre .0) in
-    omega (arith, inside p, start p .pre .0, refused-place (secondText (text p)) (g .second .given .0 .0) short (sym (g .second .given .1) ∙ told2 q))
+    let place = refused-place (secondText (text p)) (g .second .given .0 .0) short (sym (g .second .given .1) ∙ second-read q .told) in
+    omega (arith, inside p, start p .pre .0, place)
 
 enum-known-second-2 : tie.Need-enum-known-second-2
 enum-known-second-2 c = search needs
@@ -188,7 +152,7 @@ returns-2 c =
     let p = parted r in
     let f = k .first .given .0 .0 in
     let x = reading.Refused f in
-    outcome (text p) (start p .pre .0) x (sym (k .first .given .1) ∙ told r) (Refused f) refl (no-counts f)
+    outcome (text p) (start p .pre .0) x (sym (k .first .given .1) ∙ first-read r .told) (Refused f) refl (no-counts f)
 
 same-length-3 : tie.Need-same-length-3
 same-length-3 c = search needs
@@ -204,7 +168,7 @@ returns-3 c =
     let p = begun q in
     let refusal = g .second .given .0 .0 in
     let x = reading.Refused refusal in
-    let e = sym (g .second .given .1) ∙ told2 q in
+    let e = sym (g .second .given .1) ∙ second-read q .told in
     let place = ap (λ (a : Refusal). none a) (c .moved .ensures ∙ ap (λ (n : ℕ). inWhole n refusal) (cut p)) in
     outcome (text p) (start p .pre .0) (reading.Numbers (count f)) (numbered f) (Refused (c .moved .result))
     (place ∙ enough (text p) (count f) (several q) x e) (no-counts (c .moved .result))
@@ -222,16 +186,13 @@ returns-4 c =
     let f = first q in
     let p = begun q in
     let x = reading.Numbers (count2 d) in
-    let pair : two (take (count f) (stood (read1 f))) (take (count2 d) (stood2 q)) ≡ two (take (count f) (ns f)) (take (count2 d) (ms d)) =
-    ap (λ (l : List ℤ). two l (take (count2 d) (stood2 q))) (front f) ∙ ap (two (take (count f) (ns f))) (front2 d) in
+    let ns = take (count f) (numbers (pieces (firstText (text p)))) in
+    let ms = take (count2 d) (numbers (pieces (secondText (text p)))) in
+    let pair : two (take (count f) (stood (read1 f))) (take (count2 d) (stood2 q)) ≡ two ns ms =
+    ap (λ (l : List ℤ). two l (take (count2 d) (stood2 q))) (ones f .front) ∙ ap (two ns) (others d .front) in
     outcome (text p) (start p .pre .0) (reading.Numbers (count f)) (numbered f) (Numbers (count f) (count2 d))
-    (pair ∙ enough (text p) (count f) (several q) x (numbered2 d))
-    (counts (record {
-      some = some-numbers f .some-one;
-      most = some-numbers f .fitting;
-      some' = some-numbers2 d .some-one;
-      most' = some-numbers2 d .fitting;
-    }))
+    (pair ∙ enough (text p) (count f) (several q) x (sym (d .second2 .given .1) ∙ second-read q .told))
+    (counts (record { some = ones f .some-one; most = ones f .fitting; some' = others d .some-one; most' = others d .fitting }))
 
 pub read-texts-spec : {M : Type 1} → statement M
 read-texts-spec =

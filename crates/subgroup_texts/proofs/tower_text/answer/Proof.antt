@@ -1,16 +1,12 @@
 -- `answer` meets its contract: each answer of `read_tower` has its bytes. Assumes nothing.
 use mathlib.Core.Path.{_≡_, sym, ap, _∙_}
 use mathlib.Core.List.{List}
-use Prim.Native.Nat.{ℕ, _≤_}
+use Prim.Native.Nat.{ℕ}
 use native.Mathlib.Omega.{arith}
 use lib.IntN.{ℤ}
-use lib.ListN.{length, take}
-use lib.Seq.{length-take-le}
 use Rattle.text.specs.Piece.{pieces, numbers}
-use Rattle.text.specs.Inner.Inside.{leftBy}
-use Rattle.text.specs.declared.Reading.{Reading}
 use Rattle.text.specs.declared.Reading.the-variants.{Numbers, Refused}
-use Rattle.text.proofs.Handed.{front-entries}
+use Rattle.text.proofs.OnceRead.{Standing, stands}
 use Rattle.decimal.proofs.Placing.{puts-as}
 use Rattle.subgroup_texts.specs.TowerAnswer.{towerReading, towerAnswer, towerLine}
 use Rattle.subgroup_texts.proofs.TowerReadings.{All, all-reading}
@@ -42,13 +38,8 @@ module _ (d : tie.After-read2) where
   whole : All all count
   whole = all-reading (start .args .longer) (start .args .text .now) count (sym numbered)
 
-  front : take count stood ≡ take count all
-  front =
-      ap (take count) (read .read-tower .ensures .1 ∙ ap (λ (y : Reading). leftBy y all _) (d .read2 .given .1))
-      ∙ front-entries all _ count (omega (arith, whole .all, whole .some)) (omega (arith, whole .all))
-
-  room : count ≤ length stood
-  room = omega (arith, whole .most, d .before .before .ns2 .given)
+  standing : Standing all 32768 count stood
+  standing = stands _ (whole .some) (whole .most) (omega (arith, whole .all)) (read .read-tower .ensures .1) (d .read2 .given .1)
 
 slice-aggregate-read-tower : tie.Need-slice-aggregate-read-tower
 slice-aggregate-read-tower c = search needs
@@ -66,15 +57,15 @@ enum-known-read-2 : tie.Need-enum-known-read-2
 enum-known-read-2 c = search needs
 
 array-share-prefix-ns : tie.Need-array-share-prefix-ns
-array-share-prefix-ns c = room (c .before)
+array-share-prefix-ns c = standing (c .before) .inside
 
 slice-aggregate-tower-numbers : tie.Need-slice-aggregate-tower-numbers
-slice-aggregate-tower-numbers c = let d = c .before .before in sym (length-take-le (count d) (stood d) (room d))
+slice-aggregate-tower-numbers c = standing (c .before .before) .long
 
 tower-numbers-requires : tie.Need-tower-numbers-requires
 tower-numbers-requires c κs =
     let d = c .before .before .before in
-    (omega (arith, length-take-le (count d) (stood d) (room d), whole d .some), start d .pre)
+    (omega (arith, standing d .long, standing d .some-one), start d .pre)
 
 same-length : tie.Need-same-length
 same-length c = search needs
@@ -95,7 +86,8 @@ returns-2 : tie.Need-returns-2
 returns-2 c =
     let d = c .before .before .before .before .before .before in
     let s = start d in
-    puts-as (ap (λ (m : List ℤ). towerLine (towerAnswer m)) (front d) ∙ by-reading (s .args .longer) (s .args .text .now) (Numbers (count d)) (numbered d))
+    puts-as (ap (λ (m : List ℤ). towerLine (towerAnswer m)) (standing d .front)
+    ∙ by-reading (s .args .longer) (s .args .text .now) (Numbers (count d)) (numbered d))
     (c .before .before .tower-numbers .ensures)
 
 pub answer-spec : {M : Type 1} → statement M

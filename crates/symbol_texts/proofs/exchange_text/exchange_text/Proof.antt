@@ -1,66 +1,39 @@
--- `exchange_text`: each answer of `read_input` has its lines (`lines-by`). Assumes nothing.
-use mathlib.Core.Path.{_≡_, sym, ap, _∙_}
+-- `exchange_text`: each answer of `read_symbol` has its lines (`by-input`, `by-standing`). Assumes nothing.
 use mathlib.Core.List.{List}
 use Prim.Native.Nat.{ℕ}
 use native.Mathlib.Omega.{arith}
 use lib.IntN.{ℤ}
-use lib.ListN.{take}
-use lib.Seq.{length-take-le}
 use Rattle.text.specs.Piece.{pieces, numbers}
-use Rattle.text.specs.Reading.{inputOf}
-use Rattle.text.specs.Inner.Inside.{leftBy}
-use Rattle.text.specs.declared.Reading.{Reading}
-use Rattle.text.specs.declared.Reading.the-variants.{Numbers, Refused}
-use Rattle.text.proofs.Handed.{Handed, input-on, front-entries}
+use Rattle.text.specs.Line.{refusalLine}
+use Rattle.text.specs.declared.Reading.the-variants.{Refused}
+use Rattle.text.proofs.OnceRead.{Standing, input-numbers, by-input, by-standing}
 use Rattle.decimal.proofs.Placing.{puts-as}
-use Rattle.symbol_texts.specs.ExchangeAnswer.{exchangeLinesOf, exchangeFormat}
-use Rattle.symbol_texts.proofs.ExchangePrinting.{lines-by}
+use Rattle.symbol_texts.specs.ExchangeAnswer.{exchangeLinesOf, exchangeFormat, exchangedText}
 use borrow.Author.Needs.{needs}
 use Rattle.symbol_texts.proofs.exchange_text.exchange_text.Statement.{statement}
 use Rattle.symbol_texts.proofs.exchange_text.exchange_text.Tie as tie
 
--- what was read, and what then stands in the space for the numbers
-module _ (r : tie.After-read-input) where
-  abbrev begun : tie.Start
-  begun = r .before .before .before .before
-
-  answer : r .read-input .result ≡ inputOf (begun .args .longer) exchangeFormat (begun .args .text .now) 3073
-  answer = r .read-input .ensures .0 ∙ ap (inputOf (begun .args .longer) exchangeFormat (begun .args .text .now)) (begun .pre .0)
-
-  abbrev stood : List ℤ
-  stood = r .read-input .last .1 .1 .1 .0
-
-  left : (x : Reading) → r .read-input .result ≡ x → stood ≡ leftBy x (numbers (pieces (begun .args .text .now))) (begun .args .numbers .now)
-  left x e = r .read-input .ensures .1 ∙ ap (λ (y : Reading). leftBy y (numbers (pieces (begun .args .text .now))) (begun .args .numbers .now)) e
+abbrev begun : tie.After-read-symbol → tie.Start
+begun r = r .before .before .before .before
 
 -- the numbers of the text, k of them
 module _ (d : tie.After-known-told2) where
-  abbrev read : tie.After-read-input
+  abbrev read : tie.After-read-symbol
   read = d .before .before .before .before
 
   abbrev s : tie.Start
   s = begun read
 
-  abbrev all : List ℤ
-  all = numbers (pieces (s .args .text .now))
-
   abbrev k : ℕ
   k = d .before .read2 .given .0 .0
 
-  counted : Numbers k ≡ inputOf (s .args .longer) exchangeFormat (s .args .text .now) 3073
-  counted = sym (d .before .read2 .given .1) ∙ answer read
+  standing : Standing (numbers (pieces (s .args .text .now))) 3073 k (read .read-symbol .last .1 .1 .1 .0)
+  standing =
+      input-numbers (s .args .longer) exchangeFormat (s .args .text .now) (s .args .numbers .now) (s .pre .0) (read .read-symbol .ensures) (omega arith) k
+      (d .before .read2 .given .1)
 
-  handed : Handed all 3073 k
-  handed = input-on (s .args .longer) exchangeFormat (s .args .text .now) 3073 k (omega arith) counted
-
-  kept-numbers : stood read ≡ leftBy (Numbers k) all (s .args .numbers .now)
-  kept-numbers = left read (Numbers k) (d .before .read2 .given .1)
-
-  front : take k (stood read) ≡ take k all
-  front = ap (take k) kept-numbers ∙ front-entries all (s .args .numbers .now) k (handed .some-one) (handed .there)
-
-read-input-requires : tie.Need-read-input-requires
-read-input-requires c κs = search needs
+read-symbol-requires : tie.Need-read-symbol-requires
+read-symbol-requires c κs = search needs
 
 enum-known-read : tie.Need-enum-known-read
 enum-known-read c = search needs
@@ -72,12 +45,10 @@ enum-known-read-2 : tie.Need-enum-known-read-2
 enum-known-read-2 c = search needs
 
 slice-reshare-prefix-exchange-numbers : tie.Need-slice-reshare-prefix-exchange-numbers
-slice-reshare-prefix-exchange-numbers c = omega (arith, handed c .fitting, c .before .before .before .numbers .given, s c .pre .0)
+slice-reshare-prefix-exchange-numbers c = standing c .inside
 
 slice-aggregate-exchange-numbers : tie.Need-slice-aggregate-exchange-numbers
-slice-aggregate-exchange-numbers c =
-    let d = c .before in
-    sym (length-take-le (k d) (stood (read d)) (omega (arith, handed d .fitting, d .before .before .before .numbers .given, s d .pre .0)))
+slice-aggregate-exchange-numbers c = standing (c .before) .long
 
 exchange-numbers-requires : tie.Need-exchange-numbers-requires
 exchange-numbers-requires c κs = search needs
@@ -89,13 +60,13 @@ same-length-2 : tie.Need-same-length-2
 same-length-2 c = search needs
 
 returns : tie.Need-returns
+unfolding exchangedText
 returns c =
     let told = c .before .before .before .before .before .read .given in
     let r = c .before .before .before .before .before .before .before .before in
     let b = begun r in
-    let x = Refused (told .0 .0) in
-    let e = sym (told .1) ∙ answer r in
-    puts-as (lines-by (b .args .longer) (b .args .text .now) x e) (c .before .before .refusal-line .ensures)
+    puts-as (by-input (b .args .longer) exchangeFormat (b .args .text .now) (b .args .numbers .now) (b .pre .0) (r .read-symbol .ensures) exchangeLinesOf
+    refusalLine (Refused (told .0 .0)) (told .1)) (c .before .before .refusal-line .ensures)
 
 same-length-3 : tie.Need-same-length-3
 same-length-3 c = search needs
@@ -107,18 +78,19 @@ same-length-5 : tie.Need-same-length-5
 same-length-5 c = search needs
 
 returns-2 : tie.Need-returns-2
+unfolding exchangedText
 returns-2 c =
     let l = c .before .before .before in
     let d = l .before .before .before .before in
     let b = s d in
-    let x = Numbers (k d) in
-    puts-as (ap exchangeLinesOf (front d) ∙ lines-by (b .args .longer) (b .args .text .now) x (counted d)) (l .exchange-numbers .ensures)
+    puts-as (by-standing (b .args .longer) exchangeFormat (b .args .text .now) (b .args .numbers .now) (b .pre .0) (read d .read-symbol .ensures)
+    exchangeLinesOf refusalLine (omega arith) (k d) (d .before .read2 .given .1)) (l .exchange-numbers .ensures)
 
 pub exchange-text-spec : {M : Type 1} → statement M
 exchange-text-spec =
     tie.close
     (tie.spec
-    read-input-requires
+    read-symbol-requires
     enum-known-read
     refusal-line-requires
     enum-known-read-2

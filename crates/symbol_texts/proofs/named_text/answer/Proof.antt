@@ -1,65 +1,44 @@
 -- `answer` meets its contract: what the text asks for is known by the answer of `read_input`. Assumes nothing.
-use mathlib.Core.Path.{_≡_, sym, ap, _∙_}
+use mathlib.Core.Path.{_≡_, refl}
 use mathlib.Core.Bool.{Bool}
 use native.Mathlib.Omega.{arith}
 use mathlib.Core.List.{List}
 use Prim.Native.Nat.{ℕ}
-use lib.IntN.{ℤ, pos}
-use lib.ListN.{length, take, replicate}
-use lib.Seq.{length-take-le}
+use lib.IntN.{pos}
+use lib.ListN.{take, replicate}
+use Rattle.call.specs.declared.refusal.Refusal.{Refusal}
 use Rattle.text.specs.Piece.{pieces, numbers}
-use Rattle.text.specs.Reading.{inputOf, byReading}
-use Rattle.text.specs.Inner.Inside.{leftBy}
-use Rattle.text.specs.declared.Reading.{Reading}
-use Rattle.text.specs.declared.Reading.the-variants.{Numbers}
-use Rattle.text.proofs.Handed.{Handed, input-on}
+use Rattle.text.specs.declared.Reading.the-variants.{Numbers, Refused}
+use Rattle.text.proofs.OnceRead.{Standing, input-numbers, by-input, by-standing}
 use Rattle.decimal.proofs.Placing.{puts-as}
-use Rattle.symbol_texts.proofs.ImportAnswering.{handed-numbers}
 use Rattle.symbol_texts.specs.NamedAnswer.{namedFormat, refused, groupIn, groupRequest}
-use Rattle.symbol_texts.proofs.NamedAsked.{asked-by, lines-as}
+use Rattle.symbol_texts.proofs.NamedAsked.{lines-as}
 use borrow.Author.Needs.{needs}
 use Rattle.symbol_texts.proofs.named_text.answer.Statement.{statement}
 use Rattle.symbol_texts.proofs.named_text.answer.Tie as tie
 
--- after `read_input`: what the text asks for, and what is left of the numbers
-module _ (d : tie.After-read-input) where
-  abbrev start : tie.Start
-  start = d .before .before .before .before
+abbrev start : tie.After-read-input → tie.Start
+start d = d .before .before .before .before
 
+-- what the text asks for, by what was read
+module _ (d : tie.After-read-input) where
   abbrev text : List ℕ
-  text = start .args .text .now
+  text = start d .args .text .now
 
   abbrev longer : Bool
-  longer = start .args .longer
+  longer = start d .args .longer
 
-  told : d .read-input .result ≡ inputOf longer namedFormat text 2
-  told = d .read-input .ensures .0
+  asks-refused : (f : Refusal) → d .read-input .result ≡ Refused f → refused f ≡ groupRequest longer text
+  unfolding groupRequest
+  asks-refused f e = by-input longer namedFormat text (replicate 2 (pos 0)) refl (d .read-input .ensures) groupIn refused (Refused f) e
 
-  asks : (r : Reading) → d .read-input .result ≡ r → byReading groupIn refused r (numbers (pieces text)) ≡ groupRequest longer text
-  asks r e = asked-by longer text r (sym e ∙ told)
+  module _ (k : ℕ) (e : d .read-input .result ≡ Numbers k) where
+    standing : Standing (numbers (pieces text)) 2 k (d .read-input .last .1 .1 .1 .0)
+    standing = input-numbers longer namedFormat text (replicate 2 (pos 0)) refl (d .read-input .ensures) (omega arith) k e
 
--- the numbers that were read
-module _ (k : tie.After-read2) where
-  abbrev called : tie.After-read-input
-  called = k .before .before .before
-
-  abbrev count : ℕ
-  count = k .read2 .given .0 .0
-
-  some-numbers : Handed (numbers (pieces (text called))) 2 count
-  some-numbers = input-on (longer called) namedFormat (text called) 2 count (omega arith) (sym (k .read2 .given .1) ∙ told called)
-
-  abbrev stood : List ℤ
-  stood = called .read-input .last .1 .1 .1 .0
-
-  handed : take count stood ≡ take count (numbers (pieces (text called)))
-  handed =
-      ap (take count) (called .read-input .ensures .1
-      ∙ ap (λ (x : Reading). leftBy x (numbers (pieces (text called))) (replicate 2 (pos 0))) (k .read2 .given .1))
-      ∙ handed-numbers count (numbers (pieces (text called))) (replicate 2 (pos 0)) (some-numbers .there)
-
-  handed-length : length (take count stood) ≡ count
-  handed-length = ap length handed ∙ length-take-le count (numbers (pieces (text called))) (some-numbers .there)
+    asks : groupIn (take k (d .read-input .last .1 .1 .1 .0)) ≡ groupRequest longer text
+    unfolding groupRequest
+    asks = by-standing longer namedFormat text (replicate 2 (pos 0)) refl (d .read-input .ensures) groupIn refused (omega arith) k e
 
 slice-aggregate-read-input : tie.Need-slice-aggregate-read-input
 slice-aggregate-read-input c = search needs
@@ -77,10 +56,10 @@ enum-known-read-2 : tie.Need-enum-known-read-2
 enum-known-read-2 c = search needs
 
 array-share-prefix-numbers : tie.Need-array-share-prefix-numbers
-array-share-prefix-numbers c = omega (arith, some-numbers (c .before) .fitting, c .before .before .before .numbers2 .given)
+array-share-prefix-numbers c = let k = c .before in standing (k .before .before .before) _ (k .read2 .given .1) .inside
 
 slice-aggregate-group-numbers : tie.Need-slice-aggregate-group-numbers
-slice-aggregate-group-numbers c = sym (handed-length (c .before .before))
+slice-aggregate-group-numbers c = let k = c .before .before in standing (k .before .before .before) _ (k .read2 .given .1) .long
 
 group-numbers-requires : tie.Need-group-numbers-requires
 group-numbers-requires c κs = search needs
@@ -92,7 +71,7 @@ returns : tie.Need-returns
 returns c =
     let k = c .before .before .before .before .before in
     let d = k .before .before .before in
-    puts-as (lines-as (longer d) (text d) (asks d _ (k .read .given .1))) (c .before .before .refusal-line .ensures)
+    puts-as (lines-as (longer d) (text d) (asks-refused d _ (k .read .given .1))) (c .before .before .refusal-line .ensures)
 
 same-length-2 : tie.Need-same-length-2
 same-length-2 c = search needs
@@ -101,9 +80,8 @@ returns-2 : tie.Need-returns-2
 returns-2 c =
     let n = c .before .before in
     let k = n .before .before .before .before in
-    let d = called k in
-    let e = ap groupIn (handed k) ∙ asks d (Numbers (count k)) (k .read2 .given .1) in
-    puts-as (lines-as (longer d) (text d) e) (n .group-numbers .ensures)
+    let d = k .before .before .before in
+    puts-as (lines-as (longer d) (text d) (asks d _ (k .read2 .given .1))) (n .group-numbers .ensures)
 
 pub answer-spec : {M : Type 1} → statement M
 answer-spec =

@@ -2,12 +2,13 @@
 -- each time. Assumes nothing.
 use Prim.Native.Nat.{_-_}
 use native.Mathlib.Omega.{arith}
+use mathlib.Core.Bool.{false}
 use Rattle.matrix.specs.Words.{Q}
 use Rattle.polygon.specs.Cut.{places}
 use Rattle.coset.proofs.Positions.{positions}
 use Rattle.walk_runs.specs.Inner.Rounds.{RoundsListed, Closed, Opening}
 use Rattle.walk_runs.proofs.Blocks.{block-low}
-use Rattle.walk_runs.proofs.Counts.{forth-is}
+use Rattle.walk_runs.proofs.Counts.{block-is, block-count}
 use Rattle.walk_runs.proofs.Entering.{few-places, real-low, room, places-low, opening-none, position-more, opened}
 use borrow.Author.Needs.{needs}
 use Rattle.walk_runs.proofs.rounds.open_round.Statement.{statement}
@@ -33,14 +34,11 @@ slice-read-if1 c =
     let ok = c .before .before .before .before .pre .0 .tables .symbol in
     omega (arith, l .inv .0 .long, real-low ok (l .x) (l .inv .2 .real), few-places ok)
 
-forth-requires : tie.Need-forth-requires Inv-loop μ-loop
-forth-requires c κs = (c .before .before .before .before .before .pre .0, c .before .before .loop .inv .2 .real)
+block-end-requires : tie.Need-block-end-requires Inv-loop μ-loop
+block-end-requires c κs = (c .before .before .before .before .before .pre .0, c .before .before .loop .inv .2 .real)
 
-letters-forth-requires : tie.Need-letters-forth-requires Inv-loop μ-loop
-letters-forth-requires c κs =
-    let s = c .before .before .before .before .before .before in
-    let l = c .before .before .before .loop in
-    (s .pre .0, l .inv .2 .real, forth-is (s .args .v) (s .args .t .now) (l .x) (c .forth .result) (c .forth .ensures))
+letters-requires : tie.Need-letters-requires Inv-loop μ-loop
+letters-requires c κs = (c .before .before .before .before .before .before .pre .0, c .before .before .before .loop .inv .2 .real)
 
 add-index : tie.Need-add-index Inv-loop μ-loop
 add-index c =
@@ -62,32 +60,31 @@ index-requires c κs = search needs
 
 add-s : tie.Need-add-s Inv-loop μ-loop
 add-s c =
-    let s = c .before .before .before .before .before .before .before .before .before in
-    let l = c .before .before .before .before .before .before .loop in
-    let ok = s .pre .0 .tables .symbol in
+    let at-loop = c .before .before .before .before .before .before in
+    let l = at-loop .loop in
+    let ok = at-loop .before .before .before .pre .0 .tables .symbol in
+    let b = c .before .before .before .block-end in
+    let m = c .before .before .letters in
+    let more = block-count ok false (l .x) (b .result) (m .result) (b .ensures) (m .ensures) in
     let n = room ok (l .x) (l .inv .0) (l .inv .2 .real) (c .before .before .before .before .if1 .taken) in
     let sum = l .inv .0 .low (l .n) (omega arith) in
-    omega (arith, sum, n, few-places ok, c .index .ensures, c .before .before .letters-forth .ensures, block-low (positions ok .polygon) Q (l .x))
+    omega (arith, sum, n, few-places ok, c .index .ensures, more, block-low (positions ok .polygon) Q (l .x))
 
 enter-requires : tie.Need-enter-requires Inv-loop μ-loop
 enter-requires c κs =
-    let l = c .before .before .before .before .before .before .before .loop in
-    let ok = c .before .before .before .before .before .before .before .before .before .before .pre .0 .tables .symbol in
+    let at-loop = c .before .before .before .before .before .before .before in
+    let l = at-loop .loop in
+    let ok = at-loop .before .before .before .pre .0 .tables .symbol in
+    let b = c .before .before .before .before .block-end in
+    let m = c .before .before .before .letters in
+    let more = block-count ok false (l .x) (b .result) (m .result) (b .ensures) (m .ensures) in
     let n = room ok (l .x) (l .inv .0) (l .inv .2 .real) (c .before .before .before .before .before .if1 .taken) in
     let sum = l .inv .0 .low (l .n) (omega arith) in (
       l .inv .0 .long,
       omega (arith, real-low ok (l .x) (l .inv .2 .real), few-places ok),
       omega (arith, n, few-places ok),
       l .inv .2 .from,
-      omega (
-        arith,
-        sum,
-        n,
-        few-places ok,
-        c .before .index .ensures,
-        c .before .before .before .letters-forth .ensures,
-        block-low (positions ok .polygon) Q (l .x),
-      ),
+      omega (arith, sum, n, few-places ok, c .before .index .ensures, more, block-low (positions ok .polygon) Q (l .x)),
     )
 
 add-n : tie.Need-add-n Inv-loop μ-loop
@@ -95,19 +92,25 @@ add-n c = search needs
 
 loop-less : tie.Need-loop-less Inv-loop μ-loop
 loop-less c =
-    let l = c .before .before .before .before .before .before .before .before .before .before .loop in
-    let ok = c .before .before .before .before .before .before .before .before .before .before .before .before .before .pre .0 .tables .symbol in
-    omega (arith, room ok (l .x) (l .inv .0) (l .inv .2 .real) (c .before .before .before .before .before .before .before .before .if1 .taken))
+    let at-test = c .before .before .before .before .before .before .before .before in
+    let l = at-test .before .before .loop in
+    let ok = at-test .before .before .before .before .before .pre .0 .tables .symbol in
+    omega (arith, room ok (l .x) (l .inv .0) (l .inv .2 .real) (at-test .if1 .taken))
 
 loop-again : tie.Need-loop-again Inv-loop μ-loop
 loop-again c =
-    let s = c .before .before .before .before .before .before .before .before .before .before .before .before .before in
-    let l = c .before .before .before .before .before .before .before .before .before .before .loop in
-    let f = c .before .before .before .before .before .before .before .forth in
-    position-more (s .pre .0 .tables .symbol) (f .result) (l .inv .0) (l .inv .1) (l .inv .2)
-    (c .before .before .before .before .before .before .before .before .if1 .taken) (c .before .before .enter .ensures)
-    (omega (arith, c .before .before .before .before .index .ensures, c .before .before .before .before .before .before .letters-forth .ensures)) (forth-is
-    (s .args .v) (s .args .t .now) (l .x) (f .result) (f .ensures))
+    let entered = c .before .before in
+    let led = entered .before .before .before .before .before in
+    let at-test = led .before in
+    let s = at-test .before .before .before .before .before in
+    let l = at-test .before .before .loop in
+    let ok = s .pre .0 .tables .symbol in
+    let b = led .block-end in
+    let m = entered .before .before .before .before .letters in
+    let more = block-count ok false (l .x) (b .result) (m .result) (b .ensures) (m .ensures) in
+    position-more ok (b .result) (l .inv .0) (l .inv .1) (l .inv .2) (at-test .if1 .taken) (entered .enter .ensures)
+    (omega (arith, entered .before .before .index .ensures, more))
+    (block-is (s .args .v) (s .args .t .now) Q (l .x) (b .result) (b .ensures))
 
 same-length : tie.Need-same-length Inv-loop μ-loop
 same-length c = search needs
@@ -126,8 +129,8 @@ open-round-spec =
     loop-holds
     mul-if1
     slice-read-if1
-    forth-requires
-    letters-forth-requires
+    block-end-requires
+    letters-requires
     add-index
     mul-index
     slice-read-index
