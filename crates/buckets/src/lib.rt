@@ -1,6 +1,8 @@
 // A list of pairs of numbers in the work space, numbered as they are met. A pair is found again by its bucket: the
 // pairs of a bucket are in a chain, the last one first. specs/Inner/Pairs.antt says what stands in the work space. The
 // functions have `requires`, for they are called from inside the engine.
+#![tactic(auto)]
+
 ghost use Rattle.std.specs.Prelude.{◌≡◌, ◌≤◌, ◌<◌, length};
 ghost use Rattle.call.specs.Space.{work_length};
 ghost use Rattle.buckets.specs.Inner.Pairs.{buckets, bucket_of, BucketsBegun, SamePair, SeekPair};
@@ -19,7 +21,7 @@ pub const BEFORE: usize = 20480;
 pub const BUCKETS: usize = 4096;
 
 // What `enter` answers: the place of the pair, and how many there are now.
-#[derive(Drop)]
+#[derive(Clone, Copy)]
 pub struct Entry {
     pub place: usize,
     pub count: usize,

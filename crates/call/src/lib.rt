@@ -1,4 +1,6 @@
 // What all calls for users have in common (specs/Call.antt), and the answer of a call that says yes or no.
+#![tactic(auto)]
+
 ghost use Rattle.std.specs.Prelude.{◌≡◌};
 ghost use Rattle.call.specs.Inner.Fills.{decided};
 
@@ -8,7 +10,7 @@ pub mod refusal;
 pub mod workspace;
 
 // Yes, no, or why neither can be said.
-#[derive(Drop)]
+#[derive(Clone, Copy)]
 pub enum Decision {
     Yes,
     No,

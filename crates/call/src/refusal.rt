@@ -7,21 +7,21 @@ ghost use Rattle.std.specs.Prelude.{◌≡◌};
 ghost use Rattle.call.specs.Refusal.{checked_refusal};
 
 // A refusal's number and place. Where nothing is refused, both are 0.
-#[derive(Drop)]
+#[derive(Clone, Copy)]
 pub struct Refusal {
     pub number: u64,
     pub place: usize,
 }
 
 // The answer of checks.
-#[derive(Drop)]
+#[derive(Clone, Copy)]
 pub enum Checked {
     Accepted,
     Refused(Refusal),
 }
 
 // The answer of a call that fills a result space: how many things it made, or why it made none.
-#[derive(Drop)]
+#[derive(Clone, Copy)]
 pub enum Filled {
     Made(usize),
     Refused(Refusal),

@@ -5,7 +5,7 @@ ghost use Rattle.congruence.specs.Index.{index0, is_half_unit, half_units};
 ghost use Rattle.congruence.specs.Inner.Common.{Modulus, CommonOf};
 
 // The greatest common divisor g of N and a number c, a multiplier s with s c = g modulo N, and the part h = N / g.
-#[derive(Drop)]
+#[derive(Clone, Copy)]
 pub struct Common {
     pub g: u64,
     pub s: u64,

@@ -1,5 +1,7 @@
 // The equations that decide whether a subgroup is a congruence subgroup (congruence_decision/specs/Equations.antt), on
 // its cosets by their places in the order of the cusps. specs/Inner has what the functions promise.
+#![tactic(auto)]
+
 ghost use Rattle.std.specs.Prelude.{◌≡◌, true, ◌*◌, ◌≤◌, ◌<◌, ◌%◌};
 ghost use Rattle.figures.specs.Inner.Scan.{held_t};
 ghost use Rattle.same_coset.specs.Inner.Places.{Prepared, run_place};

@@ -2,6 +2,8 @@
 // numbers that tell the cosets apart (module `residues`), and found again by the bucket of these (crate `buckets`).
 // specs/Inner/Held.antt says what stands in the work space. The functions have `requires`, for they are called from
 // inside the engine.
+#![tactic(auto)]
+
 ghost use Rattle.std.specs.Prelude.{◌≡◌, ◌++◌, ◌+◌, ◌≤◌, ◌<◌, length, drop};
 ghost use Rattle.call.specs.Space.{work_length};
 ghost use Rattle.congruence.specs.Index.{family_index};

@@ -10,7 +10,7 @@ use congruence::Family;
 
 // A coset: of Γ one of its matrices modulo N; of Γ1 the bottom row (c d) of one, with zeros for a and b; of Γ0 such a
 // row, and for a and b the coordinates of the point (c : d).
-#[derive(Drop)]
+#[derive(Clone, Copy)]
 pub struct Residues {
     pub a: u64,
     pub b: u64,

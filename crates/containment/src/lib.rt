@@ -2,6 +2,7 @@
 // contains the second one's (`inclusion`), both by following one polygon in the other (`following`). specs/Group.antt
 // and specs/Contained.antt say what that means in coset tables, specs/Pairs.antt has the pairs of points of two tables,
 // which are the tables of the intersection.
+#![tactic(auto)]
 
 pub mod following;
 pub mod inclusion;

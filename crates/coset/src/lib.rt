@@ -1,6 +1,8 @@
 // The cosets of the subgroup that a symbol's side pairings generate: specs/Tables.antt has their numbering and the
 // tables of S, R and T, specs/Theorem.antt says what the tables are tables of, and specs/Answer.antt has the calls.
 // specs/Positions.antt has what a walk over the positions needs, and steps.rt builds it.
+#![tactic(auto)]
+
 ghost use Rattle.std.specs.Prelude.{◌≡◌, ◌++◌, ◌≤◌, length};
 ghost use Rattle.call.specs.Space.{work_length, zeros, entries};
 ghost use Rattle.call.specs.Call.{asks, work, stores};
@@ -135,7 +137,7 @@ pub fn widths(v: usize, t: &[i64], w: &mut [u16], out: &mut [u32]) -> Filled
 }
 
 // The answer of `figures`.
-#[derive(Drop)]
+#[derive(Clone, Copy)]
 pub enum Figured {
     Made(FigureRecord),
     // The table is no symbol, or the work space is too short.

@@ -1,5 +1,7 @@
 // Every coset knows its cusp: the number of its cusp, and its steps of T from the cusp's smallest point.
 // specs/Record.antt says what these are and how T moves them, specs/Answer.antt what `cusps` answers and leaves.
+#![tactic(auto)]
+
 ghost use Rattle.std.specs.Prelude.{◌≡◌, ◌++◌, ◌≤◌, ◌<◌, length};
 ghost use Rattle.call.specs.Space.{work_length, zeros, entries};
 ghost use Rattle.call.specs.Call.{stores};
@@ -23,7 +25,7 @@ pub const CUSPS: usize = 12288;
 pub const STEPS: usize = 0;
 
 // A cusp: its number, the place where it begins in the list of points by cusps, and its width.
-#[derive(Drop)]
+#[derive(Clone, Copy)]
 pub struct Cusp {
     pub number: usize,
     pub first: usize,

@@ -2,6 +2,8 @@
 //
 // A reader goes through the pieces of the text with one state for each thing that may come next, once with a semicolon
 // to come and once without; the place where the second of them is lost is the one where the text leaves the form.
+#![tactic(auto)]
+
 ghost use Rattle.std.specs.Prelude.{◌≡◌, true, false, not, [], ◌++◌, ◌+◌, ◌<◌, ◌≤◌, length, get_or, drop};
 ghost use Rattle.call.specs.Call.{asks, stores};
 ghost use Rattle.call.specs.Inner.Fills.{Fills, made_if};
@@ -43,7 +45,7 @@ const OVER: u8 = 6;
 const STOP: u8 = 7;
 
 // A whole run of digits as its number, or one other byte.
-#[derive(Drop)]
+#[derive(Clone, Copy)]
 pub enum Piece {
     Number(u64),
     Blank,
@@ -55,14 +57,14 @@ pub enum Piece {
 }
 
 // A piece, and where it ends.
-#[derive(Drop)]
+#[derive(Clone, Copy)]
 pub struct Found {
     pub piece: Piece,
     pub to: usize,
 }
 
 // The number that a run of digits says, and where the run ends.
-#[derive(Drop)]
+#[derive(Clone, Copy)]
 pub struct Digits {
     pub value: u64,
     pub to: usize,
@@ -70,7 +72,7 @@ pub struct Digits {
 
 // What is known of a permutation: its phase; whether a cycle is under way, with its first and its last point; how many
 // points were named. Points count from 0 here.
-#[derive(Drop)]
+#[derive(Clone, Copy)]
 pub struct Part {
     pub phase: u8,
     pub going: bool,
@@ -81,7 +83,7 @@ pub struct Part {
 
 // How a permutation was read: a piece begins here after which no text can go on; it was over before the piece that
 // begins here; or the text has come to its end, where it may be over or not.
-#[derive(Drop)]
+#[derive(Clone, Copy)]
 pub enum PartEnd {
     Lost(usize),
     Over(usize),
@@ -89,7 +91,7 @@ pub enum PartEnd {
 }
 
 // What one of the two readers says: it came through, or it is lost at this place, or the text stops short of it.
-#[derive(Drop)]
+#[derive(Clone, Copy)]
 pub enum Solo {
     Through,
     Fails(usize),
@@ -97,7 +99,7 @@ pub enum Solo {
 
 // What is said of a text: its index, and its permutations are in the two tables; a number out of range for an index; or
 // the place where it leaves the form.
-#[derive(Drop)]
+#[derive(Clone, Copy)]
 pub enum Judged {
     Reads(u64),
     IndexOut,

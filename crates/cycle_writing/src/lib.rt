@@ -1,5 +1,7 @@
 // Permutation pairs written in cycle notation: specs/Cycles.antt and specs/Bytes.antt say which text an export is,
 // specs/Export.antt the steps of the call, and that reading an export returns the tables.
+#![tactic(auto)]
+
 ghost use Rattle.std.specs.Prelude.{length};
 ghost use Rattle.call.specs.Call.{stores};
 ghost use Rattle.call.specs.Inner.Fills.{Fills, made_if};

@@ -1,4 +1,6 @@
 // Numbers in decimal form, and other bytes, written into a lent slice (specs/Decimal.antt, specs/Writing.antt).
+#![tactic(auto)]
+
 ghost use Rattle.std.specs.Prelude.{◌≡◌, ◌+◌, ◌≤◌, min, length, drop, nat_abs};
 ghost use Rattle.decimal.specs.Decimal.{digits, decimal_of};
 ghost use Rattle.decimal.specs.Writing.{room_most, written_of, bytes_placed, standing, Puts};
@@ -9,7 +11,7 @@ use call::refusal::{Refusal, TOO_SHORT};
 const ROOM_MOST: usize = 18446744073709551615;
 
 // What writing gives.
-#[derive(Drop)]
+#[derive(Clone, Copy)]
 pub enum Written {
     // The bytes stand, and end before this offset.
     To(usize),

@@ -4,6 +4,8 @@
 // One side is `draw`, and its box `box_of`; `join` gives boxes together. `drawing_check` looks at the symbol first, and
 // `draw_in_room` at the result space. How near one division comes to the exact quotient, and the least and the greatest
 // of some floats, are definitions: specs/Quotient.antt, specs/Extreme.antt.
+#![tactic(auto)]
+
 ghost use Rattle.std.specs.Prelude.{◌≡◌, ◌++◌, not, ◌+◌, ◌*◌, ◌^◌, ◌≤◌, ◌<◌, leb, length, drop, nat_abs};
 ghost use Rattle.matrix.specs.Matrix.{nth};
 ghost use Rattle.call.specs.Call.{stores_rows};
@@ -23,7 +25,7 @@ use pairing::partner::kind_at;
 use symbol::{Side, check};
 
 // How a side is drawn in the upper half plane.
-#[derive(Drop)]
+#[derive(Clone, Copy)]
 pub enum Drawn {
     // Vertical, over this number.
     Line(f64),
@@ -32,7 +34,7 @@ pub enum Drawn {
 }
 
 // A box around drawn sides; its lower edge is on the real axis.
-#[derive(Drop)]
+#[derive(Clone, Copy)]
 pub struct BoundingBox {
     pub left: f64,
     pub right: f64,
@@ -41,7 +43,7 @@ pub struct BoundingBox {
 }
 
 // What `draw_symbol` answers.
-#[derive(Drop)]
+#[derive(Clone, Copy)]
 pub enum Drawing {
     // The result space begins with the rows of all sides; the box is theirs.
     Made(BoundingBox),

@@ -12,14 +12,14 @@ use figures::{Figure, FigureRecord};
 use word::{Queried, sign_number};
 
 // A refusal's number and place, or 0 and a count.
-#[derive(Drop)]
+#[derive(Clone, Copy)]
 pub(crate) struct Said {
     pub number: u64,
     pub place: usize,
 }
 
 // A figure: 0 and its value, or its refusal's number and 0.
-#[derive(Drop)]
+#[derive(Clone, Copy)]
 pub(crate) struct Told {
     pub number: u64,
     pub value: u64,

@@ -1,5 +1,7 @@
 // The index of each family of congruence groups, for N from 1 to 1,000. That of Γ0(N) is read in a table.
 // The functions have `requires`, for they are called from inside the engine.
+#![tactic(auto)]
+
 ghost use Rattle.std.specs.Prelude.{◌≡◌, true, ◌≤◌, ◌<◌, length};
 ghost use Rattle.congruence.specs.Index.{index0, family_index};
 ghost use Rattle.congruence.specs.Inner.Common.{Modulus};

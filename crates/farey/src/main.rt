@@ -4,6 +4,8 @@
 //
 // `jobs` makes all that is written; `stdio` reads and writes. Where standard input can't be read to its end, or the
 // argument names no job, nothing is written to standard output, and one line to standard error.
+#![tactic(auto)]
+
 mod jobs;
 
 ghost use Rattle.std.specs.Prelude.{◌≡◌};
@@ -14,7 +16,7 @@ use jobs::answer_named;
 use libc::STDERR_FILENO;
 
 // What the program can be asked for.
-#[derive(Drop)]
+#[derive(Clone, Copy)]
 enum Job {
     Sheet,
     Import,
@@ -29,7 +31,7 @@ enum Job {
 }
 
 // What a name is the name of.
-#[derive(Drop)]
+#[derive(Clone, Copy)]
 enum Found {
     Job(Job),
     Nothing,

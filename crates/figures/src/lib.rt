@@ -2,6 +2,8 @@
 // cusps and their widths, genus and level. The functions have `requires`, for they are called from inside the engine.
 // That the genus is a number is mathematics, without code: specs/RiemannHurwitz.antt has the formula for two
 // permutations and their product, and specs/Genus.antt what it says of tables of S and R.
+#![tactic(auto)]
+
 ghost use Rattle.std.specs.Prelude.{◌≡◌, ◌++◌, ◌<◌};
 ghost use Rattle.call.specs.Space.{entries};
 ghost use Rattle.numbering.specs.Inner.Marks.{listed, NowListed};
@@ -50,7 +52,7 @@ fn mark_cycle(w: &mut [u16], n: usize, x: usize, c0: usize) -> usize
 }
 
 // The state of the scan: c points are listed, of k cycles.
-#[derive(Drop)]
+#[derive(Clone, Copy)]
 struct Counts {
     c: usize,
     k: usize,
@@ -87,7 +89,7 @@ pub fn cusp_widths(w: &mut [u16], n: usize) -> usize
 }
 
 // A figure: its value, or why there is none.
-#[derive(Drop)]
+#[derive(Clone, Copy)]
 pub enum Figure {
     Value(u64),
     Refused(Refusal),
@@ -174,7 +176,7 @@ fn level_of(w: &[u16], off: usize, n: usize) -> Figure
 }
 
 // All figures of a group's tables.
-#[derive(Drop)]
+#[derive(Clone, Copy)]
 pub struct FigureRecord {
     pub index: usize,
     pub e2: usize,

@@ -1,5 +1,7 @@
 // The symbol of the subgroup of the matrices that fix point 0, from a pair of permutations in two lent tables, by the
 // rule or by the wide rule, and the length of its table alone. specs/Import.antt says what the calls answer and leave.
+#![tactic(auto)]
+
 ghost use Rattle.std.specs.Prelude.{◌≡◌, ◌≤◌, length};
 ghost use Rattle.call.specs.Space.{zeros};
 ghost use Rattle.call.specs.Inner.Fills.{Fills, made_if};

@@ -24,7 +24,7 @@ pub const QUEUE: usize = 28672;
 
 // How one turn ends: whether it stops, and how many sides there are; where it stops, the number of the side that can't
 // be split.
-#[derive(Drop)]
+#[derive(Clone, Copy)]
 pub struct QueueTurn {
     pub stop: bool,
     pub k: usize,

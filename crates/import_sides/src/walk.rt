@@ -13,7 +13,7 @@ use import_rule::turned;
 use permutations::image;
 
 // How one turn of the walk ends: whether it stops, and how many sides are done and to do.
-#[derive(Drop)]
+#[derive(Clone, Copy)]
 pub struct WalkTurn {
     pub stop: bool,
     pub d: usize,
@@ -21,7 +21,7 @@ pub struct WalkTurn {
 }
 
 // How the walk ends.
-#[derive(Drop)]
+#[derive(Clone, Copy)]
 pub struct Outcome {
     pub stop: bool,
     pub d: usize,

@@ -1,6 +1,8 @@
 // The symbol of an accepted pair of permutations: its sides, which the crate `import_sides` leaves in the work space,
 // and the table written from them (specs/Inner/Writing.antt). specs/Inner/Answer.antt says what `grow` answers and
 // leaves.
+#![tactic(auto)]
+
 ghost use Rattle.std.specs.Prelude.{◌≡◌, ◌≤◌, negsuc, length};
 ghost use Rattle.permutations.specs.Pair.{image, Pair};
 ghost use Rattle.import_rule.specs.Fixed.{by_q};

@@ -1,4 +1,6 @@
 // What the program `index_table` writes: all of it, byte for byte, as specs/Lines.antt says.
+#![tactic(auto)]
+
 ghost use Rattle.std.specs.Prelude.{◌+◌, ◌*◌, ◌≤◌, length};
 ghost use Rattle.text.specs.Input.{Prints};
 ghost use Rattle.decimal.specs.Writing.{Puts};

@@ -1,6 +1,8 @@
 // The tables of S, R and T of the intersection of two symbols' subgroups. Its points are the pairs of cosets that are
 // reached from the pair of the two subgroups, numbered as they are met; a pair is found again by its bucket (crate
 // `buckets`). specs/Answer.antt says what the call answers and means.
+#![tactic(auto)]
+
 ghost use Rattle.std.specs.Prelude.{◌≡◌, ◌≤◌, length};
 ghost use Rattle.call.specs.Space.{work_length, zeros, entries};
 ghost use Rattle.call.specs.Inner.Fills.{Fills, made_if};

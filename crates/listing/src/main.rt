@@ -1,3 +1,5 @@
+#![tactic(auto)]
+
 // The program `listing`: a symbol as text on standard input, and on standard output its index, elliptic counts, cusps
 // with widths, genus, level, generators and coset tables, or the number and the place of its refusal
 // (docs/CONVENTIONS.md, 10.5).

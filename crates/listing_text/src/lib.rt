@@ -1,5 +1,7 @@
 // What the program `listing` writes for a text: all of it, byte for byte, as specs/Listing.antt says
 // (docs/CONVENTIONS.md, 10.5).
+#![tactic(auto)]
+
 ghost use Rattle.std.specs.Prelude.{◌≡◌, ◌*◌, ◌≤◌, length};
 ghost use Rattle.text.specs.Input.{AnswersInput};
 ghost use Rattle.call.specs.Space.{work_length};

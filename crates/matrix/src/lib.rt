@@ -3,6 +3,8 @@
 // Each function's contract gives its result as a definition over the integers (specs/Matrix.antt). The bounds that they
 // ask for (specs/Bounds.antt) hold for vertices to 10^9 and for query matrices to 10^6: proofs/Bounds.antt has the
 // laws.
+#![tactic(auto)]
+
 ghost use Rattle.std.specs.Prelude.{◌≡◌, ◌+◌, ◌-◌, ◌^◌, ◌≤◌, ◌+ℤ◌, ◌-ℤ◌, ◌*ℤ◌};
 ghost use Rattle.matrix.specs.Matrix.{nth, of_list, to_list, ◌⊗◌, 𝟙, adj, det, mat_s, mat_t, mat_r, mat_q};
 ghost use Rattle.matrix.specs.Bounds.{Adds, ProductFits, DetFits, Small};

@@ -2,6 +2,8 @@
 // the group. Its entries are up to 10¹⁸ in size.
 //
 // specs/Answer.antt says what is answered and left, specs/Claim.antt what that means.
+#![tactic(auto)]
+
 ghost use Rattle.std.specs.Prelude.{◌≡◌, leb, length, nat_abs};
 ghost use Rattle.basics.specs.Choice.{pick};
 ghost use Rattle.basics.specs.Count.{first};

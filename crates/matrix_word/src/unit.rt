@@ -10,7 +10,7 @@ use coset::steps::times;
 use walk::magnitude;
 
 // A natural number in two parts: high times 2⁶⁰, and low.
-#[derive(Drop)]
+#[derive(Clone, Copy)]
 pub struct Wide {
     pub high: u64,
     pub low: u64,

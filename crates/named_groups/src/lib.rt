@@ -1,6 +1,8 @@
 // The congruence groups Γ0(N), Γ1(N) and Γ(N) by name: their tables, their symbols, and pair queries on them.
 // specs/Group.antt says which groups have a name, specs/Answer.antt what the calls answer and leave, specs/Claim.antt
 // what a query means.
+#![tactic(auto)]
+
 ghost use Rattle.std.specs.Prelude.{◌≡◌, ◌++◌, ◌≤◌, length};
 ghost use Rattle.call.specs.Space.{work_length, zeros};
 ghost use Rattle.call.specs.Call.{stores};

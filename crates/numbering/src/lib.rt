@@ -1,6 +1,8 @@
 // A finite set with two maps S and R: the numbering of docs/CONVENTIONS.md, and the tables of S, R and T by number.
 // Nothing here knows of polygons: whoever calls fills two tables of images in the work space. The functions have
 // `requires`, for they are called from inside the engine. The figures of the tables are in the crate `figures`.
+#![tactic(auto)]
+
 ghost use Rattle.std.specs.Prelude.{◌≡◌, [], ◌∷◌, ◌++◌, ◌+◌, ◌<◌, length, drop};
 ghost use Rattle.numbering.specs.Find.{is_in};
 ghost use Rattle.numbering.specs.Order.{add, visit};

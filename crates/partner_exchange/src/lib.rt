@@ -1,5 +1,7 @@
 // Two free labels of a symbol exchange partners: specs/Exchange.antt says what the altered symbol is,
 // specs/Theorem.antt what holds of it and of further exchanges, specs/Answer.antt what the calls answer and leave.
+#![tactic(auto)]
+
 ghost use Rattle.std.specs.Prelude.{◌≡◌, true, ◌++◌, ◌+◌, ◌*◌, ◌≤◌, ◌<◌, length, drop};
 ghost use Rattle.call.specs.Space.{work_length, zeros};
 ghost use Rattle.basics.specs.Count.{first};

@@ -1,5 +1,7 @@
 // A pair of permutations in two lent tables, the passport of a subgroup: the images of its points, and the checks 12 to
 // 15. specs/Check.antt says what `check` answers.
+#![tactic(auto)]
+
 ghost use Rattle.std.specs.Prelude.{◌≡◌, ◌≤◌, ◌<◌, length};
 ghost use Rattle.call.specs.Refusal.{◌or_else◌};
 ghost use Rattle.permutations.specs.Pair.{image};

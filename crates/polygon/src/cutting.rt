@@ -14,14 +14,14 @@ use super::{FLIP, HANDLE, STACK};
 use symbol::is_zero;
 
 // How many cells the scan has on its stack, and how many triangles it has cut.
-#[derive(Drop)]
+#[derive(Clone, Copy)]
 pub struct Progress {
     pub n: usize,
     pub m: usize,
 }
 
 // The cells that the scan leaves on its stack, and the position that lay under the chord to the vertex asked for.
-#[derive(Drop)]
+#[derive(Clone, Copy)]
 pub struct Notes {
     pub n: usize,
     pub under: usize,

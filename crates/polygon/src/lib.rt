@@ -4,6 +4,8 @@
 // specs/Cut.antt says what the cut is, specs/Step.antt what a step does and writes, specs/Theorem.antt what that is
 // good for, and specs/Space.antt where the tables lie. Each call asks for an accepted symbol: refusals are the business
 // of the calls above.
+#![tactic(auto)]
+
 ghost use Rattle.std.specs.Prelude.{◌≡◌, ◌≤◌, length};
 ghost use Rattle.symbol.specs.Symbol.{IsSymbol};
 ghost use Rattle.polygon.specs.Inner.Tables.{Built};

@@ -1,5 +1,7 @@
 // Primes, powers of a prime, inverses modulo a prime power, and units that generate with -1 all units (`units`).
 // specs/Inner has what the functions promise.
+#![tactic(auto)]
+
 ghost use Rattle.std.specs.Prelude.{◌≡◌, true, ◌≤◌, ◌<◌};
 ghost use Rattle.congruence.specs.Index.{is_prime};
 ghost use Rattle.congruence_decision.specs.Maps.{Share};

@@ -14,7 +14,7 @@ use crate::inverse;
 pub const MARKS: usize = 12288;
 
 // A unit and its inverse; 0 and 0 where none was found.
-#[derive(Drop)]
+#[derive(Clone, Copy)]
 pub struct Found {
     pub g: usize,
     pub h: usize,

@@ -1,3 +1,5 @@
+#![tactic(auto)]
+
 // The program `query`: a symbol and two matrices A and B as text on standard input, and on standard output a word in
 // the symbol's generators that takes A to B up to sign, behind that sign, or the number and the place of a refusal
 // (docs/CONVENTIONS.md, 10.6).

@@ -1,6 +1,8 @@
 // What the program `query` writes for a text: all of it, byte for byte, as specs/Reply.antt says (docs/CONVENTIONS.md,
 // 10.6).
 // A sheet of pairs is read and answered in `sheet_text`.
+#![tactic(auto)]
+
 ghost use Rattle.std.specs.Prelude.{◌≡◌, ◌+◌, ◌*◌, ◌≤◌, length};
 ghost use Rattle.text.specs.Input.{AnswersInput};
 ghost use Rattle.text.specs.Line.{line};

@@ -1,6 +1,8 @@
 // Whether two matrices share a right coset of a symbol's group: yes or no without a word, for one pair and for many.
 //
 // specs/Answer.antt says what is answered for one pair and what that means, specs/Pairs.antt the same for many.
+#![tactic(auto)]
+
 ghost use Rattle.std.specs.Prelude.{◌≡◌, length};
 ghost use Rattle.matrix.specs.Matrix.{of_list};
 ghost use Rattle.call.specs.Space.{zeros};

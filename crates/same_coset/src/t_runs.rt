@@ -27,7 +27,7 @@ pub const WIDTH: usize = 16384;
 
 // A division to the nearest multiple: how many times the divisor, how far from it, and whether that multiple is the
 // larger number.
-#[derive(Drop)]
+#[derive(Clone, Copy)]
 pub struct Division {
     pub quotient: u32,
     pub distance: u32,
@@ -36,7 +36,7 @@ pub struct Division {
 
 // The matrix that remains of another one, and the place so far. Up to sign it is (a b; c d), or (a b; -c -d) where its
 // rows aren't aligned: so both entries of its first column are counted without a sign.
-#[derive(Drop)]
+#[derive(Clone, Copy)]
 pub struct Remaining {
     pub a: u32,
     pub b: i64,
@@ -47,14 +47,14 @@ pub struct Remaining {
 }
 
 // What remains of two matrices.
-#[derive(Drop)]
+#[derive(Clone, Copy)]
 pub struct RemainingPair {
     pub first: Remaining,
     pub second: Remaining,
 }
 
 // The places of two matrices.
-#[derive(Drop)]
+#[derive(Clone, Copy)]
 pub struct TwoPlaces {
     pub first: usize,
     pub second: usize,

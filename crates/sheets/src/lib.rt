@@ -2,6 +2,8 @@
 // queries in the same word space.
 //
 // specs/Sheet.antt says what a sheet answers and leaves, specs/Meaning.antt what that means.
+#![tactic(auto)]
+
 ghost use Rattle.std.specs.Prelude.{◌≡◌, [], ◌∷◌, ◌++◌, ◌+◌, ◌*◌, ◌^◌, ◌≤◌, ◌<◌, length, drop, pos};
 ghost use Rattle.call.specs.Space.{zeros};
 ghost use Rattle.call.specs.Inner.Fills.{Fills, made_if};

@@ -3,6 +3,8 @@
 // The end of the input is a read that answers 0, and nothing else is taken for it: after the last bytes there is one
 // more read. A read or a write that fails is told in one line on standard error and isn't tried again: `libc` can't
 // tell why it failed, so that there is nothing to wait for.
+#![tactic(auto)]
+
 ghost use Rattle.std.specs.Prelude.{◌≤◌, ◌≡◌, length};
 ghost use Rattle.stdio.specs.Inner.Input.{Within, Held, Further};
 
@@ -10,7 +12,7 @@ use libc::{STDERR_FILENO, STDIN_FILENO, STDOUT_FILENO};
 use text::input::Input;
 
 // What one read came to.
-#[derive(Drop)]
+#[derive(Clone, Copy)]
 enum Piece {
     // So many bytes, one at least.
     Came(usize),

@@ -13,7 +13,7 @@ use text::part::part_end;
 use text::{Format, Reading, TEXT_MOST, read};
 
 // What reading two symbols' texts gives.
-#[derive(Drop)]
+#[derive(Clone, Copy)]
 pub enum TwoReading {
     // So many numbers of the first stand at the front of its slice, and so many of the second at the front of the
     // other.

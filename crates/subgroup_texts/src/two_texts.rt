@@ -11,7 +11,7 @@ use text::line::refusal_line;
 use text::vertex_count;
 
 // What is asked of two symbols.
-#[derive(Drop)]
+#[derive(Clone, Copy)]
 pub enum Asked {
     // Whether they are of the same subgroup.
     Same,

@@ -2,6 +2,8 @@
 //
 // A table of a symbol with v vertices holds 2v vertex entries and then v + 1 pairings. specs/ says what each call
 // returns and leaves.
+#![tactic(auto)]
+
 mod counting;
 
 ghost use Rattle.std.specs.Prelude.{◌≡◌, ℕ, ◌+◌, ◌*◌, ◌%◌, ◌≤◌, ◌<◌, leb, pos, nat_abs, length};
@@ -24,7 +26,7 @@ use call::refusal::{
 };
 
 // A side of the polygon, from a/b on the left to c/d on the right.
-#[derive(Drop)]
+#[derive(Clone, Copy)]
 pub struct Side {
     pub a: i64,
     pub b: i64,
@@ -33,14 +35,14 @@ pub struct Side {
 }
 
 // A vertex num/den of the closed chain: -1/0, then the finite vertices, then 1/0.
-#[derive(Drop)]
+#[derive(Clone, Copy)]
 pub struct Vertex {
     pub num: i64,
     pub den: i64,
 }
 
 // What a side is paired as: an even or an odd side with itself, a free one with the other side of its label.
-#[derive(Drop)]
+#[derive(Clone, Copy)]
 pub enum Pairing {
     Even,
     Odd,

@@ -3,7 +3,7 @@
 ghost use Rattle.text.specs.Inner.TextEnds.{TextEnds};
 
 // What reading all of standard input into a buffer came to.
-#[derive(Drop)]
+#[derive(Clone, Copy)]
 pub enum Input {
     // So many bytes, at the start of the buffer, and whether the input goes on behind them. Only a full buffer leaves
     // some behind.

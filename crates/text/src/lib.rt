@@ -1,6 +1,8 @@
 // Text in and text out: here decimal numbers split by blanks are read into a lent slice. The number that a piece is
 // (`numeral`), lines (`line`), the first of two texts (`part`) and the text of an input (`input`) have modules of their
 // own.
+#![tactic(auto)]
+
 ghost use Rattle.std.specs.Prelude.{◌≡◌, ◌+◌, ◌≤◌, ◌++◌, length, take, drop};
 ghost use Rattle.std.proofs.Math.Option.{none};
 ghost use Rattle.text.specs.Blank.{is_blank};
@@ -22,7 +24,7 @@ pub const TEXT_MOST: usize = 65536;
 
 // Which first numbers v are in range, and how many numbers a text then has, v among them: v is in range from `least` to
 // `most`, and `each * v + more` numbers are wanted.
-#[derive(Drop)]
+#[derive(Clone, Copy)]
 pub struct Format {
     pub least: u16,
     pub most: u16,
@@ -31,7 +33,7 @@ pub struct Format {
 }
 
 // What reading a text gives.
-#[derive(Drop)]
+#[derive(Clone, Copy)]
 pub enum Reading {
     // So many numbers stand at the front of the lent slice.
     Numbers(usize),
@@ -40,14 +42,14 @@ pub enum Reading {
 }
 
 // How many numbers are wanted, or any count where v is out of range.
-#[derive(Drop)]
+#[derive(Clone, Copy)]
 pub enum Wanted {
     Exactly(usize),
     Any,
 }
 
 // What stands first in the rest of a text.
-#[derive(Drop)]
+#[derive(Clone, Copy)]
 pub enum Step {
     // No piece.
     End,
@@ -58,7 +60,7 @@ pub enum Step {
 }
 
 // What all the pieces of a text come to.
-#[derive(Drop)]
+#[derive(Clone, Copy)]
 pub enum Survey {
     // Where the first that is no number begins.
     Bad(usize),

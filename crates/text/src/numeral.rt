@@ -9,14 +9,14 @@ const GREATEST: u64 = 9223372036854775807;
 const LEAST: u64 = 9223372036854775808;
 
 // A natural number, or bytes that are none.
-#[derive(Drop)]
+#[derive(Clone, Copy)]
 pub enum Natural {
     Is(u64),
     Bad,
 }
 
 // A signed number, or bytes that are none.
-#[derive(Drop)]
+#[derive(Clone, Copy)]
 pub enum Integer {
     Is(i64),
     Bad,

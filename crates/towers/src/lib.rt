@@ -1,5 +1,7 @@
 // Towers: symbols in one lent table, each naming an entry listed before it that should contain it. specs/Answer.antt
 // says what the call answers and leaves, specs/Meaning.antt what that means.
+#![tactic(auto)]
+
 ghost use Rattle.std.specs.Prelude.{◌≡◌, ◌≤◌, ◌<◌, length};
 ghost use Rattle.basics.specs.Count.{first};
 ghost use Rattle.call.specs.Space.{zeros};

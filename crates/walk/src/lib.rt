@@ -2,6 +2,8 @@
 //
 // A letter is stored where its number is below a limit, and counted everywhere. A query makes the walk where its word
 // is known to fit. specs/Inner/Way.antt has the state and what each part leaves.
+#![tactic(auto)]
+
 ghost use Rattle.std.specs.Prelude.{◌≡◌, true, false, ◌+◌, ◌-◌, ◌*◌, ◌^◌, ◌≤◌, ◌<◌, length, pos, nat_abs, ◌*ℤ◌};
 ghost use Rattle.matrix.specs.Matrix.{of_list, det};
 ghost use Rattle.basics.specs.Choice.{pick};
@@ -16,7 +18,7 @@ use coset::steps::{block_end, letter, letter_q, next, sign_of_s, times, turn};
 
 // What is left of the matrix, (p q; r s) in size, the position, how many letters are written so far, and the sign so
 // far, plus for true.
-#[derive(Drop)]
+#[derive(Clone, Copy)]
 pub struct Way {
     pub p: u64,
     pub q: u64,

@@ -3,6 +3,8 @@
 // block, long ones found by one division.
 //
 // specs/Runs.antt has the laws of runs, specs/Inner/Tally.antt what is promised.
+#![tactic(auto)]
+
 ghost use Rattle.std.specs.Prelude.{◌≡◌, true, false, ◌^◌, ◌≤◌, ◌<◌, pos, length};
 ghost use Rattle.basics.specs.Choice.{pick};
 ghost use Rattle.matrix.specs.Matrix.{of_list, det};
@@ -26,7 +28,7 @@ pub mod rounds;
 pub const ROUNDS: usize = 20481;
 
 // A position, and how many letters are written on the way there.
-#[derive(Drop)]
+#[derive(Clone, Copy)]
 pub struct Stop {
     pub at: usize,
     pub count: usize,

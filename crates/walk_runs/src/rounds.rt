@@ -138,7 +138,7 @@ pub fn place(t: &[i64], v: usize, w: &[u16], r: &mut [u16], p: usize)
 // ---- a run
 
 // A place, the first one of its round, and the one behind that round.
-#[derive(Drop)]
+#[derive(Clone, Copy)]
 pub struct Arc {
     pub at: usize,
     pub first: usize,

@@ -2,6 +2,8 @@
 // sign, which, and with which sign.
 //
 // specs/Answer.antt says what a query answers and leaves, specs/Claim.antt what that means.
+#![tactic(auto)]
+
 ghost use Rattle.std.specs.Prelude.{◌≡◌, ◌+◌, ◌-◌, ◌≤◌, ◌<◌, leb, length, nat_abs};
 ghost use Rattle.matrix.specs.Matrix.{of_list, to_list, ◌⊗◌, adj};
 ghost use Rattle.matrix.specs.Bounds.{Small};
@@ -25,7 +27,7 @@ use walk::walk;
 use walk_runs::{Stop, tally, tally_by};
 
 // The answer of `query`.
-#[derive(Drop)]
+#[derive(Clone, Copy)]
 pub enum Queried {
     // The word stands in the lent space: the place where it starts, its length, and its sign, plus for true.
     Word(usize, usize, bool),

@@ -1,0 +1,47 @@
+use mathlib.Core.Logic.{⊎_elim}
+use Prim.Native.Nat.{◌*◌, ◌-◌}
+use native.Mathlib.Omega.{arith}
+use Rattle.congruence.proofs.Primes.{Factoring, p_fits, factoring_start, factoring_next, factoring_end}
+use Rattle.congruence.proofs.Primes.{more_low, more_fits, rest_less, more_new, more_old}
+use borrow.Author.Rules.{rules}
+use Rattle.congruence.proofs.modular.index_of_gamma0.Goals as goal
+
+pub loop-rest-init : goal.loop-rest-init
+loop-rest-init c = factoring_start c.requires
+
+pub overflow_add-p : goal.overflow_add-p
+overflow_add-p c = omega (arith, p_fits c.loop-rest.invariant (omega arith))
+
+pub loop-rest-smaller-then-rest-p-ne0 : goal.loop-rest-smaller-then-rest-p-ne0
+loop-rest-smaller-then-rest-p-ne0 c = omega (arith, p_fits c.loop-rest.invariant (omega arith))
+
+pub loop-rest-preserved-then-rest-p-ne0 : goal.loop-rest-preserved-then-rest-p-ne0
+loop-rest-preserved-then-rest-p-ne0 c = factoring_next c.loop-rest.invariant (λ e. omega arith)
+
+pub overflow_add-index : goal.overflow_add-index
+overflow_add-index c = omega (arith, p_fits c.loop-rest.invariant (omega arith))
+
+pub overflow_mul-index : goal.overflow_mul-index
+overflow_mul-index c = omega (arith, more_fits c.loop-rest.invariant (omega arith))
+
+pub overflow_mul-index-else-met-p-ne0 : goal.overflow_mul-index-else-met-p-ne0
+overflow_mul-index-else-met-p-ne0 c = omega (arith, more_fits c.loop-rest.invariant (omega arith))
+
+pub overflow_mul-met : goal.overflow_mul-met
+overflow_mul-met c = omega (arith, more_low c.loop-rest.invariant (omega arith), c.loop-rest.invariant.modulus.most)
+
+pub loop-rest-smaller : goal.loop-rest-smaller
+loop-rest-smaller c =
+    let h = c.loop-rest.invariant in
+    omega (arith, rest_less h (omega arith) (omega arith), p_fits h (omega arith))
+
+pub loop-rest-preserved : goal.loop-rest-preserved
+loop-rest-preserved c =
+    let h = c.loop-rest.invariant in
+    ⊎_elim
+    (λ a. more_new h (omega arith) (λ e. a.0.taken e) a.1)
+    (λ a. more_old h (omega arith) a.0.left a.1)
+    c.if-met-p-ne0.branch
+
+pub returns : goal.returns
+returns c = factoring_end c.loop-rest.invariant (omega arith)

@@ -1,0 +1,17 @@
+-- `braids`: both sides, one after the other. Assumes nothing.
+use Rattle.congruence_equations.proofs.Landing.{lands_then, tells_eq, here}
+use Rattle.congruence_equations.specs.Inner.Places.{turn_at, go_at, weyl_at, diagonal_at, beside_at}
+use native.Mathlib.Omega.{arith}
+use native.Mathlib.Nat.{mod-lt}
+use Prim.Native.Nat.{ℕ, ◌*◌}
+use Rattle.prime_units.proofs.Numbers.{product_low}
+use borrow.Author.Rules.{rules}
+use Rattle.congruence_equations.proofs.braids.Goals as goal
+
+pub returns : goal.returns
+returns c =
+    let a = c.args in
+    let n = a.n in
+    let w = a.w.now in
+    tells_eq (lands_then (λ (z : ℕ). weyl_at n w z) c.turn-z.ensures c.weyl-a.ensures)
+    (lands_then (turn_at w) c.weyl-b.ensures c.turn-c.ensures)

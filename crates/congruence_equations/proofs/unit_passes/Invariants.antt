@@ -1,0 +1,15 @@
+-- `unit_passes`: the places below y have passed. Assumes nothing.
+use Prim.Native.Nat.{◌-◌, ◌≤◌}
+use native.Mathlib.Omega.{arith}
+use borrow.Author.Tests.{not-true, not-false}
+use Rattle.congruence_decision.specs.Equations.{UnitEquations}
+use Rattle.congruence_equations.specs.Inner.Places.{turn_at, go_at}
+use Rattle.congruence_equations.proofs.Landing.{refuted, unit_none, unit_more, unit_end, unit_at_place}
+use borrow.Author.Rules.{rules}
+use Rattle.congruence_equations.proofs.unit_passes.Given as goal
+
+abbrev pub invariant-loop-y : goal.invariant-loop-y
+invariant-loop-y l = (l.y ≤ l.n) × UnitEquations l.y (turn_at l.w) (go_at l.n l.w) l.q l.g l.h
+
+abbrev pub decreases-loop-y : goal.decreases-loop-y
+decreases-loop-y l = l.n - l.y

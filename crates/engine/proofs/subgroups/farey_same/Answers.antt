@@ -1,0 +1,14 @@
+-- `farey_same` meets its contract: it tells the decision of `same`. Assumes nothing.
+use mathlib.Core.Path.{refl}
+use Rattle.call.proofs.Laws.{call_decided}
+use Rattle.containment.proofs.Means.{same_says}
+use borrow.Author.Rules.{rules}
+use Rattle.engine.proofs.Numbers.{two_numbered}
+use Rattle.engine.proofs.subgroups.farey_same.Goals as goal
+
+pub returns : goal.returns
+returns c =
+    let s = c in
+    call_decided _ (two_numbered s.args.v s.args.t.now s.args.w.now s.args.m s.args.u.now)
+    (same_says s.args.v s.args.t.now s.args.m s.args.u.now (record { entry = s.args.w; exit = s.args.w })) _ refl
+    c.same.ensures c.of_decision-said.ensures.0 c.of_decision-said.ensures.1

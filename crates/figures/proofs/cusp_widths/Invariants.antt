@@ -1,0 +1,13 @@
+-- `figures::cusp_widths` meets its contract. The loop's invariant, `Scanning`: the cusps below i are listed.
+-- Assumes nothing.
+use borrow.Author.Rules.{rules}
+use Prim.Native.Nat.{◌-◌}
+use native.Mathlib.Omega.{arith}
+use Rattle.figures.proofs.Scan.{Scanning, scanning_start, scanning_turn, scanning_more, scanning_end}
+use Rattle.figures.proofs.cusp_widths.Given as goal
+
+abbrev pub invariant-loop-i : goal.invariant-loop-i
+invariant-loop-i l = Scanning l.n l.initial.w l.w l.c l.k l.i
+
+abbrev pub decreases-loop-i : goal.decreases-loop-i
+decreases-loop-i l = l.n - l.i

@@ -1,0 +1,15 @@
+-- `figures::gcd_of` meets its contract. The loop's invariant: the greatest common divisor stays the same. The measure is the remainder.
+-- Assumes nothing.
+use borrow.Author.Rules.{rules}
+use mathlib.Core.Path.{◌≡◌, refl, sym, ap, ◌∙◌}
+use native.Mathlib.Nat.{mod-lt}
+use native.Mathlib.Omega.{arith}
+use Rattle.figures.specs.LevelOf.{gcd}
+use Rattle.figures.proofs.LevelOf.{gcd_step, gcd_zero}
+use Rattle.figures.proofs.gcd_of.Given as goal
+
+abbrev pub invariant-loop-y : goal.invariant-loop-y
+invariant-loop-y l = gcd l.x l.y ≡ gcd l.a l.b
+
+abbrev pub decreases-loop-y : goal.decreases-loop-y
+decreases-loop-y l = l.y

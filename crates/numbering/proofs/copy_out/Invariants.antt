@@ -1,0 +1,17 @@
+-- `numbering::copy_out` meets its contract. The loop's invariant: j entries of the table, and then what stood there.
+-- Assumes nothing.
+use borrow.Author.Rules.{rules}
+use mathlib.Core.Path.{◌≡◌, refl}
+use mathlib.Core.List.{◌++◌}
+use Prim.Native.Nat.{◌-◌, ◌≤◌}
+use native.Mathlib.Omega.{arith}
+use lib.ListN.{length, drop, length-set}
+use Rattle.call.specs.Space.{entries}
+use Rattle.numbering.proofs.Space.{copy_more}
+use Rattle.numbering.proofs.copy_out.Given as goal
+
+abbrev pub invariant-loop-j : goal.invariant-loop-j
+invariant-loop-j l = (l.out ≡ entries l.off l.j l.w ++ drop l.j l.initial.out) × (l.j ≤ l.n) × (length l.out ≡ length l.initial.out)
+
+abbrev pub decreases-loop-j : goal.decreases-loop-j
+decreases-loop-j l = l.n - l.j

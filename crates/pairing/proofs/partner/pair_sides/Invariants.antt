@@ -1,0 +1,19 @@
+-- The loop's invariant: the tables hold what the sides below i have shown.
+use mathlib.Core.Path.{◌≡◌, refl, sym, ◌∙◌, ap}
+use Prim.Native.Nat.{◌+◌, ◌-◌, ◌≤◌}
+use native.Mathlib.Omega.{arith}
+use native.Mathlib.Numerals.{add-one}
+use lib.ListN.{length}
+use Rattle.matrix.specs.Matrix.{nth}
+use Rattle.matrix.proofs.Bounds.{kept}
+use Rattle.pairing.specs.Inner.Work.{PairedTo}
+use Rattle.symbol.specs.Table.{pairing_of}
+use Rattle.pairing.proofs.Partners.{length_met_by, met_more, paired_all, first_bound, all_paired}
+use borrow.Author.Rules.{rules}
+use Rattle.pairing.proofs.partner.pair_sides.Given as goal
+
+abbrev pub invariant-loop-i : goal.invariant-loop-i
+invariant-loop-i l = (l.i ≤ l.v + 1) × PairedTo l.v l.p l.i l.w × (length l.w ≡ length l.initial.w)
+
+abbrev pub decreases-loop-i : goal.decreases-loop-i
+decreases-loop-i l = l.v + 1 - l.i

@@ -1,0 +1,118 @@
+-- `reply_pair` meets its contract: a word has its line, and any other answer has its number and place. Assumes nothing.
+use mathlib.Core.Path.{◌≡◌, sym, ap, ◌∙◌}
+use mathlib.Core.Bool.{Bool}
+use mathlib.Core.List.{List, [], ◌∷◌}
+use Prim.Native.Nat.{ℕ, ◌≤◌}
+use native.Mathlib.Omega.{arith}
+use lib.IntN.{ℤ}
+use lib.ListN.{length}
+use types.Run.{OneOf, miss}
+use denote.Enum.Declared.{tag_of}
+use Rattle.matrix.specs.Matrix.{of_list}
+use Rattle.text.specs.Line.{line, refusal_line}
+use Rattle.decimal.proofs.Placing.{puts_as}
+use Rattle.word.specs.Answer.{query_refusal, found_word, query_of, word_left, part_of}
+use Rattle.call.specs.declared.refusal.Refusal.{Refusal}
+use Rattle.word.specs.declared.Queried.{Queried}
+use Rattle.word.specs.declared.Queried.TheVariants.{Word}
+use Rattle.word.specs.contracts.Queried.{the_type}
+use Rattle.word.proofs.Order.{query_left}
+use Rattle.word.proofs.Returned.{part_found, word_most}
+use Rattle.query_text.specs.Reply.{word_head, said}
+use Rattle.query_text.proofs.Replied.{said_other, replied_as}
+use borrow.Author.Rules.{rules}
+use Rattle.query_text.proofs.reply_pair.Goals.{After-query-answer, After-word_part-word, In-Word, Start}
+use Rattle.query_text.proofs.reply_pair.Goals as goal
+
+-- the branch of the other answers isn't taken for a word
+never_word : (r : Queried) → OneOf (1 ∷ []) (tag_of the_type r) → (s n : ℕ) (q : Bool) → r ≡ Word s n q → ⊥
+never_word r h s n q e = miss (1 ∷ []) 0 tt (rw e at h)
+
+-- the word that was found
+module _ (n : After-word_part-word) where
+  abbrev told : In-Word
+  told = (goal.at.After-word_part-word n).In-Word
+
+  abbrev asked : After-query-answer
+  asked = (goal.at.In-Word told).After-query-answer
+
+  abbrev start : Start
+  start = (goal.at.After-query-answer asked).Start
+
+  abbrev letters : List ℤ
+  letters = start.args.letters.now
+
+  abbrev word : List ℤ
+  word = found_word start.args.v start.args.t.now (of_list start.args.a) (of_list start.args.b)
+
+  abbrev from : ℕ
+  from = told.in-Word.start
+
+  abbrev count : ℕ
+  count = told.in-Word.n
+
+  abbrev sign : Bool
+  sign = told.in-Word.sign
+
+  named : Word from count sign ≡ query_of start.args.v start.args.t.now start.args.a start.args.b (length start.args.w.now)
+      (length letters) 0
+  named = sym told.in-Word.is ∙ asked.query-answer.ensures.answer
+
+  left : asked.query-answer.new.out ≡ word_left asked.query-answer.result word letters
+  left =
+      query_left start.args.v start.args.t.now start.args.a start.args.b start.args.w.now asked.query-answer.new.w letters
+      asked.query-answer.new.out 0 asked.query-answer.ensures
+
+  part_is : n.word_part-word.result.now ≡ word
+  part_is =
+      n.word_part-word.ensures
+      ∙ ap (λ (x : List ℤ). part_of x from count) (left ∙ ap (λ (x : Queried). word_left x word letters) told.in-Word.is)
+      ∙ part_found from count sign start.args.v start.args.t.now start.args.a start.args.b (length start.args.w.now) 0 letters named
+
+  part_most : length n.word_part-word.result.now ≤ 16384
+  part_most = omega (
+    arith,
+    ap length part_is,
+    start.requires.lent,
+    word_most from count sign start.args.v start.args.t.now start.args.a start.args.b
+        (length start.args.w.now) 0 letters named,
+  )
+
+pub returns-in_default : goal.returns-in_default
+returns-in_default c =
+    let q = c in
+    let s = c in
+    let r = q.query-answer.result in
+    let v = s.args.v in
+    let t = s.args.t.now in
+    let a = s.args.a in
+    let b = s.args.b in
+    let same =
+    ap refusal_line c.query_refusal-refusal.ensures
+    ∙ said_other r (found_word v t (of_list a) (of_list b)) (never_word r c.in-Word.in-Word-own.keys2)
+    ∙ replied_as v t a b r (length s.args.w.now) (length s.args.letters.now) s.requires.work s.requires.lent q.query-answer.ensures.answer in
+    puts_as same c.refusal_line.ensures
+
+pub word_line-requires : goal.word_line-requires
+word_line-requires c = omega (
+  arith,
+  part_most (goal.at.word_line-requires c).After-word_part-word,
+  c.requires.out_long,
+)
+
+pub returns : goal.returns
+returns c =
+    let earlier = c in
+    let n = c in
+    let q = earlier in
+    let s = earlier in
+    let r = q.query-answer.result in
+    let v = s.args.v in
+    let t = s.args.t.now in
+    let a = s.args.a in
+    let b = s.args.b in
+    let same =
+    ap (line (word_head (sign (goal.at.returns c).After-word_part-word))) (part_is (goal.at.returns c).After-word_part-word)
+    ∙ ap (λ (x : Queried). said x (word (goal.at.returns c).After-word_part-word)) (sym (told (goal.at.returns c).After-word_part-word).answer.given.1)
+    ∙ replied_as v t a b r (length s.args.w.now) (length s.args.letters.now) s.requires.work s.requires.lent q.query-answer.ensures.answer in
+    puts_as same c.word_line.ensures.0

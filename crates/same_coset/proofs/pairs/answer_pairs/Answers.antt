@@ -1,0 +1,42 @@
+use mathlib.Core.Path.{◌≡◌, refl, ◌∙◌, ap}
+use Prim.Native.Nat.{ℕ, ◌+◌, ◌-◌, ◌*◌, ◌≤◌}
+use native.Mathlib.Nat.{add-sub_cancel_left}
+use native.Mathlib.Omega.{arith}
+use mathlib.Core.List.{List}
+use lib.ListN.{length, take, drop}
+use lib.IntN.{ℤ}
+use Rattle.sheets.specs.Sheet.{pairs_in}
+use Rattle.same_coset.specs.Inner.Ready.{PairsShared}
+use Rattle.same_coset.proofs.Lines.{pairs_none, pairs_more}
+use borrow.Author.Rules.{rules}
+use Rattle.same_coset.proofs.pairs.answer_pairs.Goals as goal
+
+pub loop-i-init : goal.loop-i-init
+loop-i-init c = let s = c in (pairs_none s.args.n s.args.w.now s.args.p.now s.args.lines.now, search rules, refl)
+
+pub write_line-requires : goal.write_line-requires
+write_line-requires c =
+    let l = c in
+    let s = l in
+    (omega (arith, c.loop-i-test.true, l.loop-i.invariant.2, s.requires.1), c.answer_pair-answer.ensures.line_fits)
+
+pub loop-i-preserved : goal.loop-i-preserved
+loop-i-preserved c =
+    let a = c in
+    let l = a in
+    let s = l in
+    let k = 8 * l.loop-i.i in
+    let p = s.args.p.now in (
+      pairs_more s.args.n s.args.w.now p s.args.lines.now l.loop-i.i l.loop-i.invariant.0
+          (ap (λ (j : ℕ). take j (drop k p)) (add-sub_cancel_left k 8))
+          a.answer_pair-answer.ensures.pair_shared c.write_line.ensures,
+      omega (arith, a.loop-i-test.true),
+      c.lines-1.given ∙ l.loop-i.invariant.2,
+    )
+
+pub returns : goal.returns
+returns c =
+    let l = c in
+    let s = l in
+    let end : l.loop-i.i ≡ pairs_in s.args.p.now = omega (arith, l.loop-i.invariant.1, c.loop-i-test.false) in
+    rw end at l.loop-i.invariant.0

@@ -1,0 +1,54 @@
+use Prim.Native.Nat.{◌-◌}
+use native.Mathlib.Omega.{arith}
+use lib.ListN.{length-set}
+use Rattle.figures.specs.Inner.Scan.{held_t}
+use Rattle.same_coset.proofs.ByPlace.{Ending, ending_start, ending_asks, end_low, ending_more, ending_end}
+use borrow.Author.Rules.{rules}
+use Rattle.same_coset.proofs.tables.enter_ends.Goals as goal
+
+pub loop-y-init : goal.loop-y-init
+loop-y-init c = ending_start c.requires
+
+pub cusp_at-c-requires : goal.cusp_at-c-requires
+cusp_at-c-requires c = ending_asks c.loop-y.invariant c.loop-y-test.true
+
+pub overflow_add-w : goal.overflow_add-w
+overflow_add-w c =
+    let e = c in
+    let g = e.loop-y.invariant in
+    let h = e.loop-y-test.true in
+    let low = end_low g h e.cusp_at_lem.ensures in
+    omega (arith, low)
+
+pub overflow_cast-w : goal.overflow_cast-w
+overflow_cast-w c =
+    let e = c in
+    let g = e.loop-y.invariant in
+    let h = e.loop-y-test.true in
+    let low = end_low g h e.cusp_at_lem.ensures in
+    record { fits = omega (arith, low) }
+
+pub overflow_cast-w-in-loop-y : goal.overflow_cast-w-in-loop-y
+overflow_cast-w-in-loop-y c =
+    let e = c in
+    let g = e.loop-y.invariant in
+    let h = e.loop-y-test.true in
+    let low = end_low g h e.cusp_at_lem.ensures in
+    record { fits = omega (arith, low) }
+
+pub bounds-w-y-in-loop-y : goal.bounds-w-y-in-loop-y
+bounds-w-y-in-loop-y c =
+    let e = c in
+    let g = e.loop-y.invariant in
+    let h = e.loop-y-test.true in
+    let low = end_low g h e.cusp_at_lem.ensures in
+    simp length-set (omega (arith, g.source.room, g.source.long))
+
+pub loop-y-preserved : goal.loop-y-preserved
+loop-y-preserved c =
+    let e = c in
+    let g = e.loop-y.invariant in
+    ending_more g e.loop-y-test.true e.cusp_at_lem.ensures
+
+pub returns : goal.returns
+returns c = ending_end c.loop-y.invariant c.loop-y-test.false

@@ -1,0 +1,60 @@
+-- `answer` meets its contract: what the text asks for is known by the answer of `read_input`. Assumes nothing.
+use mathlib.Core.Path.{◌≡◌, refl}
+use mathlib.Core.Bool.{Bool}
+use native.Mathlib.Omega.{arith}
+use mathlib.Core.List.{List}
+use Prim.Native.Nat.{ℕ}
+use lib.IntN.{pos}
+use lib.ListN.{take, replicate}
+use Rattle.call.specs.declared.refusal.Refusal.{Refusal}
+use Rattle.text.specs.Piece.{pieces, numbers}
+use Rattle.text.specs.declared.Reading.TheVariants.{Numbers, Refused}
+use Rattle.text.proofs.OnceRead.{Standing, input_numbers, by_input, by_standing}
+use Rattle.decimal.proofs.Placing.{puts_as}
+use Rattle.symbol_texts.specs.NamedAnswer.{named_format, refused, group_in, group_request}
+use Rattle.symbol_texts.proofs.NamedAsked.{lines_as}
+use borrow.Author.Rules.{rules}
+use Rattle.symbol_texts.proofs.named_text.answer.Goals.{After-read_input-read, Start}
+use Rattle.symbol_texts.proofs.named_text.answer.Goals as goal
+
+abbrev start : After-read_input-read → Start
+start d = d
+
+-- what the text asks for, by what was read
+module _ (d : After-read_input-read) where
+  abbrev text : List ℕ
+  text = (start d).args.text.now
+
+  abbrev longer : Bool
+  longer = (start d).args.longer
+
+  asks_refused : (f : Refusal) → d.read_input-read.result ≡ Refused f → refused f ≡ group_request longer text
+  unfolding group_request
+  asks_refused f e = by_input longer named_format text (replicate 2 (pos 0)) refl d.read_input-read.ensures group_in refused (Refused f) e
+
+  module _ (k : ℕ) (e : d.read_input-read.result ≡ Numbers k) where
+    standing : Standing (numbers (pieces text)) 2 k d.read_input-read.new.out
+    standing = input_numbers longer named_format text (replicate 2 (pos 0)) refl d.read_input-read.ensures (omega arith) k e
+
+    asks : group_in (take k d.read_input-read.new.out) ≡ group_request longer text
+    unfolding group_request
+    asks = by_standing longer named_format text (replicate 2 (pos 0)) refl d.read_input-read.ensures group_in refused (omega arith) k e
+
+pub slice_bounds-numbers-end : goal.slice_bounds-numbers-end
+slice_bounds-numbers-end c = let k = c in (standing k _ k.in-Numbers.is).inside
+
+pub slice_bounds-group_numbers-end : goal.slice_bounds-group_numbers-end
+slice_bounds-group_numbers-end c = let k = c in (standing k _ k.in-Numbers.is).long
+
+pub returns-in-Refused : goal.returns-in-Refused
+returns-in-Refused c =
+    let k = c in
+    let d = k in
+    puts_as (lines_as (longer (goal.at.returns-in-Refused c).After-read_input-read) (text (goal.at.returns-in-Refused c).After-read_input-read) (asks_refused (goal.at.returns-in-Refused c).After-read_input-read _ k.in-Refused.is)) c.refusal_line.ensures
+
+pub returns-in-Numbers : goal.returns-in-Numbers
+returns-in-Numbers c =
+    let n = c in
+    let k = n in
+    let d = k in
+    puts_as (lines_as (longer (goal.at.returns-in-Numbers c).After-read_input-read) (text (goal.at.returns-in-Numbers c).After-read_input-read) (asks d _ k.in-Numbers.is)) n.group_numbers.ensures

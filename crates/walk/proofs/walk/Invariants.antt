@@ -1,0 +1,17 @@
+-- `walk` follows the word of m. The loop's invariant, `Going`: what was written, and then what is left to write from the present position,
+-- is the whole walk. The sum of the entries that are left falls with each turn, so it ends. Assumes nothing.
+use native.Mathlib.Omega.{arith}
+use mathlib.Core.Path.{◌≡◌, refl, sym, ◌∙◌}
+use lib.ListN.{length}
+use Rattle.matrix.specs.Euclid.{total}
+use Rattle.coset.proofs.Positions.{positions}
+use Rattle.walk.specs.Inner.Way.{form_of, Going}
+use Rattle.walk.proofs.Onward.{going_none, going_more, walked}
+use borrow.Author.Rules.{rules}
+use Rattle.walk.proofs.walk.Given as goal
+
+abbrev pub invariant-loop-out : goal.invariant-loop-out
+invariant-loop-out l = Going l.v l.t l.start l.limit l.initial.way l.initial.out l.way l.out × (length l.out ≡ length l.initial.out)
+
+abbrev pub decreases-loop-out : goal.decreases-loop-out
+decreases-loop-out l = total (form_of l.way)

@@ -1,0 +1,15 @@
+-- `walk_near` makes one short run after the other; each leaves less. Assumes nothing.
+use mathlib.Core.Path.{sym, ◌∙◌}
+use native.Mathlib.Omega.{arith}
+use Rattle.matrix.specs.Euclid.{total}
+use Rattle.walk.specs.Inner.Way.{form_of}
+use Rattle.walk_runs.specs.Inner.Tally.{Ahead}
+use Rattle.walk_runs.proofs.Tallying.{one_proper, ahead_none, ahead_more}
+use borrow.Author.Rules.{rules}
+use Rattle.walk_runs.proofs.walk_near.Given as goal
+
+abbrev pub invariant-loop-k : goal.invariant-loop-k
+invariant-loop-k l = Ahead l.v l.t l.initial.now l.now
+
+abbrev pub decreases-loop-k : goal.decreases-loop-k
+decreases-loop-k l = total (form_of l.now)
