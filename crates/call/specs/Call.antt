@@ -23,7 +23,7 @@
 --   filled_place a      what a call that fills a space tells as its place: how many things it made, or the refusal's
 --   bit b               1 for yes, 0 for no
 use Rattle.std.specs.Prelude.{◌≡◌, Bool, true, false, List, [], ◌∷◌, ◌++◌, ℕ, ◌/◌, ltb, length, drop}
-use Rattle.std.specs.Borrow.{Bor}
+use Rattle.std.specs.Borrow.{MutBor}
 use denote.Triple.Both.{Both}
 use Rattle.basics.specs.Choice.{pick}
 use Rattle.call.specs.Space.{work_length, zeros}
@@ -34,7 +34,7 @@ use Rattle.call.specs.declared.refusal.Filled.{Filled}
 use Rattle.call.specs.declared.refusal.Filled.TheVariants as filled
 
 abbrev pub Lent : Type 0 → Type 0
-Lent X = Both (Bor X) (Bor X)
+Lent X = Both (MutBor X) (MutBor X)
 
 -- ---- steps
 
