@@ -13,10 +13,9 @@ returns-then-work-lt-WORK c =
 
 pub returns-in-Refused : goal.returns-in-Refused
 returns-in-Refused c =
-    let r = c.checked-1.given in
     let k = c in
     let s = k in
-    admit_refused s.args.v s.args.t.now s.args.work r.0.0 (sym k.check-checked.ensures.returned ∙ r.1)
+    admit_refused s.args.v s.args.t.now s.args.work c.in-Refused.refusal (sym k.check-checked.ensures.returned ∙ c.in-Refused.is)
 
 pub returns-else-work-lt-WORK : goal.returns-else-work-lt-WORK
 returns-else-work-lt-WORK c =

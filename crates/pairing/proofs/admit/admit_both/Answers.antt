@@ -8,11 +8,10 @@ use Rattle.pairing.proofs.admit.admit_both.Goals as goal
 
 pub returns-in-Refused : goal.returns-in-Refused
 returns-in-Refused c =
-    let r = c.first-1.given in
     let k = c in
     let s = k in
-    first_refuses (symbol_check s.args.v s.args.t.now) (admitted_of s.args.n s.args.u.now s.args.work) r.0.0
-    (sym k.check-first.ensures.returned ∙ r.1)
+    first_refuses (symbol_check s.args.v s.args.t.now) (admitted_of s.args.n s.args.u.now s.args.work) c.in-Refused.refusal
+    (sym k.check-first.ensures.returned ∙ c.in-Refused.is)
 
 pub returns-in-Accepted : goal.returns-in-Accepted
 returns-in-Accepted c =

@@ -7,6 +7,7 @@ use Rattle.basics.specs.Count.{count}
 use Rattle.pairing.specs.Generator.{is_leader_in}
 use Rattle.basics.proofs.Count.{count_yes, count_no, count_le}
 use borrow.Author.Rules.{rules}
+use Rattle.pairing.proofs.generator.count_leaders.Goals.{then-leads_at, else-leads_at}
 use Rattle.pairing.proofs.generator.count_leaders.Goals as goal
 
 pub leads_at-requires : goal.leads_at-requires
@@ -26,10 +27,10 @@ loop-i-preserved c =
     let test = is_leader_in s.args.v s.args.p.now in
     let i = l.loop-i.i in (
       search rules,
-      ⊎_elim
-          (λ k. rw add-one (k.1 ∙ ap (λ (n : ℕ). n + 1) l.loop-i.invariant.1 ∙ sym (count_yes test i (sym a.leads_at.ensures ∙ k.0.taken))))
-          (λ k. rw add-one (k.1 ∙ l.loop-i.invariant.1 ∙ sym (count_no test i (sym a.leads_at.ensures ∙ k.0.left))))
-          c.if-leads_at.branch,
+      elim c.if-leads_at.branch [
+        | then-leads_at w ↦ rw add-one (w.n-is ∙ ap (λ (n : ℕ). n + 1) l.loop-i.invariant.1 ∙ sym (count_yes test i (sym a.leads_at.ensures ∙ w.if-leads_at.true)))
+        | else-leads_at w ↦ rw add-one (w.n-is ∙ l.loop-i.invariant.1 ∙ sym (count_no test i (sym a.leads_at.ensures ∙ w.if-leads_at.false)))
+      ],
     )
 
 pub returns : goal.returns
