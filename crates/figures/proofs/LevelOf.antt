@@ -82,6 +82,8 @@ pos_left zero y h = omega arith
 pos_left (suc x) y h = omega arith
 
 pos_mul : (x y : ℕ) → 0 < x → 0 < y → 0 < x * y
+pos_mul zero y h k = omega arith
+pos_mul (suc x) zero h k = omega arith
 pos_mul (suc x) (suc y) h k = omega arith
 
 module _ (a b : ℕ) (ha : 0 < a) (hb : 0 < b) where

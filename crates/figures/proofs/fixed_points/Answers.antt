@@ -10,6 +10,7 @@ use Rattle.call.specs.Space.{entries}
 use Rattle.numbering.proofs.Those.{those_few}
 use Rattle.numbering.proofs.Space.{entries_length, entries_at}
 use Rattle.figures.proofs.Scan.{fixed_yes, fixed_no}
+use Rattle.figures.proofs.fixed_points.Goals.{then-x-i, else-x-i}
 use Rattle.figures.proofs.fixed_points.Goals as goal
 
 pub loop-i-init : goal.loop-i-init
@@ -29,10 +30,10 @@ loop-i-preserved c =
     let t = entries args.off args.n args.w.now in
     let i = loop.i in
     let x = wide.ensures ∙ sym (entries_at args.off args.n args.w.now i (omega arith)) in
-    ⊎_elim
-    (λ a. (omega arith, a.1 ∙ (rw loop.invariant.1 (sym (fixed_yes t i (sym x ∙ a.0.taken))))))
-    (λ a. (omega arith, a.1 ∙ loop.invariant.1 ∙ sym (fixed_no t i (λ e. a.0.left (x ∙ e)))))
-    c.if-x-i.branch
+    elim c.if-x-i.branch [
+      | then-x-i a ↦ (omega arith, a.count-is ∙ (rw loop.invariant.1 (sym (fixed_yes t i (sym x ∙ a.if-x-i.true)))))
+      | else-x-i a ↦ (omega arith, a.count-is ∙ loop.invariant.1 ∙ sym (fixed_no t i (λ e. a.if-x-i.false (x ∙ e))))
+    ]
 
 pub returns : goal.returns
 returns c =

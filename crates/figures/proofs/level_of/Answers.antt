@@ -28,8 +28,7 @@ loop-i-preserved c =
     let loop = c.loop-i in
     let wide64 = c.wide64-x in
     let lcm-of = c.lcm_of-r in
-    let r = c.r-1 in
-    (omega arith, level_more pre loop.invariant.1 (omega arith) wide64.ensures _ (rw r.given.1 at lcm-of.ensures))
+    (omega arith, level_more pre loop.invariant.1 (omega arith) wide64.ensures _ (rw c.in-Value.is at lcm-of.ensures))
 
 pub returns : goal.returns
 returns c = level_end c.requires c.loop-i.invariant.1 (omega arith)
