@@ -52,8 +52,8 @@ agree m = positive (m.a *ℤ m.c) || positive (m.b *ℤ m.d)
 abbrev pub turn : (Form → List Letter) → Form → List Letter
 turn next f =
     let by_Q = Q ∷ next (form (f.r - f.p) (f.t - f.q) f.p f.q) in
-    let by-P = P ∷ next (form f.r f.t (f.p - f.r) (f.q - f.t)) in
-    pick (leb (f.p + f.q) (f.r + f.t)) by_Q by-P
+    let by_P = P ∷ next (form f.r f.t (f.p - f.r) (f.q - f.t)) in
+    pick (leb (f.p + f.q) (f.r + f.t)) by_Q by_P
 
 abbrev pub tail_of : ℕ → Form → List Letter
 tail_of zero f = []
