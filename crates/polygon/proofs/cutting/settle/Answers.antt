@@ -10,12 +10,12 @@ use Rattle.polygon.proofs.Scanning.{mid_turn, Mid, mid_start, mid_end, ready_som
 use Rattle.polygon.proofs.cutting.settle.Goals.{In-loop-top}
 use Rattle.polygon.proofs.cutting.settle.Goals as goal
 
-isReady : (c : In-loop-top invariant-loop decreases-loop)
+isReady : (c : In-loop-top)
     → ready_of c.args.t.now (cells_in c.loop-top.w c.loop-top.n)
     (c.args.i + 1) ≡ true
 isReady c = sym c.ready.ensures ∙ c.loop-top-test.true
 
-some : (c : In-loop-top invariant-loop decreases-loop) → 1 ≤ c.loop-top.n
+some : (c : In-loop-top) → 1 ≤ c.loop-top.n
 some c = ready_some _ _ _ _ (isReady c)
 
 pub loop-top-init : goal.loop-top-init
@@ -34,11 +34,11 @@ ready-requires c = let l = c in
     )
 
 pub overflow_sub-top : goal.overflow_sub-top
-overflow_sub-top c = some c
+overflow_sub-top c = some (goal.at.overflow_sub-top c).In-loop-top
 
 pub link-requires : goal.link-requires
 link-requires c = let l = c in
-    let k = some c in
+    let k = some (goal.at.link-requires c).In-loop-top in
     let d = l.loop-top.invariant in (
       omega (arith, d.count, d.most, d.next),
       omega (arith, c.index-hl.ensures, d.cells.handles (l.loop-top.n - 1) (omega arith), d.most, d.next),
@@ -47,7 +47,7 @@ link-requires c = let l = c in
 
 pub link-requires-in-loop-top : goal.link-requires-in-loop-top
 link-requires-in-loop-top c = let l = c in
-    let k = some c in
+    let k = some (goal.at.link-requires-in-loop-top c).In-loop-top in
     let d = l.loop-top.invariant in (
       omega (arith, d.count, d.most, d.next),
       omega (arith, d.low, d.most),
@@ -56,14 +56,14 @@ link-requires-in-loop-top c = let l = c in
     )
 
 pub loop-top-smaller : goal.loop-top-smaller
-loop-top-smaller c = let k = some c in omega arith
+loop-top-smaller c = let k = some (goal.at.loop-top-smaller c).In-loop-top in omega arith
 
 pub loop-top-preserved : goal.loop-top-preserved
 loop-top-preserved c = let i = c in
     let l = i in
     let s = l in
     mid_turn s.args.t.now s.args.v s.args.w.now s.args.i s.args.n0 s.args.m0 s.requires l.loop-top.w _ _ l.loop-top.n l.loop-top.m
-    l.loop-top.h _ l.loop-top.invariant (isReady i)
+    l.loop-top.h _ l.loop-top.invariant (isReady (goal.at.loop-top-preserved c).In-loop-top)
     c.index-hl.ensures c.link.ensures
     c.link-in-loop-top.ensures
 
