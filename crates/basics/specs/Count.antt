@@ -3,7 +3,7 @@
 --   first test n     the smallest i < n that passes, or n where none does
 --   count test n     how many i < n pass
 --   those test n     the i < n that pass, in ascending order
-use Rattle.std.specs.Prelude.{Bool, true, false, List, [], ◌∷◌, ◌++◌, ℕ, zero, suc, ◌+◌, ltb}
+use Rattle.std.specs.Prelude.{Bool, List, [], ◌∷◌, ◌++◌, ℕ, zero, suc, ◌+◌, ltb}
 use Rattle.basics.specs.Choice.{pick}
 
 abbrev pub first : (ℕ → Bool) → ℕ → ℕ

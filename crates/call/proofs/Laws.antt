@@ -30,11 +30,9 @@ use Rattle.call.specs.declared.refusal.Refusal.{Refusal}
 use Rattle.call.specs.declared.refusal.Checked.{Checked}
 use Rattle.call.specs.declared.refusal.Checked.TheVariants.{Accepted, Refused}
 use Rattle.call.specs.declared.refusal.Filled.{Filled}
-use Rattle.call.proofs.Apart.{refused_accepted}
 use Rattle.call.proofs.Answers.{both_pass}
 use Rattle.call.proofs.Numbered.{Among}
 use Rattle.call.specs.declared.Decision.{Decision}
-use Rattle.call.specs.declared.Decision.TheVariants as decision
 use Rattle.call.specs.Call.{Step, Asks, Clears, Gives, length_check, verdict, if_accepted, LeavesFrom, Leaves, Contract, number_of, place_of, Call}
 use Rattle.call.specs.Call.{filled_place, bit}
 use Rattle.call.specs.Inner.Fills.{Fills, made_if, decided, decision_refusal, decision_place}

@@ -14,9 +14,8 @@ use lib.ListN.{length, get_or, length-append, length-map}
 use lib.Dec.{leb}
 use borrow.Author.Tests.{leb-true, leb-false}
 use Rattle.numbering.specs.Find.{find, ◌∈◌, ◌∉◌, Once}
-use Rattle.numbering.specs.Table.{image_at, Permutes}
+use Rattle.numbering.specs.Table.{Permutes}
 use Rattle.figures.specs.Cusps.{width, cycle, none_below, smallest, cusps_to, cusps, cycles, sum, Lies, Cusps}
-use Rattle.basics.specs.Count.{those}
 use Rattle.numbering.proofs.Find.{none_below_lem, true_false, test, get_d_find, get_d_in, in_left, in_right, in_append, once_none, once_append, once_below}
 use Rattle.numbering.proofs.Find.{once_below_all}
 use Rattle.numbering.proofs.Table.{get_d_map}

@@ -2,7 +2,6 @@
 -- crate `statements`. Assumes nothing.
 use mathlib.Core.Path.{◌≡◌, refl}
 use mathlib.Core.List.{[], ◌∷◌}
-use Rattle.basics.specs.Count.{those}
 use Rattle.figures.specs.Cusps.{fixed_points, steps_to, width, iterates, none_below, widths}
 use Rattle.call.specs.Refusal.{level_too_large, no_genus}
 use Rattle.figures.specs.declared.Figure.TheVariants.{Value, Refused}

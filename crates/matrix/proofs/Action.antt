@@ -7,10 +7,10 @@
 -- two words with one matrix reduce to the same alternating word.
 -- Assumes nothing.
 use mathlib.Core.Path.{◌≡◌, refl, sym, ◌∙◌, ap}
-use mathlib.Core.Logic.{◌⊎◌, inl, inr}
+use mathlib.Core.Logic.{inl, inr}
 use mathlib.Core.List.{List, [], ◌∷◌, ◌++◌}
 use lib.IntN.{pos}
-use Rattle.matrix.specs.Matrix.{Mat, ◌⊗◌, 𝟙, neg, adj, det, mat_s, mat_q, mat_p, ◌≈◌}
+use Rattle.matrix.specs.Matrix.{Mat, ◌⊗◌, 𝟙, det, mat_s, mat_q, mat_p, ◌≈◌}
 use Rattle.matrix.specs.Words.{Letter, S, Q, P, letter, value, Alternating}
 use Rattle.matrix.specs.Euclid.{word_of}
 use Rattle.matrix.specs.Action.{step, run, at, Involution, OrderThree}

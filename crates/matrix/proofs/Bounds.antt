@@ -3,8 +3,8 @@
 -- In order: a bounded integer fits (`fits`), and what fits is kept (`kept`); the parts of x y + z w fit where their sizes do (`left_fits`, `right_fits`,
 -- `sum_fits`, `difference_fits`); bounds on a product's, an adjugate's and a negative's entries (`small-⊗`, `small_adj`, `small_neg`), and that small entries
 -- leave room (`room`, `roomy`, `small_more`). Assumes nothing.
-use mathlib.Core.Path.{◌≡◌, refl, sym, ◌∙◌, ap}
-use Prim.Native.Nat.{ℕ, zero, suc, ◌+◌, ◌*◌, ◌-◌, ◌^◌, ◌≤◌, ◌<◌}
+use mathlib.Core.Path.{◌≡◌}
+use Prim.Native.Nat.{ℕ, ◌+◌, ◌*◌, ◌-◌, ◌^◌, ◌≤◌, ◌<◌}
 use native.Mathlib.Omega.{arith}
 use native.Mathlib.Nat.{mul-le-mul}
 use lib.IntN.{ℤ, pos, negsuc, neg_ℤ, nat_abs, ◌+ℤ◌, ◌-ℤ◌, ◌*ℤ◌, +ℤ_idl}

@@ -6,22 +6,22 @@
 -- Why: the entries' signs are those of a word's matrix because a d and b c are one apart; a 0 takes whichever sign it must.
 -- Assumes nothing.
 use mathlib.Core.Path.{◌≡◌, refl, sym, ◌∙◌, ap, subst}
-use mathlib.Core.Logic.{◌⊎◌, inl, inr}
+use mathlib.Core.Logic.{inl, inr}
 use mathlib.Core.Bool.{Bool, true, false, false≢true}
 use mathlib.Core.List.{List, [], ◌∷◌}
-use Prim.Native.Nat.{ℕ, zero, suc, ◌+◌, ◌*◌, ◌<◌, ◌≤◌}
+use Prim.Native.Nat.{ℕ, zero, suc, ◌+◌, ◌*◌, ◌<◌}
 use native.Mathlib.Omega.{arith}
 use native.Mathlib.Decide.{dec_le}
-use lib.IntN.{ℤ, pos, negsuc, neg_ℤ, nat_abs, ◌+ℤ◌, ◌-ℤ◌, ◌*ℤ◌, neg_ℤ-+ℤ, neg_ℤ-neg_ℤ, -ℤ-+ℤ_cancel, +ℤ_comm, pos-ne-negsuc}
+use lib.IntN.{ℤ, pos, negsuc, neg_ℤ, nat_abs, ◌+ℤ◌, ◌-ℤ◌, neg_ℤ-+ℤ, neg_ℤ-neg_ℤ, -ℤ-+ℤ_cancel, +ℤ_comm, pos-ne-negsuc}
 use Rattle.matrix.specs.Matrix.{Mat, mat, neg, det, ◌≈◌}
-use Rattle.matrix.specs.Words.{Letter, S, Q, P, value, Alternating}
-use Rattle.matrix.specs.Euclid.{Form, form, sizes, total, swap, agree, spell, word_of}
+use Rattle.matrix.specs.Words.{Letter, Q, P, value, Alternating}
+use Rattle.matrix.specs.Euclid.{Form, sizes, total, swap, agree, word_of}
 use Rattle.matrix.specs.Theorems.{Existence}
-use Rattle.matrix.proofs.Ring.{Exp, con, var, ◌⊕◌, ◌⊙◌, ⊖◌, val, ring, mat_eq}
+use Rattle.matrix.proofs.Ring.{Exp, var, ◌⊕◌, ◌⊙◌, ⊖◌, ring, mat_eq}
 use Rattle.matrix.proofs.Matrix.{neg_neg, det_neg, det-≈, ≈-sym, ◌∙≈◌}
-use Rattle.matrix.proofs.Form.{Tail, stop, last, sq, sp, letters, upper, lower, tail_form, Unimodular, unimodular_swap, Rows, Proper, rows}
-use Rattle.matrix.proofs.Form.{down, upper_down, unimodular_down, Formed, formed}
-use Rattle.matrix.proofs.Sign.{flip, signed, sign, tail_value, head_value_Q, head_value_P, sizes_neg, agree_neg, agree-≈, agree_tail}
+use Rattle.matrix.proofs.Form.{Tail, stop, last, sq, sp, letters, upper, Unimodular, unimodular_swap, Proper, rows}
+use Rattle.matrix.proofs.Form.{down, upper_down, unimodular_down, formed}
+use Rattle.matrix.proofs.Sign.{signed, sign, tail_value, head_value_Q, head_value_P, sizes_neg, agree_neg, agree-≈, agree_tail}
 use Rattle.matrix.proofs.Sign.{agree_head, same_sign, det_value}
 use Rattle.matrix.proofs.Uniqueness.{Word, tail, head-Q, head-P, spelled, word_back, word_of-≈}
 

@@ -8,11 +8,11 @@
 -- Assumes nothing.
 use mathlib.Core.Path.{◌≡◌, refl, sym, ◌∙◌, ap}
 use mathlib.Core.Bool.{Bool, true, false, cond}
-use Prim.Native.Nat.{ℕ, zero, suc, ◌+◌, ◌*◌, ◌-◌, ◌≤◌, ◌<◌}
+use Prim.Native.Nat.{ℕ, zero, suc, ◌+◌, ◌*◌, ◌-◌, ◌≤◌}
 use native.Mathlib.Omega.{arith}
 use lib.Dec.{ltb}
 use lib.IntN.{ℤ, pos, negsuc, suc_ℤ, pred_ℤ, neg_ℤ, nat_abs, sub_ℕ, one, ◌+ℤ◌, ◌*ℤ◌, ◌-ℤ◌, suc_ℤ-+ℤ, pred_ℤ-+ℤ, suc_ℤ-*ℤ, pred_ℤ-*ℤ, +ℤ_idl, +ℤ_idr, +ℤ_assoc}
-use lib.IntN.{+ℤ_comm, +ℤ_invl, +ℤ_invr, zero-*ℤ, *ℤ-zero, *ℤ-one, *ℤ_comm, -ℤ-+ℤ_cancel, +ℤ-neg_ℤ_cancel}
+use lib.IntN.{+ℤ_comm, +ℤ_invl, zero-*ℤ, *ℤ-one, *ℤ_comm, -ℤ-+ℤ_cancel, +ℤ-neg_ℤ_cancel}
 
 module _ (f : ℤ → ℤ) (k : ℤ) (up : (x : ℤ) → f (suc_ℤ x) ≡ f x +ℤ k) (down : (x : ℤ) → f (pred_ℤ x) ≡ f x -ℤ k) where
   abbrev line : ℤ → ℤ

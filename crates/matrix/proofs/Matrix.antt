@@ -5,14 +5,13 @@
 -- and that a left factor of determinant 1 cancels from (`≈-cancel`).
 -- Assumes nothing.
 use mathlib.Core.Path.{◌≡◌, refl, sym, ◌∙◌, ap}
-use mathlib.Core.Logic.{◌⊎◌, inl, inr}
+use mathlib.Core.Logic.{inl, inr}
 use mathlib.Core.List.{List, [], ◌∷◌}
-use Prim.Native.Nat.{ℕ}
-use lib.IntN.{ℤ, pos, negsuc, neg_ℤ, ◌+ℤ◌, ◌*ℤ◌, neg_ℤ-neg_ℤ}
+use lib.IntN.{ℤ, pos, ◌*ℤ◌}
 use Rattle.matrix.specs.Matrix.{Mat, mat, ◌⊗◌, 𝟙, neg, adj, det, mat_s, mat_t, mat_r, mat_q, mat_p, ◌≈◌}
 use Rattle.matrix.specs.Words.{Letter, S, Q, P, letter}
 use Rattle.matrix.proofs.Integer.{one-*}
-use Rattle.matrix.proofs.Ring.{Exp, con, var, ◌⊕◌, ◌⊙◌, ⊖◌, val, ring, MExp, lit, const, ◌⊛◌, ∼◌, adjᵉ, block, val_m, ring_m, detᵉ, det_val}
+use Rattle.matrix.proofs.Ring.{con, ◌⊙◌, ring, lit, const, ◌⊛◌, ∼◌, adjᵉ, block, ring_m, detᵉ, det_val}
 
 -- the entries of a matrix in front of an environment: they are its next block of variables
 abbrev pub with : Mat → List ℤ → List ℤ

@@ -5,18 +5,18 @@
 -- `agree_head`); the sign of the second column is fixed by the determinant (`same_sign`).
 -- Assumes nothing.
 use mathlib.Core.Path.{◌≡◌, refl, sym, ◌∙◌, ap}
-use mathlib.Core.Logic.{◌⊎◌, inl, inr}
+use mathlib.Core.Logic.{inl, inr}
 use mathlib.Core.Bool.{Bool, true, false, ◌||◌}
 use mathlib.Core.List.{List, [], ◌∷◌}
 use Prim.Native.Nat.{ℕ, zero, suc, ◌+◌, ◌*◌, ◌<◌}
 use native.Mathlib.Omega.{arith}
-use lib.IntN.{ℤ, pos, negsuc, neg_ℤ, nat_abs, ◌*ℤ◌, pos-ne-negsuc}
+use lib.IntN.{ℤ, pos, neg_ℤ, nat_abs, ◌*ℤ◌, pos-ne-negsuc}
 use Rattle.matrix.specs.Matrix.{Mat, mat, ◌⊗◌, 𝟙, neg, adj, det, mat_s, mat_q, mat_p, ◌≈◌}
-use Rattle.matrix.specs.Words.{Letter, S, Q, P, letter, value}
-use Rattle.matrix.specs.Euclid.{Form, form, sizes, swap, positive, agree}
+use Rattle.matrix.specs.Words.{Letter, Q, P, letter, value}
+use Rattle.matrix.specs.Euclid.{Form, sizes, swap, positive, agree}
 use Rattle.matrix.proofs.Integer.{abs_neg}
-use Rattle.matrix.proofs.Ring.{Exp, con, var, ◌⊕◌, ◌⊙◌, ⊖◌, val, ring, MExp, lit, const, ◌⊛◌, ∼◌, adjᵉ, block, val_m, ring_m, detᵉ, det_val}
-use Rattle.matrix.proofs.Matrix.{⊗-idr, det_𝟙, det_letter, det_one, det_neg, ◌∙≈◌, ≈-left}
+use Rattle.matrix.proofs.Ring.{Exp, var, ◌⊕◌, ◌⊙◌, ⊖◌, ring, MExp, lit, const, ◌⊛◌, ∼◌, ring_m, detᵉ}
+use Rattle.matrix.proofs.Matrix.{⊗-idr, det_𝟙, det_letter, det_one, ◌∙≈◌, ≈-left}
 use Rattle.matrix.proofs.Form.{Tail, stop, last, sq, sp, letters, upper, lower, tail_form, form_eq}
 
 -- ---- a form with signs

@@ -6,16 +6,16 @@
 -- Why: `word_of` undoes `value`, so `value` sends different alternating words to different matrices.
 -- Assumes nothing.
 use mathlib.Core.Path.{◌≡◌, refl, sym, ◌∙◌, ap}
-use mathlib.Core.Logic.{◌⊎◌, inl, inr, ◌↔◌}
+use mathlib.Core.Logic.{◌↔◌}
 use mathlib.Core.Bool.{Bool, true, false}
 use mathlib.Core.List.{List, [], ◌∷◌}
-use Prim.Native.Nat.{ℕ, zero, suc, ◌+◌, ◌*◌, ◌<◌, ◌≤◌}
+use Prim.Native.Nat.{ℕ, zero, suc, ◌+◌, ◌*◌, ◌<◌}
 use native.Mathlib.Omega.{arith}
 use Rattle.matrix.specs.Matrix.{Mat, ◌≈◌}
-use Rattle.matrix.specs.Words.{Letter, S, Q, P, value, alternate, Alternating}
-use Rattle.matrix.specs.Euclid.{Form, form, sizes, total, swap, agree, turn, tail_of, spell, word_of}
+use Rattle.matrix.specs.Words.{Letter, S, Q, P, value, Alternating}
+use Rattle.matrix.specs.Euclid.{Form, total, swap, agree, tail_of, spell, word_of}
 use Rattle.matrix.specs.Theorems.{Uniqueness}
-use Rattle.matrix.proofs.Form.{Tail, stop, last, sq, sp, letters, upper, lower, tail_form, Whole, whole, down_upper, turn_Q, turn_P, read_back}
+use Rattle.matrix.proofs.Form.{Tail, stop, last, sq, sp, letters, upper, lower, tail_form, whole, down_upper, turn_Q, turn_P, read_back}
 use Rattle.matrix.proofs.Sign.{signed, sign, tail_value, head_value_Q, head_value_P, sizes-≈, sizes_signed, agree-≈, agree_tail, agree_head}
 
 -- ---- alternating words as blocks

@@ -4,7 +4,7 @@ use mathlib.Core.Path.{◌≡◌, refl, sym, ap, ◌∙◌}
 use mathlib.Core.Logic.{◌≢◌, inl, inr}
 use mathlib.Core.Bool.{false}
 use mathlib.Core.List.{List, [], ◌∷◌, ◌++◌}
-use Prim.Native.Nat.{ℕ, ◌+◌, ◌-◌, ◌≤◌, ◌<◌}
+use Prim.Native.Nat.{ℕ, ◌+◌, ◌≤◌, ◌<◌}
 use native.Mathlib.Numerals.{add-one}
 use native.Mathlib.Omega.{arith}
 use native.Mathlib.Decide.{dec_lt, ℕ_discrete}
@@ -15,7 +15,7 @@ use borrow.Author.Tests.{lt-ltb, le-ltb, eq-eqb, ne_eqb}
 use borrow.Author.Count.{below_more}
 use Rattle.numbering.specs.Find.{find, ◌∈◌, ◌∉◌, is_in, Once}
 use Rattle.numbering.specs.Order.{add, visit, order_to}
-use Rattle.numbering.specs.Table.{image_at, ◌then◌}
+use Rattle.numbering.specs.Table.{image_at}
 use Rattle.numbering.specs.Inner.Space.{WORK, SIGMA, RHO, NUMBER, ORDER, R_TABLE, ChangedWithin}
 use Rattle.call.specs.Space.{entries}
 use Rattle.numbering.specs.Inner.Marks.{listed, Sparse, NowListed, Fresh, Visit, Images, order_in}

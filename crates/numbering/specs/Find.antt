@@ -6,7 +6,7 @@
 --     is_in l x     whether x is in l
 --     Once l        l has no repeats: the entry at the place j has the place j
 -- The laws are in proofs/Find.antt.
-use Rattle.std.specs.Prelude.{◌≡◌, Bool, true, false, List, [], ◌∷◌, ℕ, suc, ◌≤◌, ◌<◌, length, get_or, eqb, ltb}
+use Rattle.std.specs.Prelude.{◌≡◌, Bool, List, [], ◌∷◌, ℕ, suc, ◌≤◌, ◌<◌, length, get_or, eqb, ltb}
 use Rattle.basics.specs.Choice.{pick}
 
 infix 4 ◌∈◌ ◌∉◌

@@ -6,30 +6,28 @@
 -- Assumes nothing.
 use mathlib.Core.Path.{◌≡◌, refl, sym, ◌∙◌, ap}
 use mathlib.Core.Logic.{◌⊎◌, inl, inr}
-use mathlib.Core.Bool.{Bool, true, false, not, ◌&&◌}
+use mathlib.Core.Bool.{Bool, true}
 use mathlib.Core.List.{List, [], ◌∷◌, map}
-use Prim.Native.Nat.{ℕ, zero, suc, ◌+◌, ◌*◌, ◌-◌, ◌<◌, ◌≤◌}
+use Prim.Native.Nat.{ℕ, zero, suc, ◌+◌, ◌-◌, ◌<◌, ◌≤◌}
 use native.Mathlib.Omega.{arith}
-use native.Mathlib.Decide.{dec_lt}
-use lib.Dec.{ltb, eqb}
-use lib.ListN.{length, get_or, length-map}
+use lib.Dec.{ltb}
+use lib.ListN.{length, get_or}
 use borrow.Author.Tests.{lt-ltb, le-ltb}
-use lib.IntN.{ℤ, pos, negsuc, nat_abs, neg_ℤ, ◌-ℤ◌, ◌*ℤ◌, ◌+ℤ◌}
-use Rattle.matrix.specs.Matrix.{Mat, mat, ◌⊗◌, 𝟙, adj, det, mat_s, mat_q}
-use Rattle.matrix.specs.Words.{S, Q, letter}
-use Rattle.basics.specs.Choice.{pick}
+use lib.IntN.{ℤ, pos, negsuc}
+use Rattle.matrix.specs.Matrix.{Mat, ◌⊗◌, 𝟙, adj, det, mat_s, mat_q}
+use Rattle.matrix.specs.Words.{S, Q}
 use Rattle.matrix.proofs.Ring.{ring, con, var, ◌⊕◌, ◌⊙◌, ⊖◌}
-use Rattle.matrix.proofs.Matrix.{det_one, det_adj, det_𝟙, det_letter}
-use Rattle.basics.specs.Count.{first, count, those}
-use Rattle.symbol.specs.Table.{numer, denom, pairing_entry, side_at, frame, pairing_of, carried}
+use Rattle.matrix.proofs.Matrix.{det_one, det_adj, det_letter}
+use Rattle.basics.specs.Count.{count}
+use Rattle.symbol.specs.Table.{numer, denom, pairing_entry, pairing_of, carried}
 use Rattle.symbol.specs.Check.{eq_z, sides}
 use Rattle.symbol.specs.Symbol.{FreeLabel, IsSymbol}
-use Rattle.pairing.specs.Generator.{partner, pairing_at, is_leader_by, is_leader, leaders, frame_at, generator_by, generator, generators}
+use Rattle.pairing.specs.Generator.{partner, pairing_at, is_leader, leaders, frame_at, generator_by, generator, generators}
 use Rattle.symbol.specs.declared.Pairing.{Pairing}
-use Rattle.symbol.specs.declared.Pairing.TheVariants.{Even, Odd, Free, Bad}
+use Rattle.symbol.specs.declared.Pairing.TheVariants.{Even, Odd, Free}
 use Rattle.symbol.proofs.Choice.{eq_z_true, eq_eq_z, eq_z_refl}
-use Rattle.basics.proofs.Choice.{pick_true, pick_false, clash}
-use Rattle.basics.proofs.Count.{without, Another, another, length_those, those_at, count_yes, count_mono}
+use Rattle.basics.proofs.Choice.{pick_true, pick_false}
+use Rattle.basics.proofs.Count.{another, length_those, those_at, count_yes, count_mono}
 use Rattle.symbol.proofs.Pairings.{pairing_free}
 
 module _ (v : ℕ) (t : List ℤ) (s : IsSymbol v t) where

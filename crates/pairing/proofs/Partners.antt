@@ -7,11 +7,11 @@
 -- Assumes nothing.
 use mathlib.Core.Path.{◌≡◌, refl, sym, ◌∙◌, ap}
 use mathlib.Core.Logic.{◌⊎◌, inl, inr}
-use mathlib.Core.Bool.{Bool, true, false, not, ◌&&◌}
+use mathlib.Core.Bool.{Bool, true, false}
 use mathlib.Core.List.{List}
-use Prim.Native.Nat.{ℕ, zero, suc, ◌+◌, ◌-◌, ◌<◌, ◌≤◌}
+use Prim.Native.Nat.{ℕ, suc, ◌+◌, ◌-◌, ◌<◌, ◌≤◌}
 use native.Mathlib.Omega.{arith}
-use native.Mathlib.Decide.{dec_lt, ℕ_discrete}
+use native.Mathlib.Decide.{ℕ_discrete}
 use lib.Dec.{ltb, eqb}
 use lib.ListN.{length, get_or, set, length-set}
 use lib.Seq.{get_or-set_same, get_or-set_other}
@@ -30,7 +30,7 @@ use Rattle.symbol.specs.declared.Pairing.{Pairing}
 use Rattle.symbol.specs.declared.Pairing.TheVariants.{Even, Odd, Free, Bad}
 use Rattle.symbol.proofs.Choice.{eq_z_true, eq_eq_z, eq_z_refl}
 use Rattle.basics.proofs.Choice.{pick_true, pick_false, clash, either}
-use Rattle.basics.proofs.Count.{Clear, Found, clear_zero, clear_more, clear_less, first_clear, first_hit, search_first, Another, another}
+use Rattle.basics.proofs.Count.{Clear, Found, clear_zero, clear_more, first_clear, first_hit, search_first, another}
 use Rattle.symbol.proofs.Pairings.{pairing_free}
 use Rattle.symbol.proofs.Marking.{label_of, unpaired_by_lem}
 

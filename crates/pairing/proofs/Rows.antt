@@ -5,28 +5,25 @@
 -- generator of a side by its pairing (`generator_by_lem`).
 -- Assumes nothing.
 use mathlib.Core.Path.{◌≡◌, refl, sym, ◌∙◌, ap}
-use mathlib.Core.Logic.{◌⊎◌, inl, inr}
 use mathlib.Core.Bool.{Bool, true, false}
 use mathlib.Core.List.{List, [], ◌∷◌, ◌++◌, append_assoc, append-nil}
-use Prim.Native.Nat.{ℕ, zero, suc, ◌+◌, ◌-◌, ◌*◌, ◌<◌, ◌≤◌}
+use Prim.Native.Nat.{ℕ, suc, ◌+◌, ◌*◌, ◌≤◌}
 use native.Mathlib.Omega.{arith}
-use lib.Dec.{ltb}
-use lib.ListN.{length, get_or, set, take, drop, length-append, length-drop}
-use lib.Seq.{sets, sets-eq, take_at, drop_at, drop-drop, length-take-le}
-use lib.IntN.{ℤ, pos, negsuc}
-use Rattle.matrix.specs.Matrix.{Mat, nth, to_list}
+use lib.ListN.{length, set, take, drop, length-append, length-drop}
+use lib.Seq.{sets-eq, take_at, drop_at, drop-drop, length-take-le}
+use lib.IntN.{ℤ, pos}
+use Rattle.matrix.specs.Matrix.{nth, to_list}
 use Rattle.basics.specs.Choice.{pick}
 use Rattle.basics.specs.Count.{count, those}
-use Rattle.symbol.specs.Table.{pairing_entries, pairing_entry, pairing_of, side_at}
-use Rattle.symbol.specs.Check.{unpaired_in, unpaired_by, sides_in, symbol_check}
+use Rattle.symbol.specs.Table.{pairing_entries, pairing_of, side_at}
+use Rattle.symbol.specs.Check.{unpaired_in}
 use Rattle.symbol.specs.Inner.Ready.{SmallSide}
-use Rattle.symbol.specs.Symbol.{IsSymbol, FreeLabel}
+use Rattle.symbol.specs.Symbol.{IsSymbol}
 use Rattle.pairing.specs.Generator.{partner, pairing_at, is_leader_in, kind_of, is_leader, leaders, frame_at, generator_by, generator, generator_row}
 use Rattle.pairing.specs.Generator.{generator_rows, generator_table}
-use Rattle.pairing.specs.Inner.Work.{AllPaired, Partnered, PartnersReady, put_row, RowsTo}
+use Rattle.pairing.specs.Inner.Work.{AllPaired, PartnersReady, put_row, RowsTo}
 use Rattle.symbol.specs.declared.Pairing.{Pairing}
 use Rattle.call.specs.Refusal.{bad_pairing}
-use Rattle.basics.proofs.Choice.{pick_true, pick_false, either}
 use Rattle.basics.proofs.Count.{length_those, count_yes, count_no}
 use Rattle.symbol.proofs.Accepted.{accepted, range_of, passed_all, passes_at}
 use Rattle.symbol.proofs.Seeking.{side_small}

@@ -11,12 +11,11 @@ use native.Mathlib.Omega.{arith}
 use native.Mathlib.Nat.{div-add-mod', mod-lt}
 use lib.Dec.{leb, ltb, eqb}
 use lib.ListN.{length}
-use borrow.Author.Tests.{le-leb, leb-true, lt-ltb, le-ltb, ltb-true, ltb-false, eq-eqb, ne_eqb, eqb-true, not-false}
-use lib.IntN.{ℤ, pos, negsuc, nat_abs, ◌-ℤ◌, ◌*ℤ◌, *ℤ_comm}
+use borrow.Author.Tests.{le-leb, leb-true, lt-ltb, le-ltb, ltb-true, eq-eqb, ne_eqb, eqb-true, not-false}
+use lib.IntN.{ℤ, pos, negsuc, nat_abs}
 use Rattle.matrix.specs.Matrix.{nth, det}
 use Rattle.matrix.specs.Euclid.{positive}
-use Rattle.basics.specs.Choice.{pick}
-use Rattle.basics.specs.Count.{first, count}
+use Rattle.basics.specs.Count.{first}
 use Rattle.symbol.specs.Table.{numer, denom, pairing_entries, pairing_entry, side_at, frame, gap, pairing_of}
 use Rattle.symbol.specs.Check.{refuse, refuse_at, eq_z, check1, check2, check3, check4, check5, check6, check7, symbol_check, out_of_range, apart}
 use Rattle.symbol.specs.Check.{is_zero, sides, unpaired_in, unpaired_by, is_odd, lacks_odd}
@@ -32,8 +31,8 @@ use Rattle.call.specs.Refusal.{◌or_else◌, bad_vertex_count, table_length, ve
 use Rattle.call.specs.declared.refusal.Checked.{Checked}
 use Rattle.call.specs.declared.refusal.Checked.TheVariants.{Accepted, Refused}
 use Rattle.symbol.proofs.Choice.{eq_z_true, eq_eq_z, positive_true, true_positive}
-use Rattle.basics.proofs.Choice.{pick_true, pick_false, either, clash, and_left, and_right}
-use Rattle.basics.proofs.Count.{Clear, Found, first_clear, clear_first, first_hit, found, search_first}
+use Rattle.basics.proofs.Choice.{pick_false, either, clash, and_left, and_right}
+use Rattle.basics.proofs.Count.{Clear, Found, first_clear, found, search_first}
 use Rattle.symbol.proofs.Pairings.{PairingView, even, odd, free, bad, pairing_view, pairing_free}
 
 -- ---- passing

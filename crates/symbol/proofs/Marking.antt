@@ -7,14 +7,14 @@ use mathlib.Core.Path.{◌≡◌, refl, sym, ◌∙◌, ap}
 use mathlib.Core.Logic.{◌⊎◌, inl, inr}
 use mathlib.Core.Bool.{Bool, true, false, not}
 use mathlib.Core.List.{List}
-use Prim.Native.Nat.{ℕ, zero, suc, ◌+◌, ◌-◌, ◌*◌, ◌/◌, ◌%◌, ◌<◌, ◌≤◌}
+use Prim.Native.Nat.{ℕ, zero, suc, ◌+◌, ◌-◌, ◌/◌, ◌%◌, ◌<◌, ◌≤◌}
 use native.Mathlib.Omega.{arith}
-use native.Mathlib.Decide.{dec_lt, ℕ_discrete}
+use native.Mathlib.Decide.{ℕ_discrete}
 use lib.Dec.{ltb, eqb}
-use lib.ListN.{length, get_or, set, replicate, length-set}
+use lib.ListN.{length, get_or, set, length-set}
 use lib.Seq.{get_or-set_same, get_or-set_other}
 use borrow.Author.Tests.{lt-ltb, le-ltb, eq-eqb, ne_eqb}
-use lib.IntN.{ℤ, pos, negsuc, nat_abs}
+use lib.IntN.{ℤ, pos, nat_abs}
 use Rattle.matrix.specs.Matrix.{nth}
 use Rattle.basics.specs.Choice.{pick}
 use Rattle.basics.specs.Count.{count}
@@ -22,9 +22,9 @@ use Rattle.symbol.specs.Table.{pairing_of}
 use Rattle.symbol.specs.Check.{eq_z, sides_in, unpaired_by, unpaired_in}
 use Rattle.symbol.specs.Inner.Marks.{digit, capped, more, CountedAt, Noted, Tallied}
 use Rattle.symbol.specs.declared.Pairing.{Pairing}
-use Rattle.symbol.specs.declared.Pairing.TheVariants.{Even, Odd, Free, Bad}
-use Rattle.symbol.proofs.Choice.{eq_z_true, eq_eq_z, eq_z_refl}
-use Rattle.basics.proofs.Choice.{pick_true, pick_false, clash, either}
+use Rattle.symbol.specs.declared.Pairing.TheVariants.{Free}
+use Rattle.symbol.proofs.Choice.{eq_z_true, eq_eq_z}
+use Rattle.basics.proofs.Choice.{pick_true, pick_false, either}
 use Rattle.basics.proofs.Count.{count_yes, count_no}
 use Rattle.symbol.proofs.Pairings.{PairingView, even, odd, free, bad, pairing_view, pairing_free}
 

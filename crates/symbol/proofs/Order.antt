@@ -12,22 +12,22 @@ use lib.Dec.{leb, ltb, eqb, lit<, lit≤}
 use lib.ListN.{length, get_or, replicate, take, drop, length-drop, length-replicate}
 use lib.Seq.{take_all}
 use borrow.Author.Tests.{lt-ltb, le-ltb, le-leb, lt-leb, eq-eqb, ne_eqb, eqb-true, eqb-false}
-use lib.IntN.{ℤ, pos, negsuc}
+use lib.IntN.{ℤ, negsuc}
 use mir.Syntax.{w64}
 use mir.Val.{SFits, of_z}
 use Rattle.matrix.specs.Matrix.{nth}
 use Rattle.basics.specs.Choice.{pick}
 use Rattle.basics.specs.Count.{first}
 use Rattle.symbol.specs.Table.{pairing_entries}
-use Rattle.symbol.specs.Check.{refuse, refuse_at, eq_z, out_of_range, is_odd, lacks_odd, check1, check2, check3, check4, check5, check6, check7, symbol_check}
-use Rattle.symbol.specs.Inner.Marks.{digit, Tallied}
+use Rattle.symbol.specs.Check.{refuse, refuse_at, eq_z, out_of_range, is_odd, lacks_odd, check1, check3, check4, check5, check6, check7, symbol_check}
+use Rattle.symbol.specs.Inner.Marks.{Tallied}
 use Rattle.symbol.specs.Inner.Ready.{MayCheck}
 use Rattle.call.specs.declared.refusal.Refusal.{Refusal}
 use Rattle.call.specs.Refusal.{◌or_else◌, bad_vertex_count, table_length}
 use Rattle.call.specs.declared.refusal.Checked.{Checked}
 use Rattle.call.specs.declared.refusal.Checked.TheVariants.{Accepted, Refused}
 use Rattle.symbol.proofs.Choice.{eq_z_true, eq_eq_z}
-use Rattle.basics.proofs.Choice.{pick_true, pick_false, clash}
+use Rattle.basics.proofs.Choice.{pick_true, pick_false}
 use Rattle.basics.proofs.Count.{Clear, first_le, clear_first}
 use Rattle.symbol.proofs.Signed.{bits_negative}
 

@@ -1,25 +1,21 @@
 -- What each arm of the code's checks 3, 4 and 5 shows; what each of the checks 3 to 6 looks for, and at how many places, by its number
 -- (`fails_3` .. `places_6`); and that sides of entries in range are small (`side_small`).
 -- Assumes nothing.
-use mathlib.Core.Path.{◌≡◌, refl, sym, ◌∙◌, ap}
+use mathlib.Core.Path.{◌≡◌, refl, ap}
 use mathlib.Core.Bool.{Bool, true, false, not, ◌&&◌, ◌||◌}
 use mathlib.Core.List.{List}
-use Prim.Native.Nat.{ℕ, zero, suc, ◌+◌, ◌*◌, ◌-◌, ◌%◌, ◌<◌, ◌≤◌}
+use Prim.Native.Nat.{ℕ, ◌+◌, ◌*◌, ◌-◌, ◌%◌, ◌<◌, ◌≤◌}
 use native.Mathlib.Omega.{arith}
 use native.Mathlib.Decide.{dec_lt, ℕ_discrete}
 use lib.Dec.{leb, eqb, lit≤}
-use lib.ListN.{length}
 use borrow.Author.Tests.{eq-eqb, ne_eqb}
-use lib.IntN.{ℤ, pos, negsuc, nat_abs}
+use lib.IntN.{ℤ, pos, nat_abs}
 use Rattle.matrix.specs.Matrix.{nth}
-use Rattle.matrix.specs.Bounds.{Small}
 use Rattle.matrix.specs.Euclid.{positive}
-use Rattle.basics.specs.Choice.{pick}
 use Rattle.symbol.specs.Table.{numer, denom, left_num, left_den, right_num, right_den, side_at}
 use Rattle.symbol.specs.Check.{eq_z, out_of_range, apart, is_zero, unpaired_in}
-use Rattle.symbol.specs.Inner.Ready.{SmallSide, fails_of, places_of, MayCheck}
+use Rattle.symbol.specs.Inner.Ready.{SmallSide, fails_of, places_of}
 use Rattle.symbol.proofs.Choice.{eq_z_true, eq_eq_z}
-use Rattle.basics.proofs.Choice.{pick_true, pick_false, clash}
 use Rattle.symbol.proofs.Accepted.{in_range}
 use Rattle.symbol.proofs.Sides.{left_first, left_later, right_inside, right_last}
 

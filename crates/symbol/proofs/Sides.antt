@@ -3,15 +3,14 @@
 use mathlib.Core.Path.{◌≡◌, refl, sym, ◌∙◌, ap}
 use mathlib.Core.Bool.{Bool, true, false}
 use mathlib.Core.List.{List}
-use Prim.Native.Nat.{ℕ, zero, suc, ◌+◌, ◌*◌, ◌-◌, ◌^◌, ◌<◌, ◌≤◌}
+use Prim.Native.Nat.{ℕ, suc, ◌-◌, ◌<◌, ◌≤◌}
 use native.Mathlib.Omega.{arith}
 use lib.Dec.{ltb, eqb, lit<, lit≤}
-use borrow.Author.Tests.{lt-ltb, le-ltb, eq-eqb, ne_eqb, eqb-true, eqb-false}
+use borrow.Author.Tests.{lt-ltb, le-ltb, eqb-true, eqb-false}
 use lib.IntN.{ℤ, pos, negsuc}
-use lib.Signed.{mag}
 use mir.Syntax.{w64}
 use mir.Val.{SFits, of_z}
-use Rattle.matrix.specs.Matrix.{nth, to_list, det, mat_s, mat_q}
+use Rattle.matrix.specs.Matrix.{det, mat_s, mat_q}
 use Rattle.matrix.specs.Bounds.{Small, DetFits}
 use Rattle.matrix.proofs.Bounds.{roomy}
 use Rattle.symbol.specs.Table.{numer, denom, left_num, left_den, right_num, right_den, frame, gap}
@@ -19,7 +18,7 @@ use Rattle.symbol.specs.Check.{eq_z}
 use Rattle.symbol.specs.Inner.Ready.{SmallSide}
 use Rattle.symbol.specs.declared.Side.{Side}
 use Rattle.symbol.proofs.Choice.{eq_z_true, eq_eq_z}
-use Rattle.basics.proofs.Choice.{pick_true, pick_false, clash}
+use Rattle.basics.proofs.Choice.{pick_true, pick_false}
 use Rattle.symbol.proofs.Signed.{bits_positive}
 
 module _ (t : List ℤ) (i : ℕ) where

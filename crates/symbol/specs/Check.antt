@@ -9,12 +9,12 @@
 --   is_odd, lacks_odd     a side is odd; one vertex and no odd side
 --   check1 .. check7      the seven checks; the last two are on the pairings alone
 --   symbol_check v t      all of them, in order: the first fault counts
-use Rattle.std.specs.Prelude.{Bool, true, false, not, ◌&&◌, ◌||◌, List, ℕ, zero, suc, ◌+◌, ◌*◌, ◌%◌, leb, ltb, eqb, length, ℤ, pos, negsuc, nat_abs}
+use Rattle.std.specs.Prelude.{Bool, true, false, not, ◌&&◌, ◌||◌, List, ℕ, ◌+◌, ◌*◌, ◌%◌, leb, ltb, eqb, length, ℤ, pos, negsuc, nat_abs}
 use Rattle.matrix.specs.Matrix.{nth}
 use Rattle.matrix.specs.Euclid.{positive}
 use Rattle.basics.specs.Choice.{pick}
 use Rattle.basics.specs.Count.{first, count}
-use Rattle.symbol.specs.Table.{numer, denom, pairing_entries, pairing_entry, side_at, gap, pairing_of}
+use Rattle.symbol.specs.Table.{numer, denom, pairing_entries, side_at, gap, pairing_of}
 use Rattle.symbol.specs.declared.Pairing.{Pairing}
 use Rattle.symbol.specs.declared.Pairing.TheVariants.{Even, Odd, Free, Bad}
 use Rattle.call.specs.declared.refusal.Refusal.{Refusal}

@@ -12,7 +12,7 @@
 --   Pairing                  Even, Odd, Free with its label, or Bad
 --   pairing_of v x           the pairing that x stands for in a symbol of v vertices: -2 even, -3 odd, 1 to v + 1 a
 --                            free label
-use Rattle.std.specs.Prelude.{Bool, true, false, List, ℕ, zero, suc, ◌+◌, ◌*◌, ltb, drop, ℤ, pos, negsuc, ◌-ℤ◌, ◌*ℤ◌}
+use Rattle.std.specs.Prelude.{List, ℕ, zero, suc, ◌+◌, ◌*◌, ltb, drop, ℤ, pos, negsuc, ◌-ℤ◌, ◌*ℤ◌}
 use Rattle.matrix.specs.Matrix.{Mat, mat, ◌⊗◌, adj, nth}
 use Rattle.basics.specs.Choice.{pick}
 use Rattle.symbol.specs.declared.Side.{Side}

@@ -1,8 +1,5 @@
-use borrow.Author.Rules.{rules}
 use mathlib.Core.Path.{◌≡◌}
-use Prim.Native.Nat.{◌-◌, ◌≤◌}
 use native.Mathlib.Omega.{arith}
-use Rattle.buckets.specs.Inner.Pairs.{BucketsBegun}
 use Rattle.buckets.proofs.Chain.{begun_none, begun_more}
 use Rattle.buckets.proofs.begin.Goals as goal
 

@@ -1,11 +1,7 @@
 -- `buckets::begin` meets its contract. The loop's invariant: the first b buckets have no pair, and all else is as it was.
 -- Assumes nothing.
-use borrow.Author.Rules.{rules}
-use mathlib.Core.Path.{◌≡◌}
 use Prim.Native.Nat.{◌-◌, ◌≤◌}
-use native.Mathlib.Omega.{arith}
 use Rattle.buckets.specs.Inner.Pairs.{BucketsBegun}
-use Rattle.buckets.proofs.Chain.{begun_none, begun_more}
 use Rattle.buckets.proofs.begin.Given as goal
 
 abbrev pub invariant-loop-b : goal.invariant-loop-b

@@ -1,5 +1,4 @@
 -- `buckets::bucket` meets its contract: the product and the sum fit, and the rest is below 4,096. Assumes nothing.
-use borrow.Author.Rules.{rules}
 use mathlib.Core.Path.{refl, ap}
 use Prim.Native.Nat.{ℕ, ◌*◌, ◌<◌}
 use native.Mathlib.Omega.{arith}

@@ -1,5 +1,4 @@
 -- `buckets::enter` meets its contract: the pair is found, or it is new and gets the place behind the last. Assumes nothing.
-use borrow.Author.Rules.{rules}
 use native.Mathlib.Omega.{arith}
 use Rattle.buckets.proofs.Entered.{seeks, pushes, entered_old, entered_new}
 use Rattle.buckets.proofs.enter.Goals as goal

@@ -1,8 +1,5 @@
-use borrow.Author.Rules.{rules}
-use mathlib.Core.Path.{◌≡◌}
 use native.Mathlib.Omega.{arith}
-use Rattle.buckets.specs.Inner.Pairs.{bucket_of}
-use Rattle.buckets.proofs.Chain.{Searching, search_start, search_found, search_falls, search_next, search_end}
+use Rattle.buckets.proofs.Chain.{search_start, search_found, search_falls, search_next, search_end}
 use Rattle.buckets.proofs.find.Goals as goal
 
 pub loop-p-init : goal.loop-p-init

@@ -1,9 +1,6 @@
 -- `buckets::find` meets its contract. The loop's invariant: p - 1 is in the bucket b, and the pair is none from p on. The measure is p. Assumes nothing.
-use borrow.Author.Rules.{rules}
-use mathlib.Core.Path.{◌≡◌}
-use native.Mathlib.Omega.{arith}
 use Rattle.buckets.specs.Inner.Pairs.{bucket_of}
-use Rattle.buckets.proofs.Chain.{Searching, search_start, search_found, search_falls, search_next, search_end}
+use Rattle.buckets.proofs.Chain.{Searching}
 use Rattle.buckets.proofs.find.Given as goal
 
 abbrev pub invariant-loop-p : goal.invariant-loop-p

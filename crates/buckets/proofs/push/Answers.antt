@@ -1,5 +1,4 @@
 -- `buckets::push` meets its contract: four stores, each inside the work space. Assumes nothing.
-use borrow.Author.Rules.{rules}
 use mathlib.Core.Path.{refl}
 use native.Mathlib.Omega.{arith}
 use lib.ListN.{length-set}

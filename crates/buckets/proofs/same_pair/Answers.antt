@@ -1,5 +1,4 @@
 -- `buckets::same_pair` meets its contract: the first numbers are compared, and where they are equal the second ones. Assumes nothing.
-use borrow.Author.Rules.{rules}
 use mathlib.Core.Path.{refl}
 use Rattle.buckets.proofs.Chain.{same_first, same_second}
 use Rattle.buckets.proofs.same_pair.Goals as goal

@@ -7,7 +7,6 @@ use Rattle.call.specs.Refusal.{too_short}
 use Rattle.decimal.specs.Writing.{standing}
 use Rattle.decimal.specs.declared.Written.TheVariants as written
 use Rattle.decimal.proofs.Places.{written_short, written_to}
-use borrow.Author.Rules.{rules}
 use Rattle.decimal.proofs.copy.Goals as goal
 
 pub returns-then-room-at : goal.returns-then-room-at

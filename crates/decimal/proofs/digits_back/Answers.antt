@@ -1,12 +1,11 @@
-use mathlib.Core.Path.{◌≡◌, sym, ap, ◌∙◌}
-use mathlib.Core.List.{[], List}
-use Prim.Native.Nat.{◌≤◌, ◌<◌, ◌-◌, ◌^◌, ℕ, ◌/◌}
+use mathlib.Core.Path.{sym, ap, ◌∙◌}
+use mathlib.Core.List.{List}
+use Prim.Native.Nat.{◌-◌, ℕ, ◌/◌}
 use native.Mathlib.Omega.{arith}
-use lib.ListN.{length, drop, length-set, drop_of_length-le}
+use lib.ListN.{drop, length-set, drop_of_length-le}
 use Rattle.decimal.specs.Decimal.{digits}
 use Rattle.decimal.proofs.Decimals.{in_front, last, digits_last, digits_more}
 use Rattle.decimal.proofs.Places.{front_store, tenth}
-use borrow.Author.Rules.{rules}
 use Rattle.decimal.proofs.digits_back.Goals as goal
 
 pub loop-rest-init : goal.loop-rest-init

@@ -1,14 +1,10 @@
 -- `decimal::digits_back` meets its contract: the digits of `rest` in front of what stands from `at` on are those of m.
 -- The bound on `rest` keeps `at` from 1 on, which leaves a place for a minus. Assumes nothing.
-use mathlib.Core.Path.{◌≡◌, sym, ap, ◌∙◌}
-use mathlib.Core.List.{[], List}
-use Prim.Native.Nat.{◌≤◌, ◌<◌, ◌-◌, ◌^◌, ℕ, ◌/◌}
-use native.Mathlib.Omega.{arith}
-use lib.ListN.{length, drop, length-set, drop_of_length-le}
-use Rattle.decimal.specs.Decimal.{digits}
-use Rattle.decimal.proofs.Decimals.{in_front, last, digits_last, digits_more}
-use Rattle.decimal.proofs.Places.{front_store, tenth}
-use borrow.Author.Rules.{rules}
+use mathlib.Core.Path.{◌≡◌}
+use mathlib.Core.List.{[]}
+use Prim.Native.Nat.{◌≤◌, ◌<◌, ◌-◌, ◌^◌}
+use lib.ListN.{length, drop}
+use Rattle.decimal.proofs.Decimals.{in_front}
 use Rattle.decimal.proofs.digits_back.Given as goal
 
 abbrev pub invariant-loop-rest : goal.invariant-loop-rest

@@ -10,7 +10,6 @@ use Prim.Native.Nat.{ℕ}
 use Rattle.decimal.specs.Decimal.{digits}
 use lib.IntN.{nat_abs}
 use mir.Facts.{to_z-of_z}
-use borrow.Author.Rules.{rules}
 use Rattle.decimal.proofs.form.Goals as goal
 
 pub returns-then-n-lt0 : goal.returns-then-n-lt0

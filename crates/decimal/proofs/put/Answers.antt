@@ -1,6 +1,5 @@
 -- `decimal::put` meets its contract: the bytes fit, so that `copy` tells their end. Assumes nothing.
 use Rattle.decimal.proofs.Placing.{by_writing, no_refusal_lem}
-use borrow.Author.Rules.{rules}
 use Rattle.decimal.proofs.put.Goals as goal
 
 pub returns-in-To : goal.returns-in-To

@@ -1,7 +1,6 @@
 -- `decimal::size` meets its contract: -1 - n of a negative n is its magnitude less one. Assumes nothing.
 use native.Mathlib.Omega.{arith}
 use Rattle.decimal.proofs.Signs.{back_fits, back_stored, natural_fits}
-use borrow.Author.Rules.{rules}
 use Rattle.decimal.proofs.size.Goals as goal
 
 pub overflow_sub-less : goal.overflow_sub-less

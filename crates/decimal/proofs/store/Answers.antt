@@ -1,10 +1,8 @@
 use mathlib.Core.Path.{◌≡◌, refl, ap, ◌∙◌}
 use native.Mathlib.Omega.{arith}
-use Prim.Native.Nat.{◌≤◌, ◌-◌}
 use lib.ListN.{length, length-set}
 use lib.Seq.{paste, paste-zero}
 use Rattle.decimal.proofs.Places.{put_more, put_end}
-use borrow.Author.Rules.{rules}
 use Rattle.decimal.proofs.store.Goals as goal
 
 pub loop-i-init : goal.loop-i-init

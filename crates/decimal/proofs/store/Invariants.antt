@@ -1,11 +1,8 @@
 -- `decimal::store` meets its contract: the first `i` bytes stand from `at` on. Assumes nothing.
-use mathlib.Core.Path.{◌≡◌, refl, ap, ◌∙◌}
-use native.Mathlib.Omega.{arith}
+use mathlib.Core.Path.{◌≡◌}
 use Prim.Native.Nat.{◌≤◌, ◌-◌}
-use lib.ListN.{length, length-set}
-use lib.Seq.{paste, paste-zero}
-use Rattle.decimal.proofs.Places.{put_more, put_end}
-use borrow.Author.Rules.{rules}
+use lib.ListN.{length}
+use lib.Seq.{paste}
 use Rattle.decimal.proofs.store.Given as goal
 
 abbrev pub invariant-loop-i : goal.invariant-loop-i

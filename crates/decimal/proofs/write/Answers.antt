@@ -9,7 +9,6 @@ use lib.Seq.{take_all}
 use mir.Facts.{to_z-of_z}
 use Rattle.decimal.specs.Decimal.{decimal_of}
 use Rattle.decimal.specs.Writing.{written_of, standing}
-use borrow.Author.Rules.{rules}
 use Rattle.decimal.proofs.write.Goals as goal
 
 pub slice_bounds-copy-end : goal.slice_bounds-copy-end

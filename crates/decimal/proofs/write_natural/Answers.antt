@@ -8,7 +8,6 @@ use lib.ListN.{length, take, drop, length-drop}
 use lib.Seq.{take_all}
 use Rattle.decimal.specs.Decimal.{digits}
 use Rattle.decimal.specs.Writing.{written_of, standing}
-use borrow.Author.Rules.{rules}
 use Rattle.decimal.proofs.write_natural.Goals as goal
 
 pub slice_bounds-copy-end : goal.slice_bounds-copy-end

@@ -1,7 +1,5 @@
-use borrow.Author.Rules.{rules}
-use Prim.Native.Nat.{◌-◌}
 use native.Mathlib.Omega.{arith}
-use Rattle.figures.proofs.Scan.{Scanning, scanning_start, scanning_turn, scanning_more, scanning_end}
+use Rattle.figures.proofs.Scan.{scanning_start, scanning_turn, scanning_more, scanning_end}
 use Rattle.figures.proofs.cusp_widths.Goals as goal
 
 pub loop-i-init : goal.loop-i-init

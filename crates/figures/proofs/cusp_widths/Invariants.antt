@@ -1,9 +1,7 @@
 -- `figures::cusp_widths` meets its contract. The loop's invariant, `Scanning`: the cusps below i are listed.
 -- Assumes nothing.
-use borrow.Author.Rules.{rules}
 use Prim.Native.Nat.{◌-◌}
-use native.Mathlib.Omega.{arith}
-use Rattle.figures.proofs.Scan.{Scanning, scanning_start, scanning_turn, scanning_more, scanning_end}
+use Rattle.figures.proofs.Scan.{Scanning}
 use Rattle.figures.proofs.cusp_widths.Given as goal
 
 abbrev pub invariant-loop-i : goal.invariant-loop-i

@@ -1,6 +1,5 @@
 -- `figures::figures_of` meets its contract: each figure is the answer of the function that counts it.
 -- Assumes nothing.
-use borrow.Author.Rules.{rules}
 use native.Mathlib.Omega.{arith}
 use Rattle.numbering.specs.Inner.Space.{S_TABLE, R_TABLE}
 use Rattle.call.specs.Space.{entries}

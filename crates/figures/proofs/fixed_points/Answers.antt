@@ -1,11 +1,7 @@
-use borrow.Author.Rules.{rules}
 use mathlib.Core.Path.{◌≡◌, refl, sym, ◌∙◌}
-use mathlib.Core.Logic.{⊎_elim}
-use Prim.Native.Nat.{◌-◌, ◌≤◌}
 use native.Mathlib.Omega.{arith}
 use lib.ListN.{length}
 use Rattle.figures.specs.Cusps.{is_fixed}
-use Rattle.basics.specs.Count.{those}
 use Rattle.call.specs.Space.{entries}
 use Rattle.numbering.proofs.Those.{those_few}
 use Rattle.numbering.proofs.Space.{entries_length, entries_at}

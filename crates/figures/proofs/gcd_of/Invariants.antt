@@ -1,11 +1,7 @@
 -- `figures::gcd_of` meets its contract. The loop's invariant: the greatest common divisor stays the same. The measure is the remainder.
 -- Assumes nothing.
-use borrow.Author.Rules.{rules}
-use mathlib.Core.Path.{◌≡◌, refl, sym, ap, ◌∙◌}
-use native.Mathlib.Nat.{mod-lt}
-use native.Mathlib.Omega.{arith}
+use mathlib.Core.Path.{◌≡◌}
 use Rattle.figures.specs.LevelOf.{gcd}
-use Rattle.figures.proofs.LevelOf.{gcd_step, gcd_zero}
 use Rattle.figures.proofs.gcd_of.Given as goal
 
 abbrev pub invariant-loop-y : goal.invariant-loop-y

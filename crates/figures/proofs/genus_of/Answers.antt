@@ -1,6 +1,5 @@
 -- `figures::genus_of` meets its contract: each way out is an arm of the formula.
 -- Assumes nothing.
-use borrow.Author.Rules.{rules}
 use native.Mathlib.Omega.{arith}
 use Rattle.figures.proofs.GenusOf.{genus_below, genus_broken, genus_whole}
 use Rattle.figures.proofs.genus_of.Goals as goal

@@ -1,6 +1,5 @@
 -- `figures::lcm_of` meets its contract: the product fits exactly where the first factor is at most what the second leaves.
 -- Assumes nothing.
-use borrow.Author.Rules.{rules}
 use Prim.Native.Nat.{◌/◌}
 use native.Mathlib.Omega.{arith}
 use Rattle.figures.proofs.LevelOf.{gcd_some, over, under, fitting_yes, fitting_no}

@@ -1,8 +1,5 @@
-use borrow.Author.Rules.{rules}
-use Prim.Native.Nat.{◌-◌, ◌≤◌}
 use native.Mathlib.Omega.{arith}
-use Rattle.call.specs.Space.{entries}
-use Rattle.figures.proofs.Scan.{Levelling, level_start, level_positive, level_over, level_more, level_end}
+use Rattle.figures.proofs.Scan.{level_start, level_positive, level_over, level_more, level_end}
 use Rattle.figures.proofs.level_of.Goals as goal
 
 pub loop-i-init : goal.loop-i-init

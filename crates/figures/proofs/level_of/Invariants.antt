@@ -1,11 +1,9 @@
 -- `figures::level_of` meets its contract. The loop's invariant, `Levelling`: m and what is left have the same least common multiple
 -- as the whole, and m fits.
 -- Assumes nothing.
-use borrow.Author.Rules.{rules}
 use Prim.Native.Nat.{◌-◌, ◌≤◌}
-use native.Mathlib.Omega.{arith}
 use Rattle.call.specs.Space.{entries}
-use Rattle.figures.proofs.Scan.{Levelling, level_start, level_positive, level_over, level_more, level_end}
+use Rattle.figures.proofs.Scan.{Levelling}
 use Rattle.figures.proofs.level_of.Given as goal
 
 abbrev pub invariant-loop-i : goal.invariant-loop-i

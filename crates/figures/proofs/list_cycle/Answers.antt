@@ -1,6 +1,5 @@
 -- `figures::turn` meets its contract: a point that is not listed is the smallest of its cycle.
 -- Assumes nothing.
-use borrow.Author.Rules.{rules}
 use mathlib.Core.Path.{sym, ◌∙◌}
 use native.Mathlib.Omega.{arith}
 use Rattle.figures.proofs.Scan.{turned_old, turn_few, turn_low, turn_cycle, turn_more, turned_new}

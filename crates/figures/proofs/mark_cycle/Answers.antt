@@ -1,9 +1,7 @@
-use borrow.Author.Rules.{rules}
 use mathlib.Core.Path.{◌∙◌}
-use Prim.Native.Nat.{◌-◌}
 use native.Mathlib.Omega.{arith}
 use Rattle.numbering.proofs.Listing.{push_room}
-use Rattle.figures.proofs.Scan.{Walk, walk_start, walk_fresh, walk_more, walk_end}
+use Rattle.figures.proofs.Scan.{walk_start, walk_fresh, walk_more, walk_end}
 use Rattle.figures.proofs.mark_cycle.Goals as goal
 
 pub loop-y-init : goal.loop-y-init

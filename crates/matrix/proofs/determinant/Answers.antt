@@ -1,7 +1,6 @@
 -- `determinant` is a d - b c, with the entries read row by row; the contract leaves room for both products and their difference.
 -- Assumes nothing.
 use mathlib.Core.Path.{◌∙◌}
-use borrow.Author.Rules.{rules}
 use Rattle.matrix.specs.Matrix.{nth, det}
 use Rattle.matrix.proofs.Bounds.{kept}
 use Rattle.matrix.proofs.determinant.Goals as goal

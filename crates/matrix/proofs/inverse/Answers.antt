@@ -1,6 +1,5 @@
 -- `inverse` gives the adjugate (d -b; -c a). Why -b and -c fit: neither b nor c is the least number of 64 bits (`minus_fits`).
 -- Assumes nothing.
-use borrow.Author.Rules.{rules}
 use mir.Facts.{to_z-of_z}
 use Rattle.matrix.specs.Matrix.{nth, adj}
 use Rattle.matrix.proofs.Bounds.{kept, minus, minus_fits}

@@ -1,6 +1,5 @@
 -- `product` is the matrix product: its four entries are each row of m times each column of n, for all of which the contract gives room.
 -- Assumes nothing.
-use borrow.Author.Rules.{rules}
 use Rattle.matrix.specs.Matrix.{◌⊗◌}
 use Rattle.matrix.proofs.Bounds.{kept}
 use Rattle.matrix.proofs.product.Goals as goal

@@ -1,11 +1,6 @@
-use borrow.Author.Rules.{rules}
 use mathlib.Core.Path.{◌≡◌, refl}
 use native.Mathlib.Omega.{arith}
-use Prim.Native.Nat.{◌-◌, ◌≤◌}
-use lib.ListN.{length, length-set}
-use Rattle.numbering.specs.Table.{◌then_table◌}
-use Rattle.numbering.specs.Inner.Space.{put_to}
-use Rattle.call.specs.Space.{entries}
+use lib.ListN.{length-set}
 use Rattle.numbering.proofs.Space.{put_none}
 use Rattle.numbering.proofs.Marks.{compose_low, compose_more}
 use Rattle.numbering.proofs.compose.Goals as goal

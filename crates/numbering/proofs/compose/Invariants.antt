@@ -1,15 +1,11 @@
 -- `numbering::compose` meets its contract. The loop's invariant: the first j entries of the composed table stand at `to`.
 -- Assumes nothing.
-use borrow.Author.Rules.{rules}
-use mathlib.Core.Path.{◌≡◌, refl}
-use native.Mathlib.Omega.{arith}
+use mathlib.Core.Path.{◌≡◌}
 use Prim.Native.Nat.{◌-◌, ◌≤◌}
-use lib.ListN.{length, length-set}
+use lib.ListN.{length}
 use Rattle.numbering.specs.Table.{◌then_table◌}
 use Rattle.numbering.specs.Inner.Space.{put_to}
 use Rattle.call.specs.Space.{entries}
-use Rattle.numbering.proofs.Space.{put_none}
-use Rattle.numbering.proofs.Marks.{compose_low, compose_more}
 use Rattle.numbering.proofs.compose.Given as goal
 
 abbrev pub invariant-loop-j : goal.invariant-loop-j

@@ -1,10 +1,6 @@
-use borrow.Author.Rules.{rules}
 use mathlib.Core.Path.{◌≡◌, refl}
-use mathlib.Core.List.{◌++◌}
-use Prim.Native.Nat.{◌-◌, ◌≤◌}
 use native.Mathlib.Omega.{arith}
-use lib.ListN.{length, drop, length-set}
-use Rattle.call.specs.Space.{entries}
+use lib.ListN.{length-set}
 use Rattle.numbering.proofs.Space.{copy_more}
 use Rattle.numbering.proofs.copy_out.Goals as goal
 

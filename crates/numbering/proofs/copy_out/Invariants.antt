@@ -1,13 +1,10 @@
 -- `numbering::copy_out` meets its contract. The loop's invariant: j entries of the table, and then what stood there.
 -- Assumes nothing.
-use borrow.Author.Rules.{rules}
-use mathlib.Core.Path.{◌≡◌, refl}
+use mathlib.Core.Path.{◌≡◌}
 use mathlib.Core.List.{◌++◌}
 use Prim.Native.Nat.{◌-◌, ◌≤◌}
-use native.Mathlib.Omega.{arith}
-use lib.ListN.{length, drop, length-set}
+use lib.ListN.{length, drop}
 use Rattle.call.specs.Space.{entries}
-use Rattle.numbering.proofs.Space.{copy_more}
 use Rattle.numbering.proofs.copy_out.Given as goal
 
 abbrev pub invariant-loop-j : goal.invariant-loop-j

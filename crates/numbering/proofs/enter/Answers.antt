@@ -1,6 +1,5 @@
 -- `numbering::enter` meets its contract: the arms of the test are those of `add`.
 -- Assumes nothing.
-use borrow.Author.Rules.{rules}
 use mathlib.Core.Path.{sym, ◌∙◌}
 use borrow.Author.Tests.{ltb-true, ltb-false}
 use Rattle.numbering.proofs.Listing.{enter_old, enter_new}

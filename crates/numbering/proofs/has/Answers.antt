@@ -1,6 +1,5 @@
 -- `numbering::has` meets its contract: the test of the sparse set is the test for a number.
 -- Assumes nothing.
-use borrow.Author.Rules.{rules}
 use native.Mathlib.Omega.{arith}
 use Rattle.numbering.proofs.Listing.{has_no, has_by}
 use Rattle.numbering.proofs.has.Goals as goal

@@ -1,7 +1,6 @@
 use mathlib.Core.Path.{◌∙◌}
 use native.Mathlib.Omega.{arith}
-use Prim.Native.Nat.{◌-◌}
-use Rattle.numbering.proofs.Listing.{Part, number_fresh, part_start, part_visit, part_more, part_end_lem, numbered_from}
+use Rattle.numbering.proofs.Listing.{number_fresh, part_start, part_visit, part_more, part_end_lem, numbered_from}
 use Rattle.numbering.proofs.number.Goals as goal
 
 pub push-requires : goal.push-requires

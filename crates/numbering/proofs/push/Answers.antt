@@ -1,6 +1,5 @@
 -- `numbering::push` meets its contract.
 -- Assumes nothing.
-use borrow.Author.Rules.{rules}
 use native.Mathlib.Omega.{arith}
 use lib.ListN.{length-set}
 use Rattle.numbering.proofs.Listing.{push_room, pushed}

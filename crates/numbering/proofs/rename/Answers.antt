@@ -1,6 +1,5 @@
 -- `numbering::rename` meets its contract: the images of what is listed are put, and their numbers over them.
 -- Assumes nothing.
-use borrow.Author.Rules.{rules}
 use Rattle.numbering.proofs.Marks.{rename_first, rename_second, rename_both}
 use Rattle.numbering.proofs.rename.Goals as goal
 

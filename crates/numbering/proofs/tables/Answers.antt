@@ -1,6 +1,5 @@
 -- `numbering::tables` meets its contract: the numbering, and three tables put one after another.
 -- Assumes nothing.
-use borrow.Author.Rules.{rules}
 use Rattle.numbering.proofs.Marks.{tables_S, tables_R, tables_T, tables_are}
 use Rattle.numbering.proofs.tables.Goals as goal
 

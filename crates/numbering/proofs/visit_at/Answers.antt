@@ -1,6 +1,5 @@
 -- `numbering::visit_at` meets its contract: two points are entered in a row, the S image first.
 -- Assumes nothing.
-use borrow.Author.Rules.{rules}
 use native.Mathlib.Omega.{arith}
 use Rattle.numbering.specs.Inner.Space.{SIGMA, RHO}
 use Rattle.numbering.proofs.Listing.{marked_then, visit_low, visit_image, visit_σ_low, visit_ρ_low}

@@ -18,7 +18,7 @@ use Rattle.basics.specs.Count.{first, count, those}
 use Rattle.symbol.specs.Table.{pairing_entries, pairing_of}
 use Rattle.symbol.specs.Check.{eq_z, unpaired_in}
 use Rattle.symbol.specs.Symbol.{IsSymbol}
-use Rattle.pairing.specs.Generator.{partner_in, is_leader, generator_row, generator_rows}
+use Rattle.pairing.specs.Generator.{partner_in, is_leader, generator_rows}
 use Rattle.symbol.specs.declared.Pairing.{Pairing}
 use Rattle.symbol.specs.declared.Pairing.TheVariants.{Even, Odd, Free, Bad}
 

@@ -3,7 +3,6 @@
 use lib.Dec.{lit<}
 use Rattle.matrix.specs.Matrix.{of_list, ◌⊗◌, adj}
 use Rattle.matrix.proofs.Bounds.{room, small-⊗, small_adj}
-use borrow.Author.Rules.{rules}
 use Rattle.symbol.proofs.carry.Goals as goal
 
 pub product-left-requires : goal.product-left-requires

@@ -2,15 +2,12 @@
 -- they accept is exactly the symbols (`verdict`). Assumes nothing.
 use mathlib.Core.Path.{◌≡◌, sym, ◌∙◌, ap}
 use mathlib.Core.List.{List}
-use Prim.Native.Nat.{ℕ, ◌+◌, ◌*◌, ◌≤◌}
+use Prim.Native.Nat.{◌*◌}
 use native.Mathlib.Omega.{arith}
-use borrow.Author.Rules.{rules}
 use lib.IntN.{ℤ}
-use lib.ListN.{length, length-drop}
-use Rattle.symbol.specs.Table.{pairing_entries}
+use lib.ListN.{length-drop}
 use Rattle.symbol.specs.Check.{check6, check7, symbol_check}
 use Rattle.call.specs.Refusal.{◌or_else◌}
-use Rattle.call.specs.declared.refusal.Checked.{Checked}
 use Rattle.symbol.proofs.Accepted.{verdict}
 use Rattle.symbol.proofs.Order.{first_refused, next_check, too_few, too_many_lem, wrong_length, later, first_two, tallied_none, behind}
 use Rattle.symbol.proofs.check.Goals.{After-check_vertices-vertices}

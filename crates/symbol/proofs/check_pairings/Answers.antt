@@ -1,9 +1,8 @@
 -- `check_pairings` makes checks 6 and 7: with all labels counted, the first side that isn't paired is the place of refusal 6; where there
 -- is none, 7 asks a symbol of one vertex for an odd side. Assumes nothing.
-use mathlib.Core.Path.{◌≡◌, refl, sym, ◌∙◌, ap}
+use mathlib.Core.Path.{◌≡◌, refl, sym, ◌∙◌}
 use Prim.Native.Nat.{◌+◌}
-use borrow.Author.Rules.{rules}
-use Rattle.symbol.specs.Check.{unpaired_in, lacks_odd, check6, check7}
+use Rattle.symbol.specs.Check.{unpaired_in, lacks_odd, check6}
 use Rattle.call.specs.Refusal.{bad_pairing, no_odd_side}
 use Rattle.call.specs.declared.refusal.Checked.TheVariants.{Accepted}
 use Rattle.symbol.proofs.Order.{first_refused, next_check, refuse_yes, refuse_no, refuse_at_lem, accept_at, ready_6}

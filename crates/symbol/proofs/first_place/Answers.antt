@@ -1,10 +1,9 @@
 use mathlib.Core.Path.{sym, ◌∙◌}
-use Prim.Native.Nat.{◌-◌, ◌≤◌}
 use native.Mathlib.Omega.{arith}
 use native.Mathlib.Numerals.{add-one}
 use borrow.Author.Rules.{rules}
 use Rattle.symbol.specs.Inner.Ready.{fails_of}
-use Rattle.basics.proofs.Count.{Clear, clear_zero, clear_more, clear_less, first_clear, first_hit}
+use Rattle.basics.proofs.Count.{clear_zero, clear_more, clear_less, first_clear, first_hit}
 use Rattle.symbol.proofs.first_place.Goals as goal
 
 pub loop-i-init : goal.loop-i-init

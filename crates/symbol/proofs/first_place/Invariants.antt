@@ -1,11 +1,7 @@
 -- The loop's invariant: nothing was found below i.
-use mathlib.Core.Path.{sym, ◌∙◌}
 use Prim.Native.Nat.{◌-◌, ◌≤◌}
-use native.Mathlib.Omega.{arith}
-use native.Mathlib.Numerals.{add-one}
-use borrow.Author.Rules.{rules}
 use Rattle.symbol.specs.Inner.Ready.{fails_of}
-use Rattle.basics.proofs.Count.{Clear, clear_zero, clear_more, clear_less, first_clear, first_hit}
+use Rattle.basics.proofs.Count.{Clear}
 use Rattle.symbol.proofs.first_place.Given as goal
 
 abbrev pub invariant-loop-i : goal.invariant-loop-i

@@ -7,7 +7,6 @@ use Rattle.symbol.specs.Table.{numer, denom}
 use Rattle.symbol.proofs.Signed.{bits_positive}
 use Rattle.symbol.proofs.Sides.{is_one}
 use Rattle.symbol.proofs.Seeking.{zero_yes, zero_no}
-use borrow.Author.Rules.{rules}
 use Rattle.symbol.proofs.is_zero.Goals as goal
 
 pub returns-then-t-i-eq0 : goal.returns-then-t-i-eq0

@@ -4,7 +4,6 @@ use Prim.Native.Nat.{◌-◌}
 use Rattle.matrix.proofs.Bounds.{kept}
 use Rattle.symbol.specs.Table.{numer, denom}
 use Rattle.symbol.proofs.Sides.{left_first, left_later}
-use borrow.Author.Rules.{rules}
 use Rattle.symbol.proofs.left_end.Goals as goal
 
 pub returns-then-i-eq0 : goal.returns-then-i-eq0

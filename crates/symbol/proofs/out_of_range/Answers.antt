@@ -8,7 +8,6 @@ use Rattle.matrix.specs.Matrix.{nth}
 use Rattle.matrix.specs.Euclid.{positive}
 use Rattle.matrix.proofs.Bounds.{kept}
 use Rattle.symbol.proofs.Seeking.{range_even, range_odd, range_large}
-use borrow.Author.Rules.{rules}
 use Rattle.symbol.proofs.out_of_range.Goals.{After-small}
 use Rattle.symbol.proofs.out_of_range.Goals as goal
 

@@ -1,13 +1,12 @@
 -- `read_pairing` is what x stands for: -2 even, -3 odd, 1 to v + 1 a free label, anything else none. Why it can't overflow: past the third
 -- test x is at least 1, so it is a natural, and one less is too (`least`). Assumes nothing.
-use mathlib.Core.Path.{◌≡◌, sym, ap, ◌∙◌}
+use mathlib.Core.Path.{sym, ap, ◌∙◌}
 use native.Mathlib.Omega.{arith}
-use borrow.Author.Rules.{rules}
 use lib.Dec.{lit<}
-use lib.IntN.{pos, negsuc, nat_abs}
+use lib.IntN.{nat_abs}
 use mir.Facts.{to_z-of_z, Fits-nat_abs}
 use mir.Syntax.{w64}
-use mir.Val.{SFits, to_z, of_z}
+use mir.Val.{of_z}
 use Rattle.symbol.specs.Table.{pairing_of}
 use Rattle.symbol.proofs.Signed.{bits_negative, AtLeastOne, at_least_one}
 use Rattle.symbol.proofs.Pairings.{pairing_below, pairing_above, pairing_free}

@@ -3,7 +3,6 @@ use mathlib.Core.Path.{sym, ◌∙◌}
 use Rattle.matrix.proofs.Bounds.{kept}
 use Rattle.symbol.specs.Table.{numer, denom}
 use Rattle.symbol.proofs.Sides.{right_inside, right_last}
-use borrow.Author.Rules.{rules}
 use Rattle.symbol.proofs.right_end.Goals as goal
 
 pub returns-then-i-v : goal.returns-then-i-v

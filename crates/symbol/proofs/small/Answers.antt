@@ -1,7 +1,6 @@
 -- `small` tells whether x is at most 10⁹ in size: below -10⁹ it is not (`below_small`), and from there up x itself is compared
 -- (`above_small`). Assumes nothing.
 use mathlib.Core.Path.{sym}
-use lib.IntN.{ℤ}
 use mir.Facts.{to_z-of_z}
 use Rattle.symbol.proofs.Signed.{below_small, above_small}
 use Rattle.symbol.proofs.small.Goals as goal

@@ -1,13 +1,6 @@
 -- The loop's invariant: the labels of the sides below i are counted.
-use mathlib.Core.Path.{◌≡◌}
 use Prim.Native.Nat.{◌+◌, ◌-◌, ◌≤◌}
-use native.Mathlib.Omega.{arith}
-use native.Mathlib.Numerals.{add-one}
-use borrow.Author.Rules.{rules}
-use Rattle.matrix.specs.Matrix.{nth}
-use Rattle.matrix.proofs.Bounds.{kept}
 use Rattle.symbol.specs.Inner.Marks.{Tallied}
-use Rattle.symbol.proofs.Marking.{tallied_more}
 use Rattle.symbol.proofs.tally.Given as goal
 
 abbrev pub invariant-loop-i : goal.invariant-loop-i

@@ -6,7 +6,7 @@
 --   CountedAt w w' k  w' counts one more than w at k, and the same elsewhere
 --   Noted v x w w'   the same at the label that x is, and nothing more where x is no label
 --   Tallied v p i w  w counts, up to 3, how often each label 1 to v + 1 stands among the first i pairings p
-use Rattle.std.specs.Prelude.{◌≡◌, Bool, List, ℕ, suc, ◌+◌, ◌/◌, ◌%◌, ◌<◌, ◌≤◌, ltb, eqb, length, get_or, ℤ, pos}
+use Rattle.std.specs.Prelude.{◌≡◌, List, ℕ, suc, ◌+◌, ◌/◌, ◌%◌, ◌<◌, ltb, eqb, length, get_or, ℤ, pos}
 use Rattle.matrix.specs.Matrix.{nth}
 use Rattle.basics.specs.Choice.{pick}
 use Rattle.basics.specs.Count.{count}

@@ -7,7 +7,7 @@
 --   places_of c v        the number of places that check c looks at
 --   MayCheck c v t w    check c may run: the table is long enough; for 4 its vertex entries are in range; for 6 the
 --                       labels are counted in w
-use Rattle.std.specs.Prelude.{◌≡◌, Bool, false, List, ℕ, zero, suc, ◌+◌, ◌*◌, ◌<◌, ◌≤◌, eqb, length, ℤ}
+use Rattle.std.specs.Prelude.{◌≡◌, Bool, false, List, ℕ, ◌+◌, ◌*◌, ◌<◌, ◌≤◌, eqb, length, ℤ}
 use Rattle.matrix.specs.Bounds.{Small}
 use Rattle.basics.specs.Choice.{pick}
 use Rattle.symbol.specs.Table.{frame}

@@ -1,6 +1,5 @@
 use mathlib.Core.Path.{sym, ap}
 use Rattle.call.specs.Refusal.{checked_refusal}
-use borrow.Author.Rules.{rules}
 use Rattle.call.proofs.refusal.checked_refusal.Goals as goal
 
 pub returns-in-Accepted : goal.returns-in-Accepted

@@ -1,7 +1,6 @@
 -- `admit` meets its contract: a fault of checks 1 to 7, a short work space, or neither. Assumes nothing.
 use mathlib.Core.Path.{sym, ◌∙◌}
 use Rattle.pairing.proofs.Admitted.{admit_refused, admit_short, admit_both}
-use borrow.Author.Rules.{rules}
 use Rattle.pairing.proofs.admit.admit.Goals as goal
 
 pub returns-then-work-lt-WORK : goal.returns-then-work-lt-WORK

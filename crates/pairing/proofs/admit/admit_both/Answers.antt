@@ -3,7 +3,6 @@ use mathlib.Core.Path.{sym, ◌∙◌}
 use Rattle.call.proofs.Answers.{first_refuses, then_next}
 use Rattle.symbol.specs.Check.{symbol_check}
 use Rattle.pairing.specs.Inner.Admitted.{admitted_of}
-use borrow.Author.Rules.{rules}
 use Rattle.pairing.proofs.admit.admit_both.Goals as goal
 
 pub returns-in-Refused : goal.returns-in-Refused

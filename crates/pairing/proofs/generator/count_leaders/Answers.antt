@@ -1,9 +1,7 @@
 use mathlib.Core.Path.{◌≡◌, sym, ◌∙◌, ap}
-use mathlib.Core.Logic.{⊎_elim}
-use Prim.Native.Nat.{ℕ, ◌+◌, ◌-◌, ◌≤◌}
+use Prim.Native.Nat.{ℕ, ◌+◌}
 use native.Mathlib.Omega.{arith}
 use native.Mathlib.Numerals.{add-one}
-use Rattle.basics.specs.Count.{count}
 use Rattle.pairing.specs.Generator.{is_leader_in}
 use Rattle.basics.proofs.Count.{count_yes, count_no, count_le}
 use borrow.Author.Rules.{rules}

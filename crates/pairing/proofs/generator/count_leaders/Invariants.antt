@@ -1,13 +1,8 @@
 -- The loop's invariant: n sides below i lead.
-use mathlib.Core.Path.{◌≡◌, sym, ◌∙◌, ap}
-use mathlib.Core.Logic.{⊎_elim}
-use Prim.Native.Nat.{ℕ, ◌+◌, ◌-◌, ◌≤◌}
-use native.Mathlib.Omega.{arith}
-use native.Mathlib.Numerals.{add-one}
+use mathlib.Core.Path.{◌≡◌}
+use Prim.Native.Nat.{◌+◌, ◌-◌, ◌≤◌}
 use Rattle.basics.specs.Count.{count}
 use Rattle.pairing.specs.Generator.{is_leader_in}
-use Rattle.basics.proofs.Count.{count_yes, count_no, count_le}
-use borrow.Author.Rules.{rules}
 use Rattle.pairing.proofs.generator.count_leaders.Given as goal
 
 abbrev pub invariant-loop-i : goal.invariant-loop-i

@@ -16,7 +16,6 @@ use Rattle.symbol.specs.declared.Pairing.{Pairing}
 use Rattle.symbol.specs.declared.Pairing.TheVariants.{Even, Odd, Free, Bad}
 use Rattle.pairing.proofs.Partners.{partner_in_lem, all_paired}
 use Rattle.pairing.proofs.Rows.{symbol_small, symbol_paired, generator_by_lem}
-use borrow.Author.Rules.{rules}
 use Rattle.pairing.proofs.generator.generator_at.Goals.{After-at-side, After-index, After-read_pairing-pairing, Start}
 use Rattle.pairing.proofs.generator.generator_at.Goals as goal
 

@@ -7,7 +7,6 @@ use Rattle.call.proofs.Laws.{admit_stop, admit_pass, fills_as, ran}
 use Rattle.symbol.specs.Check.{symbol_check}
 use Rattle.pairing.specs.Inner.Admitted.{admitted_of}
 use Rattle.pairing.proofs.Admitted.{admitted}
-use borrow.Author.Rules.{rules}
 use Rattle.pairing.proofs.generator.generators.Goals.{In-Accepted, Start}
 use Rattle.pairing.proofs.generator.generators.Goals as goal
 

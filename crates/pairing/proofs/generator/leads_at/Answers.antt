@@ -8,7 +8,6 @@ use Rattle.symbol.specs.Table.{pairing_of}
 use Rattle.pairing.specs.Generator.{partner_in, is_leader_by, is_leader_in}
 use Rattle.symbol.specs.declared.Pairing.{Pairing}
 use Rattle.symbol.specs.declared.Pairing.TheVariants.{Even, Odd, Free, Bad}
-use borrow.Author.Rules.{rules}
 use Rattle.pairing.proofs.generator.leads_at.Goals.{After-read_pairing-pairing}
 use Rattle.pairing.proofs.generator.leads_at.Goals as goal
 

@@ -8,7 +8,6 @@ use Rattle.symbol.specs.Table.{pairing_entries}
 use Rattle.symbol.proofs.Order.{behind}
 use Rattle.pairing.proofs.Partners.{paired_none}
 use Rattle.pairing.proofs.Rows.{symbol_paired}
-use borrow.Author.Rules.{rules}
 use Rattle.pairing.proofs.generator.list_accepted.Goals as goal
 
 pub pair_sides-requires : goal.pair_sides-requires

@@ -1,9 +1,8 @@
 use mathlib.Core.Path.{◌≡◌, refl, ◌∙◌, ap}
 use mathlib.Core.List.{◌++◌}
-use Prim.Native.Nat.{ℕ, suc, ◌+◌, ◌-◌, ◌*◌, ◌≤◌}
+use Prim.Native.Nat.{ℕ, suc, ◌+◌, ◌*◌}
 use native.Mathlib.Omega.{arith}
-use lib.ListN.{length, drop}
-use Rattle.basics.specs.Count.{count}
+use lib.ListN.{drop}
 use Rattle.pairing.specs.Generator.{is_leader, generator_table}
 use Rattle.pairing.specs.Inner.Work.{RowsTo}
 use Rattle.basics.proofs.Count.{count_le, count_yes, count_mono}

@@ -1,15 +1,8 @@
 -- The loop's invariant: the generators of the sides below i stand in front.
-use mathlib.Core.Path.{◌≡◌, refl, ◌∙◌, ap}
-use mathlib.Core.List.{◌++◌}
-use Prim.Native.Nat.{ℕ, suc, ◌+◌, ◌-◌, ◌*◌, ◌≤◌}
-use native.Mathlib.Omega.{arith}
-use lib.ListN.{length, drop}
-use Rattle.basics.specs.Count.{count}
-use Rattle.pairing.specs.Generator.{is_leader, generator_table}
+use mathlib.Core.Path.{◌≡◌}
+use Prim.Native.Nat.{◌+◌, ◌-◌, ◌≤◌}
+use lib.ListN.{length}
 use Rattle.pairing.specs.Inner.Work.{RowsTo}
-use Rattle.basics.proofs.Count.{count_le, count_yes, count_mono}
-use Rattle.pairing.proofs.Rows.{rows_none, rows_all}
-use borrow.Author.Rules.{rules}
 use Rattle.pairing.proofs.generator.list_all.Given as goal
 
 abbrev pub invariant-loop-i : goal.invariant-loop-i

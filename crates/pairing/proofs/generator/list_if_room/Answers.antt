@@ -10,7 +10,6 @@ use Rattle.call.specs.declared.refusal.Filled.TheVariants as filled
 use Rattle.call.proofs.Laws.{run_end, run_write, short_write, fills_as}
 use Rattle.basics.proofs.Count.{count_le, length_those}
 use Rattle.pairing.proofs.Rows.{prepared_long, prepared_count, length_rows}
-use borrow.Author.Rules.{rules}
 use Rattle.pairing.proofs.generator.list_if_room.Goals.{After-count_leaders-n}
 use Rattle.pairing.proofs.generator.list_if_room.Goals as goal
 

@@ -12,7 +12,6 @@ use Rattle.symbol.specs.Table.{pairing_of}
 use Rattle.pairing.specs.Generator.{is_leader, generator_row, kind_of}
 use Rattle.pairing.specs.Inner.Work.{put_row}
 use Rattle.pairing.proofs.Rows.{length_put_row, rows_yes, rows_no, prepared_long, prepared_leads, prepared_row}
-use borrow.Author.Rules.{rules}
 use Rattle.pairing.proofs.generator.list_side.Goals.{After-leads_at}
 use Rattle.pairing.proofs.generator.list_side.Goals as goal
 

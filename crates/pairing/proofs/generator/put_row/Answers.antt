@@ -5,7 +5,6 @@ use mir.Facts.{to_z-of_z}
 use Rattle.matrix.specs.Matrix.{nth}
 use Rattle.matrix.proofs.Bounds.{kept}
 use Rattle.pairing.proofs.Rows.{five_stores}
-use borrow.Author.Rules.{rules}
 use Rattle.pairing.proofs.generator.put_row.Goals as goal
 
 pub bounds-out-at-2 : goal.bounds-out-at-2

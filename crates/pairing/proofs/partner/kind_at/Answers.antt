@@ -7,7 +7,6 @@ use Rattle.symbol.specs.Table.{pairing_of}
 use Rattle.pairing.specs.Generator.{kind_of}
 use Rattle.symbol.specs.declared.Pairing.{Pairing}
 use Rattle.symbol.specs.declared.Pairing.TheVariants.{Even, Odd, Free, Bad}
-use borrow.Author.Rules.{rules}
 use Rattle.pairing.proofs.partner.kind_at.Goals.{After-read_pairing-pairing}
 use Rattle.pairing.proofs.partner.kind_at.Goals as goal
 

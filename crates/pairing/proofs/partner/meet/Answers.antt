@@ -8,7 +8,6 @@ use lib.ListN.{get_or, length-set}
 use borrow.Author.Tests.{eq-eqb, ne_eqb}
 use Rattle.pairing.specs.Inner.Work.{FIRST}
 use Rattle.basics.proofs.Choice.{pick_true, pick_false}
-use borrow.Author.Rules.{rules}
 use Rattle.pairing.proofs.partner.meet.Goals as goal
 
 pub returns-then-seen-eq0 : goal.returns-then-seen-eq0

@@ -8,7 +8,6 @@ use Rattle.pairing.specs.Inner.Work.{met_by}
 use Rattle.symbol.specs.declared.Pairing.{Pairing}
 use Rattle.symbol.specs.declared.Pairing.TheVariants.{Even, Odd, Free, Bad}
 use Rattle.symbol.proofs.Marking.{label_of}
-use borrow.Author.Rules.{rules}
 use Rattle.pairing.proofs.partner.pair_side.Goals.{After-read_pairing-pairing}
 use Rattle.pairing.proofs.partner.pair_side.Goals as goal
 

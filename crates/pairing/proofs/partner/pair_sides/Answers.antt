@@ -1,11 +1,10 @@
-use mathlib.Core.Path.{◌≡◌, refl, sym, ◌∙◌, ap}
-use Prim.Native.Nat.{◌+◌, ◌-◌, ◌≤◌}
+use mathlib.Core.Path.{◌≡◌, refl, ◌∙◌, ap}
+use Prim.Native.Nat.{◌+◌}
 use native.Mathlib.Omega.{arith}
 use native.Mathlib.Numerals.{add-one}
 use lib.ListN.{length}
 use Rattle.matrix.specs.Matrix.{nth}
 use Rattle.matrix.proofs.Bounds.{kept}
-use Rattle.pairing.specs.Inner.Work.{PairedTo}
 use Rattle.symbol.specs.Table.{pairing_of}
 use Rattle.pairing.proofs.Partners.{length_met_by, met_more, paired_all, first_bound, all_paired}
 use borrow.Author.Rules.{rules}

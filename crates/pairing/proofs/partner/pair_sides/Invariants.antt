@@ -1,15 +1,8 @@
 -- The loop's invariant: the tables hold what the sides below i have shown.
-use mathlib.Core.Path.{◌≡◌, refl, sym, ◌∙◌, ap}
+use mathlib.Core.Path.{◌≡◌}
 use Prim.Native.Nat.{◌+◌, ◌-◌, ◌≤◌}
-use native.Mathlib.Omega.{arith}
-use native.Mathlib.Numerals.{add-one}
 use lib.ListN.{length}
-use Rattle.matrix.specs.Matrix.{nth}
-use Rattle.matrix.proofs.Bounds.{kept}
 use Rattle.pairing.specs.Inner.Work.{PairedTo}
-use Rattle.symbol.specs.Table.{pairing_of}
-use Rattle.pairing.proofs.Partners.{length_met_by, met_more, paired_all, first_bound, all_paired}
-use borrow.Author.Rules.{rules}
 use Rattle.pairing.proofs.partner.pair_sides.Given as goal
 
 abbrev pub invariant-loop-i : goal.invariant-loop-i

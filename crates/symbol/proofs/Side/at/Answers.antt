@@ -1,6 +1,5 @@
 -- `Side::at` joins the two ends that `left_end` and `right_end` read into side i. Assumes nothing.
 use Rattle.matrix.proofs.Bounds.{kept}
-use borrow.Author.Rules.{rules}
 use Rattle.symbol.proofs.Side.at.Goals as goal
 
 pub returns : goal.returns

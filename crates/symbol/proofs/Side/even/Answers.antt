@@ -1,6 +1,5 @@
 -- `Side::even` is M S M⁻¹ with M the side's frame, within the bounds of `carry`: the frame is small, and so is S. Assumes nothing.
 use Rattle.symbol.proofs.Sides.{small_S}
-use borrow.Author.Rules.{rules}
 use Rattle.symbol.proofs.Side.even.Goals as goal
 
 pub carry-requires : goal.carry-requires

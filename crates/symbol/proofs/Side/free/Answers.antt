@@ -1,6 +1,5 @@
 -- `Side::free` is N S M⁻¹, the partner's frame N on the left and the side's own M on the right; both are small. Assumes nothing.
 use Rattle.symbol.proofs.Sides.{small_S}
-use borrow.Author.Rules.{rules}
 use Rattle.symbol.proofs.Side.free.Goals as goal
 
 pub carry-requires : goal.carry-requires

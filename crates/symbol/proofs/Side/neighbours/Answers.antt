@@ -6,7 +6,6 @@ use lib.IntN.{ℤ, pos}
 use Rattle.matrix.specs.Matrix.{of_list, det}
 use Rattle.symbol.specs.Check.{eq_z}
 use Rattle.symbol.proofs.Sides.{gap_det, side_roomy, is_one}
-use borrow.Author.Rules.{rules}
 use Rattle.symbol.proofs.Side.neighbours.Goals as goal
 
 pub determinant-requires : goal.determinant-requires

@@ -1,6 +1,5 @@
 -- `Side::odd` is M Q M⁻¹ with M the side's frame; Q has entries of size at most 1 (`small_Q`), as `carry` asks. Assumes nothing.
 use Rattle.symbol.proofs.Sides.{small_Q}
-use borrow.Author.Rules.{rules}
 use Rattle.symbol.proofs.Side.odd.Goals as goal
 
 pub carry-requires : goal.carry-requires

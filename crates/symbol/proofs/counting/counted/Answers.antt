@@ -1,6 +1,5 @@
 -- `counted` reads the count at k: the low half of the byte k / 2 where k is even, and the high half where it is odd. Assumes nothing.
 use mathlib.Core.Path.{sym}
-use borrow.Author.Rules.{rules}
 use Rattle.symbol.proofs.Marking.{digit_low, digit_high}
 use Rattle.symbol.proofs.counting.counted.Goals as goal
 

@@ -1,8 +1,6 @@
 -- `mark` counts one more at k, up to 3. Four cases: k even or odd, and its half of the byte full or not; adding 1 or 16 leaves the other
 -- half alone (`marked_low`, `marked_high`, `marked_full`). Assumes nothing.
-use mathlib.Core.Path.{sym}
 use native.Mathlib.Omega.{arith}
-use borrow.Author.Rules.{rules}
 use Rattle.symbol.proofs.Marking.{digit_low, digit_high, marked_low, marked_high, marked_full}
 use Rattle.symbol.proofs.counting.mark.Goals as goal
 
