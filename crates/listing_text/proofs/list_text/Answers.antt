@@ -20,7 +20,7 @@ use Rattle.listing_text.proofs.list_text.Goals.{After-read_symbol-read, In-Numbe
 use Rattle.listing_text.proofs.list_text.Goals as goal
 
 abbrev begun : After-read_symbol-read → Start
-begun r = r
+begun r = (goal.at.After-read_symbol-read r).Start
 
 -- the answer of `read_symbol` has its lines
 lines : (r : After-read_symbol-read) (x : Reading) → r.read_symbol-read.result ≡ x

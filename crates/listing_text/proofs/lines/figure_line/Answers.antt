@@ -17,5 +17,4 @@ returns-in-Refused c =
     let first = c.put-first.ensures in
     let second = c.line_of_two.ensures in
     let s = c in
-    let k = c.figure-in-Refused-1 in
-    (rw k.given.1 (puts_then first second.0 (omega (arith, s.requires))), omega (arith, first.end_is, second.1))
+    (rw c.in-Refused.is (puts_then first second.0 (omega (arith, s.requires))), omega (arith, first.end_is, second.1))
