@@ -4,9 +4,6 @@ use Prim.Native.Nat.{◌+◌, ◌-◌, ◌≤◌}
 use native.Mathlib.Omega.{arith}
 use native.Mathlib.Numerals.{add-one}
 use borrow.Author.Rules.{rules}
-use mir.Syntax.{w64}
-use mir.Val.{to_z, of_z}
-use mir.Facts.{to_z-of_z}
 use lib.IntN.{ℤ}
 use Rattle.basics.specs.Count.{first}
 use Rattle.basics.proofs.Count.{Clear, clear_zero, clear_more, clear_less, first_clear, first_hit}
@@ -14,7 +11,7 @@ use Rattle.partner_exchange.specs.Inner.Ready.{label_test}
 use Rattle.partner_exchange.proofs.find_side.Given as goal
 
 abbrev pub invariant-loop-k : goal.invariant-loop-k
-invariant-loop-k l = Clear (label_test l.p (to_z w64 l.x) l.skip) l.k × (l.k ≤ l.v + 1)
+invariant-loop-k l = Clear (label_test l.p l.x l.skip) l.k × (l.k ≤ l.v + 1)
 
 abbrev pub decreases-loop-k : goal.decreases-loop-k
 decreases-loop-k l = l.v + 1 - l.k
