@@ -23,6 +23,12 @@ made_files() {
     fi
 }
 
+# What proves crates and makes things of them: tools/prove, which asks rt crate by crate. A folder without it has an rt
+# on the PATH that takes the same words.
+prover() {
+    if [ -x "$here/tools/prove" ]; then echo "$here/tools/prove"; else echo rt; fi
+}
+
 # the crate that a thing is made from
 crate_of() {
     [ "$1" = library ] && echo engine || echo "$1"
@@ -44,21 +50,24 @@ plan() {
             print level[crate], crate
         }
         { sub(/#.*/, "") }
-        split($0, side, ":") == 2 { stands_on[side[1]] = side[2] }
+        split($0, side, ":") == 2 { split(side[1], word, " "); stands_on[word[1]] = side[2] }
         END {
             n = split(names, name, " ")
             for (i = 1; i <= n; i++) visit(name[i] == "library" ? "engine" : name[i])
         }' "$here/crates.txt" | sort -s -n -k1,1
 }
 
-# what the things NAME .. are made from: the list of crates and the folders of those that they stand on
+# what the things NAME .. are made from: the list of crates and the folders of those that they stand on; of the library
+# also the crate whose exports are in the archive
 sources_of() {
-    echo "crates.txt $(plan "$@" | awk '{ print "crates/" $2 }' | paste -s -d ' ')"
+    local exports=
+    [[ " $* " != *" library "* || ! -d $here/crates/engine_c ]] || exports=" crates/engine_c"
+    echo "crates.txt $(plan "$@" | awk '{ print "crates/" $2 }' | paste -s -d ' ')$exports"
 }
 
 # the sum of each file of these folders, and its path
 contents() {
-    (cd "$here" && find "$@" -name must-fail -prune -o -type f -print0 2> /dev/null | LC_ALL=C sort -z |
+    (cd "$here" && find "$@" \( -name must-fail -o -name out \) -prune -o -type f -print0 2> /dev/null | LC_ALL=C sort -z |
         xargs -0 sha256sum)
 }
 
@@ -208,7 +217,7 @@ prove_once() {
     title=$*
     [ $# -lt 4 ] || title="all that ./farey runs"
     crates=$(plan "$@")
-    (cd "$here" && rt check "${names[@]}" < /dev/null) 2>&1 | tee "$log" | tell "$title" "$crates"
+    (cd "$here" && "$(prover)" check "${names[@]}" < /dev/null) 2>&1 | tee "$log" | tell "$title" "$crates"
     ended=("${PIPESTATUS[@]}")
     [ "${ended[0]}" -ne 0 ] || return "${ended[2]}"
     crate=$(sed -nE 's/^rt: ([a-z_]+) NOT PROVED \(.*/\1/p' "$log" | head -n 1)
@@ -220,7 +229,7 @@ prove_once() {
 
 # whether a file of a folder was edited after a stamp was made
 is_newer() {
-    [ -n "$(find "$2" -type f -newer "$1" -print -quit 2> /dev/null)" ]
+    [ -n "$(find "$2" -name out -prune -o -type f -newer "$1" -print -quit 2> /dev/null)" ]
 }
 
 # whether one of these words is one of those

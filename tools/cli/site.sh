@@ -19,7 +19,7 @@ say_version() {
 link_library() {
     local log=$1 archive=$here/target/staticlib/libengine.a library=$here/target/libfarey.so
     echo "farey: the library is made of the proved crates, about a minute" >&2
-    (cd "$here" && rt staticlib engine < /dev/null) >> "$log" 2>&1 ||
+    (cd "$here" && "$(prover)" staticlib engine < /dev/null) >> "$log" 2>&1 ||
         fail "rt could not make the archive; the log is $log"
     cc -shared -o "$library.new" -Wl,-soname,libfarey.so -Wl,-z,defs \
         -Wl,--whole-archive "$archive" -Wl,--no-whole-archive >> "$log" 2>&1 ||
