@@ -4,8 +4,8 @@
 // source file crates/family_index/src/gamma0.rt has it. It reads nothing.
 //
 // The crate `index_text` makes all that is written; here it is written (`stdio`).
-fn main() {
+fn main(rt: HostRuntime) {
     let mut out = [0u8; 32768];
     let end = index_text::constant_lines(&mut out);
-    stdio::write_whole(&out[..end]);
+    stdio::write_whole(&rt, &out[..end]);
 }

@@ -2,7 +2,7 @@
 --   Within      how far one read got in the part that it was handed: at least one byte and at most all, where some came
 --   Held        what `read_whole` found lies within the buffer, and fills it where the input goes on behind it
 --   Further     the same, of n bytes that fill a buffer
--- That these are the bytes of the input is in no contract: none can say what C's `read` reads.
+-- That these are the bytes of the input is in no contract: none can say what std's `read` reads from the system.
 use Rattle.std.specs.Prelude.{ℕ, ◌+◌, ◌≤◌, ◌<◌, ◌≡◌, Bool, true, List, length, take}
 use Rattle.text.specs.declared.input.Input.{Input}
 use Rattle.text.specs.declared.input.Input.TheVariants as input

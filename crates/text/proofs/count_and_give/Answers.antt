@@ -35,7 +35,7 @@ told w =
 pub returns-in-End : goal.returns-in-End
 unfolding left_by
 returns-in-End c = let a = c.args in
-    (first_none a.format a.text.now (length a.out-1.now) (at_end a.text.now 0 c.next.ensures c.in-End.is), refl)
+    (first_none a.format a.text.now (length a.out.now) (at_end a.text.now 0 c.next.ensures c.in-End.is), refl)
 
 pub returns-in-Bad : goal.returns-in-Bad
 returns-in-Bad c = let a = c.args in
@@ -45,13 +45,13 @@ returns-in-Bad c = let a = c.args in
 pub give-requires : goal.give-requires
 give-requires c = let a = c.args in (
   c.requires.0,
-  some_piece a.format a.text.now (length a.out-1.now)
+  some_piece a.format a.text.now (length a.out.now)
       (step (goal.at.give-requires c).After-wanted_for),
 )
 
 pub returns-in-Any : goal.returns-in-Any
 returns-in-Any c = let a = c.args in (
-  c.give.ensures.0 ∙ first_any a.format a.text.now (length a.out-1.now) (step (goal.at.returns-in-Any c).After-wanted_for)
+  c.give.ensures.0 ∙ first_any a.format a.text.now (length a.out.now) (step (goal.at.returns-in-Any c).After-wanted_for)
       (sym c.in-Any.is ∙ told (goal.at.returns-in-Any c).After-wanted_for),
   c.give.ensures.1,
 )
@@ -59,7 +59,7 @@ returns-in-Any c = let a = c.args in (
 pub returns-then-count-k : goal.returns-then-count-k
 unfolding left_by
 returns-then-count-k c = let a = c.args in (
-  first_few a.format a.text.now (length a.out-1.now) (step (goal.at.returns-then-count-k c).After-wanted_for) c.in-Exactly.k
+  first_few a.format a.text.now (length a.out.now) (step (goal.at.returns-then-count-k c).After-wanted_for) c.in-Exactly.k
       (sym c.in-Exactly.is ∙ told (goal.at.returns-then-count-k c).After-wanted_for) (omega arith),
   refl,
 )
@@ -68,7 +68,7 @@ pub returns-then-k-count : goal.returns-then-k-count
 unfolding left_by
 returns-then-k-count c = let a = c.args in (
   ap (λ (p : ℕ). reading.Refused (bad_text p)) c.place.ensures
-      ∙ first_many a.format a.text.now (length a.out-1.now) (step (goal.at.returns-then-k-count c).After-wanted_for)
+      ∙ first_many a.format a.text.now (length a.out.now) (step (goal.at.returns-then-k-count c).After-wanted_for)
       c.in-Exactly.k
       (sym c.in-Exactly.is ∙ told (goal.at.returns-then-k-count c).After-wanted_for) (omega arith),
   refl,
@@ -76,7 +76,7 @@ returns-then-k-count c = let a = c.args in (
 
 pub returns-in-Exactly : goal.returns-in-Exactly
 returns-in-Exactly c = let a = c.args in (
-  c.give-in-Exactly.ensures.0 ∙ first_just a.format a.text.now (length a.out-1.now)
+  c.give-in-Exactly.ensures.0 ∙ first_just a.format a.text.now (length a.out.now)
       (step (goal.at.returns-in-Exactly c).After-wanted_for) c.in-Exactly.k
       (sym c.in-Exactly.is ∙ told (goal.at.returns-in-Exactly c).After-wanted_for)
       (omega arith),

@@ -10,9 +10,9 @@ use Rattle.text.proofs.give.Goals as goal
 pub returns-then-out-k : goal.returns-then-out-k
 unfolding answer left_by
 returns-then-out-k c = let a = c.args in
-    (rw (lt-ltb (length a.out-1.now) a.k c.if-out-k.true), refl)
+    (rw (lt-ltb (length a.out.now) a.k c.if-out-k.true), refl)
 
 pub returns : goal.returns
 unfolding answer left_by
 returns c = let a = c.args in
-    (rw (le-ltb (length a.out-1.now) a.k c.if-out-k.false), c.fill.ensures)
+    (rw (le-ltb (length a.out.now) a.k c.if-out-k.false), c.fill.ensures)

@@ -10,10 +10,10 @@ pub returns-then-longer : goal.returns-then-longer
 unfolding left_by
 returns-then-longer c =
     let a = c.args in
-    (input_longer a.longer a.format a.text.now (length a.out-1.now) c.if-longer.true, refl)
+    (input_longer a.longer a.format a.text.now (length a.out.now) c.if-longer.true, refl)
 
 pub returns : goal.returns
 returns c =
     let a = c.args in
     let r = c.read.ensures in
-    (r.0 ∙ input_read a.longer a.format a.text.now (length a.out-1.now) c.if-longer.false, r.1)
+    (r.0 ∙ input_read a.longer a.format a.text.now (length a.out.now) c.if-longer.false, r.1)

@@ -8,7 +8,7 @@ use Rattle.text.proofs.survey_of.Goals.{In-Number}
 use Rattle.text.proofs.survey_of.Goals as goal
 
 -- the number that a turn goes past
-step : (c : In-Number invariant-loop decreases-loop)
+step : (c : In-Number)
     → PieceRead c.args.text.now c.loop-from.from
     c.in-Number.field-0 c.in-Number.field-1 c.in-Number.to
 step c = at_number c.args.text.now c.loop-from.from
@@ -31,13 +31,13 @@ returns-in-Bad c = let t = c.args.text.now in
     (at_bad t c.loop-from.from c.next.ensures c.in-Bad.is)
 
 pub overflow_add-count : goal.overflow_add-count
-overflow_add-count c = let s = step c in omega arith
+overflow_add-count c = let s = step (goal.at.overflow_add-count c).In-Number in omega arith
 
 pub loop-from-smaller : goal.loop-from-smaller
-loop-from-smaller c = let s = step c in omega arith
+loop-from-smaller c = let s = step (goal.at.loop-from-smaller c).In-Number in omega arith
 
 pub loop-from-preserved : goal.loop-from-preserved
-loop-from-preserved c = let s = step c in (walked_more c.loop-from.invariant.0 s, omega arith)
+loop-from-preserved c = let s = step (goal.at.loop-from-preserved c).In-Number in (walked_more c.loop-from.invariant.0 s, omega arith)
 
 pub returns : goal.returns
 returns c = walked_count c.loop-from.invariant.0 (walked_past c.loop-from.invariant.0 c.loop-from-test.false)
