@@ -16,7 +16,7 @@ returns c =
     let p = s.args.way.at in
     let x = c.sign_of_s in (
       stepped c.put_s-count.ensures c.next-to.ensures
-          (sign_S v t s.args.way.sign p c.times-sign.result x.result x.ensures.0 c.times-sign.ensures)
-          (subst (λ (b : Bool). FrameEquation v t p (letter S) b (written v t S p) (step_s v t p)) x.ensures.0 x.ensures.1),
+          (sign_S v t s.args.way.sign p c.times-sign.result x.result x.ensures.value c.times-sign.ensures)
+          (subst (λ (b : Bool). FrameEquation v t p (letter S) b (written v t S p) (step_s v t p)) x.ensures.value x.ensures.step_equation),
       refl,
     )

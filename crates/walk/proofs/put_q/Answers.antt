@@ -4,4 +4,4 @@ use borrow.Author.Rules.{rules}
 use Rattle.walk.proofs.put_q.Goals as goal
 
 pub returns : goal.returns
-returns c = let l = c.letter_q-z in put_of l.result (record { sfits = l.type-inv }) l.ensures.0 c.put.ensures
+returns c = let l = c.letter_q-z in put_of l.result (record { sfits = l.type_inv }) l.ensures.result_value c.put.ensures

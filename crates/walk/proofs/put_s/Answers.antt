@@ -4,4 +4,4 @@ use borrow.Author.Rules.{rules}
 use Rattle.walk.proofs.put_s.Goals as goal
 
 pub returns : goal.returns
-returns c = let l = c.letter-z in put_of l.result (record { sfits = l.type-inv }) l.ensures c.put.ensures
+returns c = let l = c.letter-z in put_of l.result (record { sfits = l.type_inv }) l.ensures c.put.ensures
