@@ -44,18 +44,34 @@ settled_quiet : (semi : Bool) (n : ℕ) (ph : Phase) (seen : List ℕ) (done : L
     ≡ on ph seen [] done
 settled_quiet semi n empty seen done behind_identity = refl
 settled_quiet semi n closed seen done behind_cycle = refl
+settled_quiet semi n start seen done s = elim s [ ]
+settled_quiet semi n opened seen done s = elim s [ ]
+settled_quiet semi n point seen done s = elim s [ ]
+settled_quiet semi n wanted seen done s = elim s [ ]
 
 pub settled_whole : (ph : Phase) → Settled ph → may_end ph ≡ true
 settled_whole empty behind_identity = refl
 settled_whole closed behind_cycle = refl
+settled_whole start s = elim s [ ]
+settled_whole opened s = elim s [ ]
+settled_whole point s = elim s [ ]
+settled_whole wanted s = elim s [ ]
 
 pub settled_semicolon : (n : ℕ) (ph : Phase) (seen cur : List ℕ) (done : List (List ℕ)) → Settled ph → turn_of true n seen cur done ph semicolon ≡ over
 settled_semicolon n empty seen cur done behind_identity = refl
 settled_semicolon n closed seen cur done behind_cycle = refl
+settled_semicolon n start seen cur done s = elim s [ ]
+settled_semicolon n opened seen cur done s = elim s [ ]
+settled_semicolon n point seen cur done s = elim s [ ]
+settled_semicolon n wanted seen cur done s = elim s [ ]
 
 pub settled_opening : (n : ℕ) (ph : Phase) (seen cur : List ℕ) (done : List (List ℕ)) → Settled ph → turn_of false n seen cur done ph opening ≡ over
 settled_opening n empty seen cur done behind_identity = refl
 settled_opening n closed seen cur done behind_cycle = refl
+settled_opening n start seen cur done s = elim s [ ]
+settled_opening n opened seen cur done s = elim s [ ]
+settled_opening n point seen cur done s = elim s [ ]
+settled_opening n wanted seen cur done s = elim s [ ]
 
 read_R : (semi : Bool) (n : ℕ) (sc rc : List (List ℕ)) (ph : Phase) (seen : List ℕ) → may_end ph ≡ true
     → outcome (read_all semi (within_R n sc ph seen [] rc) []) ≡ some (read_as n sc rc)

@@ -9,10 +9,10 @@
 --                              permutation is one cycle or `()` (`Enough`)
 --     Reading semi ps n sc rc  the whole text: the index n, S with the cycles sc, a semicolon or none (`behind_s`), R
 --                              with the cycles rc
---     points_of cs              the points that the cycles cs name, in their order
+--     points_of cs             the points that the cycles cs name, in their order
 --     free n seen x            x is a point from 1 to n, and not among those seen
 --     Disjoint n seen xs       each of xs is free when those before it have been seen
---     inRange n                n is an index from 1 to 3,066
+--     in_range n               n is an index from 1 to 3,066
 --     Right ps n sc rc         the pieces ps are of the form, by one of the two readings, with such an index, and
 --                              disjoint cycles in S and in R
 --     Completes ps             some ending makes the pieces ps right
