@@ -39,7 +39,7 @@ use Rattle.cycle_reading.specs.Reading as reading
 use Rattle.cycle_reading.specs.Reading.{table_of_s, table_of_r, check_by, cycles_check, read_table, read_s, read_r, RightAs, OneReading, GoodPair, ReadCyclesMean}
 use Rattle.cycle_reading.specs.Inner.PartRun.{made}
 use Rattle.cycle_reading.specs.Inner.Front.{VerdictRead}
-use Rattle.cycle_reading.proofs.Filling.{read_as_lem, in_range, pair_fault, FaultNumber, table_steps, given_run, read_run}
+use Rattle.cycle_reading.proofs.Filling.{read_as_lem, range_of, pair_fault, FaultNumber, table_steps, given_run, read_run}
 
 -- ---- from the tables that the reader left
 
@@ -52,7 +52,7 @@ module _ (t : List ℕ) (A B : List ℕ) (o : Judged) (read : VerdictRead (verdi
       → Fills (given_run (take n A) (take n B) s r s' r') (made_if (length (take n A))) f → Fills (read_run t s r s' r') (made_if (length (read_s t))) f
   cycles_read_lem n e {f} {s'} {r'} g =
       let x = read_as_lem t A B o read n e in
-      let most = (in_range x.q.index x.is_right.index).1 in
+      let most = (range_of x.q.index x.is_right.index).1 in
       let S_is = front_is n x.q A x.q.of_s x.index x.S_is most x.is_right.points_S in
       let R_is = front_is n x.q B x.q.of_r x.index x.R_is most x.is_right.points_R in
       subst (λ (v : Verdict). Fills (Asks (check_by v) ∷ table_steps (read_table table_of_s v) (read_table table_of_r v) s r s' r')
@@ -84,11 +84,11 @@ module _ (t : List ℕ) where
       go : (v : Verdict) → VerdictMeans t v → length (read_table table_of_s v) ≤ 3066
       go (leaves place) m = omega arith
       go index_out m = omega arith
-      go (reads q) (right _ h) = omega (arith, long_S q, (in_range q.index h.index).1)
+      go (reads q) (right _ h) = omega (arith, long_S q, (range_of q.index h.index).1)
 
 pub fault : (t : List ℕ) (q : Read) → RightAs t q → FaultNumber (pair_check (table_of_s q) (table_of_r q))
 fault t q h =
-    let i = in_range q.index h.index in
+    let i = range_of q.index h.index in
     pair_fault (table_of_s q) (table_of_r q) (rw (long_S q) i.0) (rw (long_S q) i.1) (long_R q ∙ sym (long_S q))
 
 -- a right text is read as it says

@@ -2,8 +2,8 @@
 --     copied_more, copied_all             a table copied entry by entry
 --     table_steps, given_run, read_run    the steps of `give` and `read_cycles`, by what stands in the result spaces before and after
 --     given_refused .. given_both         the steps of `give`, run
---     reads_in, front_long, reads-even    a text that was read has an index up to 3,066, and tables of one length
---     cycles-left, cycles-out             the steps of `read_cycles`, run, where the text is not right
+--     reads_in, front_long, reads_even    a text that was read has an index up to 3,066, and tables of one length
+--     cycles_left, cycles_out             the steps of `read_cycles`, run, where the text is not right
 -- Assumes nothing.
 use mathlib.Core.Path.{◌≡◌, refl, sym, ap, subst, ◌∙◌}
 use mathlib.Core.Bool.{Bool, true, false, ◌&&◌}
@@ -127,8 +127,8 @@ pair_fault s r a b e =
 abbrev pub read_run : (t s r s' r' : List ℕ) → List Step
 read_run t s r s' r' = Asks (cycles_check t) ∷ table_steps (read_s t) (read_r t) s r s' r'
 
-pub in_range : (n : ℕ) → in_range n ≡ true → (1 ≤ n) × (n ≤ 3066)
-in_range n e = (leb-true 1 n (and_left _ _ e), leb-true n 3066 (and_right (leb 1 n) _ e))
+pub range_of : (n : ℕ) → in_range n ≡ true → (1 ≤ n) × (n ≤ 3066)
+range_of n e = (leb-true 1 n (and_left _ _ e), leb-true n 3066 (and_right (leb 1 n) _ e))
 
 length_made : (cs : List (List ℕ)) → length (made cs) ≡ 3066
 unfolding identity
@@ -166,7 +166,7 @@ module _ (t : List ℕ) (A B : List ℕ) (o : Judged) (read : VerdictRead (verdi
       go v w (wrong p i u) k = let z = sym e ∙ k.returned in clash (cc)
 
   reads_low : (n : ℕ) → o ≡ judged.Reads n → n ≤ 3066
-  reads_low n e = let x = read_as_lem n e in let h = in_range x.q.index x.is_right.index in omega (arith, x.index, h.1)
+  reads_low n e = let x = read_as_lem n e in let h = range_of x.q.index x.is_right.index in omega (arith, x.index, h.1)
 
   reads_long : (n : ℕ) → o ≡ judged.Reads n → (length A ≡ 3066) × (length B ≡ 3066)
   reads_long n e = let x = read_as_lem n e in (ap length x.S_is ∙ length_made x.q.of_s, ap length x.R_is ∙ length_made x.q.of_r)

@@ -8,12 +8,12 @@ use Rattle.cycle_reading.proofs.give.Goals as goal
 pub returns-then-s-n : goal.returns-then-s-n
 returns-then-s-n c = let a = c.args in
     let e = sym c.check-checked.ensures.returned ∙ c.in-Accepted.is in
-    given_short_S a.a.now a.b.now a.s-1.now a.r-1.now e c.if-s-n.true
+    given_short_S a.a.now a.b.now a.s.now a.r.now e c.if-s-n.true
 
 pub returns-then-r-n : goal.returns-then-r-n
 returns-then-r-n c = let a = c.args in
     let e = sym c.check-checked.ensures.returned ∙ c.in-Accepted.is in
-    given_short_R a.a.now a.b.now a.s-1.now a.r-1.now e c.requires
+    given_short_R a.a.now a.b.now a.s.now a.r.now e c.requires
     (omega (arith, c.if-s-n.false)) c.if-r-n.true
 
 pub returns-in-Accepted : goal.returns-in-Accepted
@@ -22,7 +22,7 @@ returns-in-Accepted c =
     let a = earlier.args in
     let e = sym earlier.check-checked.ensures.returned
     ∙ c.in-Accepted.is in
-    given_both a.a.now a.b.now a.s-1.now a.r-1.now e earlier.requires
+    given_both a.a.now a.b.now a.s.now a.r.now e earlier.requires
     (omega (arith, c.if-s-n.false))
     (omega (arith, c.if-r-n.false)) _ _
     c.copy_table.ensures c.copy_table-in-Accepted.ensures
@@ -30,4 +30,4 @@ returns-in-Accepted c =
 pub returns : goal.returns
 returns c = let a = c.args in
     let e = sym c.check-checked.ensures.returned ∙ c.in-Refused.is in
-    given_refused a.a.now a.b.now a.s-1.now a.r-1.now _ e
+    given_refused a.a.now a.b.now a.s.now a.r.now _ e

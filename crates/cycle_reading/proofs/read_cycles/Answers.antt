@@ -28,16 +28,16 @@ give-requires c =
 
 pub returns-in-Leaves : goal.returns-in-Leaves
 returns-in-Leaves c = let a = c.args in
-    cycles_left a.text.now _ _ _ c.read_text-judged.ensures a.s-1.now a.r-1.now _ c.in-Leaves.is
+    cycles_left a.text.now _ _ _ c.read_text-judged.ensures a.s.now a.r.now _ c.in-Leaves.is
 
 pub returns-in-IndexOut : goal.returns-in-IndexOut
 returns-in-IndexOut c = let a = c.args in
-    cycles_out a.text.now _ _ _ c.read_text-judged.ensures a.s-1.now a.r-1.now c.in-IndexOut.is
+    cycles_out a.text.now _ _ _ c.read_text-judged.ensures a.s.now a.r.now c.in-IndexOut.is
 
 pub returns-in-Reads : goal.returns-in-Reads
 returns-in-Reads c =
     let earlier = c in
     let a = earlier.args in
-    cycles_read_lem a.text.now _ _ _ earlier.read_text-judged.ensures a.s-1.now a.r-1.now _
+    cycles_read_lem a.text.now _ _ _ earlier.read_text-judged.ensures a.s.now a.r.now _
     c.in-Reads.is
     c.give.ensures
