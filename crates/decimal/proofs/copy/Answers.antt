@@ -13,18 +13,18 @@ use Rattle.decimal.proofs.copy.Goals as goal
 pub returns-then-room-at : goal.returns-then-room-at
 unfolding standing
 returns-then-room-at c = let a = c.args in (
-  ap (λ (n : ℕ). written.Refused (too_short n)) c.needed.ensures ∙ written_short (length a.bytes.now) (length a.out-1.now) a.at (omega arith),
+  ap (λ (n : ℕ). written.Refused (too_short n)) c.needed.ensures ∙ written_short (length a.bytes.now) (length a.out.now) a.at (omega arith),
   refl,
 )
 
 pub returns-then-room-at-2 : goal.returns-then-room-at-2
 unfolding standing
 returns-then-room-at-2 c = let a = c.args in (
-  ap (λ (n : ℕ). written.Refused (too_short n)) c.needed-then-room-at-2.ensures ∙ written_short (length a.bytes.now) (length a.out-1.now) a.at (omega arith),
+  ap (λ (n : ℕ). written.Refused (too_short n)) c.needed-then-room-at-2.ensures ∙ written_short (length a.bytes.now) (length a.out.now) a.at (omega arith),
   refl,
 )
 
 pub returns : goal.returns
 unfolding standing
 returns c = let a = c.args in
-    (written_to (length a.bytes.now) (length a.out-1.now) a.at (omega arith), c.store.ensures)
+    (written_to (length a.bytes.now) (length a.out.now) a.at (omega arith), c.store.ensures)

@@ -21,7 +21,7 @@ returns c = let a = c.args in
     let whole : take (21 - f.result) tail ≡ digits a.n = take_all (21 - f.result) tail (omega (arith, length-drop f.result f.new.buffer))
     ∙ f.ensures.0 in
     let w = c.copy in (
-      w.ensures.0 ∙ ap (λ (l : List ℕ). written_of (length l) (length a.out-1.now) a.at) whole,
+      w.ensures.0 ∙ ap (λ (l : List ℕ). written_of (length l) (length a.out.now) a.at) whole,
       w.ensures.1
-          ∙ ap (λ (l : List ℕ). standing w.result l a.at a.out-1.now) whole,
+          ∙ ap (λ (l : List ℕ). standing w.result l a.at a.out.now) whole,
     )
