@@ -1,9 +1,9 @@
-use mathlib.Core.Logic.{⊎_elim}
 use Prim.Native.Nat.{◌*◌, ◌-◌}
 use native.Mathlib.Omega.{arith}
 use Rattle.congruence.proofs.Primes.{Factoring, p_fits, factoring_start, factoring_next, factoring_end}
 use Rattle.congruence.proofs.Primes.{more_low, more_fits, rest_less, more_new, more_old}
 use borrow.Author.Rules.{rules}
+use Rattle.congruence.proofs.modular.index_of_gamma0.Goals.{then-met-p-ne0, else-met-p-ne0}
 use Rattle.congruence.proofs.modular.index_of_gamma0.Goals as goal
 
 pub loop-rest-init : goal.loop-rest-init
@@ -38,10 +38,12 @@ loop-rest-smaller c =
 pub loop-rest-preserved : goal.loop-rest-preserved
 loop-rest-preserved c =
     let h = c.loop-rest.invariant in
-    ⊎_elim
-    (λ a. more_new h (omega arith) (λ e. a.0.taken e) a.1)
-    (λ a. more_old h (omega arith) a.0.left a.1)
-    c.if-met-p-ne0.branch
+    elim c.if-met-p-ne0.branch [
+      | then-met-p-ne0 w ↦ more_new h (omega arith) (λ e. w.if-met-p-ne0.true e) w.index-is
+      | else-met-p-ne0 w ↦ more_old h (omega arith) w.if-met-p-ne0.false w.index-is
+    ]
 
 pub returns : goal.returns
-returns c = factoring_end c.loop-rest.invariant (omega arith)
+returns c =
+    let k = factoring_end c.loop-rest.invariant (omega arith) in
+    record { value = k.0; upper_bound = k.1 }
