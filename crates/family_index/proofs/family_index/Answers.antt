@@ -8,17 +8,17 @@ use Rattle.family_index.proofs.family_index.Goals as goal
 pub overflow_mul-result : goal.overflow_mul-result
 overflow_mul-result c =
     let e = c in
-    omega (arith, fits1 e.requires c.half_units.ensures.upper_bound e.table_entry-zero.ensures.gamma0entry.1)
+    omega (arith, fits1 e.requires c.half_units.ensures.upper_bound e.table_entry-zero.ensures.upper_bound)
 
 pub overflow_mul-result-in-Gamma : goal.overflow_mul-result-in-Gamma
 overflow_mul-result-in-Gamma c =
     let e = c in
-    omega (arith, fits1 e.requires c.half_units-in-Gamma.ensures.upper_bound e.table_entry-zero.ensures.gamma0entry.1)
+    omega (arith, fits1 e.requires c.half_units-in-Gamma.ensures.upper_bound e.table_entry-zero.ensures.upper_bound)
 
 pub overflow_mul-result-in-Gamma-2 : goal.overflow_mul-result-in-Gamma-2
 overflow_mul-result-in-Gamma-2 c =
     let e = c in
-    omega (arith, fits e.requires c.half_units-in-Gamma.ensures.upper_bound e.table_entry-zero.ensures.gamma0entry.1)
+    omega (arith, fits e.requires c.half_units-in-Gamma.ensures.upper_bound e.table_entry-zero.ensures.upper_bound)
 
 pub returns-in-Gamma0 : goal.returns-in-Gamma0
 returns-in-Gamma0 c = of_gamma0 c.args.n c.in-Gamma0.is c.table_entry-zero.ensures.value

@@ -12,4 +12,4 @@ entry_of-requires c = (c.requires.some, c.requires.most, refl)
 pub returns : goal.returns
 returns c =
     let e = c.entry_of.ensures in
-    (e.0, (e.1, e.2))
+    record { value = e.0; gamma0entry = e.1; upper_bound = e.2 }
