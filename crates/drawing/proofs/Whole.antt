@@ -1,7 +1,7 @@
 -- The whole numbers of a side, and how they go into floats: they fit 64 bits and are at most 2⁵³ in size.
 --
 -- In order: literals (`is_0`, `is_1`); the test for 0 (`is_none`, `some_bits`, `some_size`, `none_size`) and for large numbers (`over`); what a cast
--- asks (`in_float`, `kind_most`); the numbers of a drawable side (`cross_adds`, `cross_small`, `twice_small`, `twice_is`).
+-- asks (`is_in_float`, `kind_most`); the numbers of a drawable side (`cross_adds`, `cross_small`, `twice_small`, `twice_is`).
 -- Assumes nothing.
 use mathlib.Core.Path.{◌≡◌, refl, sym, ◌∙◌, ap}
 use mathlib.Core.Bool.{true, false, not, true≢false}
@@ -74,10 +74,10 @@ over (negsuc n) h e = ap not (sym (le-leb (suc n) (suc h) (let k = ltb-false h n
 
 -- ---- casts
 
-pub in_float : (x : ℤ) → nat_abs x ≤ 2 ^ 53 → T (in_float binary64 x)
+pub is_in_float : (x : ℤ) → nat_abs x ≤ 2 ^ 53 → T (in_float binary64 x)
 unfolding in_float
-in_float (pos n) h = le→leb n (2 ^ 53) h
-in_float (negsuc n) h = lt→ltb n (2 ^ 53) h
+is_in_float (pos n) h = le→leb n (2 ^ 53) h
+is_in_float (negsuc n) h = lt→ltb n (2 ^ 53) h
 
 pub kind_most : (p : Pairing) → nat_abs (pos (kind_of p)) ≤ 2 ^ 53
 kind_most Even = lit≤ tt

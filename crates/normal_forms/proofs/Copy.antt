@@ -34,7 +34,7 @@ use Rattle.normal_forms.specs.Reduced.{letter_kind}
 use Rattle.normal_forms.specs.Reduce.{odd_kind, plain, inverse, put, puts}
 use Rattle.normal_forms.proofs.Put.{both, odd, is_plain, fine, inverse_inverse, inverse_plain, inverse_other, odd_only, odd_plain, put_undo, put_twice}
 use Rattle.normal_forms.proofs.Put.{puts_fine}
-use Rattle.normal_forms.proofs.Side.{kinds, kind_of, outward, far, across}
+use Rattle.normal_forms.proofs.Side.{kinds, kind_numbered, outward, far, across}
 use Rattle.normal_forms.proofs.Writing.{inside, through, crossing, silent_over, written_out, odd_face}
 
 -- the word of the copy, from its last letter to its first, and the position there
@@ -134,7 +134,7 @@ module _ (v : ℕ) (t : List ℤ) (ok : IsSymbol v t) (C : Cutting v t) where
 
   -- the letter of the outer face i is odd
   odd_at_lem : (p i : ℕ) → p ≡ outer v i → Real v t p → odd (kind_of v t) (pos (generator_number v t i)) ≡ true
-  odd_at_lem p i e r = let o = odd_face v t ok C p i e r in ap odd_kind (kind_of v t ok i (pos (generator_number v t i)) o.0 refl ∙ o.1)
+  odd_at_lem p i e r = let o = odd_face v t ok C p i e r in ap odd_kind (kind_numbered v t ok i (pos (generator_number v t i)) o.0 refl ∙ o.1)
 
   twice : (h : List ℤ) (p : ℕ) → fine (kind_of v t) h ≡ true → Real v t p
       → puts (kind_of v t) (puts (kind_of v t) h (written v t Q p)) (written v t Q (turn_q v p)) ≡ puts (kind_of v t) h (written v t P p)

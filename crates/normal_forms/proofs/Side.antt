@@ -1,7 +1,7 @@
 -- The letters of a symbol and its sides: which letter is written on the way out through a side, and where that way comes in again.
 --
 -- In order: the kinds of letters (`kinds`); the side that leads the generator of a side (`head`, `Led`, `led`); the letter of a side is of the side's
--- kind (`kind_of`), and two sides with one number have one leading side (`one_head`); the letter out through a side that isn't odd, and the side
+-- kind (`kind_numbered`), and two sides with one number have one leading side (`one_head`); the letter out through a side that isn't odd, and the side
 -- through which this comes in (`outward`, `far`, `Across`, `across`); the letter tells the side (`outward_once`), and an odd letter the odd side
 -- (`odd_once`).
 --
@@ -137,8 +137,8 @@ module _ (v : ℕ) (t : List ℤ) where
         ∙ ap (pairing_at v t) (head_at i h) ∙ ap (pairing_of v) l.entry
 
     -- a letter that stands for the generator of side i, or for its inverse
-    pub kind_of : (i : ℕ) (z : ℤ) → i ≤ v → nat_abs z ≡ generator_number v t i → letter_kind v t z ≡ pairing_at v t i
-    kind_of i z h e = by z (e ∙ number_is i) ∙ kind_head i h
+    pub kind_numbered : (i : ℕ) (z : ℤ) → i ≤ v → nat_abs z ≡ generator_number v t i → letter_kind v t z ≡ pairing_at v t i
+    kind_numbered i z h e = by z (e ∙ number_is i) ∙ kind_head i h
       where
         by : (z : ℤ) → nat_abs z ≡ suc (rank i) → letter_kind v t z ≡ letter_kind v t (pos (suc (rank i)))
         by (pos n) e = ap (λ (k : ℕ). letter_kind v t (pos k)) e
@@ -189,7 +189,7 @@ module _ (v : ℕ) (t : List ℤ) where
         by false false = refl
 
     pub outward_kind : (i : ℕ) → i ≤ v → letter_kind v t (outward i) ≡ pairing_at v t i
-    outward_kind i h = kind_of i (outward i) h (outward_size i)
+    outward_kind i h = kind_numbered i (outward i) h (outward_size i)
 
     pub record Across (i : ℕ) : Type 0 where
       pub low : far i ≤ v

@@ -28,7 +28,7 @@ use Rattle.normal_forms.specs.Reduced.{generator_kinds, letter_kind}
 use Rattle.normal_forms.specs.Reduce.{even_kind, odd_kind, plain, inverse, put, puts}
 use Rattle.normal_forms.proofs.Put.{Meeting, cancels, merges, stays, meeting, put_stays, put_cancels, put_merges, inverse_even, inverse_other}
 use Rattle.normal_forms.proofs.Put.{plain_even, plain_other, even_is, odd_is}
-use Rattle.normal_forms.proofs.Side.{kinds, kind_negative, kind_of}
+use Rattle.normal_forms.proofs.Side.{kinds, kind_negative, kind_numbered}
 
 -- ---- conjugates of S and of Q
 
@@ -87,7 +87,7 @@ module _ (v : ℕ) (t : List ℤ) (ok : IsSymbol v t) where
       record {
         side = l.side;
         low = l.low;
-        kind = kind_of v t ok l.side (pos (suc j)) l.low (sym l.number);
+        kind = kind_numbered v t ok l.side (pos (suc j)) l.low (sym l.number);
         is = ap at r ∙ n.is;
       }
 

@@ -37,7 +37,7 @@ use Rattle.polygon.proofs.Promise.{silent_Q, silent_P, written_Q, written_P}
 use Rattle.normal_forms.specs.Reduced.{letter_kind}
 use Rattle.normal_forms.specs.Reduce.{even_kind, odd_kind, inverse}
 use Rattle.normal_forms.proofs.Put.{apart, both, differs, apart_by, inverse_even, inverse_other, is_plain, other_plain}
-use Rattle.normal_forms.proofs.Side.{kind_negative, outward, far, outward_even, outward_free, far_even, far_free, kind_of, odd_once, outward_once}
+use Rattle.normal_forms.proofs.Side.{kind_negative, outward, far, outward_even, outward_free, far_even, far_free, kind_numbered, odd_once, outward_once}
 use Rattle.normal_forms.proofs.Side.{across}
 
 -- a power of Q
@@ -181,11 +181,11 @@ module _ (v : ℕ) (t : List ℤ) (ok : IsSymbol v t) (C : Cutting v t) where
 
   written_odd : (x : Letter) (p : ℕ) (z : ℤ) → Writing x p z → odd_kind (kind_of z) ≡ is_turn x
   written_odd x p z (out i h n s e g a) = ap (λ (y : ℤ). odd_kind (kind_of y)) a ∙ (across v t ok i h n).even_or_free ∙ sym s
-  written_odd x p z (face i h k s e g a) = ap odd_kind (kind_of v t ok i z h a ∙ k) ∙ sym s
+  written_odd x p z (face i h k s e g a) = ap odd_kind (kind_numbered v t ok i z h a ∙ k) ∙ sym s
 
   pub written_plain : (x : Letter) (p : ℕ) (z : ℤ) → Writing x p z → is_plain kind_of z ≡ true
   written_plain x p z (out i h n s e g a) = ap (is_plain kind_of) a ∙ (across v t ok i h n).plain
-  written_plain x p z (face i h k s e g a) = other_plain kind_of z (ap even_kind (kind_of v t ok i z h a ∙ k))
+  written_plain x p z (face i h k s e g a) = other_plain kind_of z (ap even_kind (kind_numbered v t ok i z h a ∙ k))
 
   pub meet : (x y : Letter) (p q : ℕ) (z z' : ℤ) → Writing x p z → Writing y q z' → apart kind_of z z' ≡ false → (q ≡ goes v t x p) × (alternate x y ≡ false)
   meet x y p q z z' a b f = (go a b c, no_turn x y one_turn)

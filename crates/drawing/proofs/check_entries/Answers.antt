@@ -19,7 +19,7 @@ pub loop-i-init : goal.loop-i-init
 loop-i-init c = (clear_zero (too_large_at c.args.t.now), omega arith)
 
 -- the test, of the entry at i
-tested : (c : After-too_large invariant-loop decreases-loop)
+tested : (c : After-too_large)
     → too_large_at c.args.t.now c.loop-i.i ≡ c.too_large.result
 tested c =
     let l = c in
@@ -32,14 +32,14 @@ returns-then-too_large c =
     let s = l in
     let n = 2 * s.args.v in
     let test = too_large_at s.args.t.now in
-    let found = first_hit test l.loop-i.i n (omega arith) l.loop-i.invariant.0 (tested c ∙ c.if-too_large.true) in
+    let found = first_hit test l.loop-i.i n (omega arith) l.loop-i.invariant.0 (tested (goal.at.returns-then-too_large c).After-too_large ∙ c.if-too_large.true) in
     sym (refuse_at_lem test n l.loop-i.i too_large_to_draw (sym found) (omega arith))
 
 pub loop-i-preserved : goal.loop-i-preserved
 loop-i-preserved c =
     let l = c in
     let test = too_large_at l.args.t.now in
-    (rw add-one (clear_more test l.loop-i.i l.loop-i.invariant.0 (tested c ∙ c.if-too_large.false)), omega arith)
+    (rw add-one (clear_more test l.loop-i.i l.loop-i.invariant.0 (tested (goal.at.loop-i-preserved c).After-too_large ∙ c.if-too_large.false)), omega arith)
 
 pub returns : goal.returns
 returns c =
