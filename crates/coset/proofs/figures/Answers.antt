@@ -28,13 +28,12 @@ make_figures-requires c =
 
 pub returns-in-Refused : goal.returns-in-Refused
 returns-in-Refused c =
-    let k = c.admitted-1.given in
     let a = c in
     let s = a in
     let v = s.args.v in
     let t = s.args.t.now in
     let w = s.args.w.now in
-    fills_as (admit_stop w [] (symbol_check v t) w k.0.0 (sym k.1 ∙ a.admit-admitted.ensures) refl tt) refl
+    fills_as (admit_stop w [] (symbol_check v t) w c.in-Refused.refusal (sym c.in-Refused.is ∙ a.admit-admitted.ensures) refl tt) refl
 
 pub returns-in-Accepted : goal.returns-in-Accepted
 returns-in-Accepted c =

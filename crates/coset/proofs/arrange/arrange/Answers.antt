@@ -37,12 +37,12 @@ module _ (r : After-fill_r) where
   its = maps st.args.v st.args.t.now (polygon st.args.v st.args.t.now st.requires.0)
 
 pub tables-requires : goal.tables-requires
-tables-requires c = let r = c in rw (f (goal.at.tables-requires c).After-fill_r).before.before.origin.ensures (filled_images (its (goal.at.tables-requires c).After-fill_r) (all (goal.at.tables-requires c).After-fill_r))
+tables-requires c = let r = c in rw (f (goal.at.tables-requires c).After-fill_r).before.before.origin-zero.ensures (filled_images (its (goal.at.tables-requires c).After-fill_r) (all (goal.at.tables-requires c).After-fill_r))
 
 pub returns : goal.returns
 returns c =
     let k = c in
     let r = k in
     let t = k.tables.ensures in
-    let same = t.same ∙ r.fill_r.ensures.same ∙ (f (goal.at.returns c).After-fill_r).fill-s.ensures.1 ∙ (b (goal.at.returns c).After-fill_r).build.ensures.1 in
-    (record { long = still same (st (goal.at.returns c).After-fill_r).requires.1; tables = filled_tables (its (goal.at.returns c).After-fill_r) (all (goal.at.returns c).After-fill_r) (rw (f (goal.at.returns c).After-fill_r).before.before.origin.ensures at t) }, same)
+    let same = t.same ∙ r.fill_r.ensures.same ∙ (f (goal.at.returns c).After-fill_r).fill_s.ensures.1 ∙ (b (goal.at.returns c).After-fill_r).build-start.ensures.1 in
+    (record { long = still same (st (goal.at.returns c).After-fill_r).requires.1; tables = filled_tables (its (goal.at.returns c).After-fill_r) (all (goal.at.returns c).After-fill_r) (rw (f (goal.at.returns c).After-fill_r).before.before.origin-zero.ensures at t) }, same)
