@@ -11,11 +11,10 @@ use Rattle.matrix_word.proofs.admit.Goals as goal
 
 pub returns-in-Refused : goal.returns-in-Refused
 returns-in-Refused c =
-    let r = c.checked-1.given in
     let k = c in
     let s = k in
-    first_refuses (symbol_check s.args.v s.args.t.now) (matrix_check s.args.m or_else length_check work_length s.args.work) r.0.0
-    (sym k.check-checked.ensures.returned ∙ r.1)
+    first_refuses (symbol_check s.args.v s.args.t.now) (matrix_check s.args.m or_else length_check work_length s.args.work) k.in-Refused.refusal
+    (sym k.check-checked.ensures.returned ∙ k.in-Refused.is)
 
 pub returns-in-Accepted : goal.returns-in-Accepted
 returns-in-Accepted c =

@@ -19,7 +19,7 @@ returns-then-not-is_within c =
     let m = l.args.m in
     let i = l.loop-i.i in
     sym (first_hit (oversized m) i 4 (omega (arith, c.loop-i-test.true)) l.loop-i.invariant.1
-    (oversized_by m i _ c.is_Within.result (kept (nth m i) c.is_within-arg-1.given) c.is_Within.ensures
+    (oversized_by m i _ c.is_within.result (kept (nth m i) c.is_within-arg-1.given) c.is_within.ensures
     ∙ c.if-not-is_within.true))
 
 pub loop-i-preserved : goal.loop-i-preserved
@@ -29,7 +29,7 @@ loop-i-preserved c =
     let i = l.loop-i.i in (
       search rules,
       rw add-one (clear_more (oversized m) i l.loop-i.invariant.1
-          (oversized_by m i _ c.is_Within.result (kept (nth m i) c.is_within-arg-1.given) c.is_Within.ensures
+          (oversized_by m i _ c.is_within.result (kept (nth m i) c.is_within-arg-1.given) c.is_within.ensures
           ∙ c.if-not-is_within.false)),
     )
 

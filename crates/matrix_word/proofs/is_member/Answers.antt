@@ -27,10 +27,9 @@ decide-requires c =
 
 pub returns-in-Refused : goal.returns-in-Refused
 returns-in-Refused c =
-    let k = c.admitted-1.given in
     let a = c in
     let s = a.args in
-    fills_as (stop_admitted s.v s.t.now s.m s.w-1.now s.w-1.now [] k.0.0 (sym k.1 ∙ a.admit-admitted.ensures) refl tt) refl
+    fills_as (stop_admitted s.v s.t.now s.m s.w.now s.w.now [] c.in-Refused.refusal (sym c.in-Refused.is ∙ a.admit-admitted.ensures) refl tt) refl
 
 pub returns-in-Accepted : goal.returns-in-Accepted
 returns-in-Accepted c =
@@ -38,4 +37,4 @@ returns-in-Accepted c =
     let e = m in
     let s = (st (goal.at.returns-in-Accepted c).In-Accepted).args in
     let made = m.decide.ensures in
-    fills_as (run_admitted s.v s.t.now s.m s.w-1.now _ [] (ok (goal.at.returns-in-Accepted c).In-Accepted) made.w_after run_end) made.value
+    fills_as (run_admitted s.v s.t.now s.m s.w.now _ [] (ok (goal.at.returns-in-Accepted c).In-Accepted) made.w_after run_end) made.value

@@ -18,10 +18,9 @@ returns-then-work-lt-WORK c =
 
 pub returns-in-Refused : goal.returns-in-Refused
 returns-in-Refused c =
-    let r = c.checked-1.given in
     let k = c in
     let s = k.args in
-    first_refuses (matrix_check s.m) (length_check work_length s.work) r.0.0 (sym k.matrix_check-checked.ensures ∙ r.1)
+    first_refuses (matrix_check s.m) (length_check work_length s.work) k.in-Refused.refusal (sym k.matrix_check-checked.ensures ∙ k.in-Refused.is)
 
 pub returns-else-work-lt-WORK : goal.returns-else-work-lt-WORK
 returns-else-work-lt-WORK c =

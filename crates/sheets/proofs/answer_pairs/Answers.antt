@@ -18,7 +18,7 @@ pub loop-i-init : goal.loop-i-init
 loop-i-init c = (going_none _ _ _ _ _ _, search rules, refl, refl, c.requires.3)
 
 -- the line of an answer fits
-fits : (a : After-answer_pair-answer invariant-loop decreases-loop) → Fitting a.answer_pair-answer.result
+fits : (a : After-answer_pair-answer) → Fitting a.answer_pair-answer.result
 fits a =
     let l = a in
     let st = l in
@@ -34,12 +34,11 @@ write_line-requires c =
     let l = c in
     let st = l in (
       omega (arith, c.loop-i-test.true, l.loop-i.invariant.2, st.requires.2),
-      fits
-          c,
+      fits (goal.at.write_line-requires c).After-answer_pair-answer,
     )
 
 pub word_end-next-requires : goal.word_end-next-requires
-word_end-next-requires c = fits c
+word_end-next-requires c = fits (goal.at.word_end-next-requires c).After-answer_pair-answer
 
 pub loop-i-preserved : goal.loop-i-preserved
 loop-i-preserved c =
@@ -53,8 +52,8 @@ loop-i-preserved c =
           c.word_end-next.result a.answer_pair-answer.ensures.fills c.write_line.ensures c.word_end-next.ensures
           (l.loop-i.i + 1) (add-one l.loop-i.i),
       omega (arith, c.loop-i-test.true),
-      c.lines-1.given ∙ l.loop-i.invariant.2,
-      c.out-1.given ∙ l.loop-i.invariant.3,
+      c.write_line.auto.lines ∙ l.loop-i.invariant.2,
+      a.answer_pair-answer.auto.out ∙ l.loop-i.invariant.3,
       a.answer_pair-answer.ensures.rounds,
     )
 

@@ -15,7 +15,7 @@ use Rattle.sheets.proofs.fill.Goals as goal
 pub returns-then-lines-n : goal.returns-then-lines-n
 returns-then-lines-n c =
     let s = c in
-    let g = s.args in record { fills = fills_as (no_room g.v g.t.now g.p.now (length g.w-1.now) g.lines-1.now g.out-1.now c.if-lines-n.true) refl; w_after = c.clear.ensures }
+    let g = s.args in record { fills = fills_as (no_room g.v g.t.now g.p.now (length g.w.now) g.lines.now g.out.now c.if-lines-n.true) refl; w_after = c.clear.ensures }
 
 pub answer_pairs-requires : goal.answer_pairs-requires
 answer_pairs-requires c =
@@ -36,8 +36,8 @@ returns c =
     let n = pairs_in g.p.now in
     let kept = b.build-home.ensures.w_len_unchanged in record {
       fills = fills_as
-          (in_room g.v g.t.now g.p.now (length g.w-1.now) g.lines-1.now g.out-1.now _ _ b.if-lines-n.false
-          (a.answer_pairs.ensures.lines_after ∙ ap (λ (k : ℕ). lines_to g.v g.t.now g.p.now k g.out-1.now n ++ drop (4 * n) g.lines-1.now) kept)
-          (a.answer_pairs.ensures.out_after ∙ ap (λ (k : ℕ). (space_at g.v g.t.now g.p.now k g.out-1.now n).letters) kept)) refl;
+          (in_room g.v g.t.now g.p.now (length g.w.now) g.lines.now g.out.now _ _ b.if-lines-n.false
+          (a.answer_pairs.ensures.lines_after ∙ ap (λ (k : ℕ). lines_to g.v g.t.now g.p.now k g.out.now n ++ drop (4 * n) g.lines.now) kept)
+          (a.answer_pairs.ensures.out_after ∙ ap (λ (k : ℕ). (space_at g.v g.t.now g.p.now k g.out.now n).letters) kept)) refl;
       w_after = c.clear-2.ensures ∙ ap zeros kept;
     }

@@ -10,4 +10,4 @@ returns c =
     let p = c.signed-2 in
     let n = c.signed in
     let s = c.args in
-    c.put_two.ensures ∙ row_as s.i s.lines-1.now (kept n.result n.type_inv ∙ n.ensures) (kept p.result p.type_inv ∙ p.ensures)
+    c.put_two.ensures ∙ row_as s.i s.lines.now (kept n.result n.type_inv ∙ n.ensures) (kept p.result p.type_inv ∙ p.ensures)

@@ -16,7 +16,7 @@ use Rattle.sheets.proofs.sheet.Goals as goal
 pub returns-then-is_bad_count : goal.returns-then-is_bad_count
 returns-then-is_bad_count c =
     let a = c.args in
-    fills_as (by_first_lem (entries_check (length a.p.now)) (symbol_check a.v a.t.now) a.w-1.now _ (too_short 2048)
+    fills_as (by_first_lem (entries_check (length a.p.now)) (symbol_check a.v a.t.now) a.w.now _ (too_short 2048)
     (ap (λ (b : Bool). refuse b (too_short 2048)) (sym c.is_bad_count.ensures ∙ c.if-is_bad_count.true)) (refl, (refl, tt))) refl
 
 -- the number of entries was no matter, and the symbol was accepted
@@ -25,7 +25,7 @@ module _ (e : In-Accepted) where
   st = (goal.at.In-Accepted e).Start
 
   counted : bad_count (length st.args.p.now) ≡ false
-  counted = sym e.is_bad_count.ensures ∙ e.if-is_bad_count.left
+  counted = sym e.is_bad_count.ensures ∙ e.if-is_bad_count.false
 
   sheeted : entries_check (length st.args.p.now) ≡ Accepted
   sheeted = pass (bad_count (length st.args.p.now)) (too_short 2048) counted
@@ -37,7 +37,7 @@ pub returns-then-w-lt-WORK : goal.returns-then-w-lt-WORK
 returns-then-w-lt-WORK c =
     let e = c in
     let a = (st (goal.at.returns-then-w-lt-WORK c).In-Accepted).args in
-    fills_as (by_short (entries_check (length a.p.now)) (symbol_check a.v a.t.now) a.w-1.now _ (sheeted (goal.at.returns-then-w-lt-WORK c).In-Accepted) (ok (goal.at.returns-then-w-lt-WORK c).In-Accepted) c.if-w-lt-WORK.true
+    fills_as (by_short (entries_check (length a.p.now)) (symbol_check a.v a.t.now) a.w.now _ (sheeted (goal.at.returns-then-w-lt-WORK c).In-Accepted) (ok (goal.at.returns-then-w-lt-WORK c).In-Accepted) c.if-w-lt-WORK.true
     (refl, (refl, tt))) refl
 
 pub fill-requires : goal.fill-requires
@@ -53,7 +53,7 @@ returns-in-Refused c =
     let a = h.args in
     let counted = sym h.is_bad_count.ensures ∙ h.if-is_bad_count.false in
     fills_as
-    (by_second_lem (entries_check (length a.p.now)) (symbol_check a.v a.t.now) a.w-1.now _
+    (by_second_lem (entries_check (length a.p.now)) (symbol_check a.v a.t.now) a.w.now _
     (pass (bad_count (length a.p.now)) (too_short 2048) counted) k.in-Refused.refusal
     (sym h.check-checked.ensures.returned ∙ k.in-Refused.is) (refl, (refl, tt))) refl
 
@@ -63,5 +63,5 @@ returns-else-w-lt-WORK c =
     let h = c in
     let e = h in
     let a = (st (goal.at.returns-else-w-lt-WORK c).In-Accepted).args in
-    fills_as (by_long (entries_check (length a.p.now)) (symbol_check a.v a.t.now) a.w-1.now _ (sheeted (goal.at.returns-else-w-lt-WORK c).In-Accepted) (ok (goal.at.returns-else-w-lt-WORK c).In-Accepted) _ h.if-w-lt-WORK.false f.w_after
+    fills_as (by_long (entries_check (length a.p.now)) (symbol_check a.v a.t.now) a.w.now _ (sheeted (goal.at.returns-else-w-lt-WORK c).In-Accepted) (ok (goal.at.returns-else-w-lt-WORK c).In-Accepted) _ h.if-w-lt-WORK.false f.w_after
     (ran f.fills)) f.fills.answer

@@ -33,7 +33,7 @@ loop-i-preserved c =
     let e = c.entry_at in (
       search rules,
       rw add-one (clear_more (large s.args.a s.args.b) l.loop-i.i l.loop-i.invariant.1
-          (large_by_lem s.args.a s.args.b l.loop-i.i _ c.is_small.result (kept e.result e.type-inv ∙ e.ensures)
+          (large_by_lem s.args.a s.args.b l.loop-i.i _ c.is_small.result (kept e.result e.type_inv ∙ e.ensures)
           c.is_small.ensures ∙ c.if-not-is_small.false)),
     )
 

@@ -31,7 +31,7 @@ loop-i-preserved c =
           (ap (λ (j : ℕ). take j (drop k p)) (add-sub_cancel_left k 8))
           a.answer_pair-answer.ensures.pair_shared c.write_line.ensures,
       omega (arith, a.loop-i-test.true),
-      c.lines-1.given ∙ l.loop-i.invariant.2,
+      c.write_line.auto.lines ∙ l.loop-i.invariant.2,
     )
 
 pub returns : goal.returns

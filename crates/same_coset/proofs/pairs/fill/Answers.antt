@@ -14,7 +14,7 @@ use Rattle.same_coset.proofs.pairs.fill.Goals as goal
 
 pub returns-then-lines-k : goal.returns-then-lines-k
 returns-then-lines-k c =
-    let g = c.args in record { fills = fills_as (no_room g.v g.t.now g.p.now (length g.w-1.now) g.lines-1.now c.if-lines-k.true) refl; w_after = c.clear.ensures }
+    let g = c.args in record { fills = fills_as (no_room g.v g.t.now g.p.now (length g.w.now) g.lines.now c.if-lines-k.true) refl; w_after = c.clear.ensures }
 
 pub prepare-n-requires : goal.prepare-n-requires
 prepare-n-requires c = let s = c in (s.requires.symbol, s.requires.work)

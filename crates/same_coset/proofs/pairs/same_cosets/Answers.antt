@@ -19,7 +19,7 @@ module _ (e : In-Accepted) where
   st = (goal.at.In-Accepted e).Start
 
   counted : ragged (length st.args.p.now) ≡ false
-  counted = sym e.is_ragged.ensures ∙ e.if-is_ragged.left
+  counted = sym e.is_ragged.ensures ∙ e.if-is_ragged.false
 
   whole : whole_check (length st.args.p.now) ≡ Accepted
   whole = pass (ragged (length st.args.p.now)) (too_short (whole_pairs (length st.args.p.now))) counted
@@ -31,14 +31,14 @@ pub returns-then-is_ragged : goal.returns-then-is_ragged
 returns-then-is_ragged c =
     let a = c.args in
     let needed = too_short (whole_pairs (length a.p.now)) in
-    fills_as (by_first_lem (whole_check (length a.p.now)) (symbol_check a.v a.t.now) a.w-1.now _ needed
+    fills_as (by_first_lem (whole_check (length a.p.now)) (symbol_check a.v a.t.now) a.w.now _ needed
     (ap (λ (b : Bool). refuse b needed) (sym c.is_ragged.ensures ∙ c.if-is_ragged.true)) (refl, tt)) refl
 
 pub returns-then-w-lt-WORK : goal.returns-then-w-lt-WORK
 returns-then-w-lt-WORK c =
     let e = c in
     let a = (st (goal.at.returns-then-w-lt-WORK c).In-Accepted).args in
-    fills_as (by_short (whole_check (length a.p.now)) (symbol_check a.v a.t.now) a.w-1.now _ (whole (goal.at.returns-then-w-lt-WORK c).In-Accepted) (ok (goal.at.returns-then-w-lt-WORK c).In-Accepted) c.if-w-lt-WORK.true (refl, tt)) refl
+    fills_as (by_short (whole_check (length a.p.now)) (symbol_check a.v a.t.now) a.w.now _ (whole (goal.at.returns-then-w-lt-WORK c).In-Accepted) (ok (goal.at.returns-then-w-lt-WORK c).In-Accepted) c.if-w-lt-WORK.true (refl, tt)) refl
 
 pub fill-requires : goal.fill-requires
 fill-requires c =
@@ -48,14 +48,13 @@ fill-requires c =
 
 pub returns-in-Refused : goal.returns-in-Refused
 returns-in-Refused c =
-    let k = c.checked-1.given in
     let h = c in
     let a = h.args in
     let n = length a.p.now in
     fills_as
-    (by_second_lem (whole_check (length a.p.now)) (symbol_check a.v a.t.now) a.w-1.now _
-    (pass (ragged n) (too_short (whole_pairs n)) (sym h.is_ragged.ensures ∙ h.if-is_ragged.false)) k.0.0
-    (sym h.check-checked.ensures.returned ∙ k.1) (refl, tt)) refl
+    (by_second_lem (whole_check (length a.p.now)) (symbol_check a.v a.t.now) a.w.now _
+    (pass (ragged n) (too_short (whole_pairs n)) (sym h.is_ragged.ensures ∙ h.if-is_ragged.false)) c.in-Refused.refusal
+    (sym h.check-checked.ensures.returned ∙ c.in-Refused.is) (refl, tt)) refl
 
 pub returns-else-w-lt-WORK : goal.returns-else-w-lt-WORK
 returns-else-w-lt-WORK c =
@@ -63,5 +62,5 @@ returns-else-w-lt-WORK c =
     let h = c in
     let e = h in
     let a = (st (goal.at.returns-else-w-lt-WORK c).In-Accepted).args in
-    fills_as (by_long (whole_check (length a.p.now)) (symbol_check a.v a.t.now) a.w-1.now _ (whole (goal.at.returns-else-w-lt-WORK c).In-Accepted) (ok (goal.at.returns-else-w-lt-WORK c).In-Accepted) _ h.if-w-lt-WORK.false f.w_after (ran f.fills))
+    fills_as (by_long (whole_check (length a.p.now)) (symbol_check a.v a.t.now) a.w.now _ (whole (goal.at.returns-else-w-lt-WORK c).In-Accepted) (ok (goal.at.returns-else-w-lt-WORK c).In-Accepted) _ h.if-w-lt-WORK.false f.w_after (ran f.fills))
     f.fills.answer

@@ -16,7 +16,7 @@ module _ (s : Start) where
   q = s.args.q
 
   factor_is : to_z w64 q ≡ pos q
-  factor_is = to_z_pos w64 {n = q} (omega (arith, s.fits.q.fits))
+  factor_is = to_z_pos w64 {n = q} (omega (arith, s.ranges.q.fits))
 
   product_fits : SFits w64 (pos q *ℤ s.args.d)
   product_fits = fits (pos q *ℤ s.args.d) (omega (arith, s.requires.product))

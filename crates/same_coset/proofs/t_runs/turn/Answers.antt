@@ -43,7 +43,7 @@ module _ (e : After-slide-y) where
   right_is : to_z w64 (of_z w64 e.subtract-right.result) ≡ x.b -ℤ pos q *ℤ x.d
   right_is =
       let s = e.subtract-right in
-      to_z-of_z {w = w64} {z = s.result} (record { sfits = s.ok }) ∙ s.ensures
+      to_z-of_z {w = w64} {z = s.result} (record { sfits = s.type_inv }) ∙ s.ensures
       ∙ ap (λ (i : ℕ). to_z w64 (of_z w64 x.b) -ℤ pos i *ℤ to_z w64 (of_z w64 x.d)) e.divide-e.ensures.quotient_is
       ∙ rw (kept x.b start.requires.1.b_low, kept x.d start.requires.1.d_low)
 

@@ -17,7 +17,7 @@ overflow_add-w c =
     let e = c in
     let g = e.loop-y.invariant in
     let h = e.loop-y-test.true in
-    let low = end_low g h e.cusp_at_lem.ensures in
+    let low = end_low g h e.cusp_at-c.ensures in
     omega (arith, low)
 
 pub overflow_cast-w : goal.overflow_cast-w
@@ -25,7 +25,7 @@ overflow_cast-w c =
     let e = c in
     let g = e.loop-y.invariant in
     let h = e.loop-y-test.true in
-    let low = end_low g h e.cusp_at_lem.ensures in
+    let low = end_low g h e.cusp_at-c.ensures in
     record { fits = omega (arith, low) }
 
 pub overflow_cast-w-in-loop-y : goal.overflow_cast-w-in-loop-y
@@ -33,7 +33,7 @@ overflow_cast-w-in-loop-y c =
     let e = c in
     let g = e.loop-y.invariant in
     let h = e.loop-y-test.true in
-    let low = end_low g h e.cusp_at_lem.ensures in
+    let low = end_low g h e.cusp_at-c.ensures in
     record { fits = omega (arith, low) }
 
 pub bounds-w-y-in-loop-y : goal.bounds-w-y-in-loop-y
@@ -41,14 +41,14 @@ bounds-w-y-in-loop-y c =
     let e = c in
     let g = e.loop-y.invariant in
     let h = e.loop-y-test.true in
-    let low = end_low g h e.cusp_at_lem.ensures in
+    let low = end_low g h e.cusp_at-c.ensures in
     simp length-set (omega (arith, g.source.room, g.source.long))
 
 pub loop-y-preserved : goal.loop-y-preserved
 loop-y-preserved c =
     let e = c in
     let g = e.loop-y.invariant in
-    ending_more g e.loop-y-test.true e.cusp_at_lem.ensures
+    ending_more g e.loop-y-test.true e.cusp_at-c.ensures
 
 pub returns : goal.returns
 returns c = ending_end c.loop-y.invariant c.loop-y-test.false

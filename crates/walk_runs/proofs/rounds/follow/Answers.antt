@@ -16,31 +16,31 @@ pub overflow_sub-d : goal.overflow_sub-d
 overflow_sub-d c =
     let s = c in
     let q = in_round s.requires.0 s.args.p s.requires.1 s.requires.2 c.locate-arc.ensures in
-    omega (arith, q.from, q)
+    omega (arith, q.from, q.before)
 
 pub nonzero_rem-j : goal.nonzero_rem-j
 nonzero_rem-j c =
     let s = c in
     let q = in_round s.requires.0 s.args.p s.requires.1 s.requires.2 c.locate-arc.ensures in
-    omega (arith, q.from, q)
+    omega (arith, q.from, q.before)
 
 pub nonzero_div-times : goal.nonzero_div-times
 nonzero_div-times c =
     let s = c in
     let q = in_round s.requires.0 s.args.p s.requires.1 s.requires.2 c.locate-arc.ensures in
-    omega (arith, q.from, q)
+    omega (arith, q.from, q.before)
 
 pub count_after-count-requires : goal.count_after-count-requires
 count_after-count-requires c =
     let s = c in
     let q = in_round s.requires.0 s.args.p s.requires.1 s.requires.2 c.locate-arc.ensures in
-    (q.sums, q.from, q, rest_low s.requires.0 q s.args.k, omega (arith, times_low s.requires.0 q s.args.k, s.requires.3))
+    (q.sums, q.from, q.before, rest_low s.requires.0 q s.args.k, omega (arith, times_low s.requires.0 q s.args.k, s.requires.3))
 
 pub onward_place-z-requires : goal.onward_place-z-requires
 onward_place-z-requires c =
     let s = c in
     let q = in_round s.requires.0 s.args.p s.requires.1 s.requires.2 c.locate-arc.ensures in
-    (q.from, q, q.sums.room, rest_low s.requires.0 q s.args.k)
+    (q.from, q.before, q.sums.room, rest_low s.requires.0 q s.args.k)
 
 pub overflow_add-z : goal.overflow_add-z
 overflow_add-z c =
@@ -65,4 +65,4 @@ returns c =
     let s = c in
     let q = in_round s.requires.0 s.args.p s.requires.1 s.requires.2 c.locate-arc.ensures in
     followed s.requires.0 q s.args.k _ (c.index.ensures ∙ ap (position_in s.args.r.now) c.onward_place-z.ensures)
-    c.count_after_lem.ensures
+    c.count_after-count.ensures

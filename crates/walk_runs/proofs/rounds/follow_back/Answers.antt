@@ -16,25 +16,25 @@ pub overflow_sub-d : goal.overflow_sub-d
 overflow_sub-d c =
     let s = c in
     let q = in_round s.requires.0 s.args.p s.requires.1 s.requires.2 c.locate-arc.ensures in
-    omega (arith, q.from, q)
+    omega (arith, q.from, q.before)
 
 pub nonzero_rem-j : goal.nonzero_rem-j
 nonzero_rem-j c =
     let s = c in
     let q = in_round s.requires.0 s.args.p s.requires.1 s.requires.2 c.locate-arc.ensures in
-    omega (arith, q.from, q)
+    omega (arith, q.from, q.before)
 
 pub nonzero_div-times : goal.nonzero_div-times
 nonzero_div-times c =
     let s = c in
     let q = in_round s.requires.0 s.args.p s.requires.1 s.requires.2 c.locate-arc.ensures in
-    omega (arith, q.from, q)
+    omega (arith, q.from, q.before)
 
 pub backward_place-z-requires : goal.backward_place-z-requires
 backward_place-z-requires c =
     let s = c in
     let q = in_round s.requires.0 s.args.p s.requires.1 s.requires.2 c.locate-arc.ensures in
-    (q.from, q, q.sums.room, rest_low s.requires.0 q s.args.k)
+    (q.from, q.before, q.sums.room, rest_low s.requires.0 q s.args.k)
 
 pub count_after-count-requires : goal.count_after-count-requires
 count_after-count-requires c =
@@ -44,7 +44,7 @@ count_after-count-requires c =
     let z = behind s.requires.0 q s.args.k in (
       q.sums,
       omega (arith, e, z.from),
-      omega (arith, e, z),
+      omega (arith, e, z.before),
       rest_low s.requires.0 q s.args.k,
       omega (arith, times_low s.requires.0 q s.args.k, s.requires.3),
     )
@@ -72,4 +72,4 @@ returns c =
     let s = c in
     let q = in_round s.requires.0 s.args.p s.requires.1 s.requires.2 c.locate-arc.ensures in
     let e = c.backward_place-z.ensures in
-    led s.requires.0 q s.args.k _ (c.index.ensures ∙ ap (position_in s.args.r.now) e) (rw e at c.count_after_lem.ensures)
+    led s.requires.0 q s.args.k _ (c.index.ensures ∙ ap (position_in s.args.r.now) e) (rw e at c.count_after-count.ensures)
