@@ -5,7 +5,7 @@
 --   outcome_by           one round of growing: nothing is open (`Rest`), or the chosen side is split or can't be (`Cut`)
 --
 -- In order: what an order chooses (`first_in_lem`, `first_least`, `none_open`, `is_open_lem`, and of the wide rule `longest_first`); which sides are open
--- (`place`, `all_shut`); the split of a side between others (`parts_at`, `fits_at_lem`, `came_long`); a round (`outcome_by`); growing ends with all sides
+-- (`place`, `all_shut`); the split of a side between others (`parts_at_lem`, `fits_at_lem`, `came_long`); a round (`outcome_by`); growing ends with all sides
 -- closed, and with whatever else each split keeps (`ends_by`).
 -- Assumes nothing.
 use mathlib.Core.Path.{◌≡◌, refl, sym, ◌∙◌, ap}
@@ -197,10 +197,10 @@ pub fits_at_lem : (before : List Placed) (s : Placed) (after : List Placed) → 
 fits_at_lem [] s after = refl
 fits_at_lem (u ∷ l) s after = fits_at_lem l s after
 
-pub parts_at : (σ κ : ℕ → ℕ) (before : List Placed) (s : Placed) (after : List Placed)
+pub parts_at_lem : (σ κ : ℕ → ℕ) (before : List Placed) (s : Placed) (after : List Placed)
     → parts_at σ κ (length before) (before ++ (s ∷ after)) ≡ before ++ (lower_at σ κ s ∷ upper_at σ κ s ∷ after)
-parts_at σ κ [] s after = refl
-parts_at σ κ (u ∷ l) s after = ap (λ (x : List Placed). u ∷ x) (parts_at σ κ l s after)
+parts_at_lem σ κ [] s after = refl
+parts_at_lem σ κ (u ∷ l) s after = ap (λ (x : List Placed). u ∷ x) (parts_at_lem σ κ l s after)
 
 pub came_long : (k : ℕ) (came : List ℕ) (before : List Placed) (s l r : Placed) (after : List Placed) → length came ≡ length (before ++ (s ∷ after))
     → length (came_after k (length before) came) ≡ length (before ++ (l ∷ r ∷ after))
@@ -258,7 +258,7 @@ module _ (order : Order) (σ κ : ℕ → ℕ) where
       (before ++ (lower_at σ κ s ∷ upper_at σ κ s ∷ after))) (refused (length before))
   cut_by_lem f k came before s after =
       let p = fits_at_lem before s after in
-      let q = parts_at σ κ before s after in
+      let q = parts_at_lem σ κ before s after in
       λ i. pick (p i) (grow_by σ κ order f (suc (suc k)) (came_after k (length before) came) (q i)) (refused (length before))
 
   module _ (n : ℕ) (T : Turning σ κ n) where

@@ -112,6 +112,6 @@ returns c =
     let s = k.args in
     let sg = image s.s.now in
     let ka = by_q sg (image s.r.now) in
-    split_is sg ka s.w-1.now _ _ _ _ _ s.c s.k s.e s.d _ _ _ _ _ _ g.point_at-m.ensures.0 f.turned-p.ensures t.turned-q.ensures
+    split_is sg ka s.w.now _ _ _ _ _ s.c s.k s.e s.d _ _ _ _ _ _ g.point_at-m.ensures.0 f.turned-p.ensures t.turned-q.ensures
     d.image-a.ensures i.image-b.ensures b.entry-l.ensures.0 h.hold.ensures a.store.ensures p.put_cell.ensures j.join.ensures
     e.enqueue.ensures

@@ -63,10 +63,10 @@ returns-then-within c =
     let s = f.args in
     let sg = image s.s.now in
     let ka = by_q sg (image s.r.now) in
-    let p = num_is s.w-1.now s.c _ e.entry-l.ensures.0 _ _ d.low_num.ensures.0 b.number_at.ensures.0 in
-    let q = den_is s.w-1.now s.c _ e.entry-l.ensures.0 _ _ l.low_den.ensures.0 n.number_at-2.ensures.0 in
-    parted (sym (fits_by sg ka s.w-1.now s.c s.k _ _ p q) ∙ sym w.within.ensures ∙ i.if-within.true)
-    (split_to sg ka s.w-1.now s.c s.k _ _ p q _ a.split_cell.ensures) refl refl
+    let p = num_is s.w.now s.c _ e.entry-l.ensures.0 _ _ d.low_num.ensures.0 b.number_at.ensures.0 in
+    let q = den_is s.w.now s.c _ e.entry-l.ensures.0 _ _ l.low_den.ensures.0 n.number_at-2.ensures.0 in
+    parted (sym (fits_by sg ka s.w.now s.c s.k _ _ p q) ∙ sym w.within.ensures ∙ i.if-within.true)
+    (split_to sg ka s.w.now s.c s.k _ _ p q _ a.split_cell.ensures) refl refl
 
 pub count-i-requires : goal.count-i-requires
 count-i-requires c =
@@ -87,7 +87,7 @@ returns c =
     let s = d.args in
     let sg = image s.s.now in
     let ka = by_q sg (image s.r.now) in
-    let p = num_is s.w-1.now s.c _ e.entry-l.ensures.0 _ _ b.low_num.ensures.0 a.number_at.ensures.0 in
-    let q = den_is s.w-1.now s.c _ e.entry-l.ensures.0 _ _ l.low_den.ensures.0 n.number_at-2.ensures.0 in
-    over (sym (fits_by sg ka s.w-1.now s.c s.k _ _ p q) ∙ sym w.within.ensures ∙ i.if-within.false)
-    (counted_of_lem s.w-1.now s.c _ e.entry-l.ensures.0 _ c.count-i.ensures) refl refl
+    let p = num_is s.w.now s.c _ e.entry-l.ensures.0 _ _ b.low_num.ensures.0 a.number_at.ensures.0 in
+    let q = den_is s.w.now s.c _ e.entry-l.ensures.0 _ _ l.low_den.ensures.0 n.number_at-2.ensures.0 in
+    over (sym (fits_by sg ka s.w.now s.c s.k _ _ p q) ∙ sym w.within.ensures ∙ i.if-within.false)
+    (counted_of_lem s.w.now s.c _ e.entry-l.ensures.0 _ c.count-i.ensures) refl refl

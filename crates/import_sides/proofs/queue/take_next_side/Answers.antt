@@ -22,7 +22,7 @@ returns-then-is_closed c =
     let s = a.args in
     let sg = image s.s.now in
     let ka = by_q sg (image s.r.now) in
-    dropped (ap (closed_in sg ka s.w-1.now) (sym e.entry-m.ensures.0) ∙ sym i.is_closed.ensures ∙ c.if-is_closed.true) refl refl refl
+    dropped (ap (closed_in sg ka s.w.now) (sym e.entry-m.ensures.0) ∙ sym i.is_closed.ensures ∙ c.if-is_closed.true) refl refl refl
 
 pub overflow_sub-x : goal.overflow_sub-x
 overflow_sub-x c =
@@ -32,7 +32,7 @@ overflow_sub-x c =
     let b = a in
     let d = b in
     let s = d.args in
-    held_some s.s.now s.r.now s.w-1.now s.h s.k _ d.requires b.entry-m.ensures.0 (sym a.is_closed.ensures ∙ i.if-is_closed.false) _
+    held_some s.s.now s.r.now s.w.now s.h s.k _ d.requires b.entry-m.ensures.0 (sym a.is_closed.ensures ∙ i.if-is_closed.false) _
     e.entry-x.ensures.0
 
 pub split_open-requires : goal.split_open-requires
@@ -43,7 +43,7 @@ split_open-requires c =
     let b = a in
     let d = b in
     let s = d.args in
-    cell_of s.s.now s.r.now s.w-1.now s.h s.k _ d.requires b.entry-m.ensures.0 (sym a.is_closed.ensures ∙ i.if-is_closed.false) _
+    cell_of s.s.now s.r.now s.w.now s.h s.k _ d.requires b.entry-m.ensures.0 (sym a.is_closed.ensures ∙ i.if-is_closed.false) _
     e.entry-x.ensures.0
 
 pub returns : goal.returns
@@ -55,5 +55,5 @@ returns c =
     let d = b in
     let f = d in
     let s = f.args in
-    stepped_of s.s.now s.r.now s.w-1.now s.h s.k _ f.requires d.entry-m.ensures.0 (sym b.is_closed.ensures ∙ i.if-is_closed.false) _
+    stepped_of s.s.now s.r.now s.w.now s.h s.k _ f.requires d.entry-m.ensures.0 (sym b.is_closed.ensures ∙ i.if-is_closed.false) _
     e.entry-x.ensures.0 _ _ _ a.split_open.ensures

@@ -22,9 +22,9 @@ returns-then-is_closed c =
 pub overflow_sub-e : goal.overflow_sub-e
 overflow_sub-e c =
     let t = within_tells
-    (c.left_num_lem.result
+    (c.left_num.result
     + c.number_at.result)
-    (c.left_den_lem.result + c.number_at-2.result)
+    (c.left_den.result + c.number_at-2.result)
     (sym
     c.within.ensures ∙ c.if-within.true) in
     let a = t.0 in
@@ -36,9 +36,9 @@ pub split_top-requires : goal.split_top-requires
 split_top-requires c =
     let earlier = c in
     let t = within_tells
-    (c.left_num_lem.result
+    (c.left_num.result
     + c.number_at.result)
-    (c.left_den_lem.result + c.number_at-2.result)
+    (c.left_den.result + c.number_at-2.result)
     (sym
     c.within.ensures ∙ c.if-within.true) in
     let a = t.0 in
@@ -57,9 +57,9 @@ returns-then-within c =
     (sym earlier.point_at-m.ensures.0)
     ∙ sym earlier.is_closed.ensures
     ∙ earlier.if-is_closed.false in
-    let p = sums _ _ _ _ earlier.left_num_lem.ensures.0
+    let p = sums _ _ _ _ earlier.left_num.ensures.0
     c.number_at.ensures.0 in
-    let q = sums _ _ _ _ c.left_den_lem.ensures.0
+    let q = sums _ _ _ _ c.left_den.ensures.0
     c.number_at-2.ensures.0 in
     parted e (sym (fits_eq sg ka s.args.w.now s.args.k _ _ _ _ p q) ∙ sym c.within.ensures
     ∙ c.if-within.true)
@@ -75,7 +75,7 @@ returns c =
     (sym earlier.point_at-m.ensures.0)
     ∙ sym earlier.is_closed.ensures
     ∙ c.if-is_closed.false in
-    let p = sums _ _ _ _ c.left_num_lem.ensures.0
+    let p = sums _ _ _ _ c.left_num.ensures.0
     c.number_at.ensures.0 in
-    let q = sums _ _ _ _ c.left_den_lem.ensures.0 c.number_at-2.ensures.0 in
+    let q = sums _ _ _ _ c.left_den.ensures.0 c.number_at-2.ensures.0 in
     over e (sym (fits_eq sg ka s.args.w.now s.args.k _ _ _ _ p q) ∙ sym c.within.ensures ∙ c.if-within.false) refl refl refl

@@ -70,9 +70,9 @@ loop-k-preserved c =
     let R = s.args.r.now in
     let st = start_placed (image S) (by_q (image S) (image R)) in
     let l = c.loop-k in (
-      walk_turn S R st l.w-1 _ l.d l.k _ _ _ l.invariant.0 (omega arith) c.take_side-t.ensures c.if-t.false,
+      walk_turn S R st l.w _ l.d l.k _ _ _ l.invariant.0 (omega arith) c.take_side-t.ensures c.if-t.false,
       turned_length S R st
-          l.w-1 _ l.d l.k _ _ _ c.take_side-t.ensures ∙ l.invariant.1,
+          l.w _ l.d l.k _ _ _ c.take_side-t.ensures ∙ l.invariant.1,
     )
 
 pub shape_of-w : goal.shape_of-w
