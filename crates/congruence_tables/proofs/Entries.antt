@@ -14,7 +14,7 @@ use Rattle.call.specs.Space.{work_length}
 use Rattle.numbering.specs.Find.{find}
 use Rattle.numbering.specs.Order.{add}
 use Rattle.buckets.specs.Inner.Pairs.{FORMER, LATTER, bucket_of, EnterPair, PairEntered}
-use Rattle.buckets.proofs.Chain.{first_of, second_of, holds_kept}
+use Rattle.buckets.proofs.Chain.{first_of as first_digit, second_of as second_digit, holds_kept}
 use Rattle.congruence.specs.declared.Family.{Family}
 use Rattle.congruence.specs.Inner.Common.{Modulus}
 use Rattle.congruence.specs.declared.Family.TheVariants as family
@@ -65,10 +65,10 @@ RowAt family.Gamma1 w j x = Unit {0}
 RowAt family.Gamma w j x = Unit {0}
 
 quotient : (a b p : ℕ) → b < 64 → p ≡ 64 * a + b → p / 64 ≡ a
-quotient a b p h e = let i : p ≡ a * 64 + b = omega arith in ap (λ (z : ℕ). z / 64) i ∙ first_of 64 a b h
+quotient a b p h e = let i : p ≡ a * 64 + b = omega arith in ap (λ (z : ℕ). z / 64) i ∙ first_digit 64 a b h
 
 rest : (a b p : ℕ) → b < 64 → p ≡ 64 * a + b → p % 64 ≡ b
-rest a b p h e = let i : p ≡ a * 64 + b = omega arith in ap (λ (z : ℕ). z % 64) i ∙ second_of 64 a b h
+rest a b p h e = let i : p ≡ a * 64 + b = omega arith in ap (λ (z : ℕ). z % 64) i ∙ second_digit 64 a b h
 
 -- an entry is read as it was written
 entry_is : (f : Family) (n : ℕ) (w : List ℕ) (j : ℕ) (x : Residues) → EntryOf f n x → LowOf f x → get_or w (FORMER + j) 0 ≡ first_of f x
@@ -150,14 +150,14 @@ module _ {f : Family} {n : ℕ} (grp : Group f n) {w : List ℕ} {count : ℕ} {
     abbrev l' : List ℕ
     l' = add l (row_code f x)
 
-    with_row : Keys f n w1 count l
-    with_row = holds_kept w1 (row_length w count x f) h (λ p a b. row_other w count x f p (λ z. omega arith) (λ z. omega arith))
+    row_laid : Keys f n w1 count l
+    row_laid = holds_kept w1 (row_length w count x f) h (λ p a b. row_other w count x f p (λ z. omega arith) (λ z. omega arith))
 
     pub keys_are : Keys f n w' count' l'
-    keys_are = e.joined.holds 4096 l (low_second f x (entry_low f n x grp entry)) with_row
+    keys_are = e.joined.holds 4096 l (low_second f x (entry_low f n x grp entry)) row_laid
 
     pub place_in : place ≡ find l' (row_code f x)
-    place_in = e.joined.place_is 4096 l (low_second f x (entry_low f n x grp entry)) with_row
+    place_in = e.joined.place_is 4096 l (low_second f x (entry_low f n x grp entry)) row_laid
 
     pub joined_same : length w' ≡ length w
     joined_same = e.joined.same ∙ row_length w count x f
@@ -178,8 +178,8 @@ module _ {f : Family} {n : ℕ} (grp : Group f n) {w : List ℕ} {count : ℕ} {
     entry_new i same =
         let low = low_second f x (entry_low f n x grp entry) in
         entry_is f n w' count x entry (entry_low f n x grp entry)
-        (keys_are.first count i ∙ ap (λ (z : ℕ). z / 4096) same ∙ first_of 4096 (first_of f x) (second_of f x) low)
-        (keys_are.second count i ∙ ap (λ (z : ℕ). z % 4096) same ∙ second_of 4096 (first_of f x) (second_of f x) low)
+        (keys_are.first count i ∙ ap (λ (z : ℕ). z / 4096) same ∙ first_digit 4096 (first_of f x) (second_of f x) low)
+        (keys_are.second count i ∙ ap (λ (z : ℕ). z % 4096) same ∙ second_digit 4096 (first_of f x) (second_of f x) low)
         (row_moved f w1 w' count x (e.joined.below (ROW_C + count) (omega arith)) (e.joined.above (ROW_D + count) (omega arith))
         (row_at w count x f h.long (omega arith)))
 

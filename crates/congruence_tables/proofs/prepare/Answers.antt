@@ -8,7 +8,7 @@ pub returns-in-Gamma0 : goal.returns-in-Gamma0
 returns-in-Gamma0 c = prepared_0 c.in-Gamma0.is c.columns.ensures
 
 pub returns-in-Gamma1 : goal.returns-in-Gamma1
-returns-in-Gamma1 c = let s = c.args in prepared_1 s.n s.w-1.now c.in-Gamma1.is
+returns-in-Gamma1 c = let s = c.args in prepared_1 s.n s.w.now c.in-Gamma1.is
 
 pub returns-in-Gamma : goal.returns-in-Gamma
-returns-in-Gamma c = let s = c.args in prepared_2 s.n s.w-1.now c.in-Gamma.is
+returns-in-Gamma c = let s = c.args in prepared_2 s.n s.w.now c.in-Gamma.is

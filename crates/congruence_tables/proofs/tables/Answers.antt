@@ -20,4 +20,9 @@ loop-i-preserved c =
 pub returns : goal.returns
 returns c =
     let inv = c.loop-i.invariant.0 in
-    (part_end_lem inv (omega arith), (part_S inv (omega arith), (part_R inv (omega arith), part_holds inv (omega arith))))
+    record {
+      value = part_end_lem inv (omega arith);
+      s_after = part_S inv (omega arith);
+      r_after = part_R inv (omega arith);
+      holds_cosets = part_holds inv (omega arith);
+    }

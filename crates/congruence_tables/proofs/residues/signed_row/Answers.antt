@@ -1,7 +1,6 @@
 -- `residues::signed_row` gives the row where it is first (`row_same`), and its negative where that is (`row_turned`).
 -- Assumes nothing.
 use borrow.Author.Rules.{rules}
-use borrow.Author.Tests.{not-true, not-false}
 use Rattle.congruence_tables.proofs.Signs.{row_same, row_turned}
 use Rattle.congruence_tables.proofs.residues.signed_row.Goals as goal
 
@@ -9,7 +8,7 @@ pub returns-then-not-turns : goal.returns-then-not-turns
 returns-then-not-turns c =
     let a = c in
     let s = a in
-    row_same s.args.n s.args.c s.args.d s.requires.0.some s.requires.1 s.requires.2 a.turns.ensures (not-true a.turns.result c.if-not-turns.true)
+    row_same s.args.n s.args.c s.args.d s.requires.0.some s.requires.1 s.requires.2 a.turns.ensures c.if-not-turns.true
 
 pub returns : goal.returns
 returns c =
@@ -17,4 +16,4 @@ returns c =
     let a = d in
     let s = a in
     row_turned s.args.n s.args.c s.args.d s.requires.0.some s.requires.1 s.requires.2 a.turns.ensures
-    (not-false a.turns.result d.if-not-turns.false) c.opposite.ensures c.opposite-2.ensures
+    d.if-not-turns.false c.opposite.ensures c.opposite-2.ensures
