@@ -26,7 +26,7 @@ module _ (k : In-Made) where
   made =
       let s = start in
       made_symbol s.args.v s.args.t.now s.args.x s.args.y s.args.table.now
-      (rw (to_z-of_z s.fits.x, to_z-of_z s.fits.y) at called.exchange-made.ensures) n k.in-Made.is
+      (rw (to_z-of_z s.ranges.x, to_z-of_z s.ranges.y) at called.exchange-made.ensures) n k.in-Made.is
 
 pub overflow_mul-end : goal.overflow_mul-end
 overflow_mul-end c = omega (arith, (made (goal.at.overflow_mul-end c).In-Made).symbol.most)

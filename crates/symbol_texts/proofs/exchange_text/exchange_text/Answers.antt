@@ -10,26 +10,20 @@ use Rattle.text.proofs.OnceRead.{Standing, input_numbers, by_input, by_standing}
 use Rattle.decimal.proofs.Placing.{puts_as}
 use Rattle.symbol_texts.specs.ExchangeAnswer.{exchange_lines_of, exchange_format, exchanged_text}
 use borrow.Author.Rules.{rules}
-use Rattle.symbol_texts.proofs.exchange_text.exchange_text.Goals.{After-read_symbol-read, In-Numbers, Start}
+use Rattle.symbol_texts.proofs.exchange_text.exchange_text.Goals.{After-read_symbol-read, In-Numbers}
 use Rattle.symbol_texts.proofs.exchange_text.exchange_text.Goals as goal
-
-abbrev begun : After-read_symbol-read → Start
-begun r = r
 
 -- the numbers of the text, k of them
 module _ (d : In-Numbers) where
   abbrev read : After-read_symbol-read
   read = (goal.at.In-Numbers d).After-read_symbol-read
 
-  abbrev s : Start
-  s = begun read
-
   abbrev k : ℕ
   k = d.in-Numbers.k
 
-  standing : Standing (numbers (pieces s.args.text.now)) 3073 k read.read_symbol-read.new.out
+  standing : Standing (numbers (pieces read.args.text.now)) 3073 k read.read_symbol-read.new.out
   standing =
-      input_numbers s.args.longer exchange_format s.args.text.now s.args.numbers.now s.requires.0 read.read_symbol-read.ensures (omega arith) k
+      input_numbers read.args.longer exchange_format read.args.text.now read.args.numbers.now read.requires.0 read.read_symbol-read.ensures (omega arith) k
       d.in-Numbers.is
 
 pub slice_bounds-exchange_numbers-end : goal.slice_bounds-exchange_numbers-end
@@ -41,17 +35,11 @@ slice_bounds-exchange_numbers-end-in-Numbers c = (standing (goal.at.slice_bounds
 pub returns-in-Refused : goal.returns-in-Refused
 unfolding exchanged_text
 returns-in-Refused c =
-    let told = c.read-1.given in
-    let r = c in
-    let b = begun r in
-    puts_as (by_input b.args.longer exchange_format b.args.text.now b.args.numbers.now b.requires.0 r.read_symbol-read.ensures exchange_lines_of
-    refusal_line (Refused told.0.0) told.1) c.refusal_line.ensures
+    puts_as (by_input c.args.longer exchange_format c.args.text.now c.args.numbers.now c.requires.0 c.read_symbol-read.ensures exchange_lines_of
+    refusal_line _ c.in-Refused.is) c.refusal_line.ensures
 
 pub returns-in-Numbers : goal.returns-in-Numbers
 unfolding exchanged_text
 returns-in-Numbers c =
-    let l = c in
-    let d = l in
-    let b = s (goal.at.returns-in-Numbers c).In-Numbers in
-    puts_as (by_standing b.args.longer exchange_format b.args.text.now b.args.numbers.now b.requires.0 (read (goal.at.returns-in-Numbers c).In-Numbers).read-symbol.ensures
-    exchange_lines_of refusal_line (omega arith) (k (goal.at.returns-in-Numbers c).In-Numbers) d.in-Numbers.is) l.exchange_numbers.ensures
+    puts_as (by_standing c.args.longer exchange_format c.args.text.now c.args.numbers.now c.requires.0 c.read_symbol-read.ensures
+    exchange_lines_of refusal_line (omega arith) _ c.in-Numbers.is) c.exchange_numbers.ensures

@@ -14,19 +14,16 @@ use Rattle.decimal.proofs.Placing.{puts_as}
 use Rattle.symbol_texts.specs.NamedAnswer.{named_format, refused, group_in, group_request}
 use Rattle.symbol_texts.proofs.NamedAsked.{lines_as}
 use borrow.Author.Rules.{rules}
-use Rattle.symbol_texts.proofs.named_text.answer.Goals.{After-read_input-read, Start}
+use Rattle.symbol_texts.proofs.named_text.answer.Goals.{After-read_input-read}
 use Rattle.symbol_texts.proofs.named_text.answer.Goals as goal
-
-abbrev start : After-read_input-read → Start
-start d = d
 
 -- what the text asks for, by what was read
 module _ (d : After-read_input-read) where
   abbrev text : List ℕ
-  text = (start d).args.text.now
+  text = d.args.text.now
 
   abbrev longer : Bool
-  longer = (start d).args.longer
+  longer = d.args.longer
 
   asks_refused : (f : Refusal) → d.read_input-read.result ≡ Refused f → refused f ≡ group_request longer text
   unfolding group_request
@@ -41,20 +38,17 @@ module _ (d : After-read_input-read) where
     asks = by_standing longer named_format text (replicate 2 (pos 0)) refl d.read_input-read.ensures group_in refused (omega arith) k e
 
 pub slice_bounds-numbers-end : goal.slice_bounds-numbers-end
-slice_bounds-numbers-end c = let k = c in (standing k _ k.in-Numbers.is).inside
+slice_bounds-numbers-end c = (standing (goal.at.slice_bounds-numbers-end c).After-read_input-read _ c.in-Numbers.is).inside
 
 pub slice_bounds-group_numbers-end : goal.slice_bounds-group_numbers-end
-slice_bounds-group_numbers-end c = let k = c in (standing k _ k.in-Numbers.is).long
+slice_bounds-group_numbers-end c = (standing (goal.at.slice_bounds-group_numbers-end c).After-read_input-read _ c.in-Numbers.is).long
 
 pub returns-in-Refused : goal.returns-in-Refused
 returns-in-Refused c =
-    let k = c in
-    let d = k in
-    puts_as (lines_as (longer (goal.at.returns-in-Refused c).After-read_input-read) (text (goal.at.returns-in-Refused c).After-read_input-read) (asks_refused (goal.at.returns-in-Refused c).After-read_input-read _ k.in-Refused.is)) c.refusal_line.ensures
+    let d = (goal.at.returns-in-Refused c).After-read_input-read in
+    puts_as (lines_as (longer d) (text d) (asks_refused d _ c.in-Refused.is)) c.refusal_line.ensures
 
 pub returns-in-Numbers : goal.returns-in-Numbers
 returns-in-Numbers c =
-    let n = c in
-    let k = n in
-    let d = k in
-    puts_as (lines_as (longer (goal.at.returns-in-Numbers c).After-read_input-read) (text (goal.at.returns-in-Numbers c).After-read_input-read) (asks d _ k.in-Numbers.is)) n.group_numbers.ensures
+    let d = (goal.at.returns-in-Numbers c).After-read_input-read in
+    puts_as (lines_as (longer d) (text d) (asks d _ c.in-Numbers.is)) c.group_numbers.ensures
