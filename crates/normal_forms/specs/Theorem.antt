@@ -6,7 +6,7 @@
 --     reduced         w is reduced (`Reduced`)
 --     only            there is no other reduced word for m up to sign
 --     shortest        and every word for m up to sign has at least as many letters
---   NormalForms v t      [proofs/Forms.antt, normal-forms]   the theorem, for every accepted symbol:
+--   NormalForms v t      [proofs/Forms.antt, normal_forms]   the theorem, for every accepted symbol:
 --     walk            of a matrix whose walk comes home, the word that the walk writes is the normal form
 --     H IS THE FREE PRODUCT of the cyclic groups that its generators generate, of order 2 for an even one, 3 for an odd
 --       one and infinite for a free

@@ -7,7 +7,7 @@
 --   TurnsTo inverse c d         the turn by Q, or by Q⁻¹ where `inverse` holds, leads from corner c to corner d: Q to
 --                               the edge that ends where this one begins, Q⁻¹ to the edge that begins where this one
 --                               ends
---   FrameTurns                  [frame-turns] so it is with the frames of a cut: where a turn leads from corner c of
+--   FrameTurns                  [frame_turns] so it is with the frames of a cut: where a turn leads from corner c of
 --                               triangle k to corner d, the frame of the one times Q, or Q⁻¹, is the frame of the other
 --   Turning                     [turning] and with all matrices: m Q sends infinity where m sends 0, and m Q⁻¹ sends 0
 --                               where m sends infinity; proofs/Corner.antt has the proof

@@ -11,10 +11,10 @@
 --                      is met: S out through an even side j, through the first side of a free pair -j, through the
 --                      second j; Q at the outer face of an odd side j, and Q⁻¹ there -j
 --   turned v t         whether the last side starts at 0/1 and is not odd
---   start_of v t        where the walk starts: on the edge from 0 to infinity, or where `turned` holds on the edge from
+--   start_of v t       where the walk starts: on the edge from 0 to infinity, or where `turned` holds on the edge from
 --                      infinity to 0
 --   start_frame v t    the matrix of that edge, up to sign: the identity, or S
---   origin_of v t       the position that stands for the coset H, whose frame lies in H: the start, or its image under S
+--   origin_of v t      the position that stands for the coset H, whose frame lies in H: the start, or its image under S
 use Rattle.std.specs.Prelude.{◌≡◌, Bool, true, not, ◌&&◌, ◌||◌, List, [], ◌∷◌, ℕ, ◌+◌, ◌-◌, ◌%◌, ltb, eqb, ℤ, pos, negsuc, neg_ℤ}
 use Rattle.matrix.specs.Matrix.{Mat, 𝟙, mat_s}
 use Rattle.matrix.specs.Words.{Letter, S, Q, P}

@@ -1,7 +1,7 @@
 -- WHAT THE SIGNS PROMISE, in two theorems; nothing here is up to sign. Letter j stands for generator j as
 -- docs/CONVENTIONS.md writes it, and -j for its inverse, which is its adjugate.
 --
---   MatrixSigns        [proofs/Word.antt, matrix-signs]   each matrix of determinant 1 is its `matrix_sign` times the
+--   MatrixSigns        [proofs/Word.antt, matrix_signs]   each matrix of determinant 1 is its `matrix_sign` times the
 --                      value of its alternating word
 --   edge_matrix t x y  (a' a; b' b), where the vertex x is a/b and the vertex y is a'/b', counted from 0 for -1/0, with
 --                      the entries of the table
