@@ -28,6 +28,6 @@ returns c =
     let args = st.args in
     let n = args.n in
     let is = composed.compose.ensures in
-    let k = three_as _ _ _ _ _ _ args.s-1.now args.r-1.now args.u-1.now copied.copy_tables.ensures (composed_S st.requires (omega arith) is)
+    let k = three_as _ _ _ _ _ _ args.s.now args.r.now args.u.now copied.copy_tables.ensures (composed_S st.requires (omega arith) is)
     (composed_R st.requires (omega arith) is) (composed_T st.requires (omega arith) is) refl in
     record { fills = fills_as {by = made_if n} (run_pass (too_many n) _ (given_few n (omega arith)) (ran k)) k.answer; w_len_unchanged = composed_length st.requires (omega arith) is }

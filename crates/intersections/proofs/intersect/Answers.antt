@@ -81,8 +81,8 @@ returns c =
     k3.keep-3.ensures k4.keep-4.ensures fresh_size
     lp.list_pairs-count.ensures in
     let same = gv.give-made.ensures.w_len_unchanged ∙ lp.list_pairs-count.ensures.same ∙ a2.arrange-m.ensures.1 ∙ a1.arrange-k.ensures.1 in
-    let left = gv.give-made.new.s in record {
-      fills = given_common st.requires.0 st.requires.1 held st.args.a.now left.0 st.args.b.now left.1.0 st.args.c.now left.1.1.0 _
+    let left = gv.give-made in record {
+      fills = given_common st.requires.0 st.requires.1 held st.args.a.now left.new.s st.args.b.now left.new.r st.args.c.now left.new.u _
           gv.give-made.ensures.fills;
       w_after = cl.clear.ensures ∙ ap zeros same;
     }

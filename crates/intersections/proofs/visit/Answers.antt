@@ -45,7 +45,7 @@ pub bounds-s2-y : goal.bounds-s2-y
 bounds-s2-y c = let at = c in omega (arith, y_small (goal.at.bounds-s2-y c).After-enter-arg-1, (start (goal.at.bounds-s2-y c).After-enter-arg-1).requires.tables.size_c)
 
 pub enter-a-requires : goal.enter-a-requires
-enter-a-requires c = let at = c in enters_S (start (goal.at.enter-a-requires c).After-enter-arg-1).requires (read_x (goal.at.enter-a-requires c).After-enter-arg-1).index.ensures (read_y (goal.at.enter-a-requires c).After-enter-arg-1).index2.ensures
+enter-a-requires c = let at = c in enters_S (start (goal.at.enter-a-requires c).After-enter-arg-1).requires (read_x (goal.at.enter-a-requires c).After-enter-arg-1).index-x.ensures (read_y (goal.at.enter-a-requires c).After-enter-arg-1).index-y.ensures
 
 pub offset_bounds-r-x : goal.offset_bounds-r-x
 offset_bounds-r-x c = omega (arith, x_small (args_S c))
@@ -63,14 +63,14 @@ pub enter-b-requires : goal.enter-b-requires
 enter-b-requires c =
     let first = c in
     let at = args_S first in
-    enters_R (start at).requires (read_x at).index.ensures (read_y at).index2.ensures first.enter-a.ensures
+    enters_R (start at).requires (read_x at).index-x.ensures (read_y at).index-y.ensures first.enter-a.ensures
 
 pub overflow_cast-w : goal.overflow_cast-w
 overflow_cast-w c =
     let second = c in
     let first = entered_S second in
     let at = args_S first in
-    omega (arith, p_low (start at).requires (read_x at).index.ensures (read_y at).index2.ensures first.enter-a.ensures second.enter-b.ensures)
+    omega (arith, p_low (start at).requires (read_x at).index-x.ensures (read_y at).index-y.ensures first.enter-a.ensures second.enter-b.ensures)
 
 pub bounds-w-i-3 : goal.bounds-w-i-3
 bounds-w-i-3 c =
@@ -78,14 +78,14 @@ bounds-w-i-3 c =
     let first = entered_S second in
     let at = args_S first in
     let v = (start at).requires in
-    omega (arith, visited_long v (read_x at).index.ensures (read_y at).index2.ensures first.enter-a.ensures second.enter-b.ensures, v.low, v.room)
+    omega (arith, visited_long v (read_x at).index-x.ensures (read_y at).index-y.ensures first.enter-a.ensures second.enter-b.ensures, v.low, v.room)
 
 pub overflow_cast-w-2 : goal.overflow_cast-w-2
 overflow_cast-w-2 c =
     let second = c in
     let first = entered_S second in
     let at = args_S first in
-    omega (arith, q_low (start at).requires (read_x at).index.ensures (read_y at).index2.ensures first.enter-a.ensures second.enter-b.ensures)
+    omega (arith, q_low (start at).requires (read_x at).index-x.ensures (read_y at).index-y.ensures first.enter-a.ensures second.enter-b.ensures)
 
 pub bounds-w-i-4 : goal.bounds-w-i-4
 bounds-w-i-4 c =
@@ -95,7 +95,7 @@ bounds-w-i-4 c =
     let v = (start at).requires in
     simp length-set (omega (
       arith,
-      visited_long v (read_x at).index.ensures (read_y at).index2.ensures first.enter-a.ensures second.enter-b.ensures,
+      visited_long v (read_x at).index-x.ensures (read_y at).index-y.ensures first.enter-a.ensures second.enter-b.ensures,
       v.low,
       v.room,
     ))
@@ -105,7 +105,7 @@ returns c =
     let second = c in
     let first = entered_S second in
     let at = args_S first in
-    visited (start at).requires (read_x at).index.ensures (read_y at).index2.ensures first.enter-a.ensures second.enter-b.ensures refl refl
+    visited (start at).requires (read_x at).index-x.ensures (read_y at).index-y.ensures first.enter-a.ensures second.enter-b.ensures refl refl
 
 pub shape_of-w : goal.shape_of-w
 shape_of-w c = (returns c).same

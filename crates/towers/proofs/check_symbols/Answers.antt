@@ -17,25 +17,25 @@ pub start_of-p-requires : goal.start_of-p-requires
 start_of-p-requires c = let l = c in let s = l in whole_passed s.args.n s.args.t.now l.loop-i.i l.loop-i.invariant.1
 
 pub offset_bounds-t-p : goal.offset_bounds-t-p
-offset_bounds-t-p c = let h = c.start_of_lem.ensures.inside in search rules
+offset_bounds-t-p c = let h = c.start_of-p.ensures.inside in search rules
 
 pub slice_bounds-check_entry-count : goal.slice_bounds-check_entry-count
-slice_bounds-check_entry-count c = let h = c.start_of_lem.ensures.inside in search rules
+slice_bounds-check_entry-count c = let h = c.start_of-p.ensures.inside in search rules
 
 pub slice_bounds-check_entry-start : goal.slice_bounds-check_entry-start
-slice_bounds-check_entry-start c = let h = c.start_of_lem.ensures.inside in search rules
+slice_bounds-check_entry-start c = let h = c.start_of-p.ensures.inside in search rules
 
 pub slice_bounds-check_entry-end : goal.slice_bounds-check_entry-end
-slice_bounds-check_entry-end c = let h = c.start_of_lem.ensures.inside in search rules
+slice_bounds-check_entry-end c = let h = c.start_of-p.ensures.inside in search rules
 
 -- what the entry's checks said
-said : (c : After-check_entry-checked invariant-loop decreases-loop) → c.check_entry-checked.result ≡ entry_check
+said : (c : After-check_entry-checked) → c.check_entry-checked.result ≡ entry_check
     (eqb (suc c.loop-i.i) c.args.n)
     (from_entry c.args.t.now c.loop-i.i)
 said c =
     let p = c in
     let l = p in
-    entry_read l.args.n p.start_of_lem.ensures (l.loop-i.i + 1) (add-one l.loop-i.i) c.check_entry-checked.result c.check_entry-checked.ensures
+    entry_read l.args.n p.start_of-p.ensures (l.loop-i.i + 1) (add-one l.loop-i.i) c.check_entry-checked.result c.check_entry-checked.ensures
 
 pub returns-in_default : goal.returns-in_default
 returns-in_default c =

@@ -21,10 +21,10 @@ pub start_of-p-requires : goal.start_of-p-requires
 start_of-p-requires c = let s = c in whole_symbols s.args.n s.args.t.now s.requires.0.symbols s.args.e (omega (arith, s.requires.1))
 
 pub offset_bounds-t-p : goal.offset_bounds-t-p
-offset_bounds-t-p c = let s = c in let h = two_here s.args.n c.start_of_lem.ensures (s.requires.0.symbols s.args.e s.requires.1) in search rules
+offset_bounds-t-p c = let s = c in let h = two_here s.args.n c.start_of-p.ensures (s.requires.0.symbols s.args.e s.requires.1) in search rules
 
 pub bounds-t-p : goal.bounds-t-p
-bounds-t-p c = let s = c in let h = two_here s.args.n c.start_of_lem.ensures (s.requires.0.symbols s.args.e s.requires.1) in
+bounds-t-p c = let s = c in let h = two_here s.args.n c.start_of-p.ensures (s.requires.0.symbols s.args.e s.requires.1) in
     search rules
 
 -- the number that was read is the name
@@ -32,8 +32,8 @@ module _ (c : After-x-1) where
   abbrev st : Start
   st = (goal.at.After-x-1 c).Start
 
-  read : to_z w64 (of_z w64 (nth st.args.t.now c.start_of_lem.result)) ≡ named_at st.args.t.now st.args.e
-  read = kept (nth st.args.t.now c.start_of_lem.result) c.x-1.given ∙ named_here c.start_of_lem.ensures
+  read : to_z w64 (of_z w64 (nth st.args.t.now c.start_of-p.result)) ≡ named_at st.args.t.now st.args.e
+  read = kept (nth st.args.t.now c.start_of-p.result) c.x-1.given ∙ named_here c.start_of-p.ensures
 
 pub returns-then-x-lt0 : goal.returns-then-x-lt0
 returns-then-x-lt0 c =

@@ -22,8 +22,8 @@ module _ (c : After-start_of-q) where
   abbrev st : Start
   st = (goal.at.After-start_of-q c).Start
 
-  room_j : c.start_of_lem.result + 1 < length st.args.t.now
-  room_j = two_here st.args.n c.start_of_lem.ensures (st.requires.0.symbols st.args.j st.requires.1)
+  room_j : c.start_of-p.result + 1 < length st.args.t.now
+  room_j = two_here st.args.n c.start_of-p.ensures (st.requires.0.symbols st.args.j st.requires.1)
 
   room_e : c.start_of-q.result + 1 < length st.args.t.now
   room_e = two_here st.args.n c.start_of-q.ensures (st.requires.0.symbols st.args.e st.requires.2)
@@ -54,11 +54,11 @@ module _ (c : After-or_zero-m) where
   abbrev b : After-start_of-q
   b = (goal.at.After-or_zero-v o).After-start_of-q
 
-  part_j : EntryPart (st b).args.n (st b).args.t.now (st b).args.j b.start_of_lem.result o.or_zero-v.result
+  part_j : EntryPart (st b).args.n (st b).args.t.now (st b).args.j b.start_of-p.result o.or_zero-v.result
   part_j =
       let s = st b in
-      let p = b.start_of_lem.result in
-      entry_part s.args.n b.start_of_lem.ensures (s.requires.0.symbols s.args.j s.requires.1) o.or_zero-v.result
+      let p = b.start_of-p.result in
+      entry_part s.args.n b.start_of-p.ensures (s.requires.0.symbols s.args.j s.requires.1) o.or_zero-v.result
       (rw (kept (nth s.args.t.now (p + 1)) o.or_zero-arg-1.given) at o.or_zero-v.ensures)
 
   part_e : EntryPart (st b).args.n (st b).args.t.now (st b).args.e b.start_of-q.result c.or_zero-m.result

@@ -24,7 +24,7 @@ returns-then-not-claim_holds c =
     let l = c in
     let s = l in
     sym (first_hit (claim_fails s.args.n s.args.t.now) l.loop-i.i s.args.n (omega arith) l.loop-i.invariant.1
-    (ap not (sym c.claim_holds.ensures) ∙ c.if-not-claim_holds.true))
+    (ap not (sym c.claim_holds.ensures ∙ c.if-not-claim_holds.true)))
 
 pub loop-i-preserved : goal.loop-i-preserved
 loop-i-preserved c =
@@ -32,7 +32,7 @@ loop-i-preserved c =
     let s = l in (
       search rules,
       rw add-one (clear_more (claim_fails s.args.n s.args.t.now) l.loop-i.i l.loop-i.invariant.1
-          (ap not (sym c.claim_holds.ensures) ∙ c.if-not-claim_holds.false)),
+          (ap not (sym c.claim_holds.ensures ∙ c.if-not-claim_holds.false))),
       c.w-1.given ∙ l.loop-i.invariant.2,
     )
 

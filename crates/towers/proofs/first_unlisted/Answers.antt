@@ -21,21 +21,21 @@ pub start_of-p-requires : goal.start_of-p-requires
 start_of-p-requires c = let l = c in let s = l in whole_symbols s.args.n s.args.t.now s.requires l.loop-i.i l.loop-i.invariant.0
 
 -- the entry is inside the table
-room : (c : After-start_of-p invariant-loop decreases-loop) → c.start_of_lem.result + 1 < length c.args.t.now
+room : (c : After-start_of-p) → c.start_of-p.result + 1 < length c.args.t.now
 room c =
     let l = c in
-    two_here l.args.n c.start_of_lem.ensures (l.requires l.loop-i.i c.loop-i-test.true)
+    two_here l.args.n c.start_of-p.ensures (l.requires l.loop-i.i c.loop-i-test.true)
 
 -- whether the name that was read is listed
-read : (c : After-is_listed invariant-loop decreases-loop) → c.is_listed.result ≡ listed_before
+read : (c : After-is_listed) → c.is_listed.result ≡ listed_before
     (named_at c.args.t.now c.loop-i.i)
     c.loop-i.i
 read c =
     let p = c in
     let l = p in
     let t = l.args.t.now in
-    rw (kept (nth t p.start_of_lem.result) c.is_listed-arg-1.given) at c.is_listed.ensures
-    ∙ ap (λ (x : ℤ). listed_before x l.loop-i.i) (named_here p.start_of_lem.ensures)
+    rw (kept (nth t p.start_of-p.result) c.is_listed-arg-1.given) at c.is_listed.ensures
+    ∙ ap (λ (x : ℤ). listed_before x l.loop-i.i) (named_here p.start_of-p.ensures)
 
 pub offset_bounds-t-p : goal.offset_bounds-t-p
 offset_bounds-t-p c = let h = room c in search rules
@@ -48,14 +48,14 @@ returns-then-not-is_listed c =
     let r = c in
     let l = r in
     let s = l in
-    sym (first_hit (unlisted s.args.t.now) l.loop-i.i s.args.n (omega arith) l.loop-i.invariant.1 (ap not (sym (read r)) ∙ c.if-not-is_listed.true))
+    sym (first_hit (unlisted s.args.t.now) l.loop-i.i s.args.n (omega arith) l.loop-i.invariant.1 (ap not (sym (read r) ∙ c.if-not-is_listed.true)))
 
 pub loop-i-preserved : goal.loop-i-preserved
 loop-i-preserved c =
     let r = c in
     let l = r in
     let s = l in
-    (search rules, rw add-one (clear_more (unlisted s.args.t.now) l.loop-i.i l.loop-i.invariant.1 (ap not (sym (read r)) ∙ c.if-not-is_listed.false)))
+    (search rules, rw add-one (clear_more (unlisted s.args.t.now) l.loop-i.i l.loop-i.invariant.1 (ap not (sym (read r) ∙ c.if-not-is_listed.false))))
 
 pub returns : goal.returns
 returns c =

@@ -16,18 +16,18 @@ pub loop-i-init : goal.loop-i-init
 loop-i-init c = (starts_first _, search rules)
 
 -- the entry that is passed is whole
-whole : (c : In-loop-i invariant-loop decreases-loop) → 3 * vertices_at c.args.t.now c.loop-i.i + 3 ≤ length
+whole : (c : In-loop-i) → 3 * vertices_at c.args.t.now c.loop-i.i + 3 ≤ length
     (from_entry c.args.t.now c.loop-i.i)
 whole c = c.requires.fits c.loop-i.i c.loop-i-test.true
 
 -- its v was read
-read : (c : After-or_zero invariant-loop decreases-loop) → c.or_zero.result ≡ or_zero
+read : (c : After-or_zero) → c.or_zero.result ≡ or_zero
     (nth c.args.t.now (c.loop-i.p + 1))
 read c =
     let l = c in
     rw (kept (nth l.args.t.now (l.loop-i.p + 1)) c.or_zero-arg-1.given) at c.or_zero.ensures
 
-room : (c : After-or_zero invariant-loop decreases-loop) → c.loop-i.p + (3 * c.or_zero.result + 3) ≤ length
+room : (c : After-or_zero) → c.loop-i.p + (3 * c.or_zero.result + 3) ≤ length
     c.args.t.now
 room c = let l = c in room_on l.loop-i.invariant.0 (whole c) c.or_zero.result (read c)
 

@@ -3,7 +3,6 @@ use mathlib.Core.Path.{◌≡◌, refl, sym, ◌∙◌}
 use mathlib.Core.Bool.{true}
 use Prim.Native.Nat.{ℕ, ◌-◌, ◌≤◌, ◌<◌}
 use native.Mathlib.Omega.{arith}
-use borrow.Author.Tests.{not-true, not-false}
 use borrow.Author.Count.{below_more}
 use Rattle.basics.proofs.Choice.{clash}
 use Rattle.containment.specs.Inner.Following.{agrees_at}
@@ -25,14 +24,14 @@ returns-then-not-agrees c =
     let a = c in
     record {
       yes = λ e. clash e refl;
-      no = λ e. record { at = l.loop-p.p; low = a2.loop-p-test.true; differs = sym a.agrees.ensures ∙ not-true a.agrees.result c.if-not-agrees.true };
+      no = λ e. record { at = l.loop-p.p; low = a2.loop-p-test.true; differs = sym a.agrees.ensures ∙ c.if-not-agrees.true };
     }
 
 pub loop-p-preserved : goal.loop-p-preserved
 loop-p-preserved c =
     let l = c in
     let a = c in (
-      below_more _ l.loop-p.p l.loop-p.invariant.0 (sym a.agrees.ensures ∙ not-false a.agrees.result c.if-not-agrees.false),
+      below_more _ l.loop-p.p l.loop-p.invariant.0 (sym a.agrees.ensures ∙ c.if-not-agrees.false),
       omega (arith, c.loop-p-test.true),
     )
 
