@@ -7,18 +7,17 @@ use Rattle.symbol_texts.proofs.named_text.group_symbol.Goals as goal
 
 pub returns-then-is_over : goal.returns-then-is_over
 returns-then-is_over c =
-    let s = c in
     let x = c.named_symbol_by-first in
     let y = c.named_symbol_by in
-    let d = c in
-    let over = sym d.is_over.ensures ∙ d.if-is_over.true in
-    symbol_wide s.args.k s.args.n s.args.w.now x.new.w s.args.table.now x.new.out s.requires.0 s.requires.1 x.result
-    x.ensures over (omega arith) (omega arith) y.new.w y.new.out y.result y.ensures
+    let over = sym c.is_over.ensures ∙ c.if-is_over.true in
+    let made = symbol_wide c.args.k c.args.n c.args.w.now x.new.w c.args.table.now x.new.out c.requires.0 c.requires.1 x.result
+        x.ensures over (omega arith) (omega arith) y.new.w y.new.out y.result y.ensures in
+    record { value = made.0; symbol_front = made.1 }
 
 pub returns : goal.returns
 returns c =
-    let s = c in
     let x = c.named_symbol_by-first in
     let over = sym c.is_over.ensures ∙ c.if-is_over.false in
-    symbol_first s.args.k s.args.n s.args.w.now x.new.w s.args.table.now x.new.out s.requires.0 s.requires.1 x.result
-    x.ensures over
+    let made = symbol_first c.args.k c.args.n c.args.w.now x.new.w c.args.table.now x.new.out c.requires.0 c.requires.1 x.result
+        x.ensures over in
+    record { value = made.0; symbol_front = made.1 }
