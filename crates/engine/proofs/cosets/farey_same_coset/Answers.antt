@@ -16,8 +16,8 @@ returns c =
     let t = s.t.now in
     let a = s.a.now in
     let b = s.b.now in
-    let told = tells v t a b s.w-1.now in
-    call_decided _ (matrices_numbered v t s.w-1.now a b)
-    (told.0, told.1, means v t a b s.w-1.now, says v t a b s.w-1.now) (closes v t (of_list a) (of_list b)) refl
+    let told = tells v t a b s.w.now in
+    call_decided _ (matrices_numbered v t s.w.now a b)
+    (told.0, told.1, means v t a b s.w.now, says v t a b s.w.now) (closes v t (of_list a) (of_list b)) refl
     q.ensures
     c.of_decision-said.ensures.0 c.of_decision-said.ensures.1

@@ -13,7 +13,7 @@ pub returns : goal.returns
 returns c =
     let q = c.same_cosets in
     let s = c.args in
-    call_made _ (rows_numbered s.v s.t.now s.w-1.now (ragged (length s.p.now)) (whole_pairs (length s.p.now)) (pairs_in s.p.now)
-    (length s.lines-1.now / 2))
-    (cosets_say s.v s.t.now s.p.now s.w-1.now q.new.w s.lines-1.now q.new.lines)
+    call_made _ (rows_numbered s.v s.t.now s.w.now (ragged (length s.p.now)) (whole_pairs (length s.p.now)) (pairs_in s.p.now)
+    (length s.lines.now / 2))
+    (cosets_say s.v s.t.now s.p.now s.w.now q.new.w s.lines.now q.new.lines)
     q.ensures c.of_filled-said.ensures.0 c.of_filled-said.ensures.1

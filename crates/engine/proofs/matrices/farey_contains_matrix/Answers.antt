@@ -14,8 +14,8 @@ returns c =
     let v = s.v in
     let t = s.t.now in
     let m = s.m.now in
-    let told = member_tells v t m s.w-1.now in
-    call_decided _ (member_numbered v t m s.w-1.now)
-    (told.0, told.1, member_means v t m s.w-1.now, member_says v t m s.w-1.now) (is_member v t m) refl
+    let told = member_tells v t m s.w.now in
+    call_decided _ (member_numbered v t m s.w.now)
+    (told.0, told.1, member_means v t m s.w.now, member_says v t m s.w.now) (is_member v t m) refl
     q.ensures
     c.of_decision-said.ensures.0 c.of_decision-said.ensures.1

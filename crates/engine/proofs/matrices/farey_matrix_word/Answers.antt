@@ -12,7 +12,7 @@ returns c =
     let k = c.of_query-said.ensures in
     let w' = q.new.w in
     let out' = q.new.out in
-    call_word _ (matrix_numbered s.v s.t.now s.m.now s.w-1.now w' s.out-1.now out' s.start)
+    call_word _ (matrix_numbered s.v s.t.now s.m.now s.w.now w' s.out.now out' s.start)
     s.start (member_sign s.v s.t.now s.m.now)
-    (matrix_call s.v s.t.now s.m.now s.w-1.now w' s.out-1.now out' s.start q.ensures.leaves)
+    (matrix_call s.v s.t.now s.m.now s.w.now w' s.out.now out' s.start q.ensures.leaves)
     q.ensures.leaves q.ensures.answer k.0 k.1

@@ -23,9 +23,9 @@ returns c =
     let told = to_z-of_z {w = w64} {z = x.result} (record { sfits = x.type_inv }) ∙ x.ensures ∙ ap (sign_written q.result)
     (kept s.sign.now c.sign_written-arg-1.given) in
     let sign = sign_left_lem s.start (length (member_word s.v s.t.now s.m.now)) (member_sign s.v s.t.now s.m.now)
-    (verdict (matrix_run s.v s.t.now s.m.now s.w-1.now w' s.out-1.now out' s.start))
+    (verdict (matrix_run s.v s.t.now s.m.now s.w.now w' s.out.now out' s.start))
     q.ensures.answer s.sign.now told in
-    call_word _ (matrix_numbered s.v s.t.now s.m.now s.w-1.now w' s.out-1.now out' s.start)
+    call_word _ (matrix_numbered s.v s.t.now s.m.now s.w.now w' s.out.now out' s.start)
     s.start (member_sign s.v s.t.now s.m.now)
-    (signed_matrix_call s.v s.t.now s.m.now s.w-1.now w' s.out-1.now out' s.start q.ensures.leaves _ s.sign.now sign)
+    (signed_matrix_call s.v s.t.now s.m.now s.w.now w' s.out.now out' s.start q.ensures.leaves _ s.sign.now sign)
     (q.ensures.leaves.0, (q.ensures.leaves.1.0, (sign, tt))) q.ensures.answer k.0 k.1

@@ -13,6 +13,6 @@ returns c =
     let q = c.named_tables in
     let s = c.args in
     let k = c.of_filled-said.ensures in
-    call_made _ (pair_numbered (group_check s.family s.n) (above_group s.family s.n) s.w-1.now
-    (length (family_s (family_of s.family) s.n)) (length (family_r (family_of s.family) s.n)) s.s-1.now s.r-1.now)
-    (tables_say s.family s.n s.w-1.now s.s-1.now s.r-1.now) q.ensures k.0 k.1
+    call_made _ (pair_numbered (group_check s.family s.n) (above_group s.family s.n) s.w.now
+    (length (family_s (family_of s.family) s.n)) (length (family_r (family_of s.family) s.n)) s.s.now s.r.now)
+    (tables_say s.family s.n s.w.now s.s.now s.r.now) q.ensures k.0 k.1

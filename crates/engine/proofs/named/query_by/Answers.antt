@@ -11,9 +11,9 @@ returns c =
     let q = c.named_query_by in
     let s = c.args in
     let k = c.of_query-said.ensures in
-    call_word _ (named_numbered (order_by s.wide) s.family s.n s.a.now s.b.now s.w-1.now q.new.w s.out-1.now
+    call_word _ (named_numbered (order_by s.wide) s.family s.n s.a.now s.b.now s.w.now q.new.w s.out.now
     q.new.out s.start)
     s.start (ruled_sign (named_rule (order_by s.wide) s.family s.n) s.a.now s.b.now)
-    (named_call (order_by s.wide) s.family s.n s.a.now s.b.now s.w-1.now q.new.w s.out-1.now q.new.out
+    (named_call (order_by s.wide) s.family s.n s.a.now s.b.now s.w.now q.new.w s.out.now q.new.out
     s.start q.ensures.leaves)
     q.ensures.leaves q.ensures.answer k.0 k.1

@@ -24,12 +24,12 @@ returns c =
     (kept s.sign.now c.sign_written-arg-1.given) in
     let sign = sign_left_lem s.start (length (ruled_word (named_rule (order_by s.wide) s.family s.n) s.a.now s.b.now))
     (ruled_sign (named_rule (order_by s.wide) s.family s.n) s.a.now s.b.now)
-    (verdict (named_run (order_by s.wide) s.family s.n s.a.now s.b.now s.w-1.now q.new.w s.out-1.now
+    (verdict (named_run (order_by s.wide) s.family s.n s.a.now s.b.now s.w.now q.new.w s.out.now
     q.new.out s.start))
     q.ensures.answer s.sign.now told in
-    call_word _ (named_numbered (order_by s.wide) s.family s.n s.a.now s.b.now s.w-1.now q.new.w s.out-1.now
+    call_word _ (named_numbered (order_by s.wide) s.family s.n s.a.now s.b.now s.w.now q.new.w s.out.now
     q.new.out s.start)
     s.start (ruled_sign (named_rule (order_by s.wide) s.family s.n) s.a.now s.b.now)
-    (named_signed_call (order_by s.wide) s.family s.n s.a.now s.b.now s.w-1.now q.new.w s.out-1.now
+    (named_signed_call (order_by s.wide) s.family s.n s.a.now s.b.now s.w.now q.new.w s.out.now
     q.new.out s.start q.ensures.leaves _ s.sign.now sign)
     (q.ensures.leaves.0, (q.ensures.leaves.1.0, (sign, tt))) q.ensures.answer k.0 k.1

@@ -15,9 +15,9 @@ pub returns : goal.returns
 returns c =
     let q = c.named_symbol_by in
     let s = c.args in
-    let w = lent_to s.w-1 q.new.w in
-    let out = lent_to s.out-1 q.new.out in
+    let w = lent_to s.w q.new.w in
+    let out = lent_to s.out q.new.out in
     let k = c.of_filled-said.ensures in
-    call_made _ (symbol_numbered (group_check s.family s.n) (above_group s.family s.n) s.w-1.now
-    (needed_length (family_r (family_of s.family) s.n)) (named_rule (order_by s.wide) s.family s.n) s.out-1.now)
+    call_made _ (symbol_numbered (group_check s.family s.n) (above_group s.family s.n) s.w.now
+    (needed_length (family_r (family_of s.family) s.n)) (named_rule (order_by s.wide) s.family s.n) s.out.now)
     (symbol_says (order_by s.wide) s.family s.n w out q.ensures.leaves) q.ensures k.0 k.1

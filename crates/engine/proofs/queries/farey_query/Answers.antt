@@ -11,9 +11,9 @@ returns c =
     let q = c.query in
     let s = c.args in
     let k = c.of_query-said.ensures in
-    call_word _ (query_numbered s.v s.t.now s.a.now s.b.now s.w-1.now q.new.w s.out-1.now
+    call_word _ (query_numbered s.v s.t.now s.a.now s.b.now s.w.now q.new.w s.out.now
     q.new.out s.start)
     s.start (found_sign s.v s.t.now (of_list s.a.now) (of_list s.b.now))
-    (query_call_lem s.v s.t.now s.a.now s.b.now s.w-1.now q.new.w s.out-1.now q.new.out s.start
+    (query_call_lem s.v s.t.now s.a.now s.b.now s.w.now q.new.w s.out.now q.new.out s.start
     q.ensures.leaves)
     q.ensures.leaves q.ensures.answer k.0 k.1

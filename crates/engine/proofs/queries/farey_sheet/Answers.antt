@@ -12,7 +12,7 @@ pub returns : goal.returns
 returns c =
     let q = c.sheet in
     let s = c.args in
-    call_made _ (rows_numbered s.v s.t.now s.w-1.now (bad_count (length s.p.now)) 2048 (pairs_in s.p.now) (length s.lines-1.now / 4))
-    (sheet_says s.v s.t.now s.p.now s.w-1.now q.new.w s.lines-1.now q.new.lines s.out-1.now
+    call_made _ (rows_numbered s.v s.t.now s.w.now (bad_count (length s.p.now)) 2048 (pairs_in s.p.now) (length s.lines.now / 4))
+    (sheet_says s.v s.t.now s.p.now s.w.now q.new.w s.lines.now q.new.lines s.out.now
     q.new.out
     q.ensures.leaves) q.ensures c.of_filled-said.ensures.0 c.of_filled-said.ensures.1

@@ -24,12 +24,12 @@ returns c =
     (kept s.sign.now c.sign_written-arg-1.given) in
     let sign = sign_left_lem s.start (length (found_word s.v s.t.now (of_list s.a.now) (of_list s.b.now)))
     (found_sign s.v s.t.now (of_list s.a.now) (of_list s.b.now))
-    (verdict (query_run s.v s.t.now s.a.now s.b.now s.w-1.now q.new.w s.out-1.now q.new.out s.start))
+    (verdict (query_run s.v s.t.now s.a.now s.b.now s.w.now q.new.w s.out.now q.new.out s.start))
     q.ensures.answer s.sign.now told in
-    call_word _ (query_numbered s.v s.t.now s.a.now s.b.now s.w-1.now q.new.w s.out-1.now
+    call_word _ (query_numbered s.v s.t.now s.a.now s.b.now s.w.now q.new.w s.out.now
     q.new.out s.start)
     s.start (found_sign s.v s.t.now (of_list s.a.now) (of_list s.b.now))
-    (signed_call s.v s.t.now s.a.now s.b.now s.w-1.now q.new.w s.out-1.now q.new.out s.start
+    (signed_call s.v s.t.now s.a.now s.b.now s.w.now q.new.w s.out.now q.new.out s.start
     q.ensures.leaves
     _ s.sign.now sign)
     (q.ensures.leaves.0, (q.ensures.leaves.1.0, (sign, tt))) q.ensures.answer k.0 k.1

@@ -54,7 +54,7 @@ loop-i-preserved c =
     let z = s.requires in
     let l = c.loop-i in (
       omega arith,
-      rw add-one (pairs_more S R W O D z.0 z.1 l.w-1 l.out-1 l.i l.c l.invariant.1 (omega arith) _ _ _
+      rw add-one (pairs_more S R W O D z.0 z.1 l.w l.out l.i l.c l.invariant.1 (omega arith) _ _ _
           c.write_pairing-c.ensures),
     )
 
