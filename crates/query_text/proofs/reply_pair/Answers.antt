@@ -1,21 +1,17 @@
 -- `reply_pair` meets its contract: a word has its line, and any other answer has its number and place. Assumes nothing.
 use mathlib.Core.Path.{◌≡◌, sym, ap, ◌∙◌}
 use mathlib.Core.Bool.{Bool}
-use mathlib.Core.List.{List, [], ◌∷◌}
+use mathlib.Core.List.{List}
 use Prim.Native.Nat.{ℕ, ◌≤◌}
 use native.Mathlib.Omega.{arith}
 use lib.IntN.{ℤ}
 use lib.ListN.{length}
-use types.Run.{OneOf, miss}
-use denote.Enum.Declared.{tag_of}
 use Rattle.matrix.specs.Matrix.{of_list}
 use Rattle.text.specs.Line.{line, refusal_line}
 use Rattle.decimal.proofs.Placing.{puts_as}
 use Rattle.word.specs.Answer.{query_refusal, found_word, query_of, word_left, part_of}
-use Rattle.call.specs.declared.refusal.Refusal.{Refusal}
 use Rattle.word.specs.declared.Queried.{Queried}
 use Rattle.word.specs.declared.Queried.TheVariants.{Word}
-use Rattle.word.specs.contracts.Queried.{the_type}
 use Rattle.word.proofs.Order.{query_left}
 use Rattle.word.proofs.Returned.{part_found, word_most}
 use Rattle.query_text.specs.Reply.{word_head, said}
@@ -23,10 +19,6 @@ use Rattle.query_text.proofs.Replied.{said_other, replied_as}
 use borrow.Author.Rules.{rules}
 use Rattle.query_text.proofs.reply_pair.Goals.{After-query-answer, After-word_part-word, In-Word, Start}
 use Rattle.query_text.proofs.reply_pair.Goals as goal
-
--- the branch of the other answers isn't taken for a word
-never_word : (r : Queried) → OneOf (1 ∷ []) (tag_of the_type r) → (s n : ℕ) (q : Bool) → r ≡ Word s n q → ⊥
-never_word r h s n q e = miss (1 ∷ []) 0 tt (rw e at h)
 
 -- the word that was found
 module _ (n : After-word_part-word) where
@@ -89,7 +81,7 @@ returns-in_default c =
     let b = s.args.b in
     let same =
     ap refusal_line c.query_refusal-refusal.ensures
-    ∙ said_other r (found_word v t (of_list a) (of_list b)) (never_word r c.in-Word.in-Word-own.keys2)
+    ∙ said_other r (found_word v t (of_list a) (of_list b)) c.in_default.not-Word
     ∙ replied_as v t a b r (length s.args.w.now) (length s.args.letters.now) s.requires.work s.requires.lent q.query-answer.ensures.answer in
     puts_as same c.refusal_line.ensures
 
@@ -113,6 +105,6 @@ returns c =
     let b = s.args.b in
     let same =
     ap (line (word_head (sign (goal.at.returns c).After-word_part-word))) (part_is (goal.at.returns c).After-word_part-word)
-    ∙ ap (λ (x : Queried). said x (word (goal.at.returns c).After-word_part-word)) (sym (told (goal.at.returns c).After-word_part-word).answer.given.1)
+    ∙ ap (λ (x : Queried). said x (word (goal.at.returns c).After-word_part-word)) (sym (told (goal.at.returns c).After-word_part-word).in-Word.is)
     ∙ replied_as v t a b r (length s.args.w.now) (length s.args.letters.now) s.requires.work s.requires.lent q.query-answer.ensures.answer in
     puts_as same c.word_line.ensures.0

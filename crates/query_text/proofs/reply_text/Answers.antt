@@ -14,7 +14,7 @@ use Rattle.query_text.proofs.reply_text.Goals.{After-read_symbol-read, In-Number
 use Rattle.query_text.proofs.reply_text.Goals as goal
 
 abbrev begun : After-read_symbol-read → Start
-begun r = r
+begun r = (goal.at.After-read_symbol-read r).Start
 
 -- the numbers that were read
 module _ (d : In-Numbers) where
@@ -42,7 +42,7 @@ pub returns-in-Refused : goal.returns-in-Refused
 unfolding reply_of
 returns-in-Refused c =
     let a = c in
-    let r = a in
+    let r = (goal.at.returns-in-Refused c).After-read_symbol-read in
     let b = begun r in
     puts_as (by_input b.args.longer query_format b.args.text.now b.args.numbers.now b.requires.0 r.read_symbol-read.ensures replied_to refusal_line
     (Refused a.in-Refused.refusal) a.in-Refused.is) c.refusal_line.ensures
@@ -53,5 +53,5 @@ returns-in-Numbers c =
     let l = c in
     let d = l in
     let b = s (goal.at.returns-in-Numbers c).In-Numbers in
-    puts_as (by_standing b.args.longer query_format b.args.text.now b.args.numbers.now b.requires.0 (read (goal.at.returns-in-Numbers c).In-Numbers).read-symbol.ensures replied_to
+    puts_as (by_standing b.args.longer query_format b.args.text.now b.args.numbers.now b.requires.0 (read (goal.at.returns-in-Numbers c).In-Numbers).read_symbol-read.ensures replied_to
     refusal_line (omega arith) (k (goal.at.returns-in-Numbers c).In-Numbers) d.in-Numbers.is) l.reply_numbers.ensures

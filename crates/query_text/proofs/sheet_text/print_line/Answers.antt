@@ -35,7 +35,7 @@ module _ (m : After-word_part-word) where
       ∙ ap nat_abs (to_z-of_z {w = w64} {z = nth l 0} (record { sfits = m.size-arg-1.given }))
 
   no_number : m.size-number.result ≡ 0
-  no_number = m.if-number-ne0.left
+  no_number = m.if-number-ne0.false
 
   from_is : m.size-place.result ≡ nat_abs (nth l 1)
   from_is = m.size-place.ensures

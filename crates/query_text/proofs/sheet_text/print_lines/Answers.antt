@@ -19,9 +19,9 @@ pub loop-i-init : goal.loop-i-init
 loop-i-init c = (printing_none _ _ _, search rules)
 
 -- the next line, as the code lends it, and room for it
-module _ (l : At-loop-i invariant-loop decreases-loop) where
-  abbrev start : Start invariant-loop decreases-loop
-  start = l
+module _ (l : At-loop-i) where
+  abbrev start : Start
+  start = (goal.at.At-loop-i l).Start
 
   abbrev part : List ℤ
   part = take (4 * l.loop-i.i + 4 - 4 * l.loop-i.i) (drop (4 * l.loop-i.i) start.args.lines.now)
@@ -41,8 +41,8 @@ module _ (l : At-loop-i invariant-loop decreases-loop) where
     one_more = omega (
       arith,
       ap (λ (x : List ℤ). used x start.args.letters.now) part_is,
-      l.loop-i.inv.0.most,
-      l.loop-i.inv.0.same,
+      l.loop-i.invariant.0.most,
+      l.loop-i.invariant.0.same,
       start.requires.few,
       start.requires.word_space (suc l.loop-i.i) (omega arith),
       start.requires.out_long,
@@ -50,13 +50,13 @@ module _ (l : At-loop-i invariant-loop decreases-loop) where
 
 pub print_line-end-requires : goal.print_line-end-requires
 print_line-end-requires c =
-    let l = c in
+    let l = (goal.at.print_line-end-requires c).At-loop-i in
     (four_long l c.loop-i-test.true, one_more l c.loop-i-test.true)
 
 pub loop-i-preserved : goal.loop-i-preserved
 loop-i-preserved c =
     let p = c in
-    let l = c in (
+    let l = (goal.at.loop-i-preserved c).At-loop-i in (
       printing_more l.loop-i.invariant.0 (part_is l) p.print_line-end.ensures.puts p.print_line-end.ensures.upper_bound
           (omega (arith, p.print_line-end.ensures.upper_bound, one_more l c.loop-i-test.true)) (l.loop-i.i + 1)
           (add-one l.loop-i.i),
