@@ -6,6 +6,6 @@ use borrow.Author.Rules.{rules}
 use Rattle.index_table.proofs.main.Goals as goal
 
 pub slice_bounds-write_whole-end : goal.slice_bounds-write_whole-end
-slice_bounds-write_whole-end g c =
+slice_bounds-write_whole-end c =
     let l = c.constant_lines-end in
     sym (length-take-le l.result l.new.out (omega (arith, l.ensures.inside)))

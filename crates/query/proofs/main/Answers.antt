@@ -7,9 +7,9 @@ use borrow.Author.Rules.{rules}
 use Rattle.query.proofs.main.Goals as goal
 
 pub slice_bounds-out-end : goal.slice_bounds-out-end
-slice_bounds-out-end g c = omega (arith, answer_within c.reply-end.ensures)
+slice_bounds-out-end c = omega (arith, answer_within c.reply-end.ensures)
 
 pub slice_bounds-write_whole-end : goal.slice_bounds-write_whole-end
-slice_bounds-write_whole-end g c =
+slice_bounds-write_whole-end c =
     let made = c.reply-end in
     sym (length-take-le made.result made.new.out (answer_within made.ensures))
