@@ -1,4 +1,5 @@
-use mathlib.Core.Path.{sym, ◌∙◌}
+use mathlib.Core.Path.{sym, ◌∙◌, ap}
+use mathlib.Core.Bool.{not}
 use Prim.Native.Nat.{◌-◌, ◌≤◌}
 use native.Mathlib.Omega.{arith}
 use native.Mathlib.Numerals.{add-one}
@@ -20,7 +21,7 @@ returns-then-not-is_within c =
     let i = l.loop-i.i in
     sym (first_hit (oversized m) i 4 (omega (arith, c.loop-i-test.true)) l.loop-i.invariant.1
     (oversized_by m i _ c.is_within.result (kept (nth m i) c.is_within-arg-1.given) c.is_within.ensures
-    ∙ c.if-not-is_within.true))
+    ∙ ap not c.if-not-is_within.true))
 
 pub loop-i-preserved : goal.loop-i-preserved
 loop-i-preserved c =
@@ -30,7 +31,7 @@ loop-i-preserved c =
       search rules,
       rw add-one (clear_more (oversized m) i l.loop-i.invariant.1
           (oversized_by m i _ c.is_within.result (kept (nth m i) c.is_within-arg-1.given) c.is_within.ensures
-          ∙ c.if-not-is_within.false)),
+          ∙ ap not c.if-not-is_within.false)),
     )
 
 pub returns : goal.returns

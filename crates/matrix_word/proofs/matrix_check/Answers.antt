@@ -3,7 +3,6 @@ use mathlib.Core.Path.{◌≡◌, sym, ◌∙◌, ap}
 use Prim.Native.Nat.{ℕ, ◌≤◌, ◌^◌}
 use native.Mathlib.Omega.{arith}
 use lib.Dec.{lit≤}
-use borrow.Author.Tests.{not-true, not-false}
 use Rattle.basics.specs.Count.{first}
 use Rattle.matrix.specs.Matrix.{of_list}
 use Rattle.matrix.proofs.Bounds.{small_more}
@@ -32,9 +31,9 @@ determinant_is_one-requires c =
 pub returns-then-not-determinant_is_one : goal.returns-then-not-determinant_is_one
 returns-then-not-determinant_is_one c =
     let u = c.determinant_is_one in
-    unit_refused c.args.m (none_large (goal.at.returns-then-not-determinant_is_one c).Else-i-lt4) (sym u.ensures ∙ not-true u.result c.if-not-determinant_is_one.true)
+    unit_refused c.args.m (none_large (goal.at.returns-then-not-determinant_is_one c).Else-i-lt4) (sym u.ensures ∙ c.if-not-determinant_is_one.true)
 
 pub returns : goal.returns
 returns c =
     let u = c.determinant_is_one in
-    matrix_passes c.args.m (none_large (goal.at.returns c).Else-i-lt4) (sym u.ensures ∙ not-false u.result c.if-not-determinant_is_one.false)
+    matrix_passes c.args.m (none_large (goal.at.returns c).Else-i-lt4) (sym u.ensures ∙ c.if-not-determinant_is_one.false)

@@ -1,4 +1,5 @@
-use mathlib.Core.Path.{sym, ◌∙◌}
+use mathlib.Core.Path.{sym, ◌∙◌, ap}
+use mathlib.Core.Bool.{not}
 use Prim.Native.Nat.{◌-◌, ◌≤◌}
 use native.Mathlib.Omega.{arith}
 use native.Mathlib.Numerals.{add-one}
@@ -24,7 +25,7 @@ returns-then-not-is_small c =
     let e = c.entry_at in
     sym (first_hit (large s.args.a s.args.b) l.loop-i.i 8 (omega (arith, c.loop-i-test.true)) l.loop-i.invariant.1
     (large_by_lem s.args.a s.args.b l.loop-i.i _ c.is_small.result (kept e.result e.type_inv ∙ e.ensures) c.is_small.ensures
-    ∙ c.if-not-is_small.true))
+    ∙ ap not c.if-not-is_small.true))
 
 pub loop-i-preserved : goal.loop-i-preserved
 loop-i-preserved c =
@@ -34,7 +35,7 @@ loop-i-preserved c =
       search rules,
       rw add-one (clear_more (large s.args.a s.args.b) l.loop-i.i l.loop-i.invariant.1
           (large_by_lem s.args.a s.args.b l.loop-i.i _ c.is_small.result (kept e.result e.type_inv ∙ e.ensures)
-          c.is_small.ensures ∙ c.if-not-is_small.false)),
+          c.is_small.ensures ∙ ap not c.if-not-is_small.false)),
     )
 
 pub returns : goal.returns

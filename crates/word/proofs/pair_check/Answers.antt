@@ -1,10 +1,8 @@
 -- `pair_check` makes refusals 8 and 9 in their order. Why determinants may be computed: they are asked for only where no entry of the pair is
 -- large (`passed_small`). Assumes nothing.
 use mathlib.Core.Path.{◌≡◌, sym, ◌∙◌, ap}
-use mathlib.Core.Bool.{Bool, true, false, not}
 use Prim.Native.Nat.{ℕ, ◌≤◌}
 use native.Mathlib.Omega.{arith}
-use borrow.Author.Tests.{not-true, not-false}
 use Rattle.basics.specs.Count.{first}
 use Rattle.call.specs.Refusal.{matrix_entry}
 use Rattle.call.specs.declared.refusal.Checked.TheVariants.{Refused}
@@ -18,13 +16,6 @@ use Rattle.word.proofs.pair_check.Goals as goal
 -- no entry is too large
 large_none : (c : Else-i-lt8) → 8 ≤ first (large c.args.a c.args.b) 8
 large_none c = omega (arith, c.first_large-i.ensures, c.if-i-lt8.false)
-
--- a determinant, by the test of its negation
-on : {x y : Bool} → x ≡ y → not x ≡ false → y ≡ true
-on {x} e f = sym e ∙ not-false x f
-
-off : {x y : Bool} → x ≡ y → not x ≡ true → y ≡ false
-off {x} e f = sym e ∙ not-true x f
 
 pub returns-then-i-lt8 : goal.returns-then-i-lt8
 returns-then-i-lt8 c =
@@ -40,7 +31,7 @@ is_unit-requires c =
 pub returns-then-not-is_unit : goal.returns-then-not-is_unit
 returns-then-not-is_unit c =
     let s = c in
-    pair_A s.args.a s.args.b (large_none (goal.at.returns-then-not-is_unit c).Else-i-lt8) (off c.is_unit.ensures c.if-not-is_unit.true)
+    pair_A s.args.a s.args.b (large_none (goal.at.returns-then-not-is_unit c).Else-i-lt8) (sym c.is_unit.ensures ∙ c.if-not-is_unit.true)
 
 pub is_unit-requires-2 : goal.is_unit-requires-2
 is_unit-requires-2 c =
@@ -51,13 +42,13 @@ pub returns-then-not-is_unit-2 : goal.returns-then-not-is_unit-2
 returns-then-not-is_unit-2 c =
     let s = c in
     pair_B s.args.a s.args.b (large_none (goal.at.returns-then-not-is_unit-2 c).Else-i-lt8)
-    (on c.is_unit.ensures c.if-not-is_unit.false) (off c.is_unit-2.ensures c.if-not-is_unit-2.true)
+    (sym c.is_unit.ensures ∙ c.if-not-is_unit.false) (sym c.is_unit-2.ensures ∙ c.if-not-is_unit-2.true)
 
 pub returns : goal.returns
 returns c =
     let s = c in
     pair_passes s.args.a s.args.b (record {
       entries = large_none (goal.at.returns c).Else-i-lt8;
-      A = on c.is_unit.ensures c.if-not-is_unit.false;
-      B = on c.is_unit-2.ensures c.if-not-is_unit-2.false;
+      A = sym c.is_unit.ensures ∙ c.if-not-is_unit.false;
+      B = sym c.is_unit-2.ensures ∙ c.if-not-is_unit-2.false;
     })
