@@ -40,7 +40,7 @@ slice_bounds-t-end c =
     omega (
       arith,
       most s.args.f s.args.n s.requires.group o zeros3070 m.new.out zeros3070_long m.ensures.fills c.in-Made.is,
-      c.t-2-1.given,
+      c.make_symbol-made.auto.out,
     )
 
 pub slice_bounds-query-end : goal.slice_bounds-query-end
@@ -71,4 +71,4 @@ returns-in-Made c =
     c.in-Made.is
     s.args.a s.args.b s.args.w.now m.new.w q.new.w s.args.out.now q.new.out s.args.start
     s.requires
-    earlier.w-1.given q.ensures
+    earlier.make_symbol-made.auto.w q.ensures

@@ -21,4 +21,4 @@ returns c =
     let i = t in
     let s = i in
     tables_in_room s.args.f s.args.n s.requires.0 i.family_index-k.ensures s.args.s.now s.args.r.now (omega arith) (omega arith)
-    t.tables.ensures.s_after.0 t.tables.ensures.s_after.1.0
+    t.tables.ensures.s_after t.tables.ensures.r_after

@@ -9,4 +9,4 @@ pub returns : goal.returns
 returns c =
     let k = c in
     let b = k in
-    record { fills = b.fill_tables-made.ensures; w_after = k.clear.ensures ∙ ap zeros b.w-1.given }
+    record { fills = b.fill_tables-made.ensures; w_after = k.clear.ensures ∙ ap zeros b.fill_tables-made.auto.w }

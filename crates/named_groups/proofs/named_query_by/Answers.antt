@@ -32,21 +32,21 @@ pub returns-then-w-lt-WORK : goal.returns-then-w-lt-WORK
 returns-then-w-lt-WORK c =
     let d = c in
     let s = (st (first (goal.at.returns-then-w-lt-WORK c).In-Accepted-paired)).args in
-    fills_as (by_short (group_check s.k s.n) (matrices_check s.a s.b) s.w-1.now _ (ok (first (goal.at.returns-then-w-lt-WORK c).In-Accepted-paired)) (pair (goal.at.returns-then-w-lt-WORK c).In-Accepted-paired) c.if-w-lt-WORK.true (refl, tt)) refl
+    fills_as (by_short (group_check s.k s.n) (matrices_check s.a s.b) s.w.now _ (ok (first (goal.at.returns-then-w-lt-WORK c).In-Accepted-paired)) (pair (goal.at.returns-then-w-lt-WORK c).In-Accepted-paired) c.if-w-lt-WORK.true (refl, tt)) refl
 
 pub answer_query-requires : goal.answer_query-requires
 answer_query-requires c =
     let l = c in
     let d = l in
     let s = (st (first (goal.at.answer_query-requires c).In-Accepted-paired)).args in
-    query_ready s.k s.n s.a s.b s.w-1.now (ok (first (goal.at.answer_query-requires c).In-Accepted-paired)) (passed_by s.a s.b (pair (goal.at.answer_query-requires c).In-Accepted-paired)) l.if-w-lt-WORK.false c.family_of.ensures
+    query_ready s.k s.n s.a s.b s.w.now (ok (first (goal.at.answer_query-requires c).In-Accepted-paired)) (passed_by s.a s.b (pair (goal.at.answer_query-requires c).In-Accepted-paired)) l.if-w-lt-WORK.false c.family_of.ensures
 
 pub returns-in-Refused : goal.returns-in-Refused
 returns-in-Refused c =
     let k = c in
     let s = k.args in
     fills_as
-    (by_first_lem (group_check s.k s.n) (matrices_check s.a s.b) s.w-1.now _ k.in-Refused.refusal
+    (by_first_lem (group_check s.k s.n) (matrices_check s.a s.b) s.w.now _ k.in-Refused.refusal
     (sym k.check-checked.ensures.returned ∙ k.in-Refused.is) (refl, tt)) refl
 
 pub returns-in-Refused-paired : goal.returns-in-Refused-paired
@@ -55,7 +55,7 @@ returns-in-Refused-paired c =
     let j = k in
     let s = (st (goal.at.returns-in-Refused-paired c).In-Accepted).args in
     fills_as
-    (by_second_lem (group_check s.k s.n) (matrices_check s.a s.b) s.w-1.now _ (ok (goal.at.returns-in-Refused-paired c).In-Accepted) k.in-Refused-paired.refusal
+    (by_second_lem (group_check s.k s.n) (matrices_check s.a s.b) s.w.now _ (ok (goal.at.returns-in-Refused-paired c).In-Accepted) k.in-Refused-paired.refusal
     (sym j.pair_check-paired.ensures ∙ k.in-Refused-paired.is) (refl, tt)) refl
 
 pub returns-else-w-lt-WORK : goal.returns-else-w-lt-WORK
@@ -64,7 +64,7 @@ returns-else-w-lt-WORK c =
     let d = l in
     let s = (st (first (goal.at.returns-else-w-lt-WORK c).In-Accepted-paired)).args in
     let q = c.answer_query in
-    let f = as_named (order_by s.wide) s.k s.n s.a s.b s.out-1.now q.new.out s.start
+    let f = as_named (order_by s.wide) s.k s.n s.a s.b s.out.now q.new.out s.start
     c.family_of.ensures q.ensures.fills in
-    fills_as (by_long (group_check s.k s.n) (matrices_check s.a s.b) s.w-1.now _ (ok (first (goal.at.returns-else-w-lt-WORK c).In-Accepted-paired)) (pair (goal.at.returns-else-w-lt-WORK c).In-Accepted-paired) _ l.if-w-lt-WORK.false q.ensures.w_after (ran f))
+    fills_as (by_long (group_check s.k s.n) (matrices_check s.a s.b) s.w.now _ (ok (first (goal.at.returns-else-w-lt-WORK c).In-Accepted-paired)) (pair (goal.at.returns-else-w-lt-WORK c).In-Accepted-paired) _ l.if-w-lt-WORK.false q.ensures.w_after (ran f))
     f.answer
