@@ -1,10 +1,10 @@
 -- The part of a text that is judged, as the code finds it, and the refusal of an input that goes on.
---     run-begin, run_step, run-found, run_none    the loop back over the digits at the end of a text
---     judged-whole, judged-cut, judged-over       where the part that is judged ends
---     stays-12, stays-27, past_end, past-both     the refusal by the tests that the code makes
+--     run_begin, run_step, run_found, run_none    the loop back over the digits at the end of a text
+--     judged_whole, judged_cut, judged_over       where the part that is judged ends
+--     stays_12, stays_27, past_end, past_both     the refusal by the tests that the code makes
 --     pair_cut                          one of the refusals 13 to 15 is 27 with the place 65,536
---     read_as_lem, tables-left              the answer of `read_cycles` and what it leaves, in tables of the program's length
---     answer-cut, answer-whole          the answer to an input that goes on, and to one that does not
+--     read_as_lem, tables_left              the answer of `read_cycles` and what it leaves, in tables of the program's length
+--     answer_whole                      the answer to an input that does not go on
 -- Assumes nothing.
 use mathlib.Core.Path.{◌≡◌, sym, ap, ◌∙◌}
 use mathlib.Core.Logic.{◌≢◌}

@@ -2,7 +2,7 @@
 --     Made, made_pair   where tables come out: they are a pair of permutations of as many points as the answer says
 --     answer_cut        the answer to an input that goes on, as the code makes it
 --     front_of          the tables stand at the front of the lent ones
---     pair-as, fits-as  the text of a pair, and that it fits, for equal tables
+--     pair_as, fits_as  the text of a pair, and that it fits, for equal tables
 --     lines_by_lem      the lines for an answer
 --     printed           what the bytes mean
 -- Assumes nothing.

@@ -4,7 +4,7 @@
 --     run_digits            the run has digits only
 --     without-whole, without-digits    a text that ends in no digit has no run; one of digits only is the run
 --     pieces_split          the pieces of a longer text: those before the run, and those from the run on
---     rest-of-run, grows    a run alone begins one piece; with more behind it it says at least as much
+--     rest_of_run, grows    a run alone begins one piece; with more behind it it says at least as much
 -- Assumes nothing.
 use mathlib.Core.Path.{◌≡◌, refl, sym, ap, ◌∙◌}
 use mathlib.Core.Bool.{Bool, true, false, ◌&&◌}

@@ -27,7 +27,7 @@ use Rattle.cycle_notation.proofs.Alive.{run_append, alive_completes, completes_a
 use Rattle.cycle_notation.proofs.Wrong.{bare_append, index_out_is, bad_behind}
 use Rattle.cycle_notation.proofs.Only.{shorter, verdict_only}
 use Rattle.cycle_reading.proofs.Left.{begins_number, goes_on, is_mark}
-use Rattle.cycle_reading.proofs.Filling.{in_range}
+use Rattle.cycle_reading.proofs.Filling.{range_of}
 use Rattle.cycle_texts.specs.Cut.{all_digits, without_run, last_run}
 use Rattle.cycle_texts.proofs.CyclesRuns.{split_run, run_digits, all_head, all_tail, pieces_split, grows}
 
@@ -178,7 +178,7 @@ ranged_R n sc over h = tt
 ranged_R n sc stop h = tt
 
 ranged_index : (n : ℕ) (b : Bool) → in_range n ≡ b → Ranged (pick b (within_S n start [] [] []) dead)
-ranged_index n true e = (in_range n e).1
+ranged_index n true e = (range_of n e).1
 ranged_index n false e = tt
 
 ranged_piece : (semi : Bool) (q : State) (p : CyclePiece) → Ranged q → Ranged (read_piece semi q p)

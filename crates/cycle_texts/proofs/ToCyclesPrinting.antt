@@ -1,6 +1,6 @@
 -- Laws of the line that is printed.
---     MadeLine, made-line         where an export is made: its length, its line, and its bytes at the front of the slice
---     RefusedLine, refused-line   where it is refused: its line, and the slice as it was; 11 does not occur, by the length of an export
+--     MadeLine, made_line         where an export is made: its length, its line, and its bytes at the front of the slice
+--     RefusedLine, refused_line   where it is refused: its line, and the slice as it was; 11 does not occur, by the length of an export
 --     puts_from                   bytes put into a slice that is as it was
 --     line_as                     the line for what is asked, in other words
 --     print_means                 what the bytes mean

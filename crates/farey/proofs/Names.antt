@@ -3,7 +3,7 @@
 --                   start, a turn and its end; `other_length`, `other_byte`: two that aren't the same
 --   one_job         a name finds one job, or nothing, and not both
 --   no_job          a name that is none of the ten finds nothing
---   says-yes, says-no   what a test that `Says` says, by how it came out
+--   says_yes, says_no   what a test that `Says` says, by how it came out
 -- Why no two jobs have one name: length and first byte together tell them apart (`place`). Assumes nothing.
 use mathlib.Core.Path.{◌≡◌, refl, sym, subst, ◌∙◌, ap}
 use mathlib.Core.Bool.{Bool, true, false}

@@ -13,7 +13,7 @@ ghost use Rattle.farey.specs.Jobs.{FindsJob};
 ghost use Rattle.farey.specs.Inner.Says.{Says};
 
 use jobs::answer_named;
-use libc::STDERR_FILENO;
+use std::env::{Env, FillError};
 
 // What the program can be asked for.
 #[derive(Clone, Copy)]
@@ -37,25 +37,33 @@ enum Found {
     Nothing,
 }
 
-fn main() {
-    // The program's own name counts too.
-    if os::arg_count() != 2 {
-        tell_names();
+fn main(rt: HostRuntime) {
+    // The longest name has 12 bytes. An argument that is longer than 16 is none.
+    let mut name = [0u8; 16];
+    let Ok(n) = rt.arg(1, &mut name) else {
+        tell_names(&rt);
+        return;
+    };
+    if more_arguments(&rt) {
+        tell_names(&rt);
         return;
     }
-    // The longest name has 12 bytes. Of an argument that is longer than 16 none is taken.
-    let mut name = [0u8; 16];
-    let n = os::arg(1, &mut name);
     // A name of no job waits for no input.
     let Found::Job(_) = find_job(&name[..n]) else {
-        tell_names();
+        tell_names(&rt);
         return;
     };
     let mut text = [0u8; 65536];
-    let input = stdio::read_whole(&mut text);
+    let input = stdio::read_whole(&rt, &mut text);
     let mut out = [0u8; 131072];
     let end = answer_named(&name[..n], &text, input, &mut out);
-    stdio::write_whole(&out[..end]);
+    stdio::write_whole(&rt, &out[..end]);
+}
+
+// Whether there is more than one argument: the program's own name has the number 0.
+fn more_arguments<R: Env>(rt: &R) -> bool {
+    let mut second = [0u8; 1];
+    !matches!(rt.arg(2, &mut second), Err(FillError::NotPresent))
 }
 
 // The job that has this name.
@@ -113,10 +121,9 @@ fn is(one: &[u8], other: &[u8]) -> bool
 }
 
 // Tells, in one line, what the argument may be.
-fn tell_names() {
-    io::write_all(
-        STDERR_FILENO,
-        b"farey: the one argument is sheet, import, import-wide, named, same, exchange, ",
+fn tell_names<R: Eprint>(rt: &R) {
+    let _ = rt.eprint(
+        "farey: the one argument is sheet, import, import-wide, named, same, exchange, ",
     );
-    io::write_all(STDERR_FILENO, b"intersection, tower, cycles or to-cycles\n");
+    let _ = rt.eprintln("intersection, tower, cycles or to-cycles");
 }

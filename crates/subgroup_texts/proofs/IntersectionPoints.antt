@@ -2,7 +2,7 @@
 --     intersected       what is made is the intersection of two symbols' subgroups
 --     few_points        and has at most 3,066 points
 --     made_fits         so its tables are a pair that fits: they are permutations, and the identity leads to one of their points
---     made-for, stored  the answer of the call in the program's spaces, which have room for that; and the tables in them
+--     made_for, stored  the answer of the call in the program's spaces, which have room for that; and the tables in them
 --     column_front      a table that was given stands at the front of its space
 -- Assumes nothing.
 use mathlib.Core.Path.{◌≡◌, refl, sym, ap, ◌∙◌}

@@ -1,5 +1,5 @@
 -- The lines.
---     yes-line, no_line, refused-line     the line for an answer of `same`
+--     yes_line, no_line, refused_line     the line for an answer of `same`
 --     rest_part                           the rest of a list, as the code lends it
 --     same_for_lem                        the line for two symbols
 --     print_means                         what the bytes mean

@@ -1,13 +1,13 @@
 -- What a text gives, by the answers of `read`, and what is written.
 --     outcome                    a text that isn't too long, by what the first text's reading gives
---     PartRead, part-as          one of the two texts was read, however the code lends it
+--     PartRead, part_as          one of the two texts was read, however the code lends it
 --     second_is                  the second text, as the code lends it
 --     few, enough                whether the first text has more than v
---     counts, no-counts          the counts of the numbers that are handed on
+--     counts, no_counts          the counts of the numbers that are handed on
 --     too_long                   a text that is too long
 --     not_longer                 a text that fits into the buffer
 --     lines_as                   the lines of what is asked, by what the reading gives
---     refused_as, symbols-as     those for a refusal, and for two symbols
+--     refused_as, symbols_as     those for a refusal, and for two symbols
 -- Assumes nothing.
 use mathlib.Core.Path.{◌≡◌, refl, sym, ap, ◌∙◌}
 use mathlib.Core.Bool.{Bool, true, false, ◌||◌}

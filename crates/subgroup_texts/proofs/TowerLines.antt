@@ -1,5 +1,5 @@
 -- The bytes.
---     passes_line, refused-line     the line for an answer
+--     passes_line, refused_line     the line for an answer
 --     numbers_line                  the line for the numbers of a text
 --     by_reading_lem                the bytes for a text, by what it gives
 --     print_means                   what the bytes mean

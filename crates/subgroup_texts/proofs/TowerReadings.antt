@@ -1,7 +1,7 @@
 -- What a text gives, as the code finds it.
---     by-none, by-negative, by_number     by the first number
---     too_long, survey-bad, survey-good   by the length, and by the pieces
---     All, all-reading                    numbers that are handed on are all of the text's, at least one of them
+--     by_none, by_negative, by_number     by the first number
+--     too_long, survey_bad, survey_good   by the length, and by the pieces
+--     All, all_reading                    numbers that are handed on are all of the text's, at least one of them
 -- Assumes nothing.
 use mathlib.Core.Path.{◌≡◌, refl, sym, ap, ◌∙◌}
 use mathlib.Core.Bool.{Bool, true, false, ◌||◌}

@@ -1,7 +1,7 @@
 -- The lines of an exchange.
 --
---     made-lines, refused-lines      the answer of `exchange` in the program's table, and its lines
---     few-lines, enough-lines        the lines for the numbers of a text, by the test that the code makes
+--     made_symbol, refused_lines     the answer of `exchange` in the program's table, and its lines
+--     few_lines, enough_lines        the lines for the numbers of a text, by the test that the code makes
 --     print_means                    what the bytes mean
 -- Assumes nothing.
 use mathlib.Core.Path.{◌≡◌, refl, sym, ap, ◌∙◌}

@@ -1,11 +1,11 @@
 -- Laws of what is answered and left.
 --     front_is                          what stands at the front of the result space is the symbol's table
 --     own_spaces                        what is refused where no space is too short
---     lines_are, symbol-is, front-made  the lines of an import in the program's spaces; where a symbol was made, what it is and where its table stands
---     few-numbers, enough-numbers       what the numbers of a text ask for
+--     lines_are, symbol_is, front_made  the lines of an import in the program's spaces; where a symbol was made, what it is and where its table stands
+--     few_numbers, enough_numbers       what the numbers of a text ask for
 --     numbers_by                        what is left of the numbers by the answer of `read_input`
 --     read_refused                      what is asked where `read_tables` refuses
---     tables-none, tables-some, tables-as    no tables are read; two tables; the same in other words
+--     tables_none, tables_some, tables_as    no tables are read; two tables; the same in other words
 --     lines_as                          the lines for what is asked, in other words
 -- Assumes nothing.
 use mathlib.Core.Path.{◌≡◌, refl, sym, ap, subst, ◌∙◌}

@@ -1,9 +1,9 @@
 -- Numbers of a text as entries of a table.
---     negative-point, small-point, large-point     the entry, by the tests that the code makes
---     small-natural, small-fits                    a number that becomes an entry as it is
+--     negative_point, small_point, large_point     the entry, by the tests that the code makes
+--     small_natural, small_fits                    a number that becomes an entry as it is
 --     filled_none                                  no table at the front of a slice
 --     points_more                                  one entry more
---     part_length, table-length, part_filled, filled-take    a part of the numbers, and a table that is filled from it
+--     part_length, table_length_lem, part_filled, filled_take    a part of the numbers, and a table that is filled from it
 -- Assumes nothing.
 use mathlib.Core.Path.{◌≡◌, refl, sym, ap, ◌∙◌}
 use mathlib.Core.Bool.{Bool, true, false}

@@ -1,5 +1,5 @@
 -- Lines of numbers.
---     empty-line, full-line     a line of no number, and one of some
+--     empty_line, full_line     a line of no number, and one of some
 --     rest_is                   the part of a list behind a place, as the code takes it
 -- Assumes nothing.
 use mathlib.Core.Path.{◌≡◌, refl, sym, ap, ◌∙◌}

@@ -1,6 +1,6 @@
 -- What is asked and answered is known by the cases of the definitions; what is printed is read back as a symbol of the group because the symbol that the rule
 -- gives for the group's tables is one (`print_means`).
---     few-numbers, enough-numbers       what the numbers of a text ask for
+--     few_numbers, enough_numbers       what the numbers of a text ask for
 --     lines_as                          the lines for what is asked, in other words
 -- Assumes nothing.
 use mathlib.Core.Path.{◌≡◌, refl, sym, ap, subst, ◌∙◌}

@@ -1,6 +1,6 @@
 -- The symbol of a group is made under the order that `order_for` names: a first call that is refused with 16 leaves spaces of the same lengths, so the second
 -- call has room too.
---     symbol-first, symbol-wide   the two ways out
+--     symbol_first, symbol_wide   the two ways out
 --     lines_are                   the lines of the answer
 -- Assumes nothing.
 use mathlib.Core.Path.{◌≡◌, sym, ap, subst, ◌∙◌}

@@ -2,7 +2,7 @@
 --     below_rest        the entries behind the first are below n too
 --     table_line_is     the first number, the others behind spaces, the line feed
 --     one_line_is       a line of one number
---     count_most, point-most     a number below 10,000 and a point have four digits at most
+--     count_most, point_most     a number below 10,000 and a point have four digits at most
 --     pair_fits                  a pair of permutations fits
 -- Assumes nothing.
 use mathlib.Core.Path.{◌≡◌, refl, ap, ◌∙◌}

@@ -67,7 +67,7 @@ pub returns-in-Made : goal.returns-in-Made
 returns-in-Made c =
     let k = c in
     puts_as (pair_as (front_S (goal.at.returns-in-Made c).In-Made) (front_R (goal.at.returns-in-Made c).In-Made)
-    ∙ lines_by_lem (start (goal.at.returns-in-Made c).In-Made).args.longer (start (goal.at.returns-in-Made c).In-Made).args.text.now _ (sym k.in-Made.is ∙ (called (goal.at.returns-in-Made c).In-Made).read-tables.ensures.0))
+    ∙ lines_by_lem (start (goal.at.returns-in-Made c).In-Made).args.longer (start (goal.at.returns-in-Made c).In-Made).args.text.now _ (sym k.in-Made.is ∙ (called (goal.at.returns-in-Made c).In-Made).read_tables-read.ensures.value))
     c.pair_lines.ensures
 
 pub returns-in-Refused : goal.returns-in-Refused

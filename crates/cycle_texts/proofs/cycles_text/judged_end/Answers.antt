@@ -8,16 +8,16 @@ returns-then-run-le3066 c =
     let d = c in
     let l = d in
     let s = l in
-    judged_cut s.args.longer s.args.text.now l.last_run_lem.result d.digits_at-run.result l.if-longer.true
-    l.last_run_lem.ensures d.digits_at-run.ensures c.if-run-le3066.true
+    judged_cut s.args.longer s.args.text.now l.last_run-at.result d.digits_at-run.result l.if-longer.true
+    l.last_run-at.ensures d.digits_at-run.ensures c.if-run-le3066.true
 
 pub returns-else-run-le3066 : goal.returns-else-run-le3066
 returns-else-run-le3066 c =
     let d = c in
     let l = d in
     let s = l in
-    judged_over s.args.longer s.args.text.now l.last_run_lem.result d.digits_at-run.result l.if-longer.true
-    l.last_run_lem.ensures d.digits_at-run.ensures c.if-run-le3066.false
+    judged_over s.args.longer s.args.text.now l.last_run-at.result d.digits_at-run.result l.if-longer.true
+    l.last_run-at.ensures d.digits_at-run.ensures c.if-run-le3066.false
 
 pub returns-else-longer : goal.returns-else-longer
 returns-else-longer c = let s = c in judged_whole s.args.longer s.args.text.now c.if-longer.false

@@ -46,7 +46,7 @@ returns-then-longer c =
     let m = c in
     let s = begun (goal.at.returns-then-longer c).After-read_cycles-read in record {
       value = c.cut_answer.ensures
-          ∙ answer_cut s.args.longer s.args.text.now (ended (goal.at.returns-then-longer c).After-read_cycles-read).judged-end.result m.read_cycles-read.result
+          ∙ answer_cut s.args.longer s.args.text.now (ended (goal.at.returns-then-longer c).After-read_cycles-read).judged_end-end.result m.read_cycles-read.result
           ((part (goal.at.returns-then-longer c).After-read_cycles-read).long ∙ ap length (part (goal.at.returns-then-longer c).After-read_cycles-read).same) (told (goal.at.returns-then-longer c).After-read_cycles-read) c.if-longer.true;
       cycles_leave = left (goal.at.returns-then-longer c).After-read_cycles-read;
     }

@@ -71,7 +71,7 @@ module _ (q : After-read-second) where
   begun = parted (read1 first)
 
   several : 2 ≤ count first
-  several = omega (arith, q.if-k-lt2.left)
+  several = omega (arith, q.if-k-lt2.false)
 
   abbrev stood2 : List ℤ
   stood2 = q.read-second.new.out

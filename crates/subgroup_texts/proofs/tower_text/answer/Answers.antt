@@ -54,12 +54,8 @@ tower_numbers-requires c =
 
 pub returns-in-Refused : goal.returns-in-Refused
 returns-in-Refused c =
-    let a = c in
-    let r = a in
-    let s = r in
-    let told = a.read-1.given in
-    let x = Refused told.0.0 in
-    puts_as (by_reading_lem s.args.longer s.args.text.now x (sym told.1 ∙ r.read_tower-read.ensures.0)) c.refusal_line.ensures
+    let x = Refused c.in-Refused.refusal in
+    puts_as (by_reading_lem c.args.longer c.args.text.now x (sym c.in-Refused.is ∙ c.read_tower-read.ensures.0)) c.refusal_line.ensures
 
 pub returns-in-Numbers : goal.returns-in-Numbers
 returns-in-Numbers c =

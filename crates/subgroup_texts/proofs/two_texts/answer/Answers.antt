@@ -74,5 +74,4 @@ returns-in-Refused c =
 
 pub returns-in-Numbers : goal.returns-in-Numbers
 returns-in-Numbers c =
-    let d = c in
-    lines_as (start (goal.at.returns-in-Numbers c).In-Numbers).args.asked (read (goal.at.returns-in-Numbers c).In-Numbers).read-two.ensures (told (goal.at.returns-in-Numbers c).In-Numbers) refl c.two_lines.ensures
+    lines_as c.args.asked c.read_two-reading.ensures c.in-Numbers.is refl c.two_lines.ensures

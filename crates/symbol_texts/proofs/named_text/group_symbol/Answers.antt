@@ -11,7 +11,7 @@ returns-then-is_over c =
     let y = c.named_symbol_by in
     let over = sym c.is_over.ensures ∙ c.if-is_over.true in
     let made = symbol_wide c.args.k c.args.n c.args.w.now x.new.w c.args.table.now x.new.out c.requires.0 c.requires.1 x.result
-        x.ensures over (omega arith) (omega arith) y.new.w y.new.out y.result y.ensures in
+    x.ensures over (omega arith) (omega arith) y.new.w y.new.out y.result y.ensures in
     record { value = made.0; symbol_front = made.1 }
 
 pub returns : goal.returns
@@ -19,5 +19,5 @@ returns c =
     let x = c.named_symbol_by-first in
     let over = sym c.is_over.ensures ∙ c.if-is_over.false in
     let made = symbol_first c.args.k c.args.n c.args.w.now x.new.w c.args.table.now x.new.out c.requires.0 c.requires.1 x.result
-        x.ensures over in
+    x.ensures over in
     record { value = made.0; symbol_front = made.1 }
