@@ -1,6 +1,6 @@
 /* Permutations in cycle notation, as other algebra systems keep them: read, made into a symbol, and written.
  *
- *     rt staticlib engine
+ *     tools/prove staticlib engine
  *     cc -I include examples/library/cycles.c target/staticlib/libengine.a -o cycles && ./cycles
  *
  * What is expected stands in cycles.output, worked out by hand: (1,2) and (1,3,2) are S and R of Γ0(2), whose symbol is 0/1, 1/1 with the pairings

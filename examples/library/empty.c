@@ -1,6 +1,6 @@
 /* NULL for every space of length 0, which is what a C program has there: each call answers as the header says, and touches nothing.
  *
- *     rt staticlib engine
+ *     tools/prove staticlib engine
  *     cc -I include examples/library/empty.c target/staticlib/libengine.a -o empty && ./empty
  *
  * The group is Γ0(2), and Γ(2) where two labels are needed. What is expected stands in empty.output: the number of each answer, and its place or count. */

@@ -1,6 +1,6 @@
 /* Two labels of Γ(2) exchange partners: what the group would become, then the symbol itself, then back.
  *
- *     rt staticlib engine
+ *     tools/prove staticlib engine
  *     cc -I include examples/library/exchange.c target/staticlib/libengine.a -o exchange && ./exchange
  *
  * What is expected stands in exchange.output, worked out by hand: the group with pairings 1 2 1 2 is the commutator subgroup of PSL2(Z), the

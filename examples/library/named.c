@@ -1,6 +1,6 @@
 /* Groups by name: Γ0(11), its tables, its symbol and words, and what is refused: every call by name, from C.
  *
- *     rt staticlib engine
+ *     tools/prove staticlib engine
  *     cc -I include examples/library/named.c target/staticlib/libengine.a -o named && ./named
  *
  * The output is in named.output. */

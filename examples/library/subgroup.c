@@ -1,6 +1,6 @@
 /* From two permutations to a symbol, its figures, generators and coset tables, words, and the sides of its polygon.
  *
- *     rt staticlib engine
+ *     tools/prove staticlib engine
  *     cc -I include examples/library/subgroup.c target/staticlib/libengine.a -o subgroup && ./subgroup
  *
  * The group has index 7, and no congruence describes it. The output is in subgroup.output. */

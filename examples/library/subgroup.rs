@@ -1,7 +1,7 @@
 //! From two permutations to a symbol, its figures, generators and coset tables,
 //! and words: the library from Rust.
 //!
-//!     rt staticlib engine
+//!     tools/prove staticlib engine
 //!     cargo run --manifest-path rust/Cargo.toml -p farey --example subgroup
 //!
 //! The group has index 7, and no congruence describes it. The output is in

@@ -1,6 +1,6 @@
 /* Several subgroups: which contains which, where two of them meet, and towers.
  *
- *     rt staticlib engine
+ *     tools/prove staticlib engine
  *     cc -I include examples/library/subgroups.c target/staticlib/libengine.a -o subgroups && ./subgroups
  *
  * The groups are PSL2(Z), Γ0(2), a conjugate of it and Γ(2). What is expected stands in subgroups.output, worked out by hand: modulo 2 PSL2(Z) becomes

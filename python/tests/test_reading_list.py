@@ -53,7 +53,7 @@ class Shelves(unittest.TestCase):
             for number, files in ((2, jobs), (3, pinned)):
                 other = next(file for file in files if "abbrev pub" in file.read_text("utf-8"))
                 name = re.search(r"^(?:abbrev|unfoldable) pub (\w+) :", other.read_text("utf-8"), re.M)[1]
-                taken = f"use Rattle·{other.parents[1].name}.specs.{other.stem}.{{{name}}}\n{text}\nabbrev pub one-more : Type 0\none-more = {name}\n"
+                taken = f"use Rattle.{other.parents[1].name}.specs.{other.stem}.{{{name}}}\n{text}\nabbrev pub one-more : Type 0\none-more = {name}\n"
                 path.write_text(taken, "utf-8")
                 self.assert_names(copy, f"{path.relative_to(copy)} names of {other.relative_to(copy)} (shelf {number}): {name}")
 

@@ -37,7 +37,7 @@ class Sentences(unittest.TestCase):
             copy = Path(folder)
             named = ["tools/refusals", "rust/farey/refusals.txt", "include/farey.h", "python/farey/refusal.py"]
             named += ["docs/HANDBOOK.md", "docs/CONVENTIONS.md"]
-            (statements,) = [path for path in (by_hand.REPOSITORY / "crates").glob("*/specs/*.antt") if "abbrev pub noRefusal" in path.read_text("utf-8")]
+            (statements,) = [path for path in (by_hand.REPOSITORY / "crates").glob("*/specs/*.antt") if "abbrev pub no_refusal" in path.read_text("utf-8")]
             home = statements.relative_to(by_hand.REPOSITORY)
             (source,) = [
                 path.relative_to(by_hand.REPOSITORY)
@@ -58,7 +58,7 @@ class Sentences(unittest.TestCase):
                 ("docs/HANDBOOK.md", "5. no vertex is 0/1", "5. a vertex is 0/1"),
                 ("docs/CONVENTIONS.md", "| 21 | ", "| 22 | "),
                 (str(home), "refusal 14 x", "refusal 15 x"),
-                (str(home), "badPairing", "wrongPairing"),
+                (str(home), "bad_pairing", "wrong_pairing"),
                 (str(source), "NO_WORD: u64 = 10", "NO_WORD: u64 = 11"),
             ):
                 text = (copy / name).read_text("utf-8")

@@ -1,5 +1,5 @@
-//! Links the archive of the proved engine, `libengine.a`, which `rt staticlib
-//! engine` makes in the root of the repository, in `target/staticlib`. A copy of
+//! Links the archive of the proved engine, `libengine.a`, which `tools/prove
+//! staticlib engine` makes in the repository, in `target/staticlib`. A copy of
 //! this crate elsewhere is told the archive's folder by `FAREY_LIBRARY_DIR`.
 
 use std::env;
@@ -24,7 +24,7 @@ fn main() {
     );
     assert!(
         archive.is_file(),
-        "there is no {}: run `rt staticlib engine` in the repository, or set {VARIABLE} to the folder of libengine.a",
+        "there is no {}: run `tools/prove staticlib engine` in the repository, or set {VARIABLE} to the folder of libengine.a",
         archive.display()
     );
     println!("cargo:rustc-link-search=native={}", folder.display());
