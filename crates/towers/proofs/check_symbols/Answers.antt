@@ -44,14 +44,14 @@ returns-in_default c =
     let s = l in
     c.in_default.is
     ∙ check_stops s.args.n s.args.t.now s.args.n l.loop-i.i c.in_default.field-0 (omega arith) l.loop-i.invariant.1
-    (sym (said k) ∙ c.in_default.is)
+    (sym (said (goal.at.returns-in_default c).After-check_entry-checked) ∙ c.in_default.is)
 
 pub loop-i-preserved : goal.loop-i-preserved
 loop-i-preserved c =
     let k = c in
     let l = k in
     let s = l in
-    (search rules, rw add-one (symbols_more s.args.n s.args.t.now l.loop-i.i l.loop-i.invariant.1 (sym (said k) ∙ c.in-Accepted.is)))
+    (search rules, rw add-one (symbols_more s.args.n s.args.t.now l.loop-i.i l.loop-i.invariant.1 (sym (said (goal.at.loop-i-preserved c).After-check_entry-checked) ∙ c.in-Accepted.is)))
 
 pub returns : goal.returns
 returns c =

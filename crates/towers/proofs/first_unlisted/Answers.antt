@@ -48,14 +48,14 @@ returns-then-not-is_listed c =
     let r = c in
     let l = r in
     let s = l in
-    sym (first_hit (unlisted s.args.t.now) l.loop-i.i s.args.n (omega arith) l.loop-i.invariant.1 (ap not (sym (read r) ∙ c.if-not-is_listed.true)))
+    sym (first_hit (unlisted s.args.t.now) l.loop-i.i s.args.n (omega arith) l.loop-i.invariant.1 (ap not (sym (read (goal.at.returns-then-not-is_listed c).After-is_listed) ∙ c.if-not-is_listed.true)))
 
 pub loop-i-preserved : goal.loop-i-preserved
 loop-i-preserved c =
     let r = c in
     let l = r in
     let s = l in
-    (search rules, rw add-one (clear_more (unlisted s.args.t.now) l.loop-i.i l.loop-i.invariant.1 (ap not (sym (read r) ∙ c.if-not-is_listed.false))))
+    (search rules, rw add-one (clear_more (unlisted s.args.t.now) l.loop-i.i l.loop-i.invariant.1 (ap not (sym (read (goal.at.loop-i-preserved c).After-is_listed) ∙ c.if-not-is_listed.false))))
 
 pub returns : goal.returns
 returns c =

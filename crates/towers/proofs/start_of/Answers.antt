@@ -29,7 +29,7 @@ read c =
 
 room : (c : After-or_zero) → c.loop-i.p + (3 * c.or_zero.result + 3) ≤ length
     c.args.t.now
-room c = let l = c in room_on l.loop-i.invariant.0 (whole c) c.or_zero.result (read c)
+room c = let l = c in room_on l.loop-i.invariant.0 (whole (goal.at.After-or_zero c).In-loop-i) c.or_zero.result (read c)
 
 pub overflow_add-p : goal.overflow_add-p
 overflow_add-p c = let h = room_here c.loop-i.invariant.0 (whole c) in search rules
@@ -52,7 +52,7 @@ overflow_add-p-in-loop-i-2 c = let h = room c in search rules
 pub loop-i-preserved : goal.loop-i-preserved
 loop-i-preserved c =
     let l = c in
-    (starts_on l.loop-i.invariant.0 (whole c) c.or_zero.result (read c) (l.loop-i.i + 1) (add-one l.loop-i.i), search rules)
+    (starts_on l.loop-i.invariant.0 (whole (goal.at.loop-i-preserved c).In-loop-i) c.or_zero.result (read c) (l.loop-i.i + 1) (add-one l.loop-i.i), search rules)
 
 pub returns : goal.returns
 returns c = let l = c in let e : l.loop-i.i ≡ l.args.e = omega (arith, l.loop-i.invariant.1, c.loop-i-test.false) in rw e at l.loop-i.invariant.0
