@@ -27,7 +27,7 @@ fits a =
     let same : length l.loop-i.out ≡ length st.args.out.now = l.loop-i.invariant.3 in
     subst Fitting (sym a.answer_pair-answer.ensures.fills.answer)
     (pair_fits st.requires.0.prepared.tables.symbol (four part 0) (four part 4) (length l.loop-i.out) l.loop-i.next
-    (omega (arith, same, st.well-formed.1.1.1.1.1.1.1.0)))
+    (omega (arith, same, st.well_formed.1.1.1.1.1.1.1.0)))
 
 pub write_line-requires : goal.write_line-requires
 write_line-requires c =
