@@ -1,7 +1,6 @@
 -- `base_passes`: the places below y have passed. Assumes nothing.
 use Prim.Native.Nat.{◌-◌, ◌≤◌}
 use native.Mathlib.Omega.{arith}
-use borrow.Author.Tests.{not-true, not-false}
 use Rattle.congruence_decision.specs.Equations.{BaseEquations}
 use Rattle.congruence_equations.specs.Inner.Places.{turn_at, go_at, back_at}
 use Rattle.congruence_equations.proofs.Landing.{refuted, base_none, base_more, base_end, base_at_place}

@@ -1,6 +1,5 @@
 use Prim.Native.Nat.{◌-◌, ◌≤◌}
 use native.Mathlib.Omega.{arith}
-use borrow.Author.Tests.{not-true, not-false}
 use Rattle.congruence_decision.specs.Equations.{ProductEquations}
 use Rattle.congruence_equations.specs.Inner.Places.{turn_at, go_at}
 use Rattle.congruence_equations.proofs.Landing.{refuted, product_none, product_more, product_end}
@@ -16,7 +15,7 @@ loop-y-init c = (
 
 pub returns-then-not-product_at : goal.returns-then-not-product_at
 returns-then-not-product_at c =
-    refuted c.product_at.ensures (not-true c.product_at.result c.if-not-product_at.true)
+    refuted c.product_at.ensures c.if-not-product_at.true
     (λ e. e c.loop-y.y (omega arith))
 
 pub loop-y-preserved : goal.loop-y-preserved
@@ -26,7 +25,7 @@ loop-y-preserved c = (
       c.args.q c.args.g
       c.args.h c.args.g2
       c.args.h2 c.loop-y.y c.loop-y.invariant.1
-      (c.product_at.ensures.yes (not-false c.product_at.result c.if-not-product_at.false)),
+      (c.product_at.ensures.yes c.if-not-product_at.false),
 )
 
 pub returns : goal.returns

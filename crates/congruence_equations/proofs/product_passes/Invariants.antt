@@ -1,7 +1,6 @@
 -- `product_passes`: the places below y have passed. Assumes nothing.
 use Prim.Native.Nat.{◌-◌, ◌≤◌}
 use native.Mathlib.Omega.{arith}
-use borrow.Author.Tests.{not-true, not-false}
 use Rattle.congruence_decision.specs.Equations.{ProductEquations}
 use Rattle.congruence_equations.specs.Inner.Places.{turn_at, go_at}
 use Rattle.congruence_equations.proofs.Landing.{refuted, product_none, product_more, product_end}

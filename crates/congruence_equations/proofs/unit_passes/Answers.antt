@@ -1,6 +1,5 @@
 use Prim.Native.Nat.{◌-◌, ◌≤◌}
 use native.Mathlib.Omega.{arith}
-use borrow.Author.Tests.{not-true, not-false}
 use Rattle.congruence_decision.specs.Equations.{UnitEquations}
 use Rattle.congruence_equations.specs.Inner.Places.{turn_at, go_at}
 use Rattle.congruence_equations.proofs.Landing.{refuted, unit_none, unit_more, unit_end, unit_at_place}
@@ -12,7 +11,7 @@ loop-y-init c = (omega arith, unit_none c.args.n c.args.w.now c.args.q c.args.g 
 
 pub returns-then-not-unit_at : goal.returns-then-not-unit_at
 returns-then-not-unit_at c =
-    refuted c.unit_at.ensures (not-true c.unit_at.result c.if-not-unit_at.true)
+    refuted c.unit_at.ensures c.if-not-unit_at.true
     (unit_at_place c.args.n c.args.w.now
     c.args.q c.args.g
     c.args.h c.loop-y.y (omega arith))
@@ -23,7 +22,7 @@ loop-y-preserved c = (
   unit_more c.args.n c.args.w.now
       c.args.q c.args.g
       c.args.h c.loop-y.invariant.1
-      (c.unit_at.ensures.yes (not-false c.unit_at.result c.if-not-unit_at.false)),
+      (c.unit_at.ensures.yes c.if-not-unit_at.false),
 )
 
 pub returns : goal.returns

@@ -2,7 +2,6 @@ use mathlib.Core.Path.{refl}
 use Rattle.numbering.proofs.Find.{true_false}
 use Prim.Native.Nat.{◌-◌}
 use native.Mathlib.Omega.{arith}
-use borrow.Author.Tests.{not-true, not-false}
 use Rattle.prime_units.proofs.Marks.{Through, through_start, through_more, through_end}
 use borrow.Author.Rules.{rules}
 use Rattle.prime_units.proofs.units.all_marked.Given as goal
