@@ -81,26 +81,33 @@ fn uses(parts: &[Part], name: &str, found: &mut Vec<(String, usize, usize)>) {
     }
 }
 
-/// Whether a part is `(name .field .now)`.
-fn holds(part: &Part, name: &str, field: &str) -> bool {
-    let Part::Inside(inner) = part else {
-        return false;
-    };
-    matches!(&inner[..], [Part::Name(own), Part::Field(at), Part::Field(now)]
-        if own == name && at == field && now == "now")
+/// A part of an application, with the fields that are taken of it.
+type WithFields<'a> = (&'a Part, Vec<&'a str>);
+
+/// Whether a part is `name.field.now`.
+fn holds((part, fields): &WithFields, name: &str, field: &str) -> bool {
+    matches!(part, Part::Name(own) if own == name) && fields[..] == [field, "now"]
 }
 
 /// The applications of which two neighbouring arguments are what a space holds at entry
 /// and at exit: the head, which argument the first is, and how many there are.
 fn both_ends(parts: &[Part], name: &str, found: &mut Vec<(String, usize, usize)>) {
     for application in parts.split(|part| matches!(part, Part::Join)) {
-        for (at, ends) in application.windows(2).enumerate() {
-            if let Part::Inside(inner) = &ends[0] {
-                both_ends(inner, name, found);
+        let mut atoms: Vec<WithFields> = Vec::new();
+        for part in application {
+            match (part, atoms.last_mut()) {
+                (Part::Field(field), Some((_, fields))) => fields.push(field),
+                (Part::Inside(inner), _) => {
+                    both_ends(inner, name, found);
+                    atoms.push((part, Vec::new()));
+                }
+                _ => atoms.push((part, Vec::new())),
             }
+        }
+        for (at, ends) in atoms.windows(2).enumerate().skip(1) {
             if holds(&ends[0], name, "entry") && holds(&ends[1], name, "exit") {
-                if let Part::Name(head) = &application[0] {
-                    found.push((head.clone(), at - 1, application.len() - 1));
+                if let Part::Name(head) = atoms[0].0 {
+                    found.push((head.clone(), at - 1, atoms.len() - 1));
                 }
             }
         }
@@ -325,65 +332,64 @@ fn a_space_that_is_left_out_is_found() {
     let function = |contract: &str| {
         let parameters = "    w: &mut [u16],\n    s: &mut [u32],\n    place: &mut usize,\n";
         let text = format!("pub extern \"C\" fn farey_x(\n    v: usize,\n{parameters}) -> u64\n");
-        let text = text
-            + &format!("    ensures {{ λ n. ⌜ {contract} n (now (place .exit)) ⌝ }}\n{{\n}}\n");
+        let text = text + &format!("    ensures {{ {contract} result place.new }}\n{{\n}}\n");
         exported(&text).pop().expect("a function")
     };
     let plan = |steps: &str| {
         let frame = "-- the frame\nabbrev pub work : Lent → List Step\nwork w = w\n\nabbrev pub stores : List ℕ → Lent → List Step\n";
-        let own = "xCall v w s = record {\n  steps = ";
-        let all = format!("{own}{steps};\n  count = v;\n}}\n\nwritten v o = stores (tableS v) o\n\ndropped v o = asks (few v)\n");
+        let own = "x_call v w s = record {\n  steps = ";
+        let all = format!("{own}{steps};\n  count = v;\n}}\n\nwritten v o = stores (table_s v) o\n\ndropped v o = asks (few v)\n");
         let frame = frame.to_string();
         Specs { frame, all }
     };
     for steps in [
-        "work w ++ stores (tableS v) s",
-        "stores (tableS (w .entry .now)) s ++ work w",
+        "work w ++ stores (table_s v) s",
+        "stores (table_s w.entry.now) s ++ work w",
         "work w ++ (asks (few v) ++ written v s)",
     ] {
         assert_eq!(
-            faults(&function("Call (xCall v w s)"), &plan(steps)),
+            faults(&function("Call (x_call v w s)"), &plan(steps)),
             [""; 0]
         );
     }
-    let good = "work w ++ stores (tableS v) s";
-    let about = "farey_x: no step of xCall is about s";
+    let good = "work w ++ stores (table_s v) s";
+    let about = "farey_x: no step of x_call is about s";
     for (contract, steps, said) in [
         (
-            "Call (xCall v w (now (s .entry)))",
+            "Call (x_call v w s.old)",
             good,
             "farey_x: s isn't handed to the plan",
         ),
         (
-            "Call (xCall v w v)",
+            "Call (x_call v w v)",
             good,
             "farey_x: s isn't handed to the plan",
         ),
         (
-            "Call (yCall v w s)",
+            "Call (y_call v w s)",
             good,
-            "farey_x: there is no plan yCall",
+            "farey_x: there is no plan y_call",
         ),
         (
-            "Call (xCall v w)",
+            "Call (x_call v w)",
             good,
-            "farey_x: xCall takes other arguments",
+            "farey_x: x_call takes other arguments",
         ),
-        ("Call (xCall v w s)", "work w", about),
+        ("Call (x_call v w s)", "work w", about),
         (
-            "Call (xCall v w s)",
-            "work w ++ asks (lengthCheck v (length (s .entry .now)))",
+            "Call (x_call v w s)",
+            "work w ++ asks (length_check v (length s.entry.now))",
             about,
         ),
         (
-            "Call (xCall v w s)",
-            "work w ++ stores (s .entry .now) w",
+            "Call (x_call v w s)",
+            "work w ++ stores s.entry.now w",
             about,
         ),
-        ("Call (xCall v w s)", "work w ++ dropped v s", about),
+        ("Call (x_call v w s)", "work w ++ dropped v s", about),
     ] {
         assert_eq!(faults(&function(contract), &plan(steps)), [said]);
     }
     // A contract of clauses is not of this form.
-    assert!(function("Other (xCall v w)").plan.is_none());
+    assert!(function("Other (x_call v w)").plan.is_none());
 }

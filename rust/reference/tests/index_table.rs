@@ -1,6 +1,7 @@
 //! The table of the index of Γ0(N): what the program `index_table` writes, the
-//! constant that the engine holds and the table of the handbook's page
-//! docs/INDEX-TABLE.md are one, and its numbers are those of an own reckoning.
+//! constant that the engine holds, but for its line breaks, which `rt fmt` sets, and
+//! the table of the handbook's page docs/INDEX-TABLE.md are one, and its numbers
+//! are those of an own reckoning.
 
 mod child;
 
@@ -12,20 +13,30 @@ fn page(path: &str) -> String {
     fs::read_to_string(repository().join(path)).unwrap_or_else(|e| panic!("{path}: {e}"))
 }
 
-/// The numbers between the first line and the last one of the constant.
+/// The numbers between the first line and the last one of the constant, as many
+/// in a line as there may be.
 fn entries(source: &str) -> Vec<u64> {
     let lines: Vec<&str> = source.lines().collect();
     let (first, rest) = lines.split_first().expect("a first line");
     let (last, numbers) = rest.split_last().expect("a last line");
     assert_eq!(*first, "pub const INDEX: [u16; 1000] = [");
     assert_eq!(*last, "];");
-    let number = |line: &&str| {
-        let digits = line.strip_prefix("    ").and_then(|l| l.strip_suffix(','));
+    let number = |digits: &str| {
         digits
-            .and_then(|d| d.parse().ok())
-            .unwrap_or_else(|| panic!("{line:?} is no entry"))
+            .parse()
+            .unwrap_or_else(|_| panic!("{digits:?} is no entry"))
     };
-    numbers.iter().map(number).collect()
+    let inside = |line: &&'_ str| {
+        let entries = line.strip_prefix("    ").and_then(|l| l.strip_suffix(','));
+        let entries = entries.unwrap_or_else(|| panic!("{line:?} has no entries"));
+        entries.split(", ").map(number).collect::<Vec<u64>>()
+    };
+    numbers.iter().flat_map(inside).collect()
+}
+
+/// A text without its spaces and line breaks.
+fn unbroken(text: &str) -> String {
+    text.split_whitespace().collect()
 }
 
 fn gcd(a: u64, b: u64) -> u64 {
@@ -55,8 +66,11 @@ fn the_program_writes_the_constant() {
     assert_eq!(answer.status, Some(0));
     assert!(answer.stderr.is_empty());
     let constant = page("crates/family_index/src/gamma0.rt");
+    let written = String::from_utf8(answer.stdout).expect("text");
+    assert_eq!(written.lines().count(), 1002, "a line for each number");
+    assert_eq!(entries(&written), entries(&constant));
     assert!(
-        answer.stdout == constant.as_bytes(),
+        unbroken(&written) == unbroken(&constant),
         "the constant isn't what the program writes"
     );
 }

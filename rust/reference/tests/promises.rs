@@ -210,7 +210,7 @@ fn named_definitions_are_in_their_files() {
         } else if before != ", " || name.contains(['/', '.', ' ']) {
             file = None;
         } else if let Some(text) = &file {
-            let word = |c: char| c.is_alphanumeric() || c == '-' || c == '\'';
+            let word = |c: char| c.is_alphanumeric() || "_-'".contains(c);
             let there = text.split(|c| !word(c)).any(|part| part == name);
             assert!(there, "`{name}` isn't in the file named before it");
             found += 1;
