@@ -162,8 +162,8 @@ entries_snoc L (q ∷ rows) r = ap (λ (y : List ℤ). entry L q.mark ∷ y) (en
 abbrev pub number_in : List ℕ → ℕ → ℕ
 number_in L x = pick (is_in L x) (suc (find L x)) 0
 
-pub number_in : (L : List ℕ) (x : ℕ) → x ∈ L → number_in L x ≡ suc (find L x)
-number_in L x h = pick_true (is_in L x) (suc (find L x)) 0 (lt-ltb (find L x) (length L) h)
+pub number_in_lem : (L : List ℕ) (x : ℕ) → x ∈ L → number_in L x ≡ suc (find L x)
+number_in_lem L x h = pick_true (is_in L x) (suc (find L x)) 0 (lt-ltb (find L x) (length L) h)
 
 pub number_out : (L : List ℕ) (x : ℕ) → x ∉ L → number_in L x ≡ 0
 number_out L x h = pick_false (is_in L x) (suc (find L x)) 0 (le-ltb (find L x) (length L) h)
@@ -174,7 +174,7 @@ find_one y x n = rw (ne_eqb y x (λ q. n (sym q))) refl
 
 pub number_old : (L : List ℕ) (y x : ℕ) → ¬ (x ≡ y) → number_in (L ++ (y ∷ [])) x ≡ number_in L x
 number_old L y x n = elim (dec_lt (find L x) (length L)) [
-  | yes h ↦ number_in (L ++ (y ∷ [])) x (places.in_left L (y ∷ []) x h) ∙ ap suc (places.find_left L (y ∷ []) x h) ∙ sym (number_in L x h)
+  | yes h ↦ number_in_lem (L ++ (y ∷ [])) x (places.in_left L (y ∷ []) x h) ∙ ap suc (places.find_left L (y ∷ []) x h) ∙ sym (number_in_lem L x h)
   | no h ↦ number_out (L ++ (y ∷ [])) x (omega (arith, places.find_right L (y ∷ []) x (omega arith), length-append L (y ∷ []), find_one y x n))
       ∙ sym (number_out L x (omega arith))
 ]

@@ -23,7 +23,7 @@ use Rattle.import_symbol.specs.Inner.Writing.{vertices_to, Paired, is_even, is_o
 use Rattle.import_rule.proofs.Table.{length_entries, labels_in, labels_few, mark_even, mark_odd, mark_free}
 use Rattle.import_sides.proofs.Held.{Same, length_done}
 use Rattle.import_symbol.proofs.Stored.{least_low, one_store, length_vertices_to, rows_snoc, entries_more, labels_snoc, entries_snoc, number_in}
-use Rattle.import_symbol.proofs.Stored.{number_in, number_out, number_old}
+use Rattle.import_symbol.proofs.Stored.{number_in_lem, number_out, number_old}
 
 -- ---- the pairings of the first i sides
 
@@ -145,12 +145,12 @@ module _ (σ κ : ℕ → ℕ) (w₀ : List ℕ) (o : List ℤ) (d : ℕ) where
             let n = t.table x label_low in
             let inside : x ∈ L = elim (dec_lt (find L x) (length L)) [ yes q ↦ q | no q ↦ absurd (h (n ∙ number_out L x (omega arith))) ] in
             rw (a, k) (keep (pos (get_or w (LABEL + x) 0)) out' (labels_next ∙ ap (noted L) mk ∙ add_old L x inside)
-            (ap (entry L) mk ∙ ap pos (sym (n ∙ number_in L x inside))) b)
+            (ap (entry L) mk ∙ ap pos (sym (n ∙ number_in_lem L x inside))) b)
         go (is_new ne nq h a b k) =
             let x = least m (σ m) in
             let mk = mark_free σ κ m ne nq in
             let n = t.table x label_low in
-            let outside : x ∉ L = elim (dec_lt (find L x) (length L)) [ yes q ↦ (let z = number_in L x q in absurd (omega arith)) | no q ↦ omega arith ] in
+            let outside : x ∉ L = elim (dec_lt (find L x) (length L)) [ yes q ↦ (let z = number_in_lem L x q in absurd (omega arith)) | no q ↦ omega arith ] in
             let el : labels_to (suc i) ≡ L ++ (x ∷ []) = labels_next ∙ ap (noted L) mk ∙ add_new L x outside in
             let cc1 : suc (find (L ++ (x ∷ [])) x) ≡ c + 1 = omega (arith, places.find_last L x outside, t.count) in
             record {
@@ -170,7 +170,7 @@ module _ (σ κ : ℕ → ℕ) (w₀ : List ℕ) (o : List ℤ) (d : ℕ) where
             at_label x el cc1 outside y q (yes e) =
                 ap (λ (z : ℕ). get_or (set w (LABEL + x) (c + 1)) (LABEL + z) 0) e
                 ∙ get_or-set_same w (LABEL + x) (c + 1) 0 (omega (arith, t.long))
-                ∙ sym cc1 ∙ sym (number_in (L ++ (x ∷ [])) x (places.in_last L x))
+                ∙ sym cc1 ∙ sym (number_in_lem (L ++ (x ∷ [])) x (places.in_last L x))
                 ∙ ap (λ (l : List ℕ). number_in l x) (sym el) ∙ ap (number_in (labels_to (suc i))) (sym e)
             at_label x el cc1 outside y q (no e) =
                 get_or-set_other w (LABEL + x) (LABEL + y) (c + 1) 0 (λ z. e (omega arith))

@@ -1,6 +1,6 @@
 -- Each of the starred instances holds: one test over the whole table, and one law that turns it into each of them.
 --
--- In order: the test computes to true (`all_hold_lem`); a test for sameness that passes gives an equation, on lists (`same_list`) and on answers
+-- In order: the test computes to true (`all_hold_lem`); a test for sameness that passes gives an equation, on lists (`same_list_lem`) and on answers
 -- (`same_answer_lem`); so each instance of a list that passes holds (`holds_at`), and each of the table (`each`). Then, for a reader, two of them
 -- written out: the tables of Γ(2), and that in Γ0(2) no word leads from I to S.
 -- Assumes nothing.
@@ -41,12 +41,12 @@ all_hold_lem = refl
 
 -- ---- from the test to the instances
 
-same_list : {A : Type 0} (same : A → A → Bool) → ((x y : A) → same x y ≡ true → x ≡ y) → (l m : List A) → same_list same l m ≡ true → l ≡ m
-same_list same sound [] [] e = refl
-same_list same sound [] (y ∷ m) e = clash e refl
-same_list same sound (x ∷ l) [] e = clash e refl
-same_list same sound (x ∷ l) (y ∷ m) e =
-    ap₂ ◌∷◌ (sound x y (and_left (same x y) (same_list same l m) e)) (same_list same sound l m (and_right (same x y) (same_list same l m) e))
+same_list_lem : {A : Type 0} (same : A → A → Bool) → ((x y : A) → same x y ≡ true → x ≡ y) → (l m : List A) → same_list same l m ≡ true → l ≡ m
+same_list_lem same sound [] [] e = refl
+same_list_lem same sound [] (y ∷ m) e = clash e refl
+same_list_lem same sound (x ∷ l) [] e = clash e refl
+same_list_lem same sound (x ∷ l) (y ∷ m) e =
+    ap₂ ◌∷◌ (sound x y (and_left (same x y) (same_list same l m) e)) (same_list_lem same sound l m (and_right (same x y) (same_list same l m) e))
 
 same_answer_lem : (a b : Answer) → equal_answers a b ≡ true → a ≡ b
 same_answer_lem a b e =
@@ -56,7 +56,7 @@ same_answer_lem a b e =
     let rest : (place && rows) ≡ true = and_right number (place && rows) e in
     let n = eqb-true a.number b.number (and_left number (place && rows) e) in
     let p = eqb-true a.place b.place (and_left place rows rest) in
-    let l = same_list (same_list eq_z) (same_list eq_z eq_z_true) a.rows b.rows (and_right place rows rest) in
+    let l = same_list_lem (same_list eq_z) (same_list_lem eq_z eq_z_true) a.rows b.rows (and_right place rows rest) in
     ap (λ (k : ℕ). refuses k a.place a.rows) n ∙ ap₂ (refuses b.number) p l
 
 holds_at : (l : List Instance) (past : Instance) → all_hold l ≡ true → (i : ℕ) → i < length l → Holds (get_or l i past)
