@@ -2,7 +2,7 @@
 --
 --   Part n             p prime, q = pᵏ, k from 1, q rest = n, and an exponent e that is 1 modulo q and 0 modulo rest
 --   part_q b           q
---   part_x σ κ e s j   where T to the power e s leads from j; partY: L
+--   part_x σ κ e s j   where T to the power e s leads from j; part_y: L
 --
 -- In order: powers of T and L that differ by a multiple of n lead alike, where T^n moves nothing; so part_x and part_y have powers modulo q.
 -- Assumes nothing.
