@@ -1,7 +1,7 @@
 -- The ways out of `tower`, in order: a 65th entry (`too_many_lem`), a symbol that is refused (`bad_symbol`), a name (`bad_name`); and behind these an empty tower
 -- (`is_empty`), a short work space (`is_short`), the claims (`by_claims`).
 -- Assumes nothing.
-use mathlib.Core.Path.{◌≡◌, refl, sym, ◌∙◌, ap}
+use mathlib.Core.Path.{◌≡◌, refl, sym, ◌∙◌}
 use mathlib.Core.List.{List, [], ◌∷◌}
 use Prim.Native.Nat.{ℕ, zero, suc, ◌≤◌, ◌<◌}
 use native.Mathlib.Omega.{arith}

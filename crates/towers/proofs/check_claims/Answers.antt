@@ -1,6 +1,5 @@
 -- `check_claims` gives 26 where a claim is false; clearing comes before, so zeros stay. Assumes nothing.
 use mathlib.Core.Path.{sym, ◌∙◌, ap}
-use borrow.Author.Rules.{rules}
 use Rattle.call.specs.Refusal.{false_claim}
 use Rattle.call.specs.Space.{zeros}
 use Rattle.symbol.proofs.Order.{refuse_at_lem, accept_at}

@@ -1,11 +1,10 @@
 use mathlib.Core.Path.{◌≡◌, sym, ◌∙◌}
-use Prim.Native.Nat.{suc, ◌+◌, ◌-◌, ◌≤◌}
+use Prim.Native.Nat.{suc, ◌+◌}
 use native.Mathlib.Omega.{arith}
 use native.Mathlib.Numerals.{add-one}
 use lib.Dec.{eqb}
 use borrow.Author.Rules.{rules}
-use Rattle.call.specs.declared.refusal.Checked.TheVariants.{Accepted}
-use Rattle.towers.specs.Tower.{symbols_check, entry_check, from_entry}
+use Rattle.towers.specs.Tower.{entry_check, from_entry}
 use Rattle.towers.proofs.Checks.{symbols_none, symbols_more, whole_passed, check_stops, entry_read}
 use Rattle.towers.proofs.check_symbols.Goals.{After-check_entry-checked}
 use Rattle.towers.proofs.check_symbols.Goals as goal

@@ -1,11 +1,9 @@
-use mathlib.Core.Path.{◌≡◌, refl, sym, ◌∙◌, ap}
+use mathlib.Core.Path.{refl, sym, ◌∙◌, ap}
 use mathlib.Core.Bool.{not}
-use Prim.Native.Nat.{◌-◌, ◌≤◌}
 use native.Mathlib.Omega.{arith}
 use native.Mathlib.Numerals.{add-one}
-use lib.ListN.{length}
 use borrow.Author.Rules.{rules}
-use Rattle.basics.proofs.Count.{Clear, clear_zero, clear_more, clear_less, first_clear, first_hit}
+use Rattle.basics.proofs.Count.{clear_zero, clear_more, clear_less, first_clear, first_hit}
 use Rattle.towers.specs.Tower.{claim_fails}
 use Rattle.towers.proofs.first_false.Goals as goal
 

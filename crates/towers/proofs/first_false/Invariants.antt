@@ -1,12 +1,8 @@
 -- The loop's invariant: no claim below i is false, and the work space is as long as it was. Assumes nothing.
-use mathlib.Core.Path.{◌≡◌, refl, sym, ◌∙◌, ap}
-use mathlib.Core.Bool.{not}
+use mathlib.Core.Path.{◌≡◌}
 use Prim.Native.Nat.{◌-◌, ◌≤◌}
-use native.Mathlib.Omega.{arith}
-use native.Mathlib.Numerals.{add-one}
 use lib.ListN.{length}
-use borrow.Author.Rules.{rules}
-use Rattle.basics.proofs.Count.{Clear, clear_zero, clear_more, clear_less, first_clear, first_hit}
+use Rattle.basics.proofs.Count.{Clear}
 use Rattle.towers.specs.Tower.{claim_fails}
 use Rattle.towers.proofs.first_false.Given as goal
 

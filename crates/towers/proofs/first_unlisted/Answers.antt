@@ -1,6 +1,6 @@
 use mathlib.Core.Path.{◌≡◌, sym, ◌∙◌, ap}
 use mathlib.Core.Bool.{not}
-use Prim.Native.Nat.{◌+◌, ◌-◌, ◌≤◌, ◌<◌}
+use Prim.Native.Nat.{◌+◌, ◌<◌}
 use native.Mathlib.Omega.{arith}
 use native.Mathlib.Numerals.{add-one}
 use lib.ListN.{length}
@@ -8,7 +8,7 @@ use lib.IntN.{ℤ}
 use borrow.Author.Rules.{rules}
 use Rattle.matrix.specs.Matrix.{nth}
 use Rattle.matrix.proofs.Bounds.{kept}
-use Rattle.basics.proofs.Count.{Clear, clear_zero, clear_more, clear_less, first_clear, first_hit}
+use Rattle.basics.proofs.Count.{clear_zero, clear_more, clear_less, first_clear, first_hit}
 use Rattle.towers.specs.Tower.{unlisted, listed_before, named_at}
 use Rattle.towers.proofs.Entries.{whole_symbols, two_here, named_here}
 use Rattle.towers.proofs.first_unlisted.Goals.{After-is_listed, After-start_of-p}

@@ -1,5 +1,4 @@
 -- `is_listed` has three ways out: -1, another negative number, a natural number. Assumes nothing.
-use borrow.Author.Rules.{rules}
 use mathlib.Core.Path.{sym, ap, ◌∙◌}
 use Prim.Native.Nat.{ℕ}
 use lib.Dec.{lit<, ltb}

@@ -1,5 +1,5 @@
 use mathlib.Core.Path.{◌≡◌}
-use Prim.Native.Nat.{◌+◌, ◌*◌, ◌-◌, ◌≤◌}
+use Prim.Native.Nat.{◌+◌, ◌*◌, ◌≤◌}
 use native.Mathlib.Numerals.{add-one}
 use native.Mathlib.Omega.{arith}
 use lib.ListN.{length}
@@ -7,7 +7,6 @@ use borrow.Author.Rules.{rules}
 use Rattle.matrix.specs.Matrix.{nth}
 use Rattle.matrix.proofs.Bounds.{kept}
 use Rattle.towers.specs.Tower.{or_zero, from_entry, vertices_at}
-use Rattle.towers.specs.Inner.Entries.{StartsAt}
 use Rattle.towers.proofs.Entries.{starts_first, starts_on, room_here, room_on}
 use Rattle.towers.proofs.start_of.Goals.{After-or_zero, In-loop-i}
 use Rattle.towers.proofs.start_of.Goals as goal

@@ -1,7 +1,6 @@
 -- `table_end` has three ways out: the last entry, one with too few numbers, one with enough. Assumes nothing.
 use mathlib.Core.Path.{◌≡◌}
 use native.Mathlib.Omega.{arith}
-use borrow.Author.Rules.{rules}
 use Rattle.matrix.specs.Matrix.{nth}
 use Rattle.matrix.proofs.Bounds.{kept}
 use Rattle.towers.specs.Tower.{entry_vertices}

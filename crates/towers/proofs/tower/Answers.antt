@@ -1,6 +1,5 @@
 -- `tower` meets its contract. Its ways out are the refusals of its steps in order (proofs/Order.antt). Assumes nothing.
 use mathlib.Core.Path.{◌≡◌, refl, sym, ◌∙◌}
-use borrow.Author.Rules.{rules}
 use Rattle.call.specs.declared.refusal.Checked.TheVariants.{Accepted}
 use Rattle.towers.specs.Tower.{symbols_check}
 use Rattle.towers.proofs.Checks.{symbols_accepted}
