@@ -25,7 +25,7 @@ use Rattle.word.proofs.Order.{left_if}
 use Rattle.sheets.proofs.Said.{unit_of, ten_none}
 use Rattle.matrix_word.specs.Answer.{matrix_check, is_member, member_word, member_sign}
 use Rattle.matrix_word.specs.Claim.{ValidMatrix, MatrixClaim, MatrixSays, MatrixSignSays}
-use Rattle.matrix_word.proofs.Meaning.{of_H, value_of, form_of, times_one, matrix_claim, member_numbered}
+use Rattle.matrix_word.proofs.Meaning.{of_H, value_of_lem, form_of, times_one, matrix_claim, member_numbered}
 use Rattle.engine.specs.Exported.{sign_written}
 use Rattle.engine.proofs.Numbers.{walk_numbered}
 use Rattle.engine.proofs.Said.{zero_product, zero_normal, eleven_normal, zero_sign, zero_exact, number_if, place_if, sign_if}
@@ -39,7 +39,7 @@ module _ (v : ℕ) (t m : List ℤ) (w : List ℕ) (out : List ℤ) (start : ℕ
   matrix_says = record {
     none = λ z. (let q = c.asked (inr (sym e ∙ z)) in (q, λ h. ten_none (c.answered q) (sym e ∙ z) (of_H v t (of_list m) h)));
     asked = got;
-    product = λ z. value_of v t (of_list m) (part_of out' start place) (zero_product (c.answered (got z)) p (sym e ∙ z));
+    product = λ z. value_of_lem v t (of_list m) (part_of out' start place) (zero_product (c.answered (got z)) p (sym e ∙ z));
     normal = λ z. form_of v t (of_list m) (part_of out' start place) (zero_normal (c.answered (got z)) p (sym e ∙ z));
     short = λ z q.
         let k = eleven_normal (c.answered q) p (sym e ∙ z) in

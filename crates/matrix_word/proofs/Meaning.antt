@@ -1,4 +1,4 @@
--- WHAT THE ANSWERS FOR ONE MATRIX MEAN. In order: a word from the identity to M is a word for M (`in_H`, `of_H`, `value_of`, the normal form `form_of`); the
+-- WHAT THE ANSWERS FOR ONE MATRIX MEAN. In order: a word from the identity to M is a word for M (`in_H`, `of_H`, `value_of_lem`, the normal form `form_of`); the
 -- claim of the word (`matrix_claim`); yes or no (`member_means`), and what its numbers say (`member_tells`, `member_says`).
 -- Assumes nothing.
 use mathlib.Core.Path.{◌≡◌, refl, sym, ◌∙◌, ap, subst}
@@ -63,8 +63,8 @@ module _ (v : ℕ) (t : List ℤ) (M : Mat) where
   pub of_H : InH (generators v t) M → SameRightCoset v t one M
   of_H h = to_coset (generators v t) one M one_unit (subst (InH (generators v t)) (sym (one_times M)) h)
 
-  pub value_of : (l : List ℤ) → value_of (generators v t) l ⊗ one ≈ M → value_of (generators v t) l ≈ M
-  value_of l e = subst (λ (x : Mat). x ≈ M) (times_one (value_of (generators v t) l)) e
+  pub value_of_lem : (l : List ℤ) → value_of (generators v t) l ⊗ one ≈ M → value_of (generators v t) l ≈ M
+  value_of_lem l e = subst (λ (x : Mat). x ≈ M) (times_one (value_of (generators v t) l)) e
 
   -- a word for M takes the identity to M
   taking : (u : List ℤ) → IsWord (length (generators v t)) u → M ≈ value_of (generators v t) u → SameRightCoset v t one M
@@ -74,7 +74,7 @@ module _ (v : ℕ) (t : List ℤ) (M : Mat) where
   unfolding taking
   form_of l n = record {
     letters = n.letters;
-    is = ≈-sym (value_of l n.takes);
+    is = ≈-sym (value_of_lem l n.takes);
     reduced = n.reduced;
     only = λ u k r e. n.only (taking u k e) r;
     shortest = λ u k e. n.shortest (taking u k e);
