@@ -1,4 +1,5 @@
-//! What the contract of an exported call promises of the spaces that it is lent.
+//! What the contract of an exported call promises of the spaces that it is lent, and
+//! that what is exported (the crate `engine_c`) has the contracts of the engine.
 //!
 //! A contract `Call (plan ..) number place` (the crate `call`) promises of a lent space
 //! what a step of the plan says of it. Of a space that the plan isn't handed, or that
@@ -8,6 +9,7 @@
 
 mod child;
 
+use std::collections::BTreeMap;
 use std::fs;
 use std::path::Path;
 
@@ -304,10 +306,32 @@ fn sources(folder: &Path, end: &str) -> String {
     texts.collect::<Vec<_>>().join("\n\n")
 }
 
+/// Of each function `farey_..` all that stands before its body, by its name:
+/// parameters, result and clauses.
+fn heads(source: &str) -> BTreeMap<String, String> {
+    let behind = source.split("fn farey_").skip(1);
+    behind
+        .map(|text| {
+            let (head, _) = text.split_once("\n{").expect("a body");
+            let (name, _) = head.split_once('(').expect("parameters");
+            let words: Vec<&str> = head.split_whitespace().collect();
+            (name.to_string(), words.join(" "))
+        })
+        .collect()
+}
+
+#[test]
+fn exports_have_the_contracts_of_the_engine() {
+    let of = |name: &str| heads(&sources(&repository().join("crates").join(name), "rt"));
+    let (engine, exports) = (of("engine/src"), of("engine_c/src"));
+    assert!(exports.len() >= 31, "only {}", exports.len());
+    assert_eq!(exports, engine);
+}
+
 #[test]
 fn plans_name_each_lent_space() {
     let crates = repository().join("crates");
-    let functions = exported(&sources(&crates.join("engine/src"), "rt"));
+    let functions = exported(&sources(&crates.join("engine_c/src"), "rt"));
     assert!(functions.len() >= 31, "only {}", functions.len());
     let mut all = String::new();
     for entry in fs::read_dir(&crates).expect("the crates") {
