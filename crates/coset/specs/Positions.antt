@@ -3,11 +3,11 @@
 -- proofs/Positions.antt.
 --
 --   from polygon/specs/Step.antt      Real, step_s, turn_q, written: positions, steps, their letters; turned, start_of
---   from polygon/specs/Walk.antt      goes, ends, writes: a word walked; followed, walk_ends, walk_writes: a matrix
+--   from polygon/specs/Walk.antt      goes, ends, writes: a word walked; followed, walk_ends, walkWrites: a matrix
 --   from polygon/specs/Theorem.antt   SameCoset; Polygon: what holds of the steps, and of their matrices up to sign
 --   from polygon/specs/Inner          letters_of z: the word of one letter z, and the empty word for 0
---   from signs/specs/Sign.antt        plus, minus, s · r, with_sign; letter_sign .. matrix_sign: a matrix, its word
---   from signs/specs/Step.antt        step_sign, walk_sign, query_sign: of a step, of a walk, of a matrix walked
+--   from signs/specs/Sign.antt        plus, minus, s · r, with_sign; letter_sign .. matrixSign: a matrix against its word
+--   from signs/specs/Step.antt        step_sign, walk_sign, querySign: the sign of a step, of a walk, of a matrix walked
 --   from signs/specs/Theorem.antt     MatrixSigns; Signs: what holds of the matrices with their signs
 --   from normal_forms/specs           Reduced; NormalForm, NormalForms: the only reduced word
 --

@@ -12,7 +12,7 @@
 --   cusp_order u       all points, cusp by cusp, each cusp from its smallest point in the order of T
 --   cusp_place u x     where x stands in cusp_order
 --   cusp_first u k     how many points the cusps below k have together: the cusp k begins there in cusp_order
---   cusp_onward u n x  T^n from x by one look at cusp_order: n is added to the steps, and the width taken off as often
+--   cusp_onward u n x  T^n from x by one look at cuspOrder: n is added to the steps, and the width taken off as often
 --                      as it goes
 --   CuspColumns u c d  THE STANDING RULE of the columns c of cusps and d of steps beside the table u of T, in these
 --                      parts:

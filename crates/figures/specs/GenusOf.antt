@@ -1,6 +1,6 @@
 -- The genus (docs/CONVENTIONS.md, 5): 12 g = 12 + index - 3 e2 - 4 e3 - 6 cusps.
 --     genus_of index e2 e3 cusps    the genus, or refusal 18 where the formula gives no whole number from 0
---     Genus index e2 e3 cusps       THE THEOREM on genus_of: it is g exactly where g satisfies the formula, and it is
+--     Genus index e2 e3 cusps       THE THEOREM on genusOf: it is g exactly where g satisfies the formula, and it is
 --                                   refused where no number does; for tables of S and R some number always does (this
 --                                   crate)
 -- `proofs/GenusOf.antt` proves `genus_is`.

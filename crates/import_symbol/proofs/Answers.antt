@@ -36,7 +36,7 @@ use Rattle.import_sides.proofs.Held.{length_done}
 pub ground : (s r w w' : List ℕ) → Pair s r → 32768 ≤ length w → w' ≡ zeros (length w) → Large s r → Ground s r w'
 ground s r w w' p h e l = record {
   pair = p;
-  long = rw (e, length_zeros (length w)) h;
+  long = omega (arith, ap length e, length_zeros (length w));
   clear = λ j. ap (λ (x : List ℕ). get_or x j 0) e
       ∙ get_d_zeros (length w) j;
   large = l;

@@ -25,5 +25,6 @@ returns c =
     let R = s.args.r.now in
     let O = s.args.out.now in
     let z = s.requires in
-    answers _ _ _ O _ (rule_large (order_by s.args.wide) S R z.0 (moved_by_Q (order_by s.args.wide) S R z.0 _ t.turned-q.ensures i.if-q-eq0.false)
-    (first_moved (order_by s.args.wide) S R z.0 _ t.turned-q.ensures i.if-q-eq0.false)) g.grow_large.ensures.value g.grow_large.ensures.out_after
+    let k = answers _ _ _ O _ (rule_large (order_by s.args.wide) S R z.0 (moved_by_Q (order_by s.args.wide) S R z.0 _ t.turned-q.ensures i.if-q-eq0.false)
+    (first_moved (order_by s.args.wide) S R z.0 _ t.turned-q.ensures i.if-q-eq0.false)) g.grow_large.ensures.value g.grow_large.ensures.out_after in
+    record { value = k.0; out_after = k.1 }

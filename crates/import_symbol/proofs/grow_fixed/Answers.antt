@@ -23,8 +23,9 @@ returns-then-o-eq0 c =
     let R = s.args.r.now in
     let O = s.args.out.now in
     let z = s.requires in
-    answers _ _ _ O _ (rule_first (order_by s.args.wide) S R z.0 z.2 _ a.image-o.ensures i.if-o-eq0.true) g.grow_small.ensures.value
-    g.grow_small.ensures.out_after
+    let k = answers _ _ _ O _ (rule_first (order_by s.args.wide) S R z.0 z.2 _ a.image-o.ensures i.if-o-eq0.true) g.grow_small.ensures.value
+    g.grow_small.ensures.out_after in
+    record { value = k.0; out_after = k.1 }
 
 pub grow_small-requires-then-x-o : goal.grow_small-requires-then-x-o
 grow_small-requires-then-x-o c =
@@ -47,8 +48,9 @@ returns-then-x-o c =
     let R = s.args.r.now in
     let O = s.args.out.now in
     let z = s.requires in
-    answers _ _ _ O _ (rule_second (order_by s.args.wide) S R z.0 z.2 _ _ b.image-o.ensures a.if-o-eq0.false t.turned-x.ensures i.if-x-o.true)
-    g.grow_small-then-x-o.ensures.value g.grow_small-then-x-o.ensures.out_after
+    let k = answers _ _ _ O _ (rule_second (order_by s.args.wide) S R z.0 z.2 _ _ b.image-o.ensures a.if-o-eq0.false t.turned-x.ensures i.if-x-o.true)
+    g.grow_small-then-x-o.ensures.value g.grow_small-then-x-o.ensures.out_after in
+    record { value = k.0; out_after = k.1 }
 
 pub grow_large-requires : goal.grow_large-requires
 grow_large-requires c =
@@ -75,6 +77,7 @@ returns c =
     let R = s.args.r.now in
     let O = s.args.out.now in
     let z = s.requires in
-    answers _ _ _ O _ (rule_large (order_by s.args.wide) S R z.0
+    let k = answers _ _ _ O _ (rule_large (order_by s.args.wide) S R z.0
     (neither (order_by s.args.wide) S R z.0 _ _ b.image-o.ensures t.turned-x.ensures i.if-x-o.false)
-    (first_no (order_by s.args.wide) S R z.0 _ b.image-o.ensures a.if-o-eq0.false)) g.grow_large.ensures.value g.grow_large.ensures.out_after
+    (first_no (order_by s.args.wide) S R z.0 _ b.image-o.ensures a.if-o-eq0.false)) g.grow_large.ensures.value g.grow_large.ensures.out_after in
+    record { value = k.0; out_after = k.1 }

@@ -16,7 +16,8 @@ pub returns-then-t : goal.returns-then-t
 returns-then-t c =
     let a = c in
     let s = a in
-    large_over (order_by s.args.wide) s.args.s.now s.args.r.now _ _ _ s.args.out.now a.sides-t.ensures c.if-t.true
+    let k = large_over (order_by s.args.wide) s.args.s.now s.args.r.now _ _ _ s.args.out.now a.sides-t.ensures c.if-t.true in
+    record { value = k.0; out_after = k.1 }
 
 pub write_table-requires : goal.write_table-requires
 write_table-requires c =
@@ -49,4 +50,5 @@ returns c =
     let S = s.args.s.now in
     let R = s.args.r.now in
     let g = whole_of (order_by s.args.wide) S R _ _ _ a.sides-t.ensures i.if-t.false in
-    large_made (order_by s.args.wide) S R _ _ s.args.out.now _ g w.write_table.ensures
+    let k = large_made (order_by s.args.wide) S R _ _ s.args.out.now _ g w.write_table.ensures in
+    record { value = k.0; out_after = k.1 }
