@@ -30,8 +30,7 @@ use Rattle.containment.specs.Contained.{Followed, OnePartner}
 
 module _ (v : ℕ) (t : List ℤ) (v' : ℕ) (t' : List ℤ) where
   unfoldable pub common_cosets : List ℕ
-  common_cosets =
-      pairs_reached (index_of v t) (index_of v' t') (table_s v t) (table_r v t) (table_s v' t') (table_r v' t')
+  common_cosets = pairs_reached (index_of v t) (index_of v' t') (table_s v t) (table_r v t) (table_s v' t') (table_r v' t')
 
   unfoldable pub common_s : List ℕ
   common_s = pairs_s (index_of v t) (index_of v' t') (table_s v t) (table_r v t) (table_s v' t') (table_r v' t')
@@ -66,8 +65,7 @@ pub record Containment (v : ℕ) (t : List ℤ) (v' : ℕ) (t' : List ℤ) : Typ
   pub by_words : EachIn (generators v t) (generators v' t') ↔ Contained (generators v t) (generators v' t')
   pub followed : Followed (index_of v t) (table_s v t) (table_r v t) (table_s v' t') (table_r v' t')
       ↔ Contained (generators v t) (generators v' t')
-  pub one_partner :
-      OnePartner (index_of v t) (index_of v' t') (table_s v t) (table_r v t) (table_s v' t') (table_r v' t')
+  pub one_partner : OnePartner (index_of v t) (index_of v' t') (table_s v t) (table_r v t) (table_s v' t') (table_r v' t')
       ↔ Contained (generators v t) (generators v' t')
   pub as_many : (length (common_cosets v t v' t') ≡ index_of v t) ↔ Contained (generators v t) (generators v' t')
 

@@ -70,8 +70,7 @@ abbrev pub cusp_first : List ℕ → ℕ → ℕ
 cusp_first u k = sum (take k (widths u))
 
 abbrev pub cusp_onward : List ℕ → ℕ → ℕ → ℕ
-cusp_onward u n x =
-    get_or (cusp_order u) (cusp_first u (cusp_of u x) + (cusp_steps u x + n) % cusp_width u (cusp_of u x)) 0
+cusp_onward u n x = get_or (cusp_order u) (cusp_first u (cusp_of u x) + (cusp_steps u x + n) % cusp_width u (cusp_of u x)) 0
 
 -- ---- the theorems
 
@@ -110,6 +109,5 @@ pub record InCuspOrder (u : List ℕ) : Type 0 where
   pub place_is : (x : ℕ) → x < length u → cusp_place u x ≡ cusp_first u (cusp_of u x) + cusp_steps u x
   pub fits : (k : ℕ) → k < length (cusps u) → cusp_first u k + cusp_width u k ≤ length u
   pub keeps_all : (n x : ℕ) → x < length u → cusp_of u (times u n x) ≡ cusp_of u x
-  pub adds_all : (n x : ℕ) → x < length u
-      → cusp_steps u (times u n x) ≡ (cusp_steps u x + n) % cusp_width u (cusp_of u x)
+  pub adds_all : (n x : ℕ) → x < length u → cusp_steps u (times u n x) ≡ (cusp_steps u x + n) % cusp_width u (cusp_of u x)
   pub onward_is : (n x : ℕ) → x < length u → cusp_onward u n x ≡ times u n x

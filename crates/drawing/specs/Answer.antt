@@ -67,8 +67,7 @@ pub record Picture (v : ℕ) (t : List ℤ) : Type 0 where
 -- ---- the call
 
 abbrev pub drawing_steps : (v : ℕ) → List ℤ → Lent (List Float) → List Step
-drawing_steps v t out =
-    asks (symbol_check v t) ++ asks (check22 v t) ++ stores_rows 4 (v + 1) (drawn_rows v t (v + 1)) out
+drawing_steps v t out = asks (symbol_check v t) ++ asks (check22 v t) ++ stores_rows 4 (v + 1) (drawn_rows v t (v + 1)) out
 
 abbrev pub drawing_call : (v : ℕ) → List ℤ → (out bounds : Lent (List Float)) → Contract
 drawing_call v t out bounds = record {

@@ -21,8 +21,7 @@ pub record CosetPair (s r : List ℕ) : Type 0 where
 
 pub record GenusFormula (s r : List ℕ) : Type 0 where
   pub genus : ℕ
-  pub formula : 12 * genus + 3 * fixed_points s + 4 * fixed_points r + 6 * length (cusps (s then_table r))
-      ≡ 12 + length s
+  pub formula : 12 * genus + 3 * fixed_points s + 4 * fixed_points r + 6 * length (cusps (s then_table r)) ≡ 12 + length s
 
 pub record HasGenus (f : Figure) : Type 0 where
   pub genus : ℕ

@@ -47,8 +47,7 @@ pub record IntersectionSays (v : ℕ) (t : List ℤ) (v' : ℕ) (t' : List ℤ) 
 abbrev pub intersection_call : (v : ℕ) (t : List ℤ) (v' : ℕ) (t' : List ℤ) (w s r u : Lent (List ℕ)) → Contract
 intersection_call v t v' t' w s r u = record {
   steps =
-      asks (symbol_check v t) ++ asks (symbol_check v' t') ++ work w
-      ++ asks (too_many (length (common_cosets v t v' t')))
+      asks (symbol_check v t) ++ asks (symbol_check v' t') ++ work w ++ asks (too_many (length (common_cosets v t v' t')))
       ++ stores (common_s v t v' t') s ++ stores (common_r v t v' t') r ++ stores (common_t v t v' t') u;
   count = length (common_cosets v t v' t');
   Says = IntersectionSays v t v' t';

@@ -107,8 +107,7 @@ abbrev pub ruled_steps : Ruled → (a b : List ℤ) → Lent (List ℤ) → (sta
 ruled_steps rule a b out start =
     asks (check16 rule) ++ word_steps (ruled_closes rule a b) (ruled_word rule a b) out start
 
-abbrev pub named_query_steps : Order → (k n : ℕ) (a b : List ℤ) → Lent (List ℕ) → Lent (List ℤ) → (start : ℕ)
-    → List Step
+abbrev pub named_query_steps : Order → (k n : ℕ) (a b : List ℤ) → Lent (List ℕ) → Lent (List ℤ) → (start : ℕ) → List Step
 named_query_steps order k n a b w out start =
     asks (group_check k n) ++ asks (matrices_check a b) ++ work w ++ ruled_steps (named_rule order k n) a b out start
 

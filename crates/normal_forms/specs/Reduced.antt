@@ -43,8 +43,6 @@ letter_at w i = get_or w i (pos 0)
 
 pub record Reduced (v : ℕ) (t w : List ℤ) : Type 0 where
   pub beside_inverse : (i : ℕ) → suc i < length w → letter_at w (suc i) ≡ neg_ℤ (letter_at w i) → ⊥
-  pub even_repeated : (i : ℕ) → suc i < length w → EvenLetter v t (letter_at w i)
-      → letter_at w (suc i) ≡ letter_at w i → ⊥
+  pub even_repeated : (i : ℕ) → suc i < length w → EvenLetter v t (letter_at w i) → letter_at w (suc i) ≡ letter_at w i → ⊥
   pub even_inverted : (i : ℕ) → i < length w → EvenLetter v t (letter_at w i) → Inverted (letter_at w i) → ⊥
-  pub odd_repeated : (i : ℕ) → suc i < length w → OddLetter v t (letter_at w i)
-      → letter_at w (suc i) ≡ letter_at w i → ⊥
+  pub odd_repeated : (i : ℕ) → suc i < length w → OddLetter v t (letter_at w i) → letter_at w (suc i) ≡ letter_at w i → ⊥

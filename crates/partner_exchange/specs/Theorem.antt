@@ -42,8 +42,7 @@ pub record Trade (v : ℕ) (t : List ℤ) (x y : ℤ) : Type 0 where
   pub first_y : pairing_entry v (exchanged v t x y) (first_side v t y) ≡ y
   pub second_x : pairing_entry v (exchanged v t x y) (second_side v t x) ≡ y
   pub second_y : pairing_entry v (exchanged v t x y) (second_side v t y) ≡ x
-  pub others : (i : ℕ) → (i ≡ second_side v t x → ⊥) → (i ≡ second_side v t y → ⊥)
-      → pairing_entry v (exchanged v t x y) i
+  pub others : (i : ℕ) → (i ≡ second_side v t x → ⊥) → (i ≡ second_side v t y → ⊥) → pairing_entry v (exchanged v t x y) i
       ≡ pairing_entry v t i
   -- stays
   pub index : (figures_of v (exchanged v t x y)).index ≡ (figures_of v t).index

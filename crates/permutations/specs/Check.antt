@@ -55,8 +55,7 @@ abbrev pub check15 : (s r : List ℕ) → Checked
 check15 s r = refuse_at (first (not_reached s r) (length s)) (length s) unreached
 
 abbrev pub pair_check : (s r : List ℕ) → Checked
-pair_check s r =
-    check12 s r or_else check13 s or_else check13 r or_else check14 twice_moved s or_else check14 thrice_moved r
+pair_check s r = check12 s r or_else check13 s or_else check13 r or_else check14 twice_moved s or_else check14 thrice_moved r
     or_else check15 s r
 
 pub record Passport (s r : List ℕ) : Type 0 where

@@ -73,8 +73,7 @@ abbrev pub at_side : ℕ → ℕ → (ℕ → List ℤ) → List ℤ
 at_side v q f = pick (ltb q (corners v)) [] (f (q - corners v))
 
 unfoldable pub written : ℕ → List ℤ → Letter → ℕ → List ℤ
-written v t S p =
-    at_side v (flip v t p) (λ (i : ℕ). crossed (pairing_at v t i) i (partner v t i) (generator_number v t i))
+written v t S p = at_side v (flip v t p) (λ (i : ℕ). crossed (pairing_at v t i) i (partner v t i) (generator_number v t i))
 written v t Q p = at_side v p (λ (i : ℕ). forth (generator_number v t i))
 written v t P p = at_side v p (λ (i : ℕ). back (generator_number v t i))
 

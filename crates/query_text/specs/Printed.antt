@@ -5,7 +5,7 @@
 --                                number, for no number at all; 1 for a v that is out of range, and then nothing is
 --                                counted; 19 where the symbol isn't whole; 11 with 2,048 for a number of entries that
 --                                is no sheet; or all its numbers
---   table_of ns, pairs_of ns     the symbol's table, which is the 3v + 1 numbers behind v, and the entries behind these
+--   table_of ns, pairs_of ns      the symbol's table, which is the 3v + 1 numbers behind v, and the entries behind these
 --   lines_lent                   the numbers of the line table that the program lends: 256 lines
 --   unused                       the word space before the first query; what stands in it is free (`SheetPrinted`)
 --   pair_line v t p letters i    THE LINE FOR THE PAIR i: that of the single query's answer in this word space
@@ -99,8 +99,7 @@ sheet_bytes longer t = by_reading printed refusal_line (sheet_reading longer t) 
 pub record SheetPrinted (ns : List ℤ) (bytes : List ℕ) : Type 0 where
   pub answer : (letters : List ℤ) → length letters ≡ letters_lent
       → bytes
-      ≡ lines_if (sheet_verdict ns)
-      (pair_lines (count_in ns) (table_of ns) (pairs_of ns) letters (pairs_in (pairs_of ns)))
+      ≡ lines_if (sheet_verdict ns) (pair_lines (count_in ns) (table_of ns) (pairs_of ns) letters (pairs_in (pairs_of ns)))
   pub claims : sheet_verdict ns ≡ checked.Accepted
       → (w : List ℕ) (letters : List ℤ) → length w ≡ work_length → length letters ≡ letters_lent
       → (i : ℕ) → i < pairs_in (pairs_of ns)

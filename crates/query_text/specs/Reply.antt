@@ -78,5 +78,4 @@ pub record Replied (ns : List ℤ) (bytes : List ℕ) : Type 0 where
 
 abbrev pub ReplyMeans : (longer : Bool) (text bytes : List ℕ) → Type 0
 ReplyMeans longer text bytes =
-    (k : ℕ) → 10 ≤ k → input_of longer query_format text 3079 ≡ Numbers k
-    → Replied (take k (numbers (pieces text))) bytes
+    (k : ℕ) → 10 ≤ k → input_of longer query_format text 3079 ≡ Numbers k → Replied (take k (numbers (pieces text))) bytes

@@ -21,8 +21,8 @@
 --                          compute
 --   Holds x                that it is
 --
--- proofs/Instances.antt: `all_hold_lem`, that `all_hold instances` computes to true; `each`, that so each answer is
--- what docs/CONVENTIONS.md says.
+-- proofs/Instances.antt: `all_hold_lem`, that `all_hold instances` computes to true; `each`, that so each answer is what
+-- docs/CONVENTIONS.md says.
 use Rattle.std.specs.Prelude.{◌≡◌, Bool, true, false, ◌&&◌, List, [], ◌∷◌, ◌++◌, map, ℕ, eqb, length, get_or, replicate, ℤ, pos, negsuc}
 use Rattle.matrix.specs.Matrix.{of_list}
 use Rattle.call.specs.Space.{work_length}
@@ -247,8 +247,7 @@ instances =
     -- I to -T: word 1 with minus
     ∷ (query 2 Γ0_2 I -T work_length (lent 1) 0 answers word minus (pos 1 ∷ []))
     -- I to (1 0; 2 1): 2 1
-    ∷ (query 2 Γ0_2 I (pos 1 ∷ pos 0 ∷ pos 2 ∷ pos 1 ∷ []) work_length (lent 2) 0
-    answers word plus (pos 2 ∷ pos 1 ∷ []))
+    ∷ (query 2 Γ0_2 I (pos 1 ∷ pos 0 ∷ pos 2 ∷ pos 1 ∷ []) work_length (lent 2) 0 answers word plus (pos 2 ∷ pos 1 ∷ []))
     -- S to (1 -1; 1 0): 1
     ∷ (query 2 Γ0_2 S (pos 1 ∷ negsuc 0 ∷ pos 1 ∷ pos 0 ∷ []) work_length (lent 1) 0 answers word plus (pos 1 ∷ []))
     -- I to S: 10, and the lent space as it was

@@ -3,7 +3,7 @@
 --
 --   intersection_for v t v' t'    the answer for two symbols: the first one's refusals, then the second one's, then 24;
 --                             or the number of points. The program's own spaces have room for 3,066
---   of_both common ns ms      the table `common` of the intersection of the two symbols that the numbers ns and ms give
+--   of_both common ns ms       the table `common` of the intersection of the two symbols that the numbers ns and ms give
 --   intersection_made ns ms   the answer for these symbols
 --   intersection_lines a      the lines for what a text gives
 --   intersection_bytes longer t   the bytes for a text
@@ -37,8 +37,7 @@ intersection_made ns ms = intersection_for (count_in ns) (table_in ns) (count_in
 
 abbrev pub intersection_lines : TwoSymbols → List ℕ
 intersection_lines (none f) = refusal_line f
-intersection_lines (two ns ms) =
-    pair_lines_by (intersection_made ns ms) (of_both common_s ns ms) (of_both common_r ns ms)
+intersection_lines (two ns ms) = pair_lines_by (intersection_made ns ms) (of_both common_s ns ms) (of_both common_r ns ms)
 
 unfoldable pub intersection_bytes : Bool → List ℕ → List ℕ
 intersection_bytes longer t = intersection_lines (two_symbols longer t)

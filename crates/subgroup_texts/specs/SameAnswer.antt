@@ -77,8 +77,7 @@ abbrev pub by_first : (t : List ℕ) → Reading → TwoSymbols
 by_first t (reading.Refused f) = none f
 by_first t (reading.Numbers k) =
     pick (ltb k 2) (none bad_vertex_count)
-    (by_second (cut_at t) (take k (numbers (pieces (first_text t))))
-    (second_reading t) (numbers (pieces (second_text t))))
+    (by_second (cut_at t) (take k (numbers (pieces (first_text t)))) (second_reading t) (numbers (pieces (second_text t))))
 
 unfoldable pub two_symbols : Bool → List ℕ → TwoSymbols
 two_symbols longer t =

@@ -122,8 +122,7 @@ pub record Claim (v : ℕ) (t a b : List ℤ) (w : List ℕ) (out : List ℤ) (s
   pub asked : ((query_refusal r).number ≡ 0) ⊎ ((query_refusal r).number ≡ no_word.number) → ValidQuery v t a b w
   pub short : (n : ℕ) → (query_refusal r).number ≡ (too_short n).number → ValidQuery v t a b w ⊎ ShortWork w r
   pub answered : ValidQuery v t a b w
-      → Answered v t (of_list a) (of_list b) (found_word v t (of_list a) (of_list b))
-      (found_sign v t (of_list a) (of_list b))
+      → Answered v t (of_list a) (of_list b) (found_word v t (of_list a) (of_list b)) (found_sign v t (of_list a) (of_list b))
       out start r out'
 
 pub record QuerySays (v : ℕ) (t a b : List ℤ) (w : List ℕ) (start n place : ℕ) (out' : List ℤ) : Type 0 where
@@ -158,8 +157,7 @@ query_call v t a b w out start = record {
       × QuerySays v t a b w.entry.now start number place out.exit.now;
 }
 
-abbrev pub signed_query_call : (v : ℕ) (t a b : List ℤ) → Lent (List ℕ) → Lent (List ℤ) → (start : ℕ)
-    → Lent ℤ → Contract
+abbrev pub signed_query_call : (v : ℕ) (t a b : List ℤ) → Lent (List ℕ) → Lent (List ℤ) → (start : ℕ) → Lent ℤ → Contract
 signed_query_call v t a b w out start sign = record {
   steps = query_steps v t a b w out start ++ result_in (sign_number (found_sign v t (of_list a) (of_list b))) sign;
   count = length (found_word v t (of_list a) (of_list b));

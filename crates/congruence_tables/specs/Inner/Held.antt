@@ -152,8 +152,7 @@ pub record Enters (f : Family) (n : ℕ) (w : List ℕ) (count : ℕ) (x : Resid
 
 pub record EntersAs (f : Family) (n : ℕ) (w : List ℕ) (count : ℕ) (x : Residues) (w' : List ℕ) (place count' : ℕ) : Type
     0 where
-  pub joined : PairEntered (bucket_of (multiplier_of f n)) (with_row f w count x)
-      (first_of f x) (second_of f x) count w'
+  pub joined : PairEntered (bucket_of (multiplier_of f n)) (with_row f w count x) (first_of f x) (second_of f x) count w'
       place count'
 
 -- ---- the walk over the cosets

@@ -28,8 +28,7 @@ pub record Inside (v : ℕ) (w : List ℕ) : Type 0 where
 pub record FilledR (v : ℕ) (w w' : List ℕ) (n : ℕ) : Type 0 where
   pub same : length w' ≡ length w
   pub images : (p : ℕ) → p < places v → get_or w' (SIGMA + p) 0 ≡ get_or w (SIGMA + p) 0
-  pub turns : (p : ℕ) → p < n
-      → get_or w' (RHO + p) 0 ≡ get_or w (SIGMA + turn_q v (turn_q v (get_or w (SIGMA + p) 0))) 0
+  pub turns : (p : ℕ) → p < n → get_or w' (RHO + p) 0 ≡ get_or w (SIGMA + turn_q v (turn_q v (get_or w (SIGMA + p) 0))) 0
 
 pub record Arranged (t : List ℤ) (v : ℕ) (w : List ℕ) (n : ℕ) : Type 0 where
   pub long : work_length ≤ length w

@@ -129,8 +129,7 @@ indexed another = dead
 module _ (semi : Bool) where
   abbrev pub read_piece : State → CyclePiece → State
   read_piece front p = indexed p
-  read_piece (within_S n ph seen cur done) p =
-      after (within_S n) (begin_r semi n done) (turn_of semi n seen cur done ph p)
+  read_piece (within_S n ph seen cur done) p = after (within_S n) (begin_r semi n done) (turn_of semi n seen cur done ph p)
   read_piece (within_R n sc ph seen cur done) p = after (within_R n sc) dead (turn_of semi n seen cur done ph p)
   read_piece dead p = dead
 

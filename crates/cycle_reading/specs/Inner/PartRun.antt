@@ -27,8 +27,7 @@ pub data PartOut : Type 0 where
   passed : ℕ → List (List ℕ) → PartOut
   ended : Bool → List (List ℕ) → PartOut
 
-unfoldable pub part_run : (semi : Bool) (n : ℕ) → Phase → (seen cur : List ℕ) → (done : List (List ℕ))
-    → List PlacedPiece
+unfoldable pub part_run : (semi : Bool) (n : ℕ) → Phase → (seen cur : List ℕ) → (done : List (List ℕ)) → List PlacedPiece
     → PartOut
 part_run semi n ph seen cur done [] = ended (may_end ph) done
 part_run semi n ph seen cur done (p ∷ ps) = elim (turn_of semi n seen cur done ph p.piece) [

@@ -36,7 +36,5 @@ cut_answer end (filled.Made n) = filled.Refused (bad_cycles text_most)
 cut_answer end (filled.Refused f) = filled.Refused (cut_refusal end f)
 
 pub record CyclesLeave (longer : Bool) (text s r s' r' : List ℕ) : Type 0 where
-  pub S_left : s'
-      ≡ if_accepted (cycles_check (judged_text longer text)) (at_front (read_s (judged_text longer text)) s) s
-  pub R_left : r'
-      ≡ if_accepted (cycles_check (judged_text longer text)) (at_front (read_r (judged_text longer text)) r) r
+  pub S_left : s' ≡ if_accepted (cycles_check (judged_text longer text)) (at_front (read_s (judged_text longer text)) s) s
+  pub R_left : r' ≡ if_accepted (cycles_check (judged_text longer text)) (at_front (read_r (judged_text longer text)) r) r

@@ -72,8 +72,7 @@ module _ (σ κ : ℕ → ℕ) where
 
   abbrev pub go_on : (ℕ → List ℕ → List Placed → Grew) → ℕ → List ℕ → List Placed → Chosen → Grew
   go_on again k came l none = finished l
-  go_on again k came l (this i) =
-      pick (fits_in i l) (again (suc (suc k)) (came_after k i came) (parts_at i l)) (refused i)
+  go_on again k came l (this i) = pick (fits_in i l) (again (suc (suc k)) (came_after k i came) (parts_at i l)) (refused i)
 
   abbrev pub grow_by : Order → ℕ → ℕ → List ℕ → List Placed → Grew
   grow_by order zero k came l = finished l

@@ -16,8 +16,8 @@
 --   along_from w x p            the sides of these cells, from left to right, x being the left end of the first
 --   low_num, low_den w l        numerator plus 10⁹, and denominator, of the right end of the cell that l links, -1/0
 --                               where it links none
---   cell_sum_num, cell_sum_den w c  the sums for the mediant of the side in cell c; fits_cell w c: whether it keeps to
---                               the limit
+--   cell_sum_num, cell_sum_den w c  the sums for the mediant of the side in cell c; fits_cell w c: whether it keeps to the
+--                               limit
 --   held_by, linked, queued     w with new entries of HELD, LINK and QUEUE
 --   split_cell w c k e d        w with the side in cell c split at the vertex whose numbers are e and d: its left part
 --                               has the new cell k, its right part the cell c
@@ -77,8 +77,7 @@ end_or w x (c ∷ p) = end_at w (cell_place TODO c)
 abbrev pub along_from : List ℕ → Vertex → List ℕ → List Placed
 along_from w x [] = []
 along_from w x (c ∷ p) =
-    along_from w x p
-    ++ (placed_side (end_or w x p) (end_at w (cell_place TODO c)) (point_at w (cell_place TODO c)) ∷ [])
+    along_from w x p ++ (placed_side (end_or w x p) (end_at w (cell_place TODO c)) (point_at w (cell_place TODO c)) ∷ [])
 
 -- ---- a split
 
@@ -95,8 +94,7 @@ abbrev pub cell_sum_den : List ℕ → ℕ → ℕ
 cell_sum_den w c = low_den w (link_at w c) + two_cells w (cell_place TODO c + 2)
 
 abbrev pub fits_cell : List ℕ → ℕ → Bool
-fits_cell w c =
-    leb 1000000000 (cell_sum_num w c) && leb (cell_sum_num w c) 3000000000 && leb (cell_sum_den w c) 1000000000
+fits_cell w c = leb 1000000000 (cell_sum_num w c) && leb (cell_sum_num w c) 3000000000 && leb (cell_sum_den w c) 1000000000
 
 abbrev pub held_by : List ℕ → (m a b x y : ℕ) → List ℕ
 held_by w m a b x y = set (set (set w (HELD + m) 0) (HELD + a) x) (HELD + b) y
@@ -117,14 +115,12 @@ module _ (σ κ : ℕ → ℕ) where
       let m = point_at w (cell_place TODO c) in
       let a = σ (κ m) in
       let b = σ (κ (κ m)) in
-      queued (linked (cell_set (set (held_by w m a b (k + 1) (c + 1)) (cell_place TODO c + 4) b)
-      (cell_place TODO k) e d a)
+      queued (linked (cell_set (set (held_by w m a b (k + 1) (c + 1)) (cell_place TODO c + 4) b) (cell_place TODO k) e d a)
       c k (link_at w c)) (2 * k - 3) a b
 
   pub data Opened (w : List ℕ) (c k : ℕ) (w' : List ℕ) (stop : Bool) (k' : ℕ) : Type 0 where
     over : fits_cell w c ≡ false → Counted w (link_at w c) k' → w' ≡ w → stop ≡ true → Opened w c k w' stop k'
-    parted : fits_cell w c ≡ true → w' ≡ split_cell w c k (cell_sum_num w c - 1000000000) (cell_sum_den w c)
-        → stop ≡ false
+    parted : fits_cell w c ≡ true → w' ≡ split_cell w c k (cell_sum_num w c - 1000000000) (cell_sum_den w c) → stop ≡ false
         → k' ≡ k + 1 → Opened w c k w' stop k'
 
   pub data Turned (w : List ℕ) (h k : ℕ) (w' : List ℕ) (stop : Bool) (k' : ℕ) : Type 0 where

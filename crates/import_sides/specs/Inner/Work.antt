@@ -126,8 +126,7 @@ module _ (σ κ : ℕ → ℕ) where
         → SideTaken w d k w' stop d' k'
     over : closed_in w (top_point w k) ≡ false → top_fits w d k ≡ false → w' ≡ w → stop ≡ true → d' ≡ d
         → SideTaken w d k w' stop d' k'
-    parted : closed_in w (top_point w k) ≡ false → top_fits w d k ≡ true → w' ≡ split_in w d k
-        → stop ≡ false → d' ≡ d → k'
+    parted : closed_in w (top_point w k) ≡ false → top_fits w d k ≡ true → w' ≡ split_in w d k → stop ≡ false → d' ≡ d → k'
         ≡ k + 1 → SideTaken w d k w' stop d' k'
 
 -- what a turn asks for
@@ -143,8 +142,7 @@ pub record Top (s r w : List ℕ) (d k : ℕ) : Type 0 where
 
 -- three sides to do, with finite vertices e2/1 and e1/1 (numerators plus 10⁹) and the points p2, p1, p0 from the left
 abbrev pub start_by : List ℕ → (e2 e1 p2 p1 p0 : ℕ) → List ℕ
-start_by w e2 e1 p2 p1 p0 =
-    cell_set (cell_set (cell_set (held_set w 1 p2 p1 p0) TODO 1000000001 0 p0) (TODO + 5) e1 1 p1)
+start_by w e2 e1 p2 p1 p0 = cell_set (cell_set (cell_set (held_set w 1 p2 p1 p0) TODO 1000000001 0 p0) (TODO + 5) e1 1 p1)
     (TODO + 10) e2 1 p2
 
 abbrev pub start_in : (σ κ : ℕ → ℕ) → List ℕ → List ℕ

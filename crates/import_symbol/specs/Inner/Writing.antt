@@ -20,8 +20,7 @@ use Rattle.import_sides.specs.Inner.Work.{LABEL, DONE, cell_place, end_at, point
 
 abbrev pub vertices_to : List ℕ → ℕ → List ℤ
 vertices_to w zero = []
-vertices_to w (suc i) =
-    vertices_to w i ++ ((end_at w (cell_place DONE i)).num ∷ pos (end_at w (cell_place DONE i)).den ∷ [])
+vertices_to w (suc i) = vertices_to w i ++ ((end_at w (cell_place DONE i)).num ∷ pos (end_at w (cell_place DONE i)).den ∷ [])
 
 module _ (σ κ : ℕ → ℕ) where
   pub data Paired (w : List ℕ) (out : List ℤ) (m j c : ℕ) (w' : List ℕ) (out' : List ℤ) (c' : ℕ) : Type 0 where

@@ -52,8 +52,7 @@ pub record PairVisited (w a b c d : List ℕ) (m i count : ℕ) (w' : List ℕ) 
   pub holds : (n k : ℕ) (l : List ℕ) → PairTables n k a b c d → HoldsPairs (bucket_of m) k l w count
       → HoldsPairs (bucket_of m) k (visit (pair_by_s n k a b c d) (pair_by_r n k a b c d) l i) w' count'
   pub S_is : (n k : ℕ) (l : List ℕ) → PairTables n k a b c d → HoldsPairs (bucket_of m) k l w count
-      → get_or w' (S_TABLE + i) 0
-      ≡ find (add l (pair_by_s n k a b c d (get_or l i 0))) (pair_by_s n k a b c d (get_or l i 0))
+      → get_or w' (S_TABLE + i) 0 ≡ find (add l (pair_by_s n k a b c d (get_or l i 0))) (pair_by_s n k a b c d (get_or l i 0))
   pub R_is : (n k : ℕ) (l : List ℕ) → PairTables n k a b c d → HoldsPairs (bucket_of m) k l w count
       → get_or w' (R_TABLE + i) 0 ≡ find (visit (pair_by_s n k a b c d) (pair_by_r n k a b c d) l i)
       (pair_by_r n k a b c d (get_or l i 0))

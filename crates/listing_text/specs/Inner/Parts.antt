@@ -1,8 +1,8 @@
 -- The slices that a program lends for a listing, and its parts as they lie there.
 --   ListingSpaces w table out  the work space, the generator table and the bytes that are written are long enough for
 --                              every symbol
---   parts_of f g rows w     the lines of the figures f with the widths in the work space w, of g generators in the
---                          rows, and of the tables of S, R and T in w
+--   parts_of f g rows w     the lines of the figures f with the widths in the work space w, of g generators in the rows,
+--                          and of the tables of S, R and T in w
 use Rattle.std.specs.Prelude.{List, ◌++◌, ℕ, ◌≤◌, ℤ, length}
 use Rattle.call.specs.Space.{work_length, entries}
 use Rattle.numbering.specs.Inner.Space.{S_TABLE, WIDTHS, R_TABLE, T_TABLE}

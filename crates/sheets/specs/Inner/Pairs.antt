@@ -20,8 +20,7 @@ abbrev pub pair_steps : (v : ℕ) (t a b : List ℤ) → Lent (List ℤ) → (st
 pair_steps v t a b out start = asks (matrices_check a b) ++ found_steps v t a b out start
 
 abbrev pub pair_of : (v : ℕ) (t a b : List ℤ) (room start : ℕ) → Queried
-pair_of v t a b room start =
-    found_if v t a b start (verdict (asks (matrices_check a b) ++ found_checks v t a b start room))
+pair_of v t a b room start = found_if v t a b start (verdict (asks (matrices_check a b) ++ found_checks v t a b start room))
 
 pub record SheetReady (v : ℕ) (t p : List ℤ) (w : List ℕ) : Type 0 where
   pub symbol : IsSymbol v t

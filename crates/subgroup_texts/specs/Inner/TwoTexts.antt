@@ -42,8 +42,7 @@ same_for v t n u = decided (same_tables v t n u) (symbol_check v t or_else symbo
 
 abbrev pub lines_for_two : Asked → (v : ℕ) (t : List ℤ) (n : ℕ) (u : List ℤ) → List ℕ
 lines_for_two asked.Same v t n u = same_line (same_for v t n u)
-lines_for_two asked.Intersection v t n u =
-    pair_lines_by (intersection_for v t n u) (common_s v t n u) (common_r v t n u)
+lines_for_two asked.Intersection v t n u = pair_lines_by (intersection_for v t n u) (common_s v t n u) (common_r v t n u)
 
 abbrev pub lines_of_two : Asked → TwoSymbols → List ℕ
 lines_of_two asked.Same s = two_lines s

@@ -93,8 +93,7 @@ pub record Looped (v : ℕ) (t : List ℤ) (r : List ℕ) (n y : ℕ) : Type 0 w
   pub from : beginning_in r y ≤ y
   pub before : y < end_in r y
   pub within : end_in r y ≤ n
-  pub next : (z : ℕ) → beginning_in r y ≤ z → suc z < end_in r y
-      → forth_to v t (position_in r z) ≡ position_in r (suc z)
+  pub next : (z : ℕ) → beginning_in r y ≤ z → suc z < end_in r y → forth_to v t (position_in r z) ≡ position_in r (suc z)
   pub last : (z : ℕ) → suc z ≡ end_in r y → forth_to v t (position_in r z) ≡ position_in r (beginning_in r y)
 
 abbrev pub Closed : ℕ → List ℤ → List ℕ → ℕ → Type 0
