@@ -17,7 +17,7 @@ size_kept : (c : After-with_sign) → to_z w64 (of_z w64 c.with_sign.result) ≡
 size_kept c =
     let s = c in
     let x = to_z w64 (of_z w64 s.args.x) in
-    to_z-of_z (record { sfits = c.with_sign.type_inv }) ∙ c.with_sign.ensures ∙ ap (λ (b : Bool). signed b x) c.is_nonnegative.ensures
+    to_z-of_z {w = w64} {z = c.with_sign.result} (record { sfits = c.with_sign.type_inv }) ∙ c.with_sign.ensures ∙ ap (λ (b : Bool). signed b x) c.is_nonnegative.ensures
     ∙ size_is x ∙ ap (λ (z : ℤ). pos (nat_abs z)) (to_z-of_z s.ranges.x)
 
 pub overflow_cast-result : goal.overflow_cast-result

@@ -51,4 +51,4 @@ loop-y-preserved c =
     ending_more g e.loop-y-test.true e.cusp_at-c.ensures
 
 pub returns : goal.returns
-returns c = ending_end c.loop-y.invariant c.loop-y-test.false
+returns c = let e = ending_end c.loop-y.invariant c.loop-y-test.false in record { ends_to = e.0; ends_frame = e.1 }

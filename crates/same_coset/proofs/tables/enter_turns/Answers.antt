@@ -63,4 +63,4 @@ loop-y-preserved c =
     turning_more l h (turn_here l.source h x.index-x.ensures e.index-z.ensures)
 
 pub returns : goal.returns
-returns c = turning_end c.loop-y.invariant c.loop-y-test.false
+returns c = let e = turning_end c.loop-y.invariant c.loop-y-test.false in record { turns_at = e.0; changed_within = e.1 }
