@@ -9,4 +9,4 @@ returns c =
     let k = c in
     let b = k in
     let g = b.grow_within-grown in
-    record { fills = g.ensures; w_after = k.clear.ensures ∙ ap zeros b.w-1.given }
+    record { fills = g.ensures; w_after = k.clear.ensures ∙ ap zeros g.auto.w }

@@ -22,14 +22,13 @@ pub returns-in-Refused : goal.returns-in-Refused
 returns-in-Refused c =
     let q = c.preview-answer in
     let s = c in
-    let told = c.answer-1.given in
     let v = s.args.v in
     let t = s.args.t.now in
     let x = s.args.x in
     let y = s.args.y in
     let u = exchanged v t x y in
     let g = rw (to_z-of_z s.ranges.x, to_z-of_z s.ranges.y) at q.ensures in
-    let e = (run_unfigured g told.0.0 told.1).is in
+    let e = (run_unfigured g c.in-Refused.refusal c.in-Refused.is).is in
     let left = ap (λ (a : Checked). if_accepted a (figure_numbers (figures_of v u)) s.args.out.now) (sym e) in
     let says = preview_says v t x y (lent_to s.args.w _) (lent_to s.args.widths _) (lent_to s.args.out _)
     (g.leaves.0, (g.leaves.1.0, (left, tt))) in
@@ -41,15 +40,14 @@ pub returns-in-Made : goal.returns-in-Made
 returns-in-Made c =
     let q = c.preview-answer in
     let s = c in
-    let told = c.answer-in-Made-1.given in
     let v = s.args.v in
     let t = s.args.t.now in
     let x = s.args.x in
     let y = s.args.y in
     let u = exchanged v t x y in
     let g = rw (to_z-of_z s.ranges.x, to_z-of_z s.ranges.y) at q.ensures in
-    let e = (run_figured g told.0.0 told.1).is in
-    let same = figures_are g told.0.0 told.1 in
+    let e = (run_figured g c.in-Made.f c.in-Made.is).is in
+    let same = figures_are g c.in-Made.f c.in-Made.is in
     let left = c.of_figures.ensures ∙ ap figure_numbers same
     ∙ ap (λ (a : Checked). if_accepted a (figure_numbers (figures_of v u)) s.args.out.now) (sym e) in
     let says = preview_says v t x y (lent_to s.args.w _) (lent_to s.args.widths _) (lent_to s.args.out _)

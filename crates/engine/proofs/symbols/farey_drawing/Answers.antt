@@ -24,10 +24,9 @@ pub overflow_add-place : goal.overflow_add-place
 overflow_add-place c =
     let q = c.draw_symbol-answer in
     let s = c in
-    let told = c.answer-in-Made-1.given in
     let v = s.args.v in
-    let e = made_verdict (box_to v s.args.t.now (v + 1)) (drawing_verdict v s.args.t.now s.args.out.now) told.0.0
-    (sym q.ensures.answer ∙ told.1) in
+    let e = made_verdict (box_to v s.args.t.now (v + 1)) (drawing_verdict v s.args.t.now s.args.out.now) c.in-Made.b
+    (sym q.ensures.answer ∙ c.in-Made.is) in
     omega (arith, (drawn_symbol v s.args.t.now s.args.out.now e).symbol.most)
 
 pub returns-in-Refused : goal.returns-in-Refused
@@ -36,9 +35,8 @@ returns-in-Refused c =
     let s = c in
     let v = s.args.v in
     let t = s.args.t.now in
-    let told = c.answer-1.given in
     let b = box_to v t (v + 1) in
-    let e = refused_verdict b (drawing_verdict v t s.args.out.now) told.0.0 (sym q.ensures.answer ∙ told.1) in
+    let e = refused_verdict b (drawing_verdict v t s.args.out.now) c.in-Refused.refusal (sym q.ensures.answer ∙ c.in-Refused.is) in
     call _ (drawing_numbered v t (ltb (first (too_large_at t) (2 * v)) (2 * v)) (first (too_large_at t) (2 * v)) (v + 1) (length s.args.out.now / 4))
     (drawing_says v t s.args.out.now)
     (q.ensures.leaves.0, (ap (λ (x : Checked). if_accepted x (box_numbers b) s.args.bounds.now) (sym e), tt))
@@ -51,15 +49,14 @@ returns-in-Made c =
     let s = c in
     let v = s.args.v in
     let t = s.args.t.now in
-    let told = c.answer-in-Made-1.given in
     let b = box_to v t (v + 1) in
-    let k = sym q.ensures.answer ∙ told.1 in
-    let e = made_verdict b (drawing_verdict v t s.args.out.now) told.0.0 k in
+    let k = sym q.ensures.answer ∙ c.in-Made.is in
+    let e = made_verdict b (drawing_verdict v t s.args.out.now) c.in-Made.b k in
     call _ (drawing_numbered v t (ltb (first (too_large_at t) (2 * v)) (2 * v)) (first (too_large_at t) (2 * v)) (v + 1) (length s.args.out.now / 4))
     (drawing_says v t s.args.out.now) (
       q.ensures.leaves.0,
       (
-        ap box_numbers (sym (made_box b (drawing_verdict v t s.args.out.now) told.0.0 k))
+        ap box_numbers (sym (made_box b (drawing_verdict v t s.args.out.now) c.in-Made.b k))
             ∙ ap (λ (x : Checked). if_accepted x (box_numbers b) s.args.bounds.now) (sym e),
         tt,
       ),

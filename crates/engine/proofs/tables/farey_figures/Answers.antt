@@ -17,10 +17,9 @@ pub returns-in-Refused : goal.returns-in-Refused
 returns-in-Refused c =
     let q = c.figures-answer in
     let s = c in
-    let told = c.answer-1.given in
     let v = s.args.v in
     let t = s.args.t.now in
-    let e = (run_unfigured q.ensures told.0.0 told.1).is in
+    let e = (run_unfigured q.ensures c.in-Refused.refusal c.in-Refused.is).is in
     let left = ap (λ (x : Checked). if_accepted x (figure_numbers (figures_of v t)) s.args.out.now) (sym e) in
     call _ (one_numbered v t s.args.w.now [] tt)
     (figures_says v t (lent_to s.args.w _) (lent_to s.args.out _) (q.ensures.leaves.0, (left, tt))) (q.ensures.leaves.0, (left, tt))
@@ -30,11 +29,10 @@ pub returns-in-Made : goal.returns-in-Made
 returns-in-Made c =
     let q = c.figures-answer in
     let s = c in
-    let told = c.answer-in-Made-1.given in
     let v = s.args.v in
     let t = s.args.t.now in
-    let e = (run_figured q.ensures told.0.0 told.1).is in
-    let left = c.of_figures.ensures ∙ ap figure_numbers (figures_are q.ensures told.0.0 told.1)
+    let e = (run_figured q.ensures c.in-Made.f c.in-Made.is).is in
+    let left = c.of_figures.ensures ∙ ap figure_numbers (figures_are q.ensures c.in-Made.f c.in-Made.is)
     ∙ ap (λ (x : Checked). if_accepted x (figure_numbers (figures_of v t)) s.args.out.now) (sym e) in
     call _ (one_numbered v t s.args.w.now [] tt)
     (figures_says v t (lent_to s.args.w _) (lent_to s.args.out _) (q.ensures.leaves.0, (left, tt))) (q.ensures.leaves.0, (left, tt))

@@ -8,6 +8,7 @@ use Rattle.numbering.proofs.Those.{those_few}
 use Rattle.figures.specs.Cusps.{is_fixed}
 use Rattle.figures.proofs.Scan.{fixed_yes, fixed_no}
 use borrow.Author.Rules.{rules}
+use Rattle.import_call.proofs.length.fixed_points.Goals.{then-x-i, else-x-i}
 use Rattle.import_call.proofs.length.fixed_points.Goals as goal
 
 pub loop-i-init : goal.loop-i-init
@@ -24,10 +25,10 @@ loop-i-preserved c =
     let loop = c.loop-i in
     let r = c.args.r.now in
     let x = c.wide-x.ensures in
-    ⊎_elim
-    (λ a. (omega arith, a.1 ∙ (rw loop.invariant.1 (sym (fixed_yes r loop.i (sym x ∙ a.0.taken))))))
-    (λ a. (omega arith, a.1 ∙ loop.invariant.1 ∙ sym (fixed_no r loop.i (λ e. a.0.left (x ∙ e)))))
-    c.if-x-i.branch
+    elim c.if-x-i.branch [
+      | then-x-i a ↦ (omega arith, a.count-is ∙ (rw loop.invariant.1 (sym (fixed_yes r loop.i (sym x ∙ a.if-x-i.true)))))
+      | else-x-i a ↦ (omega arith, a.count-is ∙ loop.invariant.1 ∙ sym (fixed_no r loop.i (λ e. a.if-x-i.false (x ∙ e))))
+    ]
 
 pub returns : goal.returns
 returns c =
