@@ -92,8 +92,8 @@ says f l = refuses f.number f.place l
 -- a space that holds x
 abbrev pub held : {X : Type 0} → X → Lent X
 held x = record {
-  entry = record { ref_ptr = (0, 0); now = x };
-  exit = record { ref_ptr = (0, 0); now = x };
+  entry = record { ref_ptr = (0, 0); ghost_name = 0; now = x };
+  exit = record { ref_ptr = (0, 0); ghost_name = 0; now = x };
 }
 
 -- the steps with which the calls on a symbol begin: checks 1 to 7, and then the work space, by its length

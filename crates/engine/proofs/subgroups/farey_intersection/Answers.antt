@@ -1,7 +1,7 @@
 -- `farey_intersection` meets its contract: it tells the answer of `intersection`. Assumes nothing.
 use mathlib.Core.List.{List}
 use Prim.Native.Nat.{ℕ}
-use denote.Ref.{Bor}
+use denote.MutBor.{MutBor}
 use Rattle.call.specs.Call.{Lent}
 use Rattle.call.proofs.Laws.{call_made}
 use Rattle.intersections.proofs.Means.{intersection_says}
@@ -16,7 +16,7 @@ returns c =
     let earlier = c in
     let q = c.intersection in
     let s = earlier in
-    let as_lent : Bor (List ℕ) → Lent (List ℕ) = λ x. record { entry = x; exit = x } in
+    let as_lent : MutBor (List ℕ) → Lent (List ℕ) = λ x. record { entry = x; exit = x } in
     let v = s.args.v in
     let t = s.args.t.now in
     let m = s.args.m in
