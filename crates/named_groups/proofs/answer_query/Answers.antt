@@ -67,8 +67,10 @@ returns-in-Made c =
     let m = earlier.make_symbol-made in
     let o = order_by s.args.wide in
     let q = c.query in
+    let made =
     query_made s.args.f s.args.n s.requires.group o zeros3070 m.new.out zeros3070_long m.ensures.fills
     c.in-Made.is
     s.args.a s.args.b s.args.w.now m.new.w q.new.w s.args.out.now q.new.out s.args.start
     s.requires
-    earlier.make_symbol-made.auto.w q.ensures
+    earlier.make_symbol-made.auto.w q.ensures in
+    record { fills = made.0; w_after = made.1 }

@@ -27,6 +27,8 @@ returns c =
     let n = s.args.n in
     let g = s.requires.0 in
     let k = t.tables-k.ensures in
+    let made =
     symbol_made f n g (order_by s.args.wide) _ _ s.args.w.now t.tables-k.new.w s.args.out.now
     (front (family_s f n) _ k.value (length_S f n g) k.s_after) (front (family_r f n) _ k.value (length_R f n g) k.r_after)
-    m.tables-k.auto.w s.requires.1 m.import_by.ensures
+    m.tables-k.auto.w s.requires.1 m.import_by.ensures in
+    record { fills = made.0; w_after = made.1 }
