@@ -37,13 +37,7 @@ class Sentences(unittest.TestCase):
             copy = Path(folder)
             named = ["tools/refusals", "rust/farey/refusals.txt", "include/farey.h", "python/farey/refusal.py"]
             named += ["docs/HANDBOOK.md", "docs/CONVENTIONS.md"]
-            (statements,) = [path for path in (by_hand.REPOSITORY / "crates").glob("*/specs/*.antt") if "abbrev pub no_refusal" in path.read_text("utf-8")]
-            home = statements.relative_to(by_hand.REPOSITORY)
-            (source,) = [
-                path.relative_to(by_hand.REPOSITORY)
-                for path in (statements.parents[1] / "src").glob("*.rt")
-                if "pub const NO_WORD" in path.read_text("utf-8")
-            ]
+            home, source = Path("crates/call/specs/Refusal.antt"), Path("crates/call/src/refusal.rt")
             examples = [f"examples/{part}" for part in ("refusals", "imports")]
             for name in [*named, home, source]:
                 (copy / name).parent.mkdir(parents=True, exist_ok=True)
@@ -57,9 +51,10 @@ class Sentences(unittest.TestCase):
                 ("python/farey/refusal.py", "no vertex is 0/1", "a vertex is 0/1"),
                 ("docs/HANDBOOK.md", "5. no vertex is 0/1", "5. a vertex is 0/1"),
                 ("docs/CONVENTIONS.md", "| 21 | ", "| 22 | "),
-                (str(home), "refusal 14 x", "refusal 15 x"),
-                (str(home), "bad_pairing", "wrong_pairing"),
-                (str(source), "NO_WORD: u64 = 10", "NO_WORD: u64 = 11"),
+                (str(home), "refusal_number (WrongOrder n) = 14", "refusal_number (WrongOrder n) = 15"),
+                (str(home), "BadPairing", "WrongPairing"),
+                (str(source), "// 10: 'None'", "// 11: 'None'"),
+                (str(source), "    NoWord,", "    NoWord(usize),"),
             ):
                 text = (copy / name).read_text("utf-8")
                 self.assertIn(old, text)

@@ -11,7 +11,12 @@ use native.Mathlib.Omega.{arith}
 use native.Mathlib.Nat.{mod-eq_of_lt, div-eq_of_lt, div-add-mod', mul-add-div_right, mul-add-mod_self_right, mul-le-mul_right}
 use native.Mathlib.Decide.{dec_lt, ℕ_discrete}
 use lib.Dec.{eqb}
-use lib.ListN.{length, get_or, set, length-set, length-append, get_or-append}
+use lib.ListN.{length, get_or, set, replicate, length-set, length-append, length-replicate, get_or-append}
+use borrow.Rule.Slice.PartMut.{put_mid}
+use Rattle.std.proofs.lemmas.List.{get_or-replicate}
+use Rattle.std.proofs.lemmas.Slice.{put_mid-paste}
+use Rattle.numbering.specs.Inner.Space.{put_to}
+use Rattle.numbering.proofs.Space.{put_in, put_within}
 use lib.Seq.{get_or-set_same, get_or-set_other, get_or-append-add}
 use borrow.Author.Tests.{eq-eqb, ne_eqb, eqb-true}
 use Rattle.call.specs.Space.{work_length}
@@ -43,19 +48,24 @@ find_le (y ∷ l) x = elim (ℕ_discrete y x) [
 
 -- ---- no pairs
 
-pub begun_none : (w : List ℕ) → BucketsBegun 0 w w
-begun_none w = record { same = refl; none = λ b h. none_below_lem h; below = λ p h. refl; above = λ p h. refl }
-
-pub begun_more : {n : ℕ} {w w' : List ℕ} → work_length ≤ length w → n < buckets → BucketsBegun n w w' → BucketsBegun (n + 1) w (set w' (LAST + n) 0)
-begun_more {n} {w} {w'} long few a = record {
-  same = length-set w' (LAST + n) 0 ∙ a.same;
-  none = λ b h. elim (ℕ_discrete b n) [
-    | yes e ↦ rw e (get_or-set_same w' (LAST + n) 0 0 (omega (arith, a.same)))
-    | no e ↦ get_or-set_other w' (LAST + n) (LAST + b) 0 0 (λ f. e (omega arith)) ∙ a.none b (omega arith)
-  ];
-  below = λ p h. get_or-set_other w' (LAST + n) p 0 0 (λ f. omega arith) ∙ a.below p h;
-  above = λ p h. get_or-set_other w' (LAST + n) p 0 0 (λ f. omega arith) ∙ a.above p h;
-}
+-- a part of k zeros in place of the n heads from LAST on
+pub begun_filled : {n k : ℕ} {w part : List ℕ} → work_length ≤ length w → n ≤ buckets → part ≡ replicate k 0 → k ≡ n
+    → BucketsBegun n w (put_mid LAST n w part)
+unfolding put_to
+begun_filled {n} {k} {w} {part} work few is e =
+    let zeros : List ℕ = replicate n 0 in
+    let long : length zeros ≡ n = length-replicate {A = ℕ} n 0 in
+    let size : n ≤ length zeros = omega arith in
+    let room : LAST + n ≤ length w = omega arith in
+    let changed = put_within w LAST zeros n room size in
+    let by : part ≡ zeros = is ∙ ap (λ (m : ℕ). replicate m 0) e in
+    rw (put_mid-paste LAST n w part zeros n by refl (sym long))
+    (record {
+      same = changed.same;
+      none = λ b h. put_in w LAST zeros n room size b h ∙ get_or-replicate n b 0 0 h;
+      below = changed.below;
+      above = λ p h. changed.above p (omega arith);
+    })
 
 pub none_held : {w w' : List ℕ} → work_length ≤ length w → BucketsBegun buckets w w' → (key : ℕ → ℕ → ℕ) (k : ℕ) → 0 < k → HoldsPairs key k [] w' 0
 none_held long a key k some = record {
@@ -78,26 +88,13 @@ pub record Searching (key : ℕ → ℕ → ℕ) (w : List ℕ) (count b x y p :
   pub hit : (q : ℕ) → p ≡ suc q → key_at key w q ≡ b
   pub none : (j : ℕ) → p ≤ j → j < count → get_or w (FORMER + j) 0 ≡ x → get_or w (LATTER + j) 0 ≡ y → ⊥
 
--- the test of one pair: of its first number, and then of its second
-module _ (w : List ℕ) (q x y : ℕ) where
-  pub same_first : (get_or w (FORMER + q) 0 ≡ x → ⊥) → SamePair w q x y false
-  same_first d = record { yes = λ e. true_false e refl; no = λ e f g. d f }
-
-  pub same_second : get_or w (FORMER + q) 0 ≡ x → {b : Bool} → b ≡ eqb (get_or w (LATTER + q) 0) y → SamePair w q x y b
-  same_second f is = record {
-    yes = λ e. (f, eqb-true (get_or w (LATTER + q) 0) y (sym is ∙ e));
-    no = λ e f g. true_false (is ∙ eq-eqb (get_or w (LATTER + q) 0) y g) e;
-  }
-
 module _ {key : ℕ → ℕ → ℕ} {w : List ℕ} {b x y count : ℕ} (a : SeekPair key w b x y count) where
   -- the pair of x and y is in the bucket
   in_bucket : (j : ℕ) → get_or w (FORMER + j) 0 ≡ x → get_or w (LATTER + j) 0 ≡ y → key_at key w j ≡ b
   in_bucket j f g = ap (λ (z : ℕ). key z (get_or w (LATTER + j) 0)) f ∙ ap (λ (z : ℕ). key x z) g ∙ sym a.is
 
-  pub search_start : {p : ℕ} → p ≡ get_or w (LAST + b) 0 → Searching key w count b x y p
-  search_start e =
-      let l = a.some.holds.lasts b a.low in
-      rw e (record { low = l.low; hit = l.hit; none = λ j h i f g. l.none j h i (in_bucket j f g) })
+  pub search_low : {p : ℕ} → Searching key w count b x y p → p ≤ 4096
+  search_low z = omega (arith, z.low, a.some.holds.room)
 
   -- the same for p above 0, where q is p - 1
   module _ {p : ℕ} (some : 0 < p) (z : Searching key w count b x y p) where
@@ -134,7 +131,8 @@ module _ {key : ℕ → ℕ → ℕ} {w : List ℕ} {x y count : ℕ} where
   pair_at : (k : ℕ) (l : List ℕ) → HoldsPairs key k l w count → (q : ℕ) → q < count → get_or w (FORMER + q) 0 ≡ x → get_or w (LATTER + q) 0 ≡ y → get_or l q 0
       ≡ x * k + y
   pair_at k l h q i e f =
-      sym (div-add-mod' (get_or l q 0) k) ∙ ap (λ (z : ℕ). z * k + get_or l q 0 % k) (sym (h.first q i) ∙ e) ∙ ap (λ (z : ℕ). x * k + z) (sym (h.second q i) ∙ f)
+      sym (div-add-mod' (get_or l q 0) k) ∙ ap (λ (z : ℕ). z * k + get_or l q 0 % k) (sym (h.first q i) ∙ e)
+      ∙ ap (λ (z : ℕ). x * k + z) (sym (h.second q i) ∙ f)
 
   pub search_found : {b p : ℕ} → 0 < p → Searching key w count b x y p → {d : Bool} → SamePair w (p - 1) x y d → d ≡ true → PairFound key w x y count (p - 1)
   search_found {b} {p} some z is passes k l c h =

@@ -5,8 +5,8 @@
 
 ghost use Rattle.std.specs.Prelude.{◌≡◌, ◌≤◌, ◌<◌, length};
 ghost use Rattle.call.specs.Space.{work_length};
-ghost use Rattle.buckets.specs.Inner.Pairs.{buckets, bucket_of, BucketsBegun, SamePair, SeekPair};
-ghost use Rattle.buckets.specs.Inner.Pairs.{PairFound, PushPair, with_pair, EnterPair, PairEntered};
+ghost use Rattle.buckets.specs.Inner.Pairs.{buckets, bucket_of, BucketsBegun, SamePair, SeekSomePair};
+ghost use Rattle.buckets.specs.Inner.Pairs.{PairSought, PushPair, with_pair, EnterPair, PairEntered};
 
 // The places of the tables in the work space.
 pub const FORMER: usize = 8192;
@@ -32,11 +32,7 @@ pub fn begin(w: &mut [u16])
     requires { work_length ≤ length w.old }
     ensures { BucketsBegun buckets w.old w.new }
 {
-    let mut b: usize = 0;
-    while b < BUCKETS {
-        w[LAST + b] = 0;
-        b += 1;
-    }
+    w[LAST..LAST + BUCKETS].fill(0);
 }
 
 // The bucket of the pair of x and y.
@@ -44,7 +40,7 @@ fn bucket(m: usize, x: u16, y: u16) -> usize
     requires { m ≤ 65536 }
     ensures { (result ≡ bucket_of m x y) × (result < buckets) }
 {
-    (call::workspace::index(x) * m + call::workspace::index(y)) % BUCKETS
+    (usize::from(x) * m + usize::from(y)) % BUCKETS
 }
 
 // Whether the pair at q is that of x and y.
@@ -52,26 +48,24 @@ fn same_pair(w: &[u16], q: usize, x: u16, y: u16) -> bool
     requires { (work_length ≤ length w.now) × (q < 4096) }
     ensures { SamePair w.now q x y result }
 {
-    if w[FORMER + q] == x {
-        return w[LATTER + q] == y;
-    }
-    false
+    w[FORMER + q] == x && w[LATTER + q] == y
 }
 
-// The place of the pair of x and y, whose bucket is b, or `count` if it has none.
-fn find(w: &[u16], m: usize, b: usize, x: u16, y: u16, count: usize) -> usize
-    requires { SeekPair (bucket_of m) w.now b x y count }
-    ensures { PairFound (bucket_of m) w.now x y count result }
+// The place of the pair of x and y, whose bucket is b, if it has one.
+fn find(w: &[u16], m: usize, b: usize, x: u16, y: u16) -> Option<usize>
+    requires { SeekSomePair (bucket_of m) w.now b x y }
+    ensures { PairSought (bucket_of m) w.now b x y result }
 {
-    let mut p = call::workspace::index(w[LAST + b]);
+    let mut p = usize::from(w[LAST + b]);
+    // a `while`: it goes along the links of a chain
     while 0 < p {
         let q = p - 1;
         if same_pair(w, q, x, y) {
-            return q;
+            return Some(q);
         }
-        p = call::workspace::index(w[BEFORE + q]);
+        p = usize::from(w[BEFORE + q]);
     }
-    count
+    None
 }
 
 // The pair of x and y gets the place i, at the head of the chain of the bucket b.
@@ -91,12 +85,8 @@ pub fn enter(w: &mut [u16], m: usize, x: u16, y: u16, count: usize) -> Entry
     ensures { PairEntered (bucket_of m) w.old x y count w.new result.place result.count }
 {
     let b = bucket(m, x, y);
-    let p = find(w, m, b, x, y, count);
-    if p < count {
-        return Entry {
-            place: p,
-            count: count,
-        };
+    if let Some(place) = find(w, m, b, x, y) {
+        return Entry { place, count };
     }
     push(w, b, x, y, count);
     Entry {

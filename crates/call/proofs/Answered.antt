@@ -4,14 +4,12 @@
 --   run-made, run-refused   the answers of calls that fill spaces: something was made, or a refusal
 --   made_count              as many things as the call counts
 -- Assumes nothing.
+use Rattle.std.specs.Prelude.{Ok, Err}
 use mathlib.Core.Path.{◌≡◌, refl, sym, subst, ◌∙◌}
 use mathlib.Core.List.{List}
 use Prim.Native.Nat.{ℕ}
 use Rattle.call.specs.declared.refusal.Refusal.{Refusal}
-use Rattle.call.specs.declared.refusal.Checked.{Checked}
-use Rattle.call.specs.declared.refusal.Checked.TheVariants.{Accepted, Refused}
-use Rattle.call.specs.declared.refusal.Filled.{Filled}
-use Rattle.call.specs.declared.refusal.Filled.TheVariants as filled
+use Rattle.call.specs.Refusal.{Checked, Filled}
 use Rattle.call.proofs.Apart.{refused_made}
 use Rattle.call.specs.Call.{Step, verdict, LeavesFrom}
 use Rattle.call.specs.Inner.Fills.{Fills, made_if}
@@ -20,27 +18,27 @@ use Rattle.call.proofs.Laws.{Run}
 pub run_told : {A : Type 0} {by : Checked → A} {a : A} {steps : List Step} (d : Checked) → Fills steps by a → ((c : Checked) → a ≡ by c → c ≡ d) → Run steps d
 run_told {by} {a} {steps} d g h =
     let e = h (verdict steps) g.answer in
-    record { is = e; leaves = subst (λ (c : Checked). LeavesFrom Accepted c steps) e g.leaves }
+    record { is = e; leaves = subst (λ (c : Checked). LeavesFrom (Ok tt) c steps) e g.leaves }
 
 module _ (n : ℕ) {a : Filled} where
-  accepted_by_made : (k : ℕ) → a ≡ filled.Made k → (c : Checked) → a ≡ made_if n c → c ≡ Accepted
-  accepted_by_made k e Accepted h = refl
-  accepted_by_made k e (Refused f) h = refused_made (sym h ∙ e)
+  accepted_by_made : (k : ℕ) → a ≡ Ok k → (c : Checked) → a ≡ made_if n c → c ≡ Ok tt
+  accepted_by_made k e (Ok tt) h = refl
+  accepted_by_made k e (Err f) h = refused_made (sym h ∙ e)
 
-  refused_by_refused : (f : Refusal) → a ≡ filled.Refused f → (c : Checked) → a ≡ made_if n c → c ≡ Refused f
-  refused_by_refused f e Accepted h = refused_made (sym e ∙ h)
-  refused_by_refused f e (Refused g) h = cc
+  refused_by_refused : (f : Refusal) → a ≡ Err f → (c : Checked) → a ≡ made_if n c → c ≡ Err f
+  refused_by_refused f e (Ok tt) h = refused_made (sym e ∙ h)
+  refused_by_refused f e (Err g) h = cc
 
-  counted : (k : ℕ) → a ≡ filled.Made k → (c : Checked) → a ≡ made_if n c → k ≡ n
-  counted k e Accepted h = cc
-  counted k e (Refused f) h = refused_made (sym h ∙ e)
+  counted : (k : ℕ) → a ≡ Ok k → (c : Checked) → a ≡ made_if n c → k ≡ n
+  counted k e (Ok tt) h = cc
+  counted k e (Err f) h = refused_made (sym h ∙ e)
 
 module _ {n : ℕ} {a : Filled} {steps : List Step} (g : Fills steps (made_if n) a) where
-  pub run_made : (k : ℕ) → a ≡ filled.Made k → Run steps Accepted
-  run_made k e = run_told Accepted g (accepted_by_made n k e)
+  pub run_made : (k : ℕ) → a ≡ Ok k → Run steps (Ok tt)
+  run_made k e = run_told (Ok tt) g (accepted_by_made n k e)
 
-  pub run_refused : (f : Refusal) → a ≡ filled.Refused f → Run steps (Refused f)
-  run_refused f e = run_told (Refused f) g (refused_by_refused n f e)
+  pub run_refused : (f : Refusal) → a ≡ Err f → Run steps (Err f)
+  run_refused f e = run_told (Err f) g (refused_by_refused n f e)
 
-  pub made_count : (k : ℕ) → a ≡ filled.Made k → k ≡ n
+  pub made_count : (k : ℕ) → a ≡ Ok k → k ≡ n
   made_count k e = counted n k e (verdict steps) g.answer

@@ -22,16 +22,13 @@
 --                       that no step refuses
 --   filled_place a      what a call that fills a space tells as its place: how many things it made, or the refusal's
 --   bit b               1 for yes, 0 for no
-use Rattle.std.specs.Prelude.{◌≡◌, Bool, true, false, List, [], ◌∷◌, ◌++◌, ℕ, ◌/◌, ltb, length, drop}
+use Rattle.std.specs.Prelude.{◌≡◌, Bool, true, false, List, [], ◌∷◌, ◌++◌, ℕ, ◌/◌, ltb, length, drop, Ok, Err}
 use Rattle.std.specs.Borrow.{MutBor}
 use denote.Triple.Both.{Both}
 use Rattle.basics.specs.Choice.{pick}
 use Rattle.call.specs.Space.{work_length, zeros}
-use Rattle.call.specs.Refusal.{◌or_else◌, checked_refusal, too_short}
-use Rattle.call.specs.declared.refusal.Checked.{Checked}
-use Rattle.call.specs.declared.refusal.Checked.TheVariants.{Accepted, Refused}
-use Rattle.call.specs.declared.refusal.Filled.{Filled}
-use Rattle.call.specs.declared.refusal.Filled.TheVariants as filled
+use Rattle.call.specs.Refusal.{◌or_else◌, answer_number, answer_place, refusal_place, Checked, Filled}
+use Rattle.call.specs.declared.refusal.Refusal.TheVariants.{TooShort}
 
 abbrev pub Lent : Type 0 → Type 0
 Lent X = Both (MutBor X) (MutBor X)
@@ -44,7 +41,7 @@ pub data Step : Type 1 where
   Gives : {X : Type 0} → (made before after : X) → Step
 
 abbrev pub length_check : (needed has : ℕ) → Checked
-length_check needed has = pick (ltb has needed) (Refused (too_short needed)) Accepted
+length_check needed has = pick (ltb has needed) (Err (TooShort needed)) (Ok tt)
 
 abbrev pub asks : Checked → List Step
 asks c = Asks c ∷ []
@@ -69,14 +66,14 @@ stores_rows size rows made out =
 -- ---- what they refuse, in their order, and what they leave
 
 abbrev pub verdict : List Step → Checked
-verdict [] = Accepted
+verdict [] = Ok tt
 verdict (Asks c ∷ l) = c or_else verdict l
 verdict (Clears before after ∷ l) = verdict l
 verdict (Gives made before after ∷ l) = verdict l
 
 abbrev pub if_accepted : {X : Type 0} → Checked → X → X → X
-if_accepted Accepted x y = x
-if_accepted (Refused f) x y = y
+if_accepted (Ok tt) x y = x
+if_accepted (Err f) x y = y
 
 -- `so` is the verdict of the steps before, `whole` that of the whole call
 abbrev pub LeavesFrom : (so whole : Checked) → List Step → Type 0
@@ -87,7 +84,7 @@ LeavesFrom so whole (Clears before after ∷ l) =
 LeavesFrom so whole (Gives made before after ∷ l) = (after ≡ if_accepted whole made before) × LeavesFrom so whole l
 
 abbrev pub Leaves : List Step → Type 0
-Leaves steps = LeavesFrom Accepted (verdict steps) steps
+Leaves steps = LeavesFrom (Ok tt) (verdict steps) steps
 
 -- ---- the promise
 
@@ -97,21 +94,21 @@ pub record Contract : Type 1 where
   pub Says : (number place : ℕ) → Type 0
 
 abbrev pub number_of : Contract → ℕ
-number_of p = (checked_refusal (verdict p.steps)).number
+number_of p = answer_number (verdict p.steps)
 
 abbrev pub place_of : Contract → ℕ
-place_of p = if_accepted (verdict p.steps) p.count (checked_refusal (verdict p.steps)).place
+place_of p = if_accepted (verdict p.steps) p.count (answer_place (verdict p.steps))
 
 pub record Call (p : Contract) (number place : ℕ) : Type 0 where
   pub number_is : number ≡ number_of p
   pub place_is : place ≡ place_of p
-  pub zero_accepts : number ≡ 0 → verdict p.steps ≡ Accepted
+  pub zero_accepts : number ≡ 0 → verdict p.steps ≡ Ok tt
   pub leaves : Leaves p.steps
   pub says : p.Says number place
 
 abbrev pub filled_place : Filled → ℕ
-filled_place (filled.Made n) = n
-filled_place (filled.Refused f) = f.place
+filled_place (Ok n) = n
+filled_place (Err f) = refusal_place f
 
 abbrev pub bit : Bool → ℕ
 bit true = 1

@@ -1,28 +1,20 @@
-// What all calls for users have in common (specs/Call.antt), and the answer of a call that says yes or no.
+// What all calls for users have in common: their form (specs/Call.antt), their refusals, and the lent work space.
 #![tactic(auto)]
 
 ghost use Rattle.std.specs.Prelude.{◌≡◌};
-ghost use Rattle.call.specs.Inner.Fills.{decided};
+ghost use Rattle.call.specs.Call.{length_check};
 
-use crate::refusal::{Checked, Refusal};
+use crate::refusal::Refusal;
 
 pub mod refusal;
 pub mod workspace;
 
-// Yes, no, or why neither can be said.
-#[derive(Clone, Copy)]
-pub enum Decision {
-    Yes,
-    No,
-    Refused(Refusal),
-}
-
-// The decision of a call that refuses nothing.
-pub fn yes_or_no(b: bool) -> Decision
-    ensures { result ≡ decided b Checked.Accepted }
+// The check of a space of the length `has` in which `needed` entries are to stand.
+pub fn room(needed: usize, has: usize) -> Result<(), Refusal>
+    ensures { result ≡ length_check needed has }
 {
-    if b {
-        return Decision::Yes;
+    if has < needed {
+        return Err(Refusal::TooShort(needed));
     }
-    Decision::No
+    Ok(())
 }

@@ -6,14 +6,11 @@ ghost use Rattle.call.specs.Space.{zeros};
 pub const WORK: usize = 32768;
 
 // Every number of w is 0, whatever stood there.
+#[tactic(auto, unfolding(crate::specs::Space::zeros))]
 pub fn clear(w: &mut [u16])
     ensures { w.new ≡ zeros (length w.old) }
 {
-    let mut i = 0;
-    while i < w.len() {
-        w[i] = 0;
-        i += 1;
-    }
+    w.fill(0);
 }
 
 // A 16-bit number as an index.

@@ -2,7 +2,6 @@
 -- Assumes nothing.
 use mathlib.Core.Path.{◌≡◌, refl}
 use mathlib.Core.List.{[], ◌∷◌, map}
-use Prim.Native.Nat.{ℕ}
 use Rattle.matrix.specs.Matrix.{◌⊗◌, 𝟙, neg, adj, mat_s, mat_t, mat_r}
 use Rattle.congruence.specs.declared.Family.TheVariants as family
 use Rattle.congruence.specs.Congruence.{meets}

@@ -10,7 +10,7 @@ use Prim.Native.Nat.{ℕ}
 use lib.IntN.{ℤ, pos, negsuc, neg_ℤ, ◌-ℤ◌}
 use Rattle.matrix.specs.Matrix.{Mat, 𝟙, neg}
 use Rattle.matrix.proofs.Ring.{con, var, ◌⊕◌, ⊖◌, ring}
-use Rattle.congruence.specs.Congruence.{Multiple, Modulo, Gamma1, Gamma}
+use Rattle.congruence.specs.Congruence.{Multiple, Gamma1, Gamma}
 use Rattle.congruence.proofs.Multiple.{mult_as, mult_neg}
 
 abbrev pub Signed : (Mat → Type 0) → Mat → Type 0

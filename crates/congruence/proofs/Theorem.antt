@@ -1,7 +1,6 @@
 -- Proofs of the theorems of specs/Theorems.antt.
 -- Assumes nothing.
 use Rattle.congruence.specs.declared.Family.TheVariants as family
-use Rattle.congruence.specs.Congruence.{Gamma1, Gamma}
 use Rattle.congruence.specs.Cosets.{family_s, family_r}
 use Rattle.congruence.specs.Theorems.{Families, Tests, Indexes, Totient, FamilyTables}
 use Rattle.congruence.proofs.Signed.{gamma1_as, gamma_as}

@@ -11,7 +11,7 @@ use native.Mathlib.Decide.{ℕ_discrete}
 use native.Mathlib.Nat.{eq-one_of_dvd-one}
 use lib.Dec.{eqb}
 use lib.IntN.{ℤ, pos, negsuc, ◌-ℤ◌}
-use borrow.Author.Tests.{eq-eqb, ne_eqb, le-leb, lt-leb}
+use borrow.Author.Tests.{eq-eqb, ne_eqb, le-leb}
 use Rattle.basics.specs.Count.{count}
 use Rattle.basics.proofs.Choice.{either}
 use Rattle.basics.proofs.Count.{count_yes, count_no, count_le}
@@ -55,16 +55,9 @@ unit_common {n} {u} {r} some h = elim (ℕ_discrete r.g 1) [
 
 -- ---- the test
 
-and_false : (b : Bool) → b && false ≡ false
-and_false true = refl
-and_false false = refl
-
 and_true : (b : Bool) → b && true ≡ b
 and_true true = refl
 and_true false = refl
-
-pub half_over : (n u : ℕ) → n < u + u → false ≡ is_half_unit n u
-half_over n u h = sym (ap (λ (b : Bool). is_unit n u && b) (lt-leb (u + u) n h) ∙ and_false (is_unit n u))
 
 pub half_common : {n u : ℕ} {r : Common} → 0 < n → u + u ≤ n → CommonOf n u r → eqb r.g 1 ≡ is_half_unit n u
 half_common {n} {u} {r} some h common =

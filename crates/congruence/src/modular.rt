@@ -22,9 +22,10 @@ pub fn common_divisor(n: u64, c: u64) -> Common
     let mut s0: u64 = 0;
     let mut r1 = c;
     let mut s1: u64 = 1;
+    // a `while`: a step of Euclid's algorithm makes the bound
     while 0 < r1 {
         s0 += r0 / r1 * s1;
-        r0 = r0 % r1;
+        r0 %= r1;
         if r0 == 0 {
             return Common {
                 g: r1,
@@ -33,7 +34,7 @@ pub fn common_divisor(n: u64, c: u64) -> Common
             };
         }
         s1 += r1 / r0 * s0;
-        r1 = r1 % r0;
+        r1 %= r0;
     }
     Common {
         g: r0,
@@ -53,17 +54,14 @@ pub fn index_of_gamma0(n: u64) -> u64
     let mut met: u64 = 1;
     let mut index: u64 = 1;
     let mut p: u64 = 2;
+    // a `while`: a prime that is found makes the bound
     while 1 < rest {
         if rest % p != 0 {
             p += 1;
         } else {
-            if met % p != 0 {
-                index = index * (p + 1);
-            } else {
-                index = index * p;
-            }
-            met = met * p;
-            rest = rest / p;
+            index *= if met % p == 0 { p } else { p + 1 };
+            met *= p;
+            rest /= p;
         }
     }
     index
@@ -74,11 +72,7 @@ fn is_half_unit(n: u64, u: u64) -> bool
     requires { Modulus n × (u < n) }
     ensures { result ≡ is_half_unit n u }
 {
-    if n < u + u {
-        return false;
-    }
-    let r = common_divisor(n, u);
-    r.g == 1
+    u + u <= n && common_divisor(n, u).g == 1
 }
 
 // How many units modulo N there are up to sign.
@@ -88,12 +82,10 @@ pub fn half_units(n: u64) -> u64
     ensures upper_bound { result ≤ n }
 {
     let mut count: u64 = 0;
-    let mut u: u64 = 0;
-    while u < n {
+    for u in 0..n {
         if is_half_unit(n, u) {
             count += 1;
         }
-        u += 1;
     }
     count
 }

@@ -216,12 +216,10 @@ pub fn base_passes(w: &[u16], n: usize) -> bool
     ensures { SaysOf (BaseEquations n (turn_at w.now) (go_at n w.now)
         (back_at n w.now)) result }
 {
-    let mut y: usize = 0;
-    while y < n {
+    for y in 0..n {
         if !base_at(w, n, y) {
             return false;
         }
-        y += 1;
     }
     true
 }
@@ -231,12 +229,10 @@ pub fn unit_passes(w: &[u16], n: usize, q: usize, g: usize, h: usize) -> bool
     requires { Prepared n w.now × Arguments q g h }
     ensures { SaysOf (UnitEquations n (turn_at w.now) (go_at n w.now) q g h) result }
 {
-    let mut y: usize = 0;
-    while y < n {
+    for y in 0..n {
         if !unit_at(w, n, q, g, h, y) {
             return false;
         }
-        y += 1;
     }
     true
 }
@@ -254,12 +250,10 @@ pub fn product_passes(
     requires { Prepared n w.now × Arguments q g h × Arguments q g2 h2 × Arguments q (g * g2 % q) (h * h2 % q) }
     ensures { SaysOf (ProductEquations n (turn_at w.now) (go_at n w.now) q g h g2 h2) result }
 {
-    let mut y: usize = 0;
-    while y < n {
+    for y in 0..n {
         if !product_at(w, n, q, g, h, g2, h2, y) {
             return false;
         }
-        y += 1;
     }
     true
 }

@@ -243,6 +243,7 @@ pub fn tables(f: Family, n: u64, w: &mut [u16], s: &mut [u32], r: &mut [u32]) ->
     begin(f, n, w);
     let mut count: usize = 1;
     let mut i: usize = 0;
+    // a `while`: its bound grows with each coset that is listed
     while i < count {
         count = visit(f, n, w, s, r, i, count);
         i += 1;

@@ -2,6 +2,7 @@
 -- that differ in their labels only (`relabelled_same`).
 -- Why: where both tables are accepted they are symbols, and the answer is whether their coset tables are equal; relabelled symbols have the same generators.
 -- Assumes nothing.
+use Rattle.std.specs.Prelude.{Ok, Err}
 use mathlib.Core.Path.{◌≡◌, refl, sym, ◌∙◌, ap}
 use mathlib.Core.Logic.{inl, inr}
 use mathlib.Core.Bool.{Bool, true, false}
@@ -11,16 +12,12 @@ use native.Mathlib.Omega.{arith}
 use lib.IntN.{ℤ}
 use lib.ListN.{length}
 use Rattle.basics.proofs.Choice.{clash}
-use Rattle.call.specs.Refusal.{◌or_else◌, checked_refusal}
+use Rattle.call.specs.Refusal.{◌or_else◌, answer_number, answer_place, Checked, Decision}
 use Rattle.call.specs.declared.refusal.Refusal.{Refusal}
-use Rattle.call.specs.declared.refusal.Checked.{Checked}
-use Rattle.call.specs.declared.refusal.Checked.TheVariants.{Accepted, Refused}
 use Rattle.call.proofs.Answers.{both_pass}
 use Rattle.call.specs.Space.{work_length}
 use Rattle.call.specs.Call.{Lent, length_check, if_accepted, number_of, place_of, bit}
 use Rattle.call.specs.Inner.Fills.{decided}
-use Rattle.call.specs.declared.Decision.{Decision}
-use Rattle.call.specs.declared.Decision.TheVariants as decision
 use Rattle.call.proofs.Laws.{room_long}
 use Rattle.symbol.specs.Check.{symbol_check}
 use Rattle.symbol.specs.Symbol.{IsSymbol}
@@ -58,19 +55,19 @@ module _ (v : ℕ) (t : List ℤ) (v' : ℕ) (t' : List ℤ) where
   checks = symbol_check v t or_else symbol_check v' t'
 
   decided_as : (c : Checked) (b : Bool) → checks ≡ c → same_tables v t v' t' ≡ b
-      → (decided b c ≡ decision.Yes → Same v t v' t') × (decided b c ≡ decision.No → Different v t v' t')
-  decided_as (Refused f) b p e = (λ k. let z : ◌≡◌ {A = ℕ} 0 1 = cc in absurd (omega arith), λ k. let z : ◌≡◌ {A = ℕ} 0 1 = cc in absurd (omega arith))
-  decided_as Accepted true p e =
+      → (decided b c ≡ Ok true → Same v t v' t') × (decided b c ≡ Ok false → Different v t v' t')
+  decided_as (Err f) b p e = (λ k. let z : ◌≡◌ {A = ℕ} 0 1 = cc in absurd (omega arith), λ k. let z : ◌≡◌ {A = ℕ} 0 1 = cc in absurd (omega arith))
+  decided_as (Ok tt) true p e =
       let q = both_pass (symbol_check v t) (symbol_check v' t') p in
       (λ k. is_same ((accepted v t).0 q.0) ((accepted v' t').0 q.1) e, λ k. let z : ◌≡◌ {A = ℕ} 0 1 = cc in absurd (omega arith))
-  decided_as Accepted false p e =
+  decided_as (Ok tt) false p e =
       let q = both_pass (symbol_check v t) (symbol_check v' t') p in
       (λ k. let z : ◌≡◌ {A = ℕ} 0 1 = cc in absurd (omega arith), λ k. is_different ((accepted v t).0 q.0) ((accepted v' t').0 q.1) e)
 
-  pub decides_same : decided (same_tables v t v' t') checks ≡ decision.Yes → Same v t v' t'
+  pub decides_same : decided (same_tables v t v' t') checks ≡ Ok true → Same v t v' t'
   decides_same = (decided_as checks (same_tables v t v' t') refl refl).0
 
-  pub decides_different : decided (same_tables v t v' t') checks ≡ decision.No → Different v t v' t'
+  pub decides_different : decided (same_tables v t v' t') checks ≡ Ok false → Different v t v' t'
   decides_different = (decided_as checks (same_tables v t v' t') refl refl).1
 
 pub relabelled_same : RelabelledSame
@@ -79,9 +76,9 @@ relabelled_same v t v' t' ok ok' r =
     let s = (same_symbols v t v' t' ok ok').by_tables.1 (equal_same (generators v t) (generators v' t') e) in (
       e,
       λ w h.
-          let is = two_accepted v t v' t' (length_check work_length (length w.entry.now) or_else Accepted) ok ok'
-          (ap (λ (x : Checked). x or_else Accepted) (room_long work_length (length w.entry.now) h)) in (
-            ap (λ (x : Checked). (checked_refusal x).number) is,
-            ap (λ (x : Checked). if_accepted x (bit (same_tables v t v' t')) (checked_refusal x).place) is ∙ ap bit s,
+          let is = two_accepted v t v' t' (length_check work_length (length w.entry.now) or_else (Ok tt)) ok ok'
+          (ap (λ (x : Checked). x or_else (Ok tt)) (room_long work_length (length w.entry.now) h)) in (
+            ap (λ (x : Checked). answer_number x) is,
+            ap (λ (x : Checked). if_accepted x (bit (same_tables v t v' t')) (answer_place x)) is ∙ ap bit s,
           ),
     )

@@ -26,11 +26,9 @@ pub fn hold_steps(v: usize, t: &[i64], w: &[u16], s: &mut [u16])
     ensures { StepsOf v t.now s.new }
 {
     let end = 3 * (v - 1) + (v + 1);
-    let mut p: usize = 0;
-    while p < end {
+    for p in 0..end {
         let q = image_s(t, v, w, p);
         s[p] = q as u16;
-        p += 1;
     }
 }
 
@@ -93,6 +91,7 @@ fn climb(
     let mut q = p - p % 3;
     let mut z = corner_zero(v, y, p % 3);
     let mut x = beyond(u, n, w, q);
+    // a `while`: it goes from triangle to triangle until it is below the last side
     while x < b {
         let a = step(v, t, s, z);
         z = corner_zero(v, a, x % 3);
@@ -165,12 +164,10 @@ fn all_agree(v: usize, t: &[i64], s: &[u16], n: usize, u: &[i64], w: &[u16]) -> 
     ensures { Agreed v t.now n u.now w.now result }
 {
     let b = 3 * (n - 1);
-    let mut p: usize = 0;
-    while p < b {
+    for p in 0..b {
         if !agrees(v, t, s, n, u, w, p) {
             return false;
         }
-        p += 1;
     }
     true
 }

@@ -13,8 +13,7 @@ ghost use Rattle.containment.specs.TwoSymbols.{contained};
 ghost use Rattle.containment.specs.Inclusion.{contains_call};
 
 use crate::following::{follow, hold_steps, lay_out};
-use call::refusal::Checked;
-use call::{Decision, yes_or_no};
+use call::refusal::Refusal;
 use pairing::admit::admit_both;
 
 // Whether side i is odd.
@@ -43,10 +42,8 @@ fn index_of(v: usize, t: &[i64]) -> usize
     ensures { result ≡ index_of v t.now }
 {
     let mut k = 3 * (v - 1);
-    let mut i: usize = 0;
-    while i < v + 1 {
+    for i in 0..v + 1 {
         k = count_odd(v, t, i, k);
-        i += 1;
     }
     k
 }
@@ -111,20 +108,17 @@ pub(crate) fn decide(
     u: &[i64],
     w: &mut [u16],
     same: bool,
-) -> Decision
+) -> Result<bool, Refusal>
     ensures { Fills (contains_call v t.now n u.now w).steps
         (decided (pick same (same_tables v t.now n u.now)
         (contained n u.now v t.now))) result }
 {
-    let admitted = admit_both(v, t, n, u, w.len());
-    match admitted {
-        Checked::Refused(refusal) => Decision::Refused(refusal),
-        Checked::Accepted => yes_or_no(compare_clear(v, t, n, u, w, same)),
-    }
+    admit_both(v, t, n, u, w.len())?;
+    Ok(compare_clear(v, t, n, u, w, same))
 }
 
 // Whether the subgroup of the symbol in t contains that of the symbol in u.
-pub fn contains(v: usize, t: &[i64], n: usize, u: &[i64], w: &mut [u16]) -> Decision
+pub fn contains(v: usize, t: &[i64], n: usize, u: &[i64], w: &mut [u16]) -> Result<bool, Refusal>
     ensures { Fills (contains_call v t.now n u.now w).steps
         (decided (contained n u.now v t.now)) result }
 {

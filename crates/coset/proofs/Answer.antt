@@ -2,6 +2,7 @@
 -- `few_cosets`, `widths_count`), what the numbers and places of the calls say (`symbol_says`, `tables_says`, `widths_says`, `figures_says`), the figures
 -- (`surveyed`), and what an answer of `figures` tells (`run_figured`, `run_unfigured`, `figures_are`).
 -- Assumes nothing.
+use Rattle.std.specs.Prelude.{Ok, Err}
 use mathlib.Core.Path.{◌≡◌, refl, sym, ◌∙◌, ap}
 use mathlib.Core.Logic.{inl, inr}
 use mathlib.Core.List.{List, [], ◌∷◌}
@@ -11,10 +12,8 @@ use lib.ListN.{length, length-map, get_or}
 use lib.IntN.{ℤ}
 use Rattle.basics.proofs.Count.{length_those}
 use Rattle.call.specs.Space.{entries}
-use Rattle.call.specs.Refusal.{◌or_else◌, checked_refusal}
+use Rattle.call.specs.Refusal.{◌or_else◌, answer_number, Checked, Answer}
 use Rattle.call.specs.declared.refusal.Refusal.{Refusal}
-use Rattle.call.specs.declared.refusal.Checked.{Checked}
-use Rattle.call.specs.declared.refusal.Checked.TheVariants.{Accepted, Refused}
 use Rattle.call.proofs.Answers.{pass_both}
 use Rattle.call.specs.Call.{Lent, Step, Asks, length_check, verdict, if_accepted, Leaves, number_of, place_of}
 use Rattle.call.specs.Inner.Fills.{Fills}
@@ -39,8 +38,6 @@ use Rattle.coset.specs.Inner.Work.{Arranged}
 use Rattle.coset.specs.Answer.{widths_of, figures_of, figure_number, figure_numbers, Meaning, Ample, SymbolSays}
 use Rattle.coset.specs.Answer.{tables_call, widths_call, figures_call}
 use Rattle.coset.specs.Inner.Survey.{Surveyed, figured_if}
-use Rattle.coset.specs.declared.Figured.{Figured}
-use Rattle.coset.specs.declared.Figured.TheVariants as figured
 use Rattle.coset.proofs.Stored.{told, room_told}
 use Rattle.coset.proofs.TableFigures.{table_figures}
 use Rattle.coset.proofs.OddSides.{odd_sides}
@@ -121,8 +118,8 @@ widths_count ok = let f = (meaning ok).figures in f.as_many ∙ sym f.cusp_count
 
 -- a call that asks for a symbol and for the work space, and then has the steps l
 pub symbol_says : {M : Type 0} (v : ℕ) (t : List ℤ) (w : Lent (List ℕ)) (count n : ℕ) (outs : List (Lent (List ℕ))) (l : List Step) → Numbered l
-    → (IsSymbol v t → M) → (IsSymbol v t → told count (verdict l) ≡ n) → (IsSymbol v t → Ample outs → verdict l ≡ Accepted)
-    → let c = symbol_verdict v t w.entry.now l in SymbolSays M v t w n outs (checked_refusal c).number (told count c)
+    → (IsSymbol v t → M) → (IsSymbol v t → told count (verdict l) ≡ n) → (IsSymbol v t → Ample outs → verdict l ≡ Ok tt)
+    → let c = symbol_verdict v t w.entry.now l in SymbolSays M v t w n outs (answer_number c) (told count c)
 symbol_says v t w count n outs l above m k h = record {
   symbol = λ z. elim z [ inl e ↦ (symbol_passed v t w.entry.now l above e).0 | inr e ↦ symbol_short v t w.entry.now l e ];
   means = m;
@@ -143,23 +140,23 @@ module _ (v : ℕ) (t : List ℤ) (w : Lent (List ℕ)) where
       )
       meaning (λ ok.
       let n = sizes ok in
-      room_told N (length (table_s v t)) (length s.entry.now) N (b or_else c or_else Accepted) n.S_long
-      (room_told N (length (table_r v t)) (length r.entry.now) N (c or_else Accepted) n.R_long
-      (room_told N (length (table_t v t)) (length u.entry.now) N Accepted n.T_long refl)))
+      room_told N (length (table_s v t)) (length s.entry.now) N (b or_else c or_else (Ok tt)) n.S_long
+      (room_told N (length (table_r v t)) (length r.entry.now) N (c or_else (Ok tt)) n.R_long
+      (room_told N (length (table_t v t)) (length u.entry.now) N (Ok tt) n.T_long refl)))
       (λ ok ample.
       let n = sizes ok in
       let few = few_cosets ok in
-      pass_both a (b or_else c or_else Accepted) (room_long (length (table_s v t)) (length s.entry.now) (omega (arith, n.S_long, few, ample.0)))
-      (pass_both b (c or_else Accepted) (room_long (length (table_r v t)) (length r.entry.now) (omega (arith, n.R_long, few, ample.1.0)))
-      (pass_both c Accepted (room_long (length (table_t v t)) (length u.entry.now) (omega (arith, n.T_long, few, ample.1.1.0))) refl)))
+      pass_both a (b or_else c or_else (Ok tt)) (room_long (length (table_s v t)) (length s.entry.now) (omega (arith, n.S_long, few, ample.0)))
+      (pass_both b (c or_else (Ok tt)) (room_long (length (table_r v t)) (length r.entry.now) (omega (arith, n.R_long, few, ample.1.0)))
+      (pass_both c (Ok tt) (room_long (length (table_t v t)) (length u.entry.now) (omega (arith, n.T_long, few, ample.1.1.0))) refl)))
 
   pub widths_says : (out : Lent (List ℕ)) → (widths_call v t w out).Says (number_of (widths_call v t w out)) (place_of (widths_call v t w out))
   widths_says out =
       let n = length (widths_of v t) in
       let a = length_check n (length out.entry.now) in
       symbol_says v t w n (figures_of v t).cusps (out ∷ []) (Asks a ∷ []) (above_room n (length out.entry.now), tt) meaning
-      (λ ok. room_told n n (length out.entry.now) (figures_of v t).cusps Accepted (widths_count ok) (widths_count ok))
-      (λ ok ample. pass_both a Accepted
+      (λ ok. room_told n n (length out.entry.now) (figures_of v t).cusps (Ok tt) (widths_count ok) (widths_count ok))
+      (λ ok ample. pass_both a (Ok tt)
       (room_long n (length out.entry.now) (omega (arith, few_widths (table_t v t), (sizes ok).T_long, few_cosets ok, ample.0))) refl)
 
   -- from what it leaves, too: the genus stands there
@@ -194,28 +191,28 @@ module _ {t : List ℤ} {v n : ℕ} {w w' : List ℕ} {f : FigureRecord} (m : Ma
 
 -- ---- what an answer of `figures` tells of the steps
 
-refused_figured : {A : Type 0} {r : Refusal} {x : FigureRecord} → figured.Refused r ≡ figured.Made x → A
+refused_figured : {A : Type 0} {r : Refusal} {x : FigureRecord} → Err r ≡ Ok x → A
 refused_figured e = let z : ◌≡◌ {A = ℕ} 0 1 = cc in absurd (omega arith)
 
-module _ (f : FigureRecord) {a : Figured} where
-  accepted_by_made : (x : FigureRecord) → a ≡ figured.Made x → (c : Checked) → a ≡ figured_if f c → c ≡ Accepted
-  accepted_by_made x e Accepted h = refl
-  accepted_by_made x e (Refused r) h = refused_figured (sym h ∙ e)
+module _ (f : FigureRecord) {a : (Answer FigureRecord)} where
+  accepted_by_made : (x : FigureRecord) → a ≡ Ok x → (c : Checked) → a ≡ figured_if f c → c ≡ Ok tt
+  accepted_by_made x e (Ok tt) h = refl
+  accepted_by_made x e (Err r) h = refused_figured (sym h ∙ e)
 
-  refused_by_refused : (r : Refusal) → a ≡ figured.Refused r → (c : Checked) → a ≡ figured_if f c → c ≡ Refused r
-  refused_by_refused r e Accepted h = refused_figured (sym e ∙ h)
-  refused_by_refused r e (Refused q) h = cc
+  refused_by_refused : (r : Refusal) → a ≡ Err r → (c : Checked) → a ≡ figured_if f c → c ≡ Err r
+  refused_by_refused r e (Ok tt) h = refused_figured (sym e ∙ h)
+  refused_by_refused r e (Err q) h = cc
 
-  same_figures : (x : FigureRecord) → a ≡ figured.Made x → (c : Checked) → a ≡ figured_if f c → x ≡ f
-  same_figures x e Accepted h = cc
-  same_figures x e (Refused r) h = refused_figured (sym h ∙ e)
+  same_figures : (x : FigureRecord) → a ≡ Ok x → (c : Checked) → a ≡ figured_if f c → x ≡ f
+  same_figures x e (Ok tt) h = cc
+  same_figures x e (Err r) h = refused_figured (sym h ∙ e)
 
-module _ {f : FigureRecord} {a : Figured} {steps : List Step} (g : Fills steps (figured_if f) a) where
-  pub run_figured : (x : FigureRecord) → a ≡ figured.Made x → Run steps Accepted
-  run_figured x e = run_told Accepted g (accepted_by_made f x e)
+module _ {f : FigureRecord} {a : (Answer FigureRecord)} {steps : List Step} (g : Fills steps (figured_if f) a) where
+  pub run_figured : (x : FigureRecord) → a ≡ Ok x → Run steps (Ok tt)
+  run_figured x e = run_told (Ok tt) g (accepted_by_made f x e)
 
-  pub run_unfigured : (r : Refusal) → a ≡ figured.Refused r → Run steps (Refused r)
-  run_unfigured r e = run_told (Refused r) g (refused_by_refused f r e)
+  pub run_unfigured : (r : Refusal) → a ≡ Err r → Run steps (Err r)
+  run_unfigured r e = run_told (Err r) g (refused_by_refused f r e)
 
-  pub figures_are : (x : FigureRecord) → a ≡ figured.Made x → x ≡ f
+  pub figures_are : (x : FigureRecord) → a ≡ Ok x → x ≡ f
   figures_are x e = same_figures f x e (verdict steps) g.answer

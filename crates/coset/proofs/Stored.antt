@@ -5,6 +5,7 @@
 --   stored-as, both-as, three-as      the same steps of equal lists
 --   told count c, room-told           what a call tells as its place; where a space is asked for n entries it is n, if the steps behind tell n too
 -- Assumes nothing.
+use Rattle.std.specs.Prelude.{Ok, Err}
 use mathlib.Core.Path.{◌≡◌, refl, subst}
 use mathlib.Core.Bool.{Bool, true, false}
 use mathlib.Core.List.{List, [], ◌∷◌, ◌++◌}
@@ -12,10 +13,8 @@ use Prim.Native.Nat.{ℕ, ◌≤◌, ◌<◌}
 use lib.Dec.{ltb}
 use lib.ListN.{length, drop}
 use Rattle.basics.specs.Choice.{pick}
-use Rattle.call.specs.Refusal.{too_short, ◌or_else◌, checked_refusal}
-use Rattle.call.specs.declared.refusal.Checked.{Checked}
-use Rattle.call.specs.declared.refusal.Checked.TheVariants.{Accepted, Refused}
-use Rattle.call.specs.declared.refusal.Filled.{Filled}
+use Rattle.call.specs.Refusal.{◌or_else◌, answer_place, Checked, Filled}
+use Rattle.call.specs.declared.refusal.Refusal.TheVariants.{TooShort}
 use Rattle.call.specs.Call.{Step, Asks, Gives, length_check, if_accepted}
 use Rattle.call.specs.Inner.Fills.{Fills, made_if}
 use Rattle.call.proofs.Laws.{Run, run_end, run_write, run_hold, short_write}
@@ -26,31 +25,31 @@ stored_in x out out' l = Asks (length_check (length x) (length out)) ∷ Gives (
 -- ---- in their order
 
 module _ (n : ℕ) (x y p q : List ℕ) (lx : length x ≡ n) (ly : length y ≡ n) where
-  pub both_first : length p < n → Run (stored_in x p p (stored_in y q q [])) (Refused (too_short n))
+  pub both_first : length p < n → Run (stored_in x p p (stored_in y q q [])) (Err (TooShort n))
   both_first h = short_write x p n lx (stored_in y q q []) h (refl, tt)
 
-  pub both_second : n ≤ length p → length q < n → Run (stored_in x p p (stored_in y q q [])) (Refused (too_short n))
-  both_second h k = run_hold x p n lx (stored_in y q q []) (too_short n) h (short_write y q n ly [] k tt)
+  pub both_second : n ≤ length p → length q < n → Run (stored_in x p p (stored_in y q q [])) (Err (TooShort n))
+  both_second h k = run_hold x p n lx (stored_in y q q []) (TooShort n) h (short_write y q n ly [] k tt)
 
   pub both_room : {p' q' : List ℕ} → n ≤ length p → n ≤ length q → p' ≡ x ++ drop n p → q' ≡ y ++ drop n q
-      → Run (stored_in x p p' (stored_in y q q' [])) Accepted
+      → Run (stored_in x p p' (stored_in y q q' [])) (Ok tt)
   both_room {p'} {q'} h k e f = run_write x p n lx (stored_in y q q' []) p' h e (run_write y q n ly [] q' k f run_end)
 
 module _ (n : ℕ) (x y z s r u : List ℕ) (lx : length x ≡ n) (ly : length y ≡ n) (lz : length z ≡ n) where
   abbrev three : (s' r' u' : List ℕ) → List Step
   three s' r' u' = stored_in x s s' (stored_in y r r' (stored_in z u u' []))
 
-  pub three_first : length s < n → Run (three s r u) (Refused (too_short n))
+  pub three_first : length s < n → Run (three s r u) (Err (TooShort n))
   three_first h = short_write x s n lx (stored_in y r r (stored_in z u u [])) h (refl, (refl, tt))
 
-  pub three_second : n ≤ length s → length r < n → Run (three s r u) (Refused (too_short n))
-  three_second h k = run_hold x s n lx (stored_in y r r (stored_in z u u [])) (too_short n) h (both_first n y z r u ly lz k)
+  pub three_second : n ≤ length s → length r < n → Run (three s r u) (Err (TooShort n))
+  three_second h k = run_hold x s n lx (stored_in y r r (stored_in z u u [])) (TooShort n) h (both_first n y z r u ly lz k)
 
-  pub three_third : n ≤ length s → n ≤ length r → length u < n → Run (three s r u) (Refused (too_short n))
-  three_third h k j = run_hold x s n lx (stored_in y r r (stored_in z u u [])) (too_short n) h (both_second n y z r u ly lz k j)
+  pub three_third : n ≤ length s → n ≤ length r → length u < n → Run (three s r u) (Err (TooShort n))
+  three_third h k j = run_hold x s n lx (stored_in y r r (stored_in z u u [])) (TooShort n) h (both_second n y z r u ly lz k j)
 
   pub three_room : {s' r' u' : List ℕ} → n ≤ length s → n ≤ length r → n ≤ length u → s' ≡ x ++ drop n s → r' ≡ y ++ drop n r → u' ≡ z ++ drop n u
-      → Run (three s' r' u') Accepted
+      → Run (three s' r' u') (Ok tt)
   three_room {s'} {r'} {u'} h k j e f g = run_write x s n lx (stored_in y r r' (stored_in z u u' [])) s' h e (both_room n y z r u ly lz k j f g)
 
 -- ---- of equal lists
@@ -79,11 +78,11 @@ three_as x y z x' y' z' s r u {s'} {r'} {u'} {n} {n'} {a} k e f g h =
 -- ---- the place
 
 abbrev pub told : ℕ → Checked → ℕ
-told count c = if_accepted c count (checked_refusal c).place
+told count c = if_accepted c count (answer_place c)
 
 pub room_told : (count needed has n : ℕ) (d : Checked) → needed ≡ n → told count d ≡ n → told count (length_check needed has or_else d) ≡ n
 room_told count needed has n d e h = go (ltb has needed)
   where
-    go : (b : Bool) → told count (pick b (Refused (too_short needed)) Accepted or_else d) ≡ n
+    go : (b : Bool) → told count (pick b (Err (TooShort needed)) (Ok tt) or_else d) ≡ n
     go true = e
     go false = h

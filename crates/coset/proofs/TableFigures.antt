@@ -1,6 +1,7 @@
 -- The figures of tables are what they should be: `table_figures`, from the theorems of `figures` on one cycle, the genus and the least
 -- common multiple.
 -- Assumes nothing.
+use Rattle.std.specs.Prelude.{Ok}
 use mathlib.Core.Path.{◌≡◌, refl, sym, ap, ◌∙◌}
 use mathlib.Core.List.{List}
 use Prim.Native.Nat.{ℕ, ◌<◌}
@@ -11,7 +12,6 @@ use Rattle.numbering.proofs.Find.{get_d_in}
 use Rattle.numbering.proofs.Table.{get_d_map}
 use Rattle.numbering.proofs.Those.{those_low}
 use Rattle.figures.specs.Cusps.{fixed_points, width, smallest, cusps, widths, Cusps}
-use Rattle.figures.specs.declared.Figure.TheVariants.{Value}
 use Rattle.figures.specs.FiguresOf.{figures_in}
 use Rattle.figures.specs.LevelOf.{lcm_of}
 use Rattle.figures.proofs.Cycle.{width_is}
@@ -34,6 +34,6 @@ table_figures n s r u long p c =
       genus_is = λ k. (g.right k, g.found k);
       no_genus_is = λ no. g.none (λ k e. no k (g.found k e));
       least = lcm_of_is (widths u) (record { each = c.positive });
-      level_is = λ k. ((λ e. value_fits m k (sym e)), (λ q. sym (fitting_yes m (omega (arith, q.0, q.1))) ∙ ap Value (sym q.0)));
+      level_is = λ k. ((λ e. value_fits m k (sym e)), (λ q. sym (fitting_yes m (omega (arith, q.0, q.1))) ∙ ap Ok (sym q.0)));
       no_level = λ h. sym (fitting_no m h);
     }

@@ -25,7 +25,7 @@
 --   widths_call             checks 1 to 7, the work space, the widths of the cusps; it counts the cusps, and its 11
 --                           tells how many they are
 --   figures_call            checks 1 to 7, the work space; the eight numbers
-use Rattle.std.specs.Prelude.{◌≡◌, ◌⊎◌, Bool, List, [], ◌∷◌, ◌++◌, ℕ, ◌+◌, ◌≤◌, length, get_or, ℤ, negsuc}
+use Rattle.std.specs.Prelude.{◌≡◌, ◌⊎◌, Bool, List, [], ◌∷◌, ◌++◌, ℕ, ◌+◌, ◌≤◌, length, get_or, ℤ, negsuc, Ok, Err}
 use Rattle.basics.specs.Count.{count}
 use Rattle.call.specs.Space.{work_length}
 use Rattle.call.specs.Call.{Lent, asks, work, stores, result_in, Contract}
@@ -35,8 +35,7 @@ use Rattle.symbol.specs.Symbol.{IsSymbol}
 use Rattle.polygon.specs.Step.{odd_at}
 use Rattle.figures.specs.Cusps.{widths, Cusps}
 use Rattle.figures.specs.FiguresOf.{figures_in}
-use Rattle.figures.specs.declared.Figure.{Figure}
-use Rattle.figures.specs.declared.Figure.TheVariants as figure
+use Rattle.call.specs.Refusal.{Filled, refusal_number}
 use Rattle.figures.specs.declared.FigureRecord.{FigureRecord}
 use Rattle.figures.specs.Genus.{HasGenus}
 use Rattle.coset.specs.Tables.{index_of, table_s, table_r, table_t, most_cosets}
@@ -52,13 +51,13 @@ widths_of v t = widths (table_t v t)
 abbrev pub figures_of : ℕ → List ℤ → FigureRecord
 figures_of v t = figures_in (index_of v t) (table_s v t) (table_r v t) (table_t v t)
 
-abbrev pub figure_number : Figure → ℕ
-figure_number (figure.Value x) = 0
-figure_number (figure.Refused f) = f.number
+abbrev pub figure_number : Filled → ℕ
+figure_number (Ok x) = 0
+figure_number (Err f) = refusal_number f
 
-abbrev pub figure_value : Figure → ℕ
-figure_value (figure.Value x) = x
-figure_value (figure.Refused f) = 0
+abbrev pub figure_value : Filled → ℕ
+figure_value (Ok x) = x
+figure_value (Err f) = 0
 
 abbrev pub figure_numbers : FigureRecord → List ℕ
 figure_numbers f =

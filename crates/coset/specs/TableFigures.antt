@@ -9,11 +9,10 @@
 --                which is so for no symbol (`Meaning`, in Answer.antt)
 --     level      it is the least common multiple of the widths (each width divides it, and it divides whatever they all
 --                divide); it is refused with 17 where that is 2^64 or more
-use Rattle.std.specs.Prelude.{◌≡◌, ◌↔◌, List, ℕ, ◌+◌, ◌*◌, ◌<◌, ◌≤◌, length}
-use Rattle.call.specs.Refusal.{level_too_large, no_genus}
+use Rattle.std.specs.Prelude.{◌≡◌, ◌↔◌, List, ℕ, ◌+◌, ◌*◌, ◌<◌, ◌≤◌, length, Ok, Err}
+use Rattle.call.specs.declared.refusal.Refusal.TheVariants.{LevelTooLarge, NoGenus}
 use Rattle.numbering.specs.Table.{image_at}
 use Rattle.figures.specs.Cusps.{fixed_points, cusps, widths, Width}
-use Rattle.figures.specs.declared.Figure.TheVariants.{Value, Refused}
 use Rattle.figures.specs.declared.FigureRecord.{FigureRecord}
 use Rattle.figures.specs.LevelOf.{lcm_of, TOO_LARGE, LeastMultiple}
 
@@ -27,9 +26,9 @@ pub record TableFigures (s r u : List ℕ) (f : FigureRecord) : Type 0 where
   pub as_many : length (widths u) ≡ length (cusps u)
   pub width : (j : ℕ) → j < length (cusps u) → Width u (image_at (cusps u) j) (image_at (widths u) j)
   -- genus
-  pub genus_is : (g : ℕ) → (f.genus ≡ Value g) ↔ (12 * g + 3 * f.e2 + 4 * f.e3 + 6 * f.cusps ≡ 12 + f.index)
-  pub no_genus_is : ((g : ℕ) → f.genus ≡ Value g → ⊥) → f.genus ≡ Refused no_genus
+  pub genus_is : (g : ℕ) → (f.genus ≡ Ok g) ↔ (12 * g + 3 * f.e2 + 4 * f.e3 + 6 * f.cusps ≡ 12 + f.index)
+  pub no_genus_is : ((g : ℕ) → f.genus ≡ Ok g → ⊥) → f.genus ≡ Err NoGenus
   -- level
   pub least : LeastMultiple (widths u) (lcm_of (widths u))
-  pub level_is : (m : ℕ) → (f.level ≡ Value m) ↔ ((m ≡ lcm_of (widths u)) × (m < TOO_LARGE))
-  pub no_level : TOO_LARGE ≤ lcm_of (widths u) → f.level ≡ Refused level_too_large
+  pub level_is : (m : ℕ) → (f.level ≡ Ok m) ↔ ((m ≡ lcm_of (widths u)) × (m < TOO_LARGE))
+  pub no_level : TOO_LARGE ≤ lcm_of (widths u) → f.level ≡ Err LevelTooLarge

@@ -36,11 +36,9 @@ fn fill_s(t: &[i64], v: usize, w: &mut [u16])
         × (length w.new ≡ length w.old) }
 {
     let end = 3 * (v - 1) + (v + 1);
-    let mut p: usize = 0;
-    while p < end {
+    for p in 0..end {
         let q = image_s(t, v, w, p);
         w[SIGMA + p] = q as u16;
-        p += 1;
     }
 }
 
@@ -50,13 +48,11 @@ fn fill_r(v: usize, w: &mut [u16])
     ensures { FilledR v w.old w.new (places v) }
 {
     let end = 3 * (v - 1) + (v + 1);
-    let mut p: usize = 0;
-    while p < end {
+    for p in 0..end {
         let a = call::workspace::index(w[SIGMA + p]);
         let b = turn_q(v, a);
         let c = turn_q(v, b);
         w[RHO + p] = w[SIGMA + c];
-        p += 1;
     }
 }
 

@@ -153,10 +153,8 @@ fn prepare(t: &[i64], v: usize, w: &mut [u16])
     ensures w_len_unchanged { length w.new ≡ length w.old }
 {
     let end = 3 * (v - 1) + (v + 1);
-    let mut p: usize = 0;
-    while p < end {
+    for p in 0..end {
         note_place(t, v, w, p);
-        p += 1;
     }
 }
 

@@ -1,5 +1,6 @@
 -- Laws for the public call: what it means (`cusp_meaning`), what the call's number and place say (`cusps_says`), and the record of a symbol (`symbol_record`).
 -- Assumes nothing.
+use Rattle.std.specs.Prelude.{Ok}
 use mathlib.Core.Path.{◌≡◌, refl, sym, ◌∙◌, ap}
 use mathlib.Core.List.{List, [], ◌∷◌}
 use Prim.Native.Nat.{ℕ, zero, suc, ◌+◌, ◌-◌, ◌<◌}
@@ -7,7 +8,6 @@ use native.Mathlib.Omega.{arith}
 use lib.ListN.{length}
 use lib.IntN.{ℤ, pos}
 use Rattle.call.specs.Refusal.{◌or_else◌}
-use Rattle.call.specs.declared.refusal.Checked.TheVariants.{Accepted}
 use Rattle.call.proofs.Answers.{pass_both}
 use Rattle.call.specs.Call.{Lent, Asks, length_check, number_of, place_of}
 use Rattle.call.proofs.Laws.{above_room, room_long}
@@ -104,14 +104,14 @@ cusps_says v t w cusps steps =
     (above_room x (length cusps.entry.now), (above_room y (length steps.entry.now), tt))
     cusp_meaning (λ ok.
     let rule = (cusp_meaning ok).rule.columns in
-    room_told N x (length cusps.entry.now) N (b or_else Accepted) (rule.size_cusps ∙ (sizes ok).T_long)
-    (room_told N y (length steps.entry.now) N Accepted (rule.size_steps ∙ (sizes ok).T_long) refl))
+    room_told N x (length cusps.entry.now) N (b or_else (Ok tt)) (rule.size_cusps ∙ (sizes ok).T_long)
+    (room_told N y (length steps.entry.now) N (Ok tt) (rule.size_steps ∙ (sizes ok).T_long) refl))
     (λ ok ample.
     let rule = (cusp_meaning ok).rule.columns in
     let long = (sizes ok).T_long in
     let few = few_cosets ok in
-    pass_both a (b or_else Accepted) (room_long x (length cusps.entry.now) (omega (arith, rule.size_cusps, long, few, ample.0)))
-    (pass_both b Accepted (room_long y (length steps.entry.now) (omega (arith, rule.size_steps, long, few, ample.1.0))) refl))
+    pass_both a (b or_else (Ok tt)) (room_long x (length cusps.entry.now) (omega (arith, rule.size_cusps, long, few, ample.0)))
+    (pass_both b (Ok tt) (room_long y (length steps.entry.now) (omega (arith, rule.size_steps, long, few, ample.1.0))) refl))
 
 -- ---- the record of a symbol: from the tables that were arranged, through the scan of the cusps
 module _ {t : List ℤ} {v n k : ℕ} {w w1 : List ℕ} (ok : IsSymbol v t) (m : Made t v w n) (c : CuspWidths n w w1 k) where

@@ -12,7 +12,7 @@ ghost use Rattle.coset.specs.Tables.{index_of};
 ghost use Rattle.cusp_record.specs.Answer.{cusp_column, step_column, cusps_call};
 ghost use Rattle.cusp_record.specs.Inner.Fill.{CUSPS, STEPS, ByCusps, AtCusp, OnCusp, RecordFilled, SymbolRecord};
 
-use call::refusal::{Checked, Filled, Refusal, TOO_SHORT};
+use call::refusal::Refusal;
 use coset::arrange::arrange;
 use figures::cusp_widths;
 use numbering::{ORDER, WIDTHS, copy_out};
@@ -60,13 +60,11 @@ fn enter_cusps(w: &mut [u16], n: usize, k: usize)
         first: 0,
         width,
     };
-    let mut y: usize = 0;
-    while y < n {
+    for y in 0..n {
         c = advance(w, n, k, c, y);
         let x = call::workspace::index(w[ORDER + y]);
         w[CUSPS + x] = c.number as u16;
         w[STEPS + x] = (y - c.first) as u16;
-        y += 1;
     }
 }
 
@@ -83,30 +81,26 @@ pub fn arrange_record(v: usize, t: &[i64], w: &mut [u16]) -> usize
 }
 
 // Copies the cusps and the steps of n cosets, where there is room for both.
-fn copy_columns(w: &[u16], n: usize, cusps: &mut [u32], steps: &mut [u32]) -> Filled
+fn copy_columns(w: &[u16], n: usize, cusps: &mut [u32], steps: &mut [u32]) -> Result<usize, Refusal>
     requires { (n ≤ 4096) × (work_length ≤ length w.now) }
     ensures { Fills (stores (entries CUSPS n w.now) cusps
         ++ stores (entries STEPS n w.now) steps) (made_if n) result }
 {
-    if cusps.len() < n {
-        return Filled::Refused(Refusal {
-            number: TOO_SHORT,
-            place: n,
-        });
-    }
-    if steps.len() < n {
-        return Filled::Refused(Refusal {
-            number: TOO_SHORT,
-            place: n,
-        });
-    }
+    call::room(n, cusps.len())?;
+    call::room(n, steps.len())?;
     copy_out(w, CUSPS, n, cusps);
     copy_out(w, STEPS, n, steps);
-    Filled::Made(n)
+    Ok(n)
 }
 
 // The same from an accepted symbol; the work space is cleared after.
-fn make_cusps(v: usize, t: &[i64], w: &mut [u16], cusps: &mut [u32], steps: &mut [u32]) -> Filled
+fn make_cusps(
+    v: usize,
+    t: &[i64],
+    w: &mut [u16],
+    cusps: &mut [u32],
+    steps: &mut [u32],
+) -> Result<usize, Refusal>
     requires { IsSymbol v t.now × (work_length ≤ length w.old) }
     ensures fills { Fills (stores (cusp_column v t.now) cusps
         ++ stores (step_column v t.now) steps) (made_if (index_of v t.now)) result }
@@ -120,13 +114,16 @@ fn make_cusps(v: usize, t: &[i64], w: &mut [u16], cusps: &mut [u32], steps: &mut
 
 // The cusp of each coset of the symbol in t and its steps of T from the cusp's smallest point, each at the front of its
 // space: checks 1 to 7, then the work space, then the result spaces for cusps and for steps.
-pub fn cusps(v: usize, t: &[i64], w: &mut [u16], cusps: &mut [u32], steps: &mut [u32]) -> Filled
+pub fn cusps(
+    v: usize,
+    t: &[i64],
+    w: &mut [u16],
+    cusps: &mut [u32],
+    steps: &mut [u32],
+) -> Result<usize, Refusal>
     ensures { Fills (cusps_call v t.now w cusps steps).steps
         (made_if (index_of v t.now)) result }
 {
-    let admitted = admit(v, t, w.len());
-    match admitted {
-        Checked::Refused(refusal) => Filled::Refused(refusal),
-        Checked::Accepted => make_cusps(v, t, w, cusps, steps),
-    }
+    admit(v, t, w.len())?;
+    make_cusps(v, t, w, cusps, steps)
 }

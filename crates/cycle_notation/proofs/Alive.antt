@@ -1,19 +1,18 @@
 -- A reader that is not lost can still be brought to an end: which pieces can be completed.
 --     completes-alive, alive-completes    some ending makes the pieces right exactly when one of the two readers is not lost behind them
 -- Assumes nothing.
+use Rattle.std.specs.Prelude.{Some}
 use mathlib.Core.Path.{◌≡◌, refl, sym, ap, ◌∙◌}
-use mathlib.Core.Logic.{◌⊎◌, inl, inr}
-use mathlib.Core.Bool.{Bool, true, false, ◌&&◌}
+use mathlib.Core.Bool.{Bool, true, false}
 use mathlib.Core.List.{List, [], ◌∷◌, ◌++◌}
-use mathlib.Core.Option.{Option, none, some}
 use Prim.Native.Nat.{ℕ}
 use Rattle.basics.specs.Choice.{pick}
-use Rattle.basics.proofs.Choice.{pick_true, pick_false, clash}
+use Rattle.basics.proofs.Choice.{pick_true, clash}
 use Rattle.cycle_notation.specs.Piece.{CyclePiece, number, blank, opening, closing, comma, semicolon, another}
-use Rattle.cycle_notation.specs.Form.{free, in_range, Right, Completes}
+use Rattle.cycle_notation.specs.Form.{free, in_range, Completes}
 use Rattle.cycle_notation.specs.Verdict.{Read}
 use Rattle.cycle_notation.specs.Inner.Reader.{Phase, start, opened, empty, point, wanted, closed, room, PartTurn, on, over, stop, turn_of, State, front}
-use Rattle.cycle_notation.specs.Inner.Reader.{within_S, within_R, dead, WithinPart, after, begin_r, indexed, read_piece, read_all, outcome, may_end, is_dead}
+use Rattle.cycle_notation.specs.Inner.Reader.{within_S, within_R, dead, WithinPart, after, begin_r, indexed, read_piece, read_all, read_outcome, may_end, is_dead}
 use Rattle.cycle_notation.proofs.Points.{no_read, room_point}
 use Rattle.cycle_notation.proofs.Along.{Steps, Settled, behind_identity, behind_cycle, moved, over_wanted}
 use Rattle.cycle_notation.proofs.Back.{run_dead}
@@ -195,7 +194,7 @@ module _ (semi : Bool) (n : ℕ) (within : WithinPart) (then : List (List ℕ) �
 pub record Ending (semi : Bool) (q : State) : Type 0 where
   pub ending : List CyclePiece
   pub read : Read
-  pub is : outcome (read_all semi q ending) ≡ some read
+  pub is : read_outcome (read_all semi q ending) ≡ Some read
 
 ends_R : (semi : Bool) (n : ℕ) (sc : List (List ℕ)) (ph : Phase) (seen cur : List ℕ) (done : List (List ℕ)) → SanePhase n seen ph
     → Ending semi (within_R n sc ph seen cur done)
@@ -203,7 +202,7 @@ ends_R semi n sc ph seen cur done h =
     let f = finish semi n (within_R n sc) (λ cs. dead) (law_R semi n sc) ph seen cur done h in record {
       ending = f.ending;
       read = read_as n sc f.done;
-      is = ap outcome f.runs ∙ pick_true (may_end f.ph) _ _ (settled_whole f.ph f.settled);
+      is = ap read_outcome f.runs ∙ pick_true (may_end f.ph) _ _ (settled_whole f.ph f.settled);
     }
 
 -- behind S: its last piece, and then an ending of R
@@ -214,7 +213,7 @@ ends_S true n ph seen cur done h =
     let r = ends_R true n f.done start [] [] [] tt in record {
       ending = f.ending ++ (semicolon ∷ r.ending);
       read = r.read;
-      is = ap outcome
+      is = ap read_outcome
           (run_append true (within_S n ph seen cur done) f.ending (semicolon ∷ r.ending)
           ∙ ap (λ (q : State). read_all true q (semicolon ∷ r.ending)) f.runs
           ∙ moved true n (within_S n) (begin_r true n) (law_S true n) f.ph f.seen f.cur f.done semicolon r.ending over
@@ -226,7 +225,7 @@ ends_S false n ph seen cur done h =
     let r = ends_R false n f.done opened [] [] [] tt in record {
       ending = f.ending ++ (opening ∷ r.ending);
       read = r.read;
-      is = ap outcome
+      is = ap read_outcome
           (run_append false (within_S n ph seen cur done) f.ending (opening ∷ r.ending)
           ∙ ap (λ (q : State). read_all false q (opening ∷ r.ending)) f.runs
           ∙ moved false n (within_S n) (begin_r false n) (law_S false n) f.ph f.seen f.cur f.done opening r.ending over
@@ -244,7 +243,7 @@ ends semi dead h a = clash refl a
 pub alive_completes : (semi : Bool) (ps : List CyclePiece) → is_dead (read_all semi front ps) ≡ false → Completes ps
 alive_completes semi ps a =
     let e = ends semi (read_all semi front ps) (sane_run semi front ps tt) a in
-    let r = right_of e.read semi (ps ++ e.ending) (ap outcome (run_append semi front ps e.ending) ∙ e.is) in
+    let r = right_of e.read semi (ps ++ e.ending) (ap read_outcome (run_append semi front ps e.ending) ∙ e.is) in
     record { ending = e.ending; n = e.read.index; sc = e.read.of_s; rc = e.read.of_r; right = r }
 
 pub dead_is : (q : State) → is_dead q ≡ true → q ≡ dead
@@ -253,15 +252,15 @@ dead_is (within_S n ph seen cur done) e = clash e refl
 dead_is (within_R n sc ph seen cur done) e = clash e refl
 dead_is dead e = refl
 
-lost_for_good : (semi : Bool) (ps qs : List CyclePiece) (r : Read) → is_dead (read_all semi front ps) ≡ true → outcome (read_all semi front (ps ++ qs)) ≡ some r
+lost_for_good : (semi : Bool) (ps qs : List CyclePiece) (r : Read) → is_dead (read_all semi front ps) ≡ true → read_outcome (read_all semi front (ps ++ qs)) ≡ Some r
     → ⊥
 lost_for_good semi ps qs r e h =
-    no_read (sym (ap outcome (run_append semi front ps qs ∙ ap (λ (q : State). read_all semi q qs) (dead_is _ e) ∙ run_dead semi qs)) ∙ h)
+    no_read (sym (ap read_outcome (run_append semi front ps qs ∙ ap (λ (q : State). read_all semi q qs) (dead_is _ e) ∙ run_dead semi qs)) ∙ h)
 
 pub completes_alive : (ps : List CyclePiece) → is_dead (read_all true front ps) ≡ true → is_dead (read_all false front ps) ≡ true → ¬ Completes ps
 completes_alive ps a b c =
     go c.right.semi (accepted (ps ++ c.ending) c.n c.sc c.rc c.right)
   where
-    go : (semi : Bool) → outcome (read_all semi front (ps ++ c.ending)) ≡ some (read_as c.n c.sc c.rc) → ⊥
+    go : (semi : Bool) → read_outcome (read_all semi front (ps ++ c.ending)) ≡ Some (read_as c.n c.sc c.rc) → ⊥
     go true h = lost_for_good true ps c.ending _ a h
     go false h = lost_for_good false ps c.ending _ b h

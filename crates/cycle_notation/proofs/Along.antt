@@ -8,13 +8,12 @@ use mathlib.Core.List.{List, [], ◌∷◌, ◌++◌, append-nil, append_assoc}
 use Prim.Native.Nat.{ℕ}
 use lib.ListN.{length}
 use native.Mathlib.Omega.{arith}
-use Rattle.basics.specs.Choice.{pick}
-use Rattle.basics.proofs.Choice.{pick_true, pick_false}
-use Rattle.cycle_notation.specs.Piece.{CyclePiece, number, blank, opening, closing, comma, semicolon, another}
+use Rattle.basics.proofs.Choice.{pick_true}
+use Rattle.cycle_notation.specs.Piece.{CyclePiece, number, blank, opening, closing, comma}
 use Rattle.cycle_notation.specs.Form
 use Rattle.cycle_notation.specs.Form.{Blanks, here, past, More, last, further, Cycles, end, gap, cycle, Enough, Written, cycles, points_of, free, Disjoint}
 use Rattle.cycle_notation.specs.Form.{all, next}
-use Rattle.cycle_notation.specs.Inner.Reader.{Phase, start, opened, empty, point, wanted, closed, room, PartTurn, on, over, stop, turn_of, State}
+use Rattle.cycle_notation.specs.Inner.Reader.{Phase, opened, empty, point, wanted, closed, PartTurn, on, turn_of, State}
 use Rattle.cycle_notation.specs.Inner.Reader.{WithinPart, after, read_piece, read_all}
 use Rattle.cycle_notation.proofs.Points.{free_room}
 

@@ -1,9 +1,9 @@
 -- The other way: a permutation through which the reader comes is of the form. By induction on the pieces, for all phases at once.
 -- Assumes nothing.
+use Rattle.std.specs.Prelude.{Some}
 use mathlib.Core.Path.{◌≡◌, refl, sym, ap, ◌∙◌}
 use mathlib.Core.Bool.{Bool, true, false}
 use mathlib.Core.List.{List, [], ◌∷◌, ◌++◌, append-nil, append_assoc}
-use mathlib.Core.Option.{Option, none, some}
 use Prim.Native.Nat.{ℕ}
 use Rattle.basics.specs.Choice.{pick}
 use Rattle.basics.proofs.Choice.{clash}
@@ -11,7 +11,7 @@ use Rattle.cycle_notation.specs.Piece.{CyclePiece, number, blank, opening, closi
 use Rattle.cycle_notation.specs.Form.{Blanks, here, past, More, last, further, Cycles, end, gap, cycle, points_of, free, Disjoint, all, next}
 use Rattle.cycle_notation.specs.Verdict.{Read}
 use Rattle.cycle_notation.specs.Inner.Reader.{Phase, start, opened, empty, point, wanted, closed, room, PartTurn, on, over, stop, turn_of, State, dead}
-use Rattle.cycle_notation.specs.Inner.Reader.{WithinPart, after, read_piece, read_all, outcome, may_end}
+use Rattle.cycle_notation.specs.Inner.Reader.{WithinPart, after, read_all, read_outcome, may_end}
 use Rattle.cycle_notation.proofs.Points.{no_read}
 use Rattle.cycle_notation.proofs.Along.{Steps, moved}
 
@@ -25,11 +25,11 @@ separator semi = pick semi semicolon opening
 
 module _ (semi : Bool) (n : ℕ) (within : WithinPart) (then : List (List ℕ) → State) (law : Steps semi n within then)
     (r : Read) (Ends : List (List ℕ) → Type 0)
-    (ends : (ph : Phase) (seen cur : List ℕ) (done : List (List ℕ)) → outcome (within ph seen cur done) ≡ some r → (may_end ph ≡ true) × Ends done) where
+    (ends : (ph : Phase) (seen cur : List ℕ) (done : List (List ℕ)) → read_outcome (within ph seen cur done) ≡ Some r → (may_end ph ≡ true) × Ends done) where
   -- what follows the permutation with the cycles cs
   pub data Follow (cs : List (List ℕ)) : List CyclePiece → Type 0 where
     ended : Ends cs → Follow cs []
-    behind : {mid : List CyclePiece} → outcome (read_all semi (then cs) mid) ≡ some r → Follow cs (separator semi ∷ mid)
+    behind : {mid : List CyclePiece} → read_outcome (read_all semi (then cs) mid) ≡ Some r → Follow cs (separator semi ∷ mid)
 
   -- what is left of the text, by the phase
   pub record ClosedTail (seen : List ℕ) (done : List (List ℕ)) (ps : List CyclePiece) : Type 0 where
@@ -65,7 +65,7 @@ module _ (semi : Bool) (n : ℕ) (within : WithinPart) (then : List (List ℕ) �
 
   pub data StartTail (seen cur : List ℕ) (done : List (List ℕ)) (ps : List CyclePiece) : Type 0 where
     nothing : Blanks ps [] → Ends done → StartTail seen cur done ps
-    nothing_more : (mid : List CyclePiece) → semi ≡ true → Blanks ps (semicolon ∷ mid) → outcome (read_all semi (then done) mid) ≡ some r
+    nothing_more : (mid : List CyclePiece) → semi ≡ true → Blanks ps (semicolon ∷ mid) → read_outcome (read_all semi (then done) mid) ≡ Some r
         → StartTail seen cur done ps
     bracket : (ps' : List CyclePiece) → Blanks ps (opening ∷ ps') → OpenedTail seen cur done ps' → StartTail seen cur done ps
 
@@ -94,21 +94,21 @@ module _ (semi : Bool) (n : ℕ) (within : WithinPart) (then : List (List ℕ) �
   }
 
   module _ (ps : List CyclePiece)
-      (ih : (ph : Phase) (seen cur : List ℕ) (done : List (List ℕ)) → outcome (read_all semi (within ph seen cur done) ps) ≡ some r → Tail ph seen cur done ps)
+      (ih : (ph : Phase) (seen cur : List ℕ) (done : List (List ℕ)) → read_outcome (read_all semi (within ph seen cur done) ps) ≡ Some r → Tail ph seen cur done ps)
       (seen cur : List ℕ) (done : List (List ℕ)) where
     -- the piece p in the phase ph took the turn t
-    came : (ph : Phase) (p : CyclePiece) (t : PartTurn) → turn_of semi n seen cur done ph p ≡ t → outcome (read_all semi (within ph seen cur done) (p ∷ ps))
-        ≡ some r
-        → outcome (read_all semi (after within (then done) t) ps) ≡ some r
-    came ph p t e h = ap outcome (sym (moved semi n within then law ph seen cur done p ps t e)) ∙ h
+    came : (ph : Phase) (p : CyclePiece) (t : PartTurn) → turn_of semi n seen cur done ph p ≡ t → read_outcome (read_all semi (within ph seen cur done) (p ∷ ps))
+        ≡ Some r
+        → read_outcome (read_all semi (after within (then done) t) ps) ≡ Some r
+    came ph p t e h = ap read_outcome (sym (moved semi n within then law ph seen cur done p ps t e)) ∙ h
 
-    stuck : {A : Type 0} (ph : Phase) (p : CyclePiece) → turn_of semi n seen cur done ph p ≡ stop → outcome (read_all semi (within ph seen cur done) (p ∷ ps))
-        ≡ some r → A
-    stuck ph p e h = no_read (sym (ap outcome (run_dead semi ps)) ∙ came ph p stop e h)
+    stuck : {A : Type 0} (ph : Phase) (p : CyclePiece) → turn_of semi n seen cur done ph p ≡ stop → read_outcome (read_all semi (within ph seen cur done) (p ∷ ps))
+        ≡ Some r → A
+    stuck ph p e h = no_read (sym (ap read_outcome (run_dead semi ps)) ∙ came ph p stop e h)
 
     from_named : (ph : Phase) (x : ℕ) (b : Bool) → free n seen x ≡ b
         → turn_of semi n seen cur done ph (number x) ≡ pick (free n seen x) (on point (x ∷ seen) (cur ++ (x ∷ [])) done) stop
-        → outcome (read_all semi (within ph seen cur done) (number x ∷ ps)) ≡ some r → WantedTail seen cur done (number x ∷ ps)
+        → read_outcome (read_all semi (within ph seen cur done) (number x ∷ ps)) ≡ Some r → WantedTail seen cur done (number x ∷ ps)
     from_named ph x true f e h =
         named x f (ih point (x ∷ seen) (cur ++ (x ∷ [])) done
         (came ph (number x) _ (e ∙ ap (λ (z : Bool). pick z (on point (x ∷ seen) (cur ++ (x ∷ [])) done) stop) f) h))
@@ -116,16 +116,16 @@ module _ (semi : Bool) (n : ℕ) (within : WithinPart) (then : List (List ℕ) �
 
     -- a semicolon behind a permutation that may be over
     separated : (b : Bool) → semi ≡ b → (ph : Phase) → turn_of semi n seen cur done ph semicolon ≡ pick semi over stop
-        → outcome (read_all semi (within ph seen cur done) (semicolon ∷ ps)) ≡ some r → (semi ≡ true) × (outcome (read_all semi (then done) ps) ≡ some r)
+        → read_outcome (read_all semi (within ph seen cur done) (semicolon ∷ ps)) ≡ Some r → (semi ≡ true) × (read_outcome (read_all semi (then done) ps) ≡ Some r)
     separated true f ph e h = (f, came ph semicolon over (e ∙ ap (λ (z : Bool). pick z over stop) f) h)
     separated false f ph e h = stuck ph semicolon (e ∙ ap (λ (z : Bool). pick z over stop) f) h
 
-    follow_semicolon : (cs : List (List ℕ)) → (semi ≡ true) × (outcome (read_all semi (then cs) ps) ≡ some r) → Follow cs (semicolon ∷ ps)
+    follow_semicolon : (cs : List (List ℕ)) → (semi ≡ true) × (read_outcome (read_all semi (then cs) ps) ≡ Some r) → Follow cs (semicolon ∷ ps)
     follow_semicolon cs h =
         let z : separator semi ≡ semicolon = ap separator h.0 in
         rw (← z) (behind h.1)
 
-    from_start : (p : CyclePiece) → outcome (read_all semi (within start seen cur done) (p ∷ ps)) ≡ some r → StartTail seen cur done (p ∷ ps)
+    from_start : (p : CyclePiece) → read_outcome (read_all semi (within start seen cur done) (p ∷ ps)) ≡ Some r → StartTail seen cur done (p ∷ ps)
     from_start (number x) h = stuck start (number x) refl h
     from_start blank h = later (ih start seen cur done (came start blank _ refl h))
       where
@@ -139,7 +139,7 @@ module _ (semi : Bool) (n : ℕ) (within : WithinPart) (then : List (List ℕ) �
     from_start semicolon h = let z = separated semi refl start refl h in nothing_more ps z.0 here z.1
     from_start another h = stuck start another refl h
 
-    from_opened : (p : CyclePiece) → outcome (read_all semi (within opened seen cur done) (p ∷ ps)) ≡ some r → OpenedTail seen cur done (p ∷ ps)
+    from_opened : (p : CyclePiece) → read_outcome (read_all semi (within opened seen cur done) (p ∷ ps)) ≡ Some r → OpenedTail seen cur done (p ∷ ps)
     from_opened (number x) h = point_first (from_named opened x (free n seen x) refl refl h)
     from_opened blank h = stuck opened blank refl h
     from_opened opening h = stuck opened opening refl h
@@ -148,7 +148,7 @@ module _ (semi : Bool) (n : ℕ) (within : WithinPart) (then : List (List ℕ) �
     from_opened semicolon h = stuck opened semicolon refl h
     from_opened another h = stuck opened another refl h
 
-    from_empty : (p : CyclePiece) → outcome (read_all semi (within empty seen cur done) (p ∷ ps)) ≡ some r → EmptyTail done (p ∷ ps)
+    from_empty : (p : CyclePiece) → read_outcome (read_all semi (within empty seen cur done) (p ∷ ps)) ≡ Some r → EmptyTail done (p ∷ ps)
     from_empty (number x) h = stuck empty (number x) refl h
     from_empty blank h = let t = ih empty seen cur done (came empty blank _ refl h) in record { rest = t.rest; blanks = past t.blanks; follow = t.follow }
     from_empty opening h = go semi refl
@@ -163,7 +163,7 @@ module _ (semi : Bool) (n : ℕ) (within : WithinPart) (then : List (List ℕ) �
     from_empty semicolon h = record { rest = semicolon ∷ ps; blanks = here; follow = follow_semicolon done (separated semi refl empty refl h) }
     from_empty another h = stuck empty another refl h
 
-    from_point : (p : CyclePiece) → outcome (read_all semi (within point seen cur done) (p ∷ ps)) ≡ some r → PointTail seen cur done (p ∷ ps)
+    from_point : (p : CyclePiece) → read_outcome (read_all semi (within point seen cur done) (p ∷ ps)) ≡ Some r → PointTail seen cur done (p ∷ ps)
     from_point (number x) h = stuck point (number x) refl h
     from_point blank h = stuck point blank refl h
     from_point opening h = stuck point opening refl h
@@ -200,7 +200,7 @@ module _ (semi : Bool) (n : ℕ) (within : WithinPart) (then : List (List ℕ) �
     from_point semicolon h = stuck point semicolon refl h
     from_point another h = stuck point another refl h
 
-    from_wanted : (p : CyclePiece) → outcome (read_all semi (within wanted seen cur done) (p ∷ ps)) ≡ some r → WantedTail seen cur done (p ∷ ps)
+    from_wanted : (p : CyclePiece) → read_outcome (read_all semi (within wanted seen cur done) (p ∷ ps)) ≡ Some r → WantedTail seen cur done (p ∷ ps)
     from_wanted (number x) h = from_named wanted x (free n seen x) refl refl h
     from_wanted blank h = stuck wanted blank refl h
     from_wanted opening h = stuck wanted opening refl h
@@ -214,7 +214,7 @@ module _ (semi : Bool) (n : ℕ) (within : WithinPart) (then : List (List ℕ) �
     unfolding points_of
     at_once {q} f = record { new = []; rest = q; cycles = end; disjoint = all; few = λ e. refl; follow = rw (append-nil done) f }
 
-    from_closed : (p : CyclePiece) → outcome (read_all semi (within closed seen cur done) (p ∷ ps)) ≡ some r → ClosedTail seen done (p ∷ ps)
+    from_closed : (p : CyclePiece) → read_outcome (read_all semi (within closed seen cur done) (p ∷ ps)) ≡ Some r → ClosedTail seen done (p ∷ ps)
     unfolding points_of
     from_closed (number x) h = stuck closed (number x) refl h
     from_closed blank h =
@@ -247,7 +247,7 @@ module _ (semi : Bool) (n : ℕ) (within : WithinPart) (then : List (List ℕ) �
     from_closed semicolon h = at_once (follow_semicolon done (separated semi refl closed refl h))
     from_closed another h = stuck closed another refl h
 
-    from : (ph : Phase) (p : CyclePiece) → outcome (read_all semi (within ph seen cur done) (p ∷ ps)) ≡ some r → Tail ph seen cur done (p ∷ ps)
+    from : (ph : Phase) (p : CyclePiece) → read_outcome (read_all semi (within ph seen cur done) (p ∷ ps)) ≡ Some r → Tail ph seen cur done (p ∷ ps)
     from start p h = from_start p h
     from opened p h = from_opened p h
     from empty p h = from_empty p h
@@ -255,7 +255,7 @@ module _ (semi : Bool) (n : ℕ) (within : WithinPart) (then : List (List ℕ) �
     from wanted p h = from_wanted p h
     from closed p h = from_closed p h
 
-  pub back : (ps : List CyclePiece) (ph : Phase) (seen cur : List ℕ) (done : List (List ℕ)) → outcome (read_all semi (within ph seen cur done) ps) ≡ some r
+  pub back : (ps : List CyclePiece) (ph : Phase) (seen cur : List ℕ) (done : List (List ℕ)) → read_outcome (read_all semi (within ph seen cur done) ps) ≡ Some r
       → Tail ph seen cur done ps
   unfolding read_all
   back [] ph seen cur done h = at_end ph seen cur done (ends ph seen cur done h)

@@ -1,10 +1,9 @@
 -- What the definitions say of some texts: each is computed. Offsets count from 0, and `\n` is a line end.
 -- Assumes nothing.
 use mathlib.Core.Path.{◌≡◌, refl}
-use mathlib.Core.List.{List, [], ◌∷◌}
-use Prim.Native.Nat.{ℕ}
+use mathlib.Core.List.{[], ◌∷◌}
 use Rattle.cycle_notation.specs.Piece.{run_value, cycle_pieces_from, cycle_pieces, without_offsets}
-use Rattle.cycle_notation.specs.Verdict.{Read, Verdict, reads, index_out, leaves}
+use Rattle.cycle_notation.specs.Verdict.{reads, index_out, leaves}
 use Rattle.cycle_notation.specs.Inner.Reader.{read_all, lost, bad_index, verdict_of}
 use Rattle.numbering.specs.Find.{find}
 

@@ -4,23 +4,21 @@
 --     wrong_only      a text leaves the form at one place
 --     verdict_only    a verdict that means what it should is the readers'
 -- Assumes nothing.
+use Rattle.std.specs.Prelude.{Option, None, Some}
 use mathlib.Core.Path.{◌≡◌, refl, sym, ap, subst, ◌∙◌}
-use mathlib.Core.Bool.{Bool, true, false, not}
+use mathlib.Core.Bool.{Bool, true, false}
 use mathlib.Core.List.{List, [], ◌∷◌, ◌++◌, append-nil, append_assoc}
-use mathlib.Core.Option.{Option, none, some}
 use Prim.Native.Nat.{ℕ}
-use native.Mathlib.Omega.{arith}
 use lib.ListN.{length}
 use Rattle.basics.specs.Choice.{pick}
-use Rattle.basics.proofs.Choice.{pick_true, pick_false, clash}
+use Rattle.basics.proofs.Choice.{clash}
 use Rattle.cycle_notation.specs.Piece.{CyclePiece, number, blank, opening, closing, comma, semicolon, another, PlacedPiece, cycle_pieces, without_offsets}
 use Rattle.cycle_notation.specs.Form
 use Rattle.cycle_notation.specs.Form.{Blanks, here, past, More, last, further, Cycles, end, gap, cycle, Written, cycles, behind_s, Reading, in_range, Right}
 use Rattle.cycle_notation.specs.Form.{Completes}
 use Rattle.cycle_notation.specs.Place.{WrongAt, at_piece, stops_short}
 use Rattle.cycle_notation.specs.Verdict.{Read, Verdict, reads, index_out, leaves, IndexOut, VerdictMeans, right, no_index, wrong}
-use Rattle.cycle_notation.specs.Inner.Reader.{front, read_all, outcome, lost, bad_index, either_read, verdict_of}
-use Rattle.cycle_notation.proofs.Points.{no_read}
+use Rattle.cycle_notation.specs.Inner.Reader.{front, read_all, read_outcome, lost, bad_index, either_read, verdict_of}
 use Rattle.cycle_notation.proofs.Whole.{accepted, right_of, read_as}
 use Rattle.cycle_notation.proofs.Wrong.{bare_append, wrong_at, bad_behind, index_out_is}
 
@@ -63,13 +61,13 @@ which true g = over_blanks g.n_is ∙ over_written g.S_is
 which false g = over_blanks g.n_is ∙ over_written g.S_is ∙ over_written g.R_is
 
 -- a right text is read, by the reader that its semicolons choose
-read_by : {ps : List CyclePiece} {n : ℕ} {sc rc : List (List ℕ)} → Right ps n sc rc → outcome (read_all (has_semicolon ps) front ps) ≡ some (read_as n sc rc)
-read_by {ps} {n} {sc} {rc} h = ap (λ (b : Bool). outcome (read_all b front ps)) (which h.semi h.reading) ∙ accepted ps n sc rc h
+read_by : {ps : List CyclePiece} {n : ℕ} {sc rc : List (List ℕ)} → Right ps n sc rc → read_outcome (read_all (has_semicolon ps) front ps) ≡ Some (read_as n sc rc)
+read_by {ps} {n} {sc} {rc} h = ap (λ (b : Bool). read_outcome (read_all b front ps)) (which h.semi h.reading) ∙ accepted ps n sc rc h
 
 pub right_only : (ps : List CyclePiece) (r q : Read) → Right ps r.index r.of_s r.of_r → Right ps q.index q.of_s q.of_r → r ≡ q
 right_only ps r q g h = same (sym (read_by g) ∙ read_by h)
   where
-    same : {a b : Read} → some a ≡ some b → a ≡ b
+    same : {a b : Read} → Some a ≡ Some b → a ≡ b
     same e = cc
 
 -- ---- one place
@@ -169,12 +167,12 @@ module _ (t : List ℕ) where
     lost_one v (wrong p i u) place w = ap leaves (wrong_only p place u w)
 
     by_readers : (v : Verdict) → VerdictMeans t v
-        → (a : Option Read) → outcome (read_all true front (without_offsets (cycle_pieces t))) ≡ a → (b : Option Read)
-        → outcome (read_all false front (without_offsets (cycle_pieces t))) ≡ b
+        → (a : Option Read) → read_outcome (read_all true front (without_offsets (cycle_pieces t))) ≡ a → (b : Option Read)
+        → read_outcome (read_all false front (without_offsets (cycle_pieces t))) ≡ b
         → v ≡ either_read a b (lost front front (cycle_pieces t) (length t))
-    by_readers v m (some q) ea b eb = read_one v m q (right_of q true (without_offsets (cycle_pieces t)) ea)
-    by_readers v m none ea (some q) eb = read_one v m q (right_of q false (without_offsets (cycle_pieces t)) eb)
-    by_readers v m none ea none eb = lost_one v m (lost front front (cycle_pieces t) (length t)) (wrong_at t ea eb)
+    by_readers v m (Some q) ea b eb = read_one v m q (right_of q true (without_offsets (cycle_pieces t)) ea)
+    by_readers v m None ea (Some q) eb = read_one v m q (right_of q false (without_offsets (cycle_pieces t)) eb)
+    by_readers v m None ea None eb = lost_one v m (lost front front (cycle_pieces t) (length t)) (wrong_at t ea eb)
 
   out_now : (v : Verdict) → VerdictMeans t v → IndexOut (without_offsets (cycle_pieces t)) → v ≡ index_out
   out_now v (right r h) i = absurd (index_good r.index r.of_s r.of_r h i)
@@ -182,11 +180,11 @@ module _ (t : List ℕ) where
   out_now v (wrong p j w) i = absurd (j i)
 
   decided : (i : Bool) → bad_index (without_offsets (cycle_pieces t)) ≡ i → verdict_of t ≡ pick i index_out
-      (either_read (outcome (read_all true front (without_offsets (cycle_pieces t)))) (outcome (read_all false front (without_offsets (cycle_pieces t))))
+      (either_read (read_outcome (read_all true front (without_offsets (cycle_pieces t)))) (read_outcome (read_all false front (without_offsets (cycle_pieces t))))
       (lost front front (cycle_pieces t) (length t)))
   unfolding verdict_of
   decided i e = ap (λ (b : Bool). pick b index_out
-      (either_read (outcome (read_all true front (without_offsets (cycle_pieces t)))) (outcome (read_all false front (without_offsets (cycle_pieces t))))
+      (either_read (read_outcome (read_all true front (without_offsets (cycle_pieces t)))) (read_outcome (read_all false front (without_offsets (cycle_pieces t))))
       (lost front front (cycle_pieces t) (length t)))) e
 
   pub verdict_only : (v : Verdict) → VerdictMeans t v → v ≡ verdict_of t
@@ -196,5 +194,5 @@ module _ (t : List ℕ) where
       go true e = out_now v m (index_out_is (without_offsets (cycle_pieces t)) e) ∙ sym (decided true e)
       go false e =
           by_readers (λ i. clash (bad_behind i.n i.behind i.out i.n_is) e) v m
-          (outcome (read_all true front (without_offsets (cycle_pieces t)))) refl (outcome (read_all false front (without_offsets (cycle_pieces t)))) refl
+          (read_outcome (read_all true front (without_offsets (cycle_pieces t)))) refl (read_outcome (read_all false front (without_offsets (cycle_pieces t)))) refl
           ∙ sym (decided false e)

@@ -3,17 +3,17 @@
 --     room_point   where there is room, some point is free
 --     no_read      no text is read and not read
 -- Assumes nothing.
-use mathlib.Core.Path.{◌≡◌, refl, sym, ap, ◌∙◌}
-use mathlib.Core.Bool.{Bool, true, false}
+use Rattle.std.specs.Prelude.{None, Some}
+use mathlib.Core.Path.{◌≡◌}
+use mathlib.Core.Bool.{true}
 use mathlib.Core.List.{List}
-use mathlib.Core.Option.{Option, none, some}
-use Prim.Native.Nat.{ℕ, zero, suc, ◌≤◌, ◌<◌}
+use Prim.Native.Nat.{ℕ, zero, suc, ◌≤◌}
 use native.Mathlib.Omega.{arith}
 use lib.Dec.{leb}
 use borrow.Author.Tests.{lt-ltb, ltb-true, leb-true}
 use Rattle.basics.specs.Count.{first}
 use Rattle.basics.proofs.Choice.{and_left, and_right, clash}
-use Rattle.basics.proofs.Count.{Clear, Found, found, search_first, first_clear}
+use Rattle.basics.proofs.Count.{Clear, Found, found, search_first}
 use Rattle.cycle_notation.specs.Form.{free}
 use Rattle.cycle_notation.specs.Verdict.{Read}
 use Rattle.cycle_notation.specs.Inner.Reader.{room}
@@ -40,5 +40,5 @@ module _ (n : ℕ) (seen : List ℕ) where
   pub room_point : room n seen ≡ true → SomeFree
   room_point e = record { x = suc (first (λ (k : ℕ). free n seen (suc k)) n); is = (found (λ (k : ℕ). free n seen (suc k)) n (ltb-true _ n e)).passes }
 
-pub no_read : {A : Type 0} {r : Read} → none ≡ some r → A
+pub no_read : {A : Type 0} {r : Read} → None ≡ Some r → A
 no_read e = let z : ◌≡◌ {A = ℕ} 0 1 = cc in absurd (omega arith)

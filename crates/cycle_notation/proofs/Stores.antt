@@ -5,19 +5,18 @@
 --     linked_last           one more point of the open cycle: two stores
 --     stored_last           the last cycle is stored last
 -- Assumes nothing.
-use mathlib.Core.Path.{◌≡◌, refl, sym, ap, subst, ◌∙◌}
-use mathlib.Core.Logic.{◌⊎◌, inl, inr}
+use mathlib.Core.Path.{◌≡◌, refl, sym, ap, ◌∙◌}
 use mathlib.Core.Bool.{Bool, true, false, not, ◌&&◌}
 use mathlib.Core.List.{List, [], ◌∷◌, ◌++◌}
-use Prim.Native.Nat.{ℕ, zero, suc, ◌+◌, ◌-◌, ◌≤◌, ◌<◌}
+use Prim.Native.Nat.{ℕ, zero, suc, ◌-◌, ◌≤◌, ◌<◌}
 use native.Mathlib.Omega.{arith}
 use native.Mathlib.Decide.{dec_lt, ℕ_discrete}
 use lib.Dec.{eqb, ltb, leb, leb-suc-suc}
 use lib.ListN.{length, get_or, set, take, length-set, length-append, get_or-append}
-use lib.Seq.{get_or-append_seam, get_or-append-add, get_or-set_same, get_or-set_other, set-set, ext_get_or, length-take-le, get_or-take}
-use borrow.Author.Tests.{lt-ltb, le-ltb, eq-eqb, ne_eqb}
+use lib.Seq.{get_or-append_seam, get_or-set_same, get_or-set_other, set-set, ext_get_or, length-take-le, get_or-take}
+use borrow.Author.Tests.{lt-ltb, eq-eqb, ne_eqb}
 use Rattle.basics.specs.Choice.{pick}
-use Rattle.basics.proofs.Choice.{pick_true, pick_false, and_left, and_right, either, clash}
+use Rattle.basics.proofs.Choice.{pick_true, pick_false, and_right, clash}
 use Rattle.numbering.specs.Find.{find, is_in}
 use Rattle.cycle_notation.specs.Form.{points_of, free, Disjoint, all, next}
 use Rattle.cycle_notation.specs.Table.{behind_in, turned_by, image_by, tabled, cycle_table}

@@ -2,14 +2,12 @@
 --     accepted     a right text is read, by the reader of its reading
 --     right_of     what a reader has read is right
 -- Assumes nothing.
+use Rattle.std.specs.Prelude.{None, Some}
 use mathlib.Core.Path.{◌≡◌, refl, sym, ap, subst, ◌∙◌}
 use mathlib.Core.Logic.{◌⊎◌, inl, inr}
 use mathlib.Core.Bool.{Bool, true, false}
-use mathlib.Core.List.{List, [], ◌∷◌, ◌++◌}
-use mathlib.Core.Option.{Option, none, some}
+use mathlib.Core.List.{List, [], ◌∷◌}
 use Prim.Native.Nat.{ℕ}
-use lib.ListN.{length}
-use Rattle.basics.specs.Choice.{pick}
 use Rattle.basics.proofs.Choice.{pick_true, pick_false, clash}
 use Rattle.cycle_notation.specs.Piece.{CyclePiece, number, blank, opening, closing, comma, semicolon, another}
 use Rattle.cycle_notation.specs.Form
@@ -17,7 +15,7 @@ use Rattle.cycle_notation.specs.Form.{Blanks, here, past, Cycles, end, gap, cycl
 use Rattle.cycle_notation.specs.Form.{next, in_range, Right}
 use Rattle.cycle_notation.specs.Verdict.{Read}
 use Rattle.cycle_notation.specs.Inner.Reader.{Phase, start, opened, empty, point, wanted, closed, on, over, turn_of, State, front, within_S, within_R}
-use Rattle.cycle_notation.specs.Inner.Reader.{dead, begin_r, indexed, read_piece, read_all, outcome, may_end}
+use Rattle.cycle_notation.specs.Inner.Reader.{dead, begin_r, read_all, read_outcome, may_end}
 use Rattle.cycle_notation.proofs.Points.{no_read}
 use Rattle.cycle_notation.proofs.Along.{Steps, Settled, behind_identity, behind_cycle, moved, over_blanks, Begun, bracket, nothing, written_begun}
 use Rattle.cycle_notation.proofs.Back
@@ -74,37 +72,37 @@ settled_opening n point seen cur done s = elim s [ ]
 settled_opening n wanted seen cur done s = elim s [ ]
 
 read_R : (semi : Bool) (n : ℕ) (sc rc : List (List ℕ)) (ph : Phase) (seen : List ℕ) → may_end ph ≡ true
-    → outcome (read_all semi (within_R n sc ph seen [] rc) []) ≡ some (read_as n sc rc)
+    → read_outcome (read_all semi (within_R n sc ph seen [] rc) []) ≡ Some (read_as n sc rc)
 unfolding read_all
 read_R semi n sc rc ph seen e = pick_true (may_end ph) _ _ e
 
 -- R from its beginning, behind a semicolon
 from_start : (n : ℕ) (sc rc : List (List ℕ)) {ps : List CyclePiece} → Begun true n (within_R n sc) (λ cs. dead) (law_R true n sc) ps rc []
-    → outcome (read_all true (begin_r true n sc) ps) ≡ some (read_as n sc rc)
+    → read_outcome (read_all true (begin_r true n sc) ps) ≡ Some (read_as n sc rc)
 from_start n sc rc (bracket ps' b ph seen s e) =
-    ap outcome
+    ap read_outcome
     (over_blanks true n (within_R n sc) (λ cs. dead) (law_R true n sc) start [] [] [] refl b
     ∙ moved true n (within_R n sc) (λ cs. dead) (law_R true n sc) start [] [] [] opening ps' _ refl
     ∙ e)
     ∙ read_R true n sc rc ph seen (settled_whole ph s)
 from_start n sc rc (nothing t e b) =
-    ap outcome (over_blanks true n (within_R n sc) (λ cs. dead) (law_R true n sc) start [] [] [] refl b)
+    ap read_outcome (over_blanks true n (within_R n sc) (λ cs. dead) (law_R true n sc) start [] [] [] refl b)
     ∙ read_R true n sc [] start [] refl
-    ∙ ap (λ (cs : List (List ℕ)). some (read_as n sc cs)) (sym e)
+    ∙ ap (λ (cs : List (List ℕ)). Some (read_as n sc cs)) (sym e)
 
 accepted_with : (n : ℕ) (sc rc : List (List ℕ)) {ps mid : List CyclePiece}
     → Begun true n (within_S n) (begin_r true n) (law_S true n) ps sc (semicolon ∷ mid)
     → Begun true n (within_R n sc) (λ cs. dead) (law_R true n sc) mid rc []
-    → outcome (read_all true (within_S n start [] [] []) ps) ≡ some (read_as n sc rc)
+    → read_outcome (read_all true (within_S n start [] [] []) ps) ≡ Some (read_as n sc rc)
 accepted_with n sc rc {mid = mid} (bracket ps' b ph seen s e) a =
-    ap outcome
+    ap read_outcome
     (over_blanks true n (within_S n) (begin_r true n) (law_S true n) start [] [] [] refl b
     ∙ moved true n (within_S n) (begin_r true n) (law_S true n) start [] [] [] opening ps' _ refl
     ∙ e
     ∙ moved true n (within_S n) (begin_r true n) (law_S true n) ph seen [] sc semicolon mid over (settled_semicolon n ph seen [] sc s))
     ∙ from_start n sc rc a
 accepted_with n sc rc {mid = mid} (nothing t e b) a =
-    ap outcome
+    ap read_outcome
     (over_blanks true n (within_S n) (begin_r true n) (law_S true n) start [] [] [] refl b
     ∙ moved true n (within_S n) (begin_r true n) (law_S true n) start [] [] [] semicolon mid over refl
     ∙ ap (λ (cs : List (List ℕ)). read_all true (begin_r true n cs) mid) (sym e))
@@ -113,9 +111,9 @@ accepted_with n sc rc {mid = mid} (nothing t e b) a =
 accepted_without : (n : ℕ) (sc rc : List (List ℕ)) {ps mid : List CyclePiece}
     → Begun false n (within_S n) (begin_r false n) (law_S false n) ps sc mid
     → Begun false n (within_R n sc) (λ cs. dead) (law_R false n sc) mid rc []
-    → outcome (read_all false (within_S n start [] [] []) ps) ≡ some (read_as n sc rc)
+    → read_outcome (read_all false (within_S n start [] [] []) ps) ≡ Some (read_as n sc rc)
 accepted_without n sc rc (bracket ps' b ph seen s e) (bracket qs' c ph' seen' s' e') =
-    ap outcome
+    ap read_outcome
     (over_blanks false n (within_S n) (begin_r false n) (law_S false n) start [] [] [] refl b
     ∙ moved false n (within_S n) (begin_r false n) (law_S false n) start [] [] [] opening ps' _ refl
     ∙ e
@@ -126,16 +124,16 @@ accepted_without n sc rc (bracket ps' b ph seen s e) (bracket qs' c ph' seen' s'
 accepted_without n sc rc (bracket ps' b ph seen s e) (nothing t e' c) = clash t refl
 accepted_without n sc rc (nothing t e b) a = clash t refl
 
-pub accepted : (ps : List CyclePiece) (n : ℕ) (sc rc : List (List ℕ)) (h : Right ps n sc rc) → outcome (read_all h.semi front ps) ≡ some (read_as n sc rc)
+pub accepted : (ps : List CyclePiece) (n : ℕ) (sc rc : List (List ℕ)) (h : Right ps n sc rc) → read_outcome (read_all h.semi front ps) ≡ Some (read_as n sc rc)
 accepted ps n sc rc h = go h.semi h.reading
   where
-    go : (semi : Bool) → Reading semi ps n sc rc → outcome (read_all semi front ps) ≡ some (read_as n sc rc)
+    go : (semi : Bool) → Reading semi ps n sc rc → read_outcome (read_all semi front ps) ≡ Some (read_as n sc rc)
     go true g =
-        ap outcome (over_front true n h.index g.n_is)
+        ap read_outcome (over_front true n h.index g.n_is)
         ∙ accepted_with n sc rc (written_begun true n (within_S n) (begin_r true n) (law_S true n) g.S_is h.points_S)
         (written_begun true n (within_R n sc) (λ cs. dead) (law_R true n sc) g.R_is h.points_R)
     go false g =
-        ap outcome (over_front false n h.index g.n_is)
+        ap read_outcome (over_front false n h.index g.n_is)
         ∙ accepted_without n sc rc (written_begun false n (within_S n) (begin_r false n) (law_S false n) g.S_is h.points_S)
         (written_begun false n (within_R n sc) (λ cs. dead) (law_R false n sc) g.R_is h.points_R)
 
@@ -146,9 +144,9 @@ pub record Fronted (semi : Bool) (ps : List CyclePiece) (r : Read) : Type 0 wher
   pub behind : List CyclePiece
   pub blanks : Blanks ps (number n ∷ behind)
   pub range : in_range n ≡ true
-  pub read : outcome (read_all semi (within_S n start [] [] []) behind) ≡ some r
+  pub read : read_outcome (read_all semi (within_S n start [] [] []) behind) ≡ Some r
 
-fronted : (semi : Bool) (r : Read) (ps : List CyclePiece) → outcome (read_all semi front ps) ≡ some r → Fronted semi ps r
+fronted : (semi : Bool) (r : Read) (ps : List CyclePiece) → read_outcome (read_all semi front ps) ≡ Some r → Fronted semi ps r
 unfolding read_all
 fronted semi r [] e = no_read e
 fronted semi r (number n ∷ ps) e = go (in_range n) refl
@@ -159,16 +157,16 @@ fronted semi r (number n ∷ ps) e = go (in_range n) refl
       behind = ps;
       blanks = here;
       range = f;
-      read = sym (ap (λ (q : State). outcome (read_all semi q ps)) (pick_true (in_range n) _ _ f)) ∙ e;
+      read = sym (ap (λ (q : State). read_outcome (read_all semi q ps)) (pick_true (in_range n) _ _ f)) ∙ e;
     }
-    go false f = no_read (sym (ap (λ (q : State). outcome (read_all semi q ps)) (pick_false (in_range n) _ _ f) ∙ ap outcome (run_dead semi ps)) ∙ e)
+    go false f = no_read (sym (ap (λ (q : State). read_outcome (read_all semi q ps)) (pick_false (in_range n) _ _ f) ∙ ap read_outcome (run_dead semi ps)) ∙ e)
 fronted semi r (blank ∷ ps) e = let f = fronted semi r ps e in
     record { n = f.n; behind = f.behind; blanks = past f.blanks; range = f.range; read = f.read }
-fronted semi r (opening ∷ ps) e = no_read (sym (ap outcome (run_dead semi ps)) ∙ e)
-fronted semi r (closing ∷ ps) e = no_read (sym (ap outcome (run_dead semi ps)) ∙ e)
-fronted semi r (comma ∷ ps) e = no_read (sym (ap outcome (run_dead semi ps)) ∙ e)
-fronted semi r (semicolon ∷ ps) e = no_read (sym (ap outcome (run_dead semi ps)) ∙ e)
-fronted semi r (another ∷ ps) e = no_read (sym (ap outcome (run_dead semi ps)) ∙ e)
+fronted semi r (opening ∷ ps) e = no_read (sym (ap read_outcome (run_dead semi ps)) ∙ e)
+fronted semi r (closing ∷ ps) e = no_read (sym (ap read_outcome (run_dead semi ps)) ∙ e)
+fronted semi r (comma ∷ ps) e = no_read (sym (ap read_outcome (run_dead semi ps)) ∙ e)
+fronted semi r (semicolon ∷ ps) e = no_read (sym (ap read_outcome (run_dead semi ps)) ∙ e)
+fronted semi r (another ∷ ps) e = no_read (sym (ap read_outcome (run_dead semi ps)) ∙ e)
 
 no_cycles : {ps rest : List CyclePiece} → Blanks ps rest → Cycles ps [] rest
 no_cycles here = end
@@ -184,7 +182,7 @@ enough false c cs h = rw (h refl)
 
 module _ (semi : Bool) (n : ℕ) (within : Phase → (seen cur : List ℕ) → (done : List (List ℕ)) → State) (then : List (List ℕ) → State)
     (law : Steps semi n within then) (r : Read) (Ends : List (List ℕ) → Type 0)
-    (ends : (ph : Phase) (seen cur : List ℕ) (done : List (List ℕ)) → outcome (within ph seen cur done) ≡ some r → (may_end ph ≡ true) × Ends done) where
+    (ends : (ph : Phase) (seen cur : List ℕ) (done : List (List ℕ)) → read_outcome (within ph seen cur done) ≡ Some r → (may_end ph ≡ true) × Ends done) where
   pub record Wrote (ps : List CyclePiece) : Type 0 where
     pub cs : List (List ℕ)
     pub rest : List CyclePiece
@@ -204,7 +202,7 @@ module _ (semi : Bool) (n : ℕ) (within : Phase → (seen cur : List ℕ) → (
     follow = t.follow;
   }
 
-  pub wrote_opened : (ps : List CyclePiece) → outcome (read_all semi (within opened [] [] []) ps) ≡ some r → Wrote (opening ∷ ps)
+  pub wrote_opened : (ps : List CyclePiece) → read_outcome (read_all semi (within opened [] [] []) ps) ≡ Some r → Wrote (opening ∷ ps)
   wrote_opened ps e = opened_wrote (opening ∷ ps) here (back semi n within then law r Ends ends ps opened [] [] [] e)
 
   -- from its beginning; nothing written needs a semicolon beside it
@@ -219,24 +217,24 @@ module _ (semi : Bool) (n : ℕ) (within : Phase → (seen cur : List ℕ) → (
       record { cs = []; rest = []; written = cycles {cs = []} (rw t tt) (no_cycles b); disjoint = all; follow = Back.ended e }
   start_wrote ps (inr h) (Back.nothing b e) = absurd (h [] e)
 
-  pub wrote_start : (ps : List CyclePiece) → (semi ≡ true) ⊎ ((cs : List (List ℕ)) → ¬ Ends cs) → outcome (read_all semi (within start [] [] []) ps) ≡ some r
+  pub wrote_start : (ps : List CyclePiece) → (semi ≡ true) ⊎ ((cs : List (List ℕ)) → ¬ Ends cs) → read_outcome (read_all semi (within start [] [] []) ps) ≡ Some r
       → Wrote ps
   wrote_start ps h e = start_wrote ps h (back semi n within then law r Ends ends ps start [] [] [] e)
 
 -- S is never the end of a text, and R ends with what is read
-no_end : (n : ℕ) (r : Read) (ph : Phase) (seen cur : List ℕ) (done : List (List ℕ)) → outcome (within_S n ph seen cur done) ≡ some r → (may_end ph ≡ true) × ⊥
+no_end : (n : ℕ) (r : Read) (ph : Phase) (seen cur : List ℕ) (done : List (List ℕ)) → read_outcome (within_S n ph seen cur done) ≡ Some r → (may_end ph ≡ true) × ⊥
 no_end n r ph seen cur done e = no_read e
 
-its_end : (n : ℕ) (sc : List (List ℕ)) (r : Read) (ph : Phase) (seen cur : List ℕ) (done : List (List ℕ)) → outcome (within_R n sc ph seen cur done) ≡ some r
+its_end : (n : ℕ) (sc : List (List ℕ)) (r : Read) (ph : Phase) (seen cur : List ℕ) (done : List (List ℕ)) → read_outcome (within_R n sc ph seen cur done) ≡ Some r
     → (may_end ph ≡ true) × (read_as n sc done ≡ r)
 its_end n sc r ph seen cur done e = go (may_end ph) refl
   where
     go : (b : Bool) → may_end ph ≡ b → (may_end ph ≡ true) × (read_as n sc done ≡ r)
-    go true f = (f, let q = sym (pick_true (may_end ph) (some (read_as n sc done)) none f) ∙ e in some_same q)
+    go true f = (f, let q = sym (pick_true (may_end ph) (Some (read_as n sc done)) None f) ∙ e in some_same q)
       where
-        some_same : {a b : Read} → some a ≡ some b → a ≡ b
+        some_same : {a b : Read} → Some a ≡ Some b → a ≡ b
         some_same q = cc
-    go false f = no_read (sym (pick_false (may_end ph) (some (read_as n sc done)) none f) ∙ e)
+    go false f = no_read (sym (pick_false (may_end ph) (Some (read_as n sc done)) None f) ∙ e)
 
 module _ (r : Read) where
   abbrev ReadR : (n : ℕ) (sc : List (List ℕ)) → List (List ℕ) → Type 0
@@ -262,7 +260,7 @@ module _ (r : Read) where
       go : (rest : List CyclePiece) → Back.Follow semi n (within_R n sc) (λ cs. dead) (law_R semi n sc) r (ReadR n sc) (its_end n sc r) w.cs rest
           → Written semi ps w.cs rest → WholeR semi n sc ps
       go [] (Back.ended e) g = record { rc = w.cs; written = g; disjoint = w.disjoint; is = e }
-      go (p ∷ mid) (Back.behind e) g = no_read (sym (ap outcome (run_dead semi mid)) ∙ e)
+      go (p ∷ mid) (Back.behind e) g = no_read (sym (ap read_outcome (run_dead semi mid)) ∙ e)
 
   assembled : (semi : Bool) {ps : List CyclePiece} (n : ℕ) (sc : List (List ℕ)) (behind mid : List CyclePiece) → Blanks ps (number n ∷ behind) → in_range n
       ≡ true
@@ -305,7 +303,7 @@ module _ (r : Read) where
           (wrote_opened false f.n (within_R f.n w.cs) (λ cs. dead) (law_R false f.n w.cs) r (ReadR f.n w.cs)
           (its_end f.n w.cs r) mid e))
 
-  pub right_of : (semi : Bool) (ps : List CyclePiece) → outcome (read_all semi front ps) ≡ some r → Right ps r.index r.of_s r.of_r
+  pub right_of : (semi : Bool) (ps : List CyclePiece) → read_outcome (read_all semi front ps) ≡ Some r → Right ps r.index r.of_s r.of_r
   unfolding WroteS
   right_of true ps e =
       let f = fronted true r ps e in

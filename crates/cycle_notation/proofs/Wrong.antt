@@ -1,19 +1,19 @@
 -- The place where both readers are lost is the one where the text leaves the form, and what is said of a text means what it should.
 -- Assumes nothing.
+use Rattle.std.specs.Prelude.{Option, None, Some}
 use mathlib.Core.Path.{◌≡◌, refl, sym, ap, subst, ◌∙◌}
 use mathlib.Core.Logic.{◌⊎◌, inl, inr}
 use mathlib.Core.Bool.{Bool, true, false, not, ◌&&◌}
 use mathlib.Core.List.{List, [], ◌∷◌, ◌++◌, append-nil, append_assoc}
-use mathlib.Core.Option.{Option, none, some}
 use Prim.Native.Nat.{ℕ}
 use lib.ListN.{length}
 use Rattle.basics.specs.Choice.{pick}
-use Rattle.basics.proofs.Choice.{pick_true, pick_false, and_left, and_right, either, clash}
+use Rattle.basics.proofs.Choice.{pick_true, pick_false, and_left, and_right, clash}
 use Rattle.cycle_notation.specs.Piece.{CyclePiece, number, blank, opening, closing, comma, semicolon, another, PlacedPiece, cycle_pieces, without_offsets}
 use Rattle.cycle_notation.specs.Form.{Blanks, here, past, in_range, Right, Completes}
 use Rattle.cycle_notation.specs.Place.{WrongAt, at_piece, stops_short}
-use Rattle.cycle_notation.specs.Verdict.{Read, Verdict, reads, index_out, leaves, IndexOut, VerdictMeans, right, no_index, wrong}
-use Rattle.cycle_notation.specs.Inner.Reader.{State, front, read_piece, read_all, outcome, is_dead, lost, bad_index, either_read, verdict_of}
+use Rattle.cycle_notation.specs.Verdict.{Read, index_out, IndexOut, VerdictMeans, right, no_index, wrong}
+use Rattle.cycle_notation.specs.Inner.Reader.{State, front, read_piece, read_all, read_outcome, is_dead, lost, bad_index, either_read, verdict_of}
 use Rattle.cycle_notation.proofs.Points.{no_read}
 use Rattle.cycle_notation.proofs.Whole.{accepted, right_of, read_as}
 use Rattle.cycle_notation.proofs.Alive.{run_append, alive_completes, completes_alive}
@@ -40,12 +40,12 @@ alive_then ps h = go (alive_either _ _ h)
     go (inr e) = alive_completes false ps e
 
 module _ (t : List ℕ)
-    (not_A : outcome (read_all true front (without_offsets (cycle_pieces t))) ≡ none)
-    (not_B : outcome (read_all false front (without_offsets (cycle_pieces t))) ≡ none) where
+    (not_A : read_outcome (read_all true front (without_offsets (cycle_pieces t))) ≡ None)
+    (not_B : read_outcome (read_all false front (without_offsets (cycle_pieces t))) ≡ None) where
   never_right : (n : ℕ) (sc rc : List (List ℕ)) → ¬ Right (without_offsets (cycle_pieces t)) n sc rc
   never_right n sc rc h = go h.semi (accepted (without_offsets (cycle_pieces t)) n sc rc h)
     where
-      go : (semi : Bool) → outcome (read_all semi front (without_offsets (cycle_pieces t))) ≡ some (read_as n sc rc) → ⊥
+      go : (semi : Bool) → read_outcome (read_all semi front (without_offsets (cycle_pieces t))) ≡ Some (read_as n sc rc) → ⊥
       go true e = no_read (sym not_A ∙ e)
       go false e = no_read (sym not_B ∙ e)
 
@@ -129,17 +129,17 @@ index_in ps e i = clash (bad_behind i.n i.behind i.out i.n_is) e
 
 pub verdict_means : (t : List ℕ) → VerdictMeans t (verdict_of t)
 unfolding verdict_of
-verdict_means t = go (bad_index (without_offsets (cycle_pieces t))) refl (outcome (read_all true front (without_offsets (cycle_pieces t)))) refl
-    (outcome (read_all false front (without_offsets (cycle_pieces t)))) refl
+verdict_means t = go (bad_index (without_offsets (cycle_pieces t))) refl (read_outcome (read_all true front (without_offsets (cycle_pieces t)))) refl
+    (read_outcome (read_all false front (without_offsets (cycle_pieces t)))) refl
   where
     place : ℕ
     place = lost front front (cycle_pieces t) (length t)
 
     go : (i : Bool) → bad_index (without_offsets (cycle_pieces t)) ≡ i
-        → (a : Option Read) → outcome (read_all true front (without_offsets (cycle_pieces t))) ≡ a → (b : Option Read)
-        → outcome (read_all false front (without_offsets (cycle_pieces t))) ≡ b
+        → (a : Option Read) → read_outcome (read_all true front (without_offsets (cycle_pieces t))) ≡ a → (b : Option Read)
+        → read_outcome (read_all false front (without_offsets (cycle_pieces t))) ≡ b
         → VerdictMeans t (pick i index_out (either_read a b (lost front front (cycle_pieces t) (length t))))
     go true e a ea b eb = no_index (index_out_is (without_offsets (cycle_pieces t)) e)
-    go false e (some r) ea b eb = right r (right_of r true (without_offsets (cycle_pieces t)) ea)
-    go false e none ea (some r) eb = right r (right_of r false (without_offsets (cycle_pieces t)) eb)
-    go false e none ea none eb = wrong (lost front front (cycle_pieces t) (length t)) (index_in (without_offsets (cycle_pieces t)) e) (wrong_at t ea eb)
+    go false e (Some r) ea b eb = right r (right_of r true (without_offsets (cycle_pieces t)) ea)
+    go false e None ea (Some r) eb = right r (right_of r false (without_offsets (cycle_pieces t)) eb)
+    go false e None ea None eb = wrong (lost front front (cycle_pieces t) (length t)) (index_in (without_offsets (cycle_pieces t)) e) (wrong_at t ea eb)

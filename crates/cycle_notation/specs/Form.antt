@@ -16,7 +16,7 @@
 --     Right ps n sc rc         the pieces ps are of the form, by one of the two readings, with such an index, and
 --                              disjoint cycles in S and in R
 --     Completes ps             some ending makes the pieces ps right
-use Rattle.std.specs.Prelude.{◌≡◌, ◌⊎◌, Bool, true, false, not, ◌&&◌, List, [], ◌∷◌, ◌++◌, ℕ, leb, length}
+use Rattle.std.specs.Prelude.{◌≡◌, Bool, true, false, not, ◌&&◌, List, [], ◌∷◌, ◌++◌, ℕ, leb, length}
 use Rattle.numbering.specs.Find.{is_in}
 use Rattle.cycle_notation.specs.Piece.{CyclePiece, number, blank, opening, closing, comma, semicolon}
 

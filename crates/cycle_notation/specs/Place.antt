@@ -5,7 +5,7 @@
 --     WrongAt t place  the text t leaves the form at this place
 -- A piece that begins the fault has one place only: what stands before it can still be completed, and with it no more.
 use Rattle.std.specs.Prelude.{◌≡◌, List, [], ◌∷◌, ◌++◌, ℕ, length}
-use Rattle.cycle_notation.specs.Piece.{CyclePiece, PlacedPiece, cycle_pieces, without_offsets}
+use Rattle.cycle_notation.specs.Piece.{PlacedPiece, cycle_pieces, without_offsets}
 use Rattle.cycle_notation.specs.Form.{Right, Completes}
 
 pub data WrongAt (t : List ℕ) : ℕ → Type 0 where

@@ -6,7 +6,7 @@
 --                      itself where no cycle has it
 --     tabled f n       f 0 to f (n - 1)
 --     cycle_table n cs  the table of the permutation of n points with the cycles cs
-use Rattle.std.specs.Prelude.{Bool, true, false, List, [], ◌∷◌, ◌++◌, ℕ, zero, suc, ◌-◌, eqb}
+use Rattle.std.specs.Prelude.{List, [], ◌∷◌, ◌++◌, ℕ, zero, suc, ◌-◌, eqb}
 use Rattle.basics.specs.Choice.{pick}
 use Rattle.numbering.specs.Find.{is_in}
 

@@ -6,7 +6,7 @@
 --     VerdictMeans t v  what the verdict v says of the text t: it is right with that reading; behind blanks or none it
 --                       begins with a number that is no index; or there is no such number, and it leaves the form at
 --                       that place
-use Rattle.std.specs.Prelude.{◌≡◌, true, false, List, [], ◌∷◌, ℕ}
+use Rattle.std.specs.Prelude.{◌≡◌, false, List, ◌∷◌, ℕ}
 use Rattle.cycle_notation.specs.Piece.{CyclePiece, number, cycle_pieces, without_offsets}
 use Rattle.cycle_notation.specs.Form.{Blanks, in_range, Right}
 use Rattle.cycle_notation.specs.Place.{WrongAt}

@@ -1,10 +1,10 @@
 -- One reader alone, through S and R, and the two together: the place where both are lost is the later of their two.
 -- Assumes nothing.
+use Rattle.std.specs.Prelude.{None, Some}
 use mathlib.Core.Path.{◌≡◌, refl, sym, ap, subst, ◌∙◌}
-use mathlib.Core.Bool.{Bool, true, false, not, ◌&&◌}
-use mathlib.Core.List.{List, [], ◌∷◌, ◌++◌}
-use mathlib.Core.Option.{Option, none, some}
-use Prim.Native.Nat.{ℕ, ◌+◌, ◌≤◌, ◌<◌}
+use mathlib.Core.Bool.{Bool, true, false, ◌&&◌}
+use mathlib.Core.List.{List, [], ◌∷◌}
+use Prim.Native.Nat.{ℕ, ◌+◌, ◌≤◌}
 use native.Mathlib.Omega.{arith}
 use native.Mathlib.Decide.{dec_lt}
 use lib.Dec.{ltb}
@@ -13,24 +13,25 @@ use borrow.Author.Tests.{lt-ltb, le-ltb}
 use Rattle.basics.specs.Choice.{pick}
 use Rattle.basics.proofs.Choice.{pick_true, pick_false}
 use Rattle.cycle_notation.specs.Piece.{PlacedPiece, without_offsets}
-use Rattle.cycle_notation.specs.Inner.Reader.{Phase, start, opened, State, within_S, within_R, dead, begin_r, read_piece, read_all, outcome, is_dead, may_end, lost}
+use Rattle.cycle_notation.specs.Inner.Reader.{Phase, start, opened, State, within_S, within_R, dead, begin_r, read_piece, read_all, read_outcome, is_dead, may_end, lost}
 use Rattle.cycle_notation.proofs.Whole.{law_S, law_R, read_as}
 use Rattle.cycle_notation.proofs.Back.{run_dead}
 use Rattle.cycle_notation.proofs.Alive.{dead_is}
+use Rattle.cycle_reading.specs.Inner.Phases.{first_of_r}
 use Rattle.cycle_reading.specs.Inner.Hand.{pieces_left}
-use Rattle.cycle_reading.specs.Inner.PartRun.{PartOut, part_run, begin_at}
+use Rattle.cycle_reading.specs.Inner.PartRun.{PartOut, part_run, phase_of}
 use Rattle.cycle_reading.specs.Inner.Alone.{Alone, fails, through, alone_behind_r, alone_behind_s, alone_of, died}
 use Rattle.cycle_reading.proofs.Through.{Next, next_of, Says, says_lost, says_passed, says_ended, says}
 
 -- ---- one reader
 
-begin_same : (semi : Bool) → pick semi start opened ≡ begin_at (not semi)
+begin_same : (semi : Bool) → pick semi start opened ≡ phase_of (first_of_r semi)
 begin_same true = refl
 begin_same false = refl
 
 pub data AloneSays (semi : Bool) (n : ℕ) (len : ℕ) (q : State) (ps : List PlacedPiece) : Alone → Type 0 where
-  it_fails : {at : ℕ} → outcome (read_all semi q (without_offsets ps)) ≡ none → died semi q ps len ≡ at → AloneSays semi n len q ps (fails at)
-  it_reads : {sc rc : List (List ℕ)} → outcome (read_all semi q (without_offsets ps)) ≡ some (read_as n sc rc) → AloneSays semi n len q ps (through sc rc)
+  it_fails : {at : ℕ} → read_outcome (read_all semi q (without_offsets ps)) ≡ None → died semi q ps len ≡ at → AloneSays semi n len q ps (fails at)
+  it_reads : {sc rc : List (List ℕ)} → read_outcome (read_all semi q (without_offsets ps)) ≡ Some (read_as n sc rc) → AloneSays semi n len q ps (through sc rc)
 
 module _ (semi : Bool) (n : ℕ) (t : List ℕ) where
   live_S : (ph : Phase) (seen cur : List ℕ) (done : List (List ℕ)) → is_dead (within_S n ph seen cur done) ≡ false
@@ -48,12 +49,12 @@ module _ (semi : Bool) (n : ℕ) (t : List ℕ) where
   from_R : (sc : List (List ℕ)) (q : State) (ps : List PlacedPiece) (out : PartOut) → SaysR sc q ps out
       → AloneSays semi n (length t) q ps (alone_behind_r (length t) sc out)
   unfolding SaysR
-  from_R sc q ps out (says_lost r d) = it_fails (ap outcome r) d
-  from_R sc q ps out (says_passed {at} r d) = it_fails (ap outcome (r ∙ run_dead semi (without_offsets (pieces_left t (at + 1))))) d
+  from_R sc q ps out (says_lost r d) = it_fails (ap read_outcome r) d
+  from_R sc q ps out (says_passed {at} r d) = it_fails (ap read_outcome (r ∙ run_dead semi (without_offsets (pieces_left t (at + 1))))) d
   from_R sc q ps out (says_ended {b} {done} ph seen cur r w d) = go b w
     where
-      out_is : outcome (read_all semi q (without_offsets ps)) ≡ pick (may_end ph) (some (read_as n sc done)) none
-      out_is = ap outcome r
+      out_is : read_outcome (read_all semi q (without_offsets ps)) ≡ pick (may_end ph) (Some (read_as n sc done)) None
+      out_is = ap read_outcome r
 
       go : (b : Bool) → may_end ph ≡ b → AloneSays semi n (length t) q ps (pick b (through sc done) (fails (length t)))
       go true w = it_reads (out_is ∙ pick_true (may_end ph) _ _ w)
@@ -61,19 +62,19 @@ module _ (semi : Bool) (n : ℕ) (t : List ℕ) where
 
   from_S : (q : State) (ps : List PlacedPiece) (out : PartOut) → SaysS q ps out → AloneSays semi n (length t) q ps (alone_behind_s semi n t out)
   unfolding SaysS SaysR
-  from_S q ps out (says_lost r d) = it_fails (ap outcome r) d
-  from_S q ps out (says_ended ph seen cur r w d) = it_fails (ap outcome r) d
+  from_S q ps out (says_lost r d) = it_fails (ap read_outcome r) d
+  from_S q ps out (says_ended ph seen cur r w d) = it_fails (ap read_outcome r) d
   from_S q ps out (says_passed {at} {done = sc} r d) =
-      carried (alone_behind_r (length t) sc (part_run semi n (begin_at (not semi)) [] [] [] (pieces_left t (at + 1))))
+      carried (alone_behind_r (length t) sc (part_run semi n (phase_of (first_of_r semi)) [] [] [] (pieces_left t (at + 1))))
       (subst (λ (ph : Phase). AloneSays semi n (length t) (within_R n sc ph [] [] []) (pieces_left t (at + 1))
-      (alone_behind_r (length t) sc (part_run semi n (begin_at (not semi)) [] [] [] (pieces_left t (at + 1))))) (sym (begin_same semi))
-      (from_R sc (within_R n sc (begin_at (not semi)) [] [] []) (pieces_left t (at + 1)) (part_run semi n (begin_at (not semi)) [] [] [] (pieces_left t (at + 1)))
+      (alone_behind_r (length t) sc (part_run semi n (phase_of (first_of_r semi)) [] [] [] (pieces_left t (at + 1))))) (sym (begin_same semi))
+      (from_R sc (within_R n sc (phase_of (first_of_r semi)) [] [] []) (pieces_left t (at + 1)) (part_run semi n (phase_of (first_of_r semi)) [] [] [] (pieces_left t (at + 1)))
       (says semi n (within_R n sc) (λ cs. dead) (law_R semi n sc) (live_R sc) t (length t) (pieces_left t (at + 1)) (at + 1) refl
-      (begin_at (not semi)) [] [] [])))
+      (phase_of (first_of_r semi)) [] [] [])))
     where
       carried : (x : Alone) → AloneSays semi n (length t) (begin_r semi n sc) (pieces_left t (at + 1)) x → AloneSays semi n (length t) q ps x
-      carried x (it_fails o e) = it_fails (ap outcome r ∙ o) (d ∙ e)
-      carried x (it_reads o) = it_reads (ap outcome r ∙ o)
+      carried x (it_fails o e) = it_fails (ap read_outcome r ∙ o) (d ∙ e)
+      carried x (it_reads o) = it_reads (ap read_outcome r ∙ o)
 
   pub alone_says : (from : ℕ) → AloneSays semi n (length t) (within_S n start [] [] []) (pieces_left t from) (alone_of semi n t from)
   unfolding SaysS

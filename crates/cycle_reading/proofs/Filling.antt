@@ -1,60 +1,38 @@
 -- The tables that were read, checked and put into the result spaces.
---     copied_more, copied_all             a table copied entry by entry
 --     table_steps, given_run, read_run    the steps of `give` and `read_cycles`, by what stands in the result spaces before and after
---     given_refused .. given_both         the steps of `give`, run
---     reads_in, front_long, reads_even    a text that was read has an index up to 3,066, and tables of one length
---     cycles_left, cycles_out             the steps of `read_cycles`, run, where the text is not right
+--     reads_in, front_long                a text that was read has an index up to 3,066, and tables long enough
 -- Assumes nothing.
+use Rattle.std.specs.Prelude.{Ok, Err}
 use mathlib.Core.Path.{◌≡◌, refl, sym, ap, subst, ◌∙◌}
-use mathlib.Core.Bool.{Bool, true, false, ◌&&◌}
-use mathlib.Core.List.{List, [], ◌∷◌, ◌++◌, append_assoc}
-use Prim.Native.Nat.{ℕ, suc, ◌+◌, ◌≤◌, ◌<◌}
+use mathlib.Core.Bool.{Bool, true, false}
+use mathlib.Core.List.{List, [], ◌∷◌}
+use Prim.Native.Nat.{ℕ, ◌≤◌}
 use native.Mathlib.Omega.{arith}
-use native.Mathlib.Numerals.{add-one}
 use lib.Dec.{leb, ltb}
-use lib.ListN.{length, get_or, take, drop, set}
-use lib.Seq.{take-suc, drop-cons, set_at, length-take-le, take_all}
+use lib.ListN.{length, take}
+use lib.Seq.{length-take-le}
 use borrow.Author.Tests.{leb-true}
 use Rattle.basics.specs.Count.{first}
 use Rattle.basics.proofs.Choice.{and_left, and_right}
-use Rattle.call.specs.Refusal.{◌or_else◌, too_short, point_count, bad_cycles, table_entry, wrong_order, unreached}
+use Rattle.call.specs.Refusal.{◌or_else◌, refusal_number, Checked, Filled}
+use Rattle.call.specs.declared.refusal.Refusal.TheVariants.{TableEntry, WrongOrder, Unreached}
 use Rattle.call.specs.declared.refusal.Refusal.{Refusal}
-use Rattle.call.specs.declared.refusal.Checked.{Checked}
-use Rattle.call.specs.declared.refusal.Checked.TheVariants as checked
-use Rattle.call.specs.declared.refusal.Filled.{Filled}
-use Rattle.call.specs.declared.refusal.Filled.TheVariants as filled
 use Rattle.call.specs.Call.{Step, Asks, Gives, length_check, at_front}
-use Rattle.call.specs.Inner.Fills.{Fills, made_if}
-use Rattle.call.proofs.Laws.{run_end, run_stop, run_pass, run_write, run_hold, short_write, fills_as}
 use Rattle.symbol.specs.Check.{refuse}
 use Rattle.permutations.specs.Check.{bad_entry, check13, check14, check15, twice_moved, thrice_moved, not_reached, pair_check}
 use Rattle.permutations.proofs.Answering.{count_passed}
 use Rattle.cycle_notation.specs.Form.{in_range}
-use Rattle.cycle_notation.specs.Verdict.{Read, Verdict, reads, index_out, leaves, VerdictMeans, right, no_index, wrong}
+use Rattle.cycle_notation.specs.Verdict.{Read, Verdict, reads, VerdictMeans, right, no_index, wrong}
 use Rattle.cycle_notation.specs.Inner.Reader.{verdict_of}
 use Rattle.cycle_notation.specs.Inner.Stores.{identity}
 use Rattle.cycle_notation.proofs.Wrong.{verdict_means}
 use Rattle.cycle_notation.proofs.Stores.{length_stored, length_tabled}
-use Rattle.cycle_reading.specs.declared.Judged.{Judged}
-use Rattle.cycle_reading.specs.declared.Judged.TheVariants as judged
-use Rattle.cycle_reading.specs.Reading.{check_by, cycles_check, read_s, read_r, RightAs}
+use Rattle.cycle_reading.specs.Reading.{cycles_check, read_s, read_r, RightAs}
 use Rattle.cycle_reading.specs.Inner.PartRun.{made}
-use Rattle.cycle_reading.specs.Inner.Front.{judged_by, VerdictRead}
+use Rattle.cycle_reading.specs.Inner.Front.{VerdictRead}
 
 clash : {X : Type 0} → ◌≡◌ {A = ℕ} 0 1 → X
 clash e = absurd (omega arith)
-
--- ---- a table copied
-
-pub copied_more : (t out : List ℕ) (j : ℕ) → j < length t → j < length out → set (take j t ++ drop j out) j (get_or t j 0) ≡ take (j + 1) t ++ drop (j + 1) out
-copied_more t out j h k =
-    rw (add-one, take-suc t j 0 h, drop-cons out j 0 k, set_at (take j t) (get_or out j 0) (drop (suc j) out) (get_or t j 0) j (length-take-le j t (omega arith)))
-    (sym (append_assoc (take j t) (get_or t j 0 ∷ []) (drop (suc j) out)))
-
-pub copied_all : (t out out' : List ℕ) (j : ℕ) → length t ≤ j → j ≤ length t → out' ≡ take j t ++ drop j out → out' ≡ t ++ drop (length t) out
-copied_all t out out' j h k e =
-    let z : j ≡ length t = omega arith in
-    e ∙ ap (λ (n : ℕ). take n t ++ drop n out) z ∙ ap (λ (l : List ℕ). l ++ drop (length t) out) (take_all (length t) t (omega arith))
 
 -- ---- tables given
 
@@ -65,54 +43,29 @@ table_steps a b s r s' r' =
 abbrev pub given_run : (a b s r s' r' : List ℕ) → List Step
 given_run a b s r s' r' = Asks (pair_check a b) ∷ table_steps a b s r s' r'
 
-module _ (a b s r : List ℕ) where
-  abbrev second : List ℕ → List Step
-  second r' = Asks (length_check (length b) (length r)) ∷ Gives (at_front b r) r r' ∷ []
-
-  pub given_refused : (f : Refusal) → pair_check a b ≡ checked.Refused f → Fills (given_run a b s r s r) (made_if (length a)) (filled.Refused f)
-  given_refused f e = fills_as (run_stop f (pair_check a b) (table_steps a b s r s r) e (refl, (refl, tt))) refl
-
-  module _ (e : pair_check a b ≡ checked.Accepted) where
-    pub given_short_S : length s < length a → Fills (given_run a b s r s r) (made_if (length a)) (filled.Refused (too_short (length a)))
-    given_short_S h =
-        fills_as (run_pass (pair_check a b) (table_steps a b s r s r) e (short_write a s (length a) refl (second r) h (refl, tt))) refl
-
-    module _ (even : length b ≡ length a) (h : length a ≤ length s) where
-      pub given_short_R : length r < length a → Fills (given_run a b s r s r) (made_if (length a)) (filled.Refused (too_short (length a)))
-      given_short_R k =
-          fills_as (run_pass (pair_check a b) (table_steps a b s r s r) e
-          (run_hold a s (length a) refl (second r) (too_short (length a)) h (short_write b r (length a) even [] k tt))) refl
-
-      pub given_both : length a ≤ length r → (s' r' : List ℕ) → s' ≡ a ++ drop (length a) s → r' ≡ b ++ drop (length b) r
-          → Fills (given_run a b s r s' r') (made_if (length a)) (filled.Made (length a))
-      given_both k s' r' es er =
-          fills_as (run_pass (pair_check a b) (table_steps a b s r s' r') e
-          (run_write a s (length a) refl (second r') s' h es
-          (run_write b r (length a) even [] r' k (er ∙ ap (λ (n : ℕ). b ++ drop n r) even) run_end))) refl
-
 -- ---- the fault of a pair of tables of one length in range is one of 13 to 15
 
 abbrev pub FaultNumber : Checked → Type 0
-FaultNumber (checked.Refused f) = (13 ≤ f.number) × (f.number ≤ 15)
-FaultNumber checked.Accepted = Unit {0}
+FaultNumber (Err f) = (13 ≤ refusal_number f) × (refusal_number f ≤ 15)
+FaultNumber (Ok tt) = Unit {0}
 
-fault_at : (b : Bool) (f : Refusal) → (13 ≤ f.number) × (f.number ≤ 15) → FaultNumber (refuse b f)
+fault_at : (b : Bool) (f : Refusal) → (13 ≤ refusal_number f) × (refusal_number f ≤ 15) → FaultNumber (refuse b f)
 fault_at true f h = h
 fault_at false f h = tt
 
 module _ (t : List ℕ) where
   fault_13 : FaultNumber (check13 t)
-  fault_13 = fault_at (ltb (first (bad_entry t) (length t)) (length t)) (table_entry (first (bad_entry t) (length t))) (omega arith, omega arith)
+  fault_13 = fault_at (ltb (first (bad_entry t) (length t)) (length t)) (TableEntry (first (bad_entry t) (length t))) (omega arith, omega arith)
 
   fault_14 : (moved : List ℕ → ℕ → Bool) → FaultNumber (check14 moved t)
-  fault_14 moved = fault_at (ltb (first (moved t) (length t)) (length t)) (wrong_order (first (moved t) (length t))) (omega arith, omega arith)
+  fault_14 moved = fault_at (ltb (first (moved t) (length t)) (length t)) (WrongOrder (first (moved t) (length t))) (omega arith, omega arith)
 
 fault_15 : (s r : List ℕ) → FaultNumber (check15 s r)
-fault_15 s r = fault_at (ltb (first (not_reached s r) (length s)) (length s)) (unreached (first (not_reached s r) (length s))) (omega arith, omega arith)
+fault_15 s r = fault_at (ltb (first (not_reached s r) (length s)) (length s)) (Unreached (first (not_reached s r) (length s))) (omega arith, omega arith)
 
 fault_else : (c d : Checked) → FaultNumber c → FaultNumber d → FaultNumber (c or_else d)
-fault_else (checked.Refused f) d h k = h
-fault_else checked.Accepted d h k = k
+fault_else (Err f) d h k = h
+fault_else (Ok tt) d h k = k
 
 pub pair_fault : (s r : List ℕ) → 1 ≤ length s → length s ≤ 3066 → length r ≡ length s → FaultNumber (pair_check s r)
 pair_fault s r a b e =
@@ -134,13 +87,10 @@ length_made : (cs : List (List ℕ)) → length (made cs) ≡ 3066
 unfolding identity
 length_made cs = length_stored cs (identity 3066) ∙ length_tabled (λ (i : ℕ). i) 3066
 
-reads_same : {a b : ℕ} → judged.Reads a ≡ judged.Reads b → a ≡ b
+reads_same : {a b : ℕ} → ◌≡◌ {A = Filled} (Ok a) (Ok b) → a ≡ b
 reads_same e = cc
 
-leaves_same : {a b : ℕ} → judged.Leaves a ≡ judged.Leaves b → a ≡ b
-leaves_same e = cc
-
-module _ (t : List ℕ) (A B : List ℕ) (o : Judged) (read : VerdictRead (verdict_of t) o A B) where
+module _ (t : List ℕ) (A B : List ℕ) (o : Filled) (read : VerdictRead (verdict_of t) o A B) where
   -- what was read of a text that is right
   pub record ReadAs (n : ℕ) : Type 0 where
     pub q : Read
@@ -150,7 +100,7 @@ module _ (t : List ℕ) (A B : List ℕ) (o : Judged) (read : VerdictRead (verdi
     pub S_is : A ≡ made q.of_s
     pub R_is : B ≡ made q.of_r
 
-  pub read_as_lem : (n : ℕ) → o ≡ judged.Reads n → ReadAs n
+  pub read_as_lem : (n : ℕ) → o ≡ Ok n → ReadAs n
   read_as_lem n e = go (verdict_of t) refl (verdict_means t) read
     where
       go : (v : Verdict) → verdict_of t ≡ v → VerdictMeans t v → VerdictRead v o A B → ReadAs n
@@ -165,40 +115,14 @@ module _ (t : List ℕ) (A B : List ℕ) (o : Judged) (read : VerdictRead (verdi
       go v w (no_index i) k = let z = sym e ∙ k.returned in clash (cc)
       go v w (wrong p i u) k = let z = sym e ∙ k.returned in clash (cc)
 
-  reads_low : (n : ℕ) → o ≡ judged.Reads n → n ≤ 3066
+  reads_low : (n : ℕ) → o ≡ Ok n → n ≤ 3066
   reads_low n e = let x = read_as_lem n e in let h = range_of x.q.index x.is_right.index in omega (arith, x.index, h.1)
 
-  reads_long : (n : ℕ) → o ≡ judged.Reads n → (length A ≡ 3066) × (length B ≡ 3066)
+  reads_long : (n : ℕ) → o ≡ Ok n → (length A ≡ 3066) × (length B ≡ 3066)
   reads_long n e = let x = read_as_lem n e in (ap length x.S_is ∙ length_made x.q.of_s, ap length x.R_is ∙ length_made x.q.of_r)
 
-  pub reads_in : (n : ℕ) → o ≡ judged.Reads n → (n ≤ length A) × (n ≤ length B)
+  pub reads_in : (n : ℕ) → o ≡ Ok n → (n ≤ length A) × (n ≤ length B)
   reads_in n e = let l = reads_long n e in let h = reads_low n e in (omega (arith, l.0), omega (arith, l.1))
 
-  pub front_long : (n : ℕ) → o ≡ judged.Reads n → (n ≡ length (take n A)) × (n ≡ length (take n B))
+  pub front_long : (n : ℕ) → o ≡ Ok n → (n ≡ length (take n A)) × (n ≡ length (take n B))
   front_long n e = let h = reads_in n e in (sym (length-take-le n A h.0), sym (length-take-le n B h.1))
-
-  pub reads_even : (n : ℕ) → o ≡ judged.Reads n → length (take n B) ≡ length (take n A)
-  reads_even n e = let h = front_long n e in sym h.1 ∙ h.0
-
-  module _ (s r : List ℕ) where
-    pub cycles_left : (place : ℕ) → o ≡ judged.Leaves place → Fills (read_run t s r s r) (made_if (length (read_s t))) (filled.Refused (bad_cycles place))
-    cycles_left place e = go (verdict_of t) refl (verdict_means t) read
-      where
-        go : (v : Verdict) → verdict_of t ≡ v → VerdictMeans t v → VerdictRead v o A B
-            → Fills (read_run t s r s r) (made_if (length (read_s t))) (filled.Refused (bad_cycles place))
-        go v w (right q h) k = let z = sym e ∙ k.returned in clash (cc)
-        go v w (no_index i) k = let z = sym e ∙ k.returned in clash (cc)
-        go v w (wrong p i u) k =
-            let z : place ≡ p = leaves_same (sym e ∙ k.returned) in
-            fills_as (run_stop (bad_cycles place) (cycles_check t) (table_steps (read_s t) (read_r t) s r s r)
-            (ap check_by w ∙ ap (λ (x : ℕ). checked.Refused (bad_cycles x)) (sym z)) (refl, (refl, tt))) refl
-
-    pub cycles_out : o ≡ judged.IndexOut → Fills (read_run t s r s r) (made_if (length (read_s t))) (filled.Refused point_count)
-    cycles_out e = go (verdict_of t) refl (verdict_means t) read
-      where
-        go : (v : Verdict) → verdict_of t ≡ v → VerdictMeans t v → VerdictRead v o A B
-            → Fills (read_run t s r s r) (made_if (length (read_s t))) (filled.Refused point_count)
-        go v w (right q h) k = let z = sym e ∙ k.returned in clash (cc)
-        go v w (wrong p i u) k = let z = sym e ∙ k.returned in clash (cc)
-        go v w (no_index i) k =
-            fills_as (run_stop point_count (cycles_check t) (table_steps (read_s t) (read_r t) s r s r) (ap check_by w) (refl, (refl, tt))) refl

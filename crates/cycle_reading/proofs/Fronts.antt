@@ -1,27 +1,23 @@
 -- Blanks at the front, and the verdict by the two readers behind the index.
 -- Assumes nothing.
-use mathlib.Core.Path.{◌≡◌, refl, sym, ap, subst, ◌∙◌}
+use Rattle.std.specs.Prelude.{Option, None}
+use mathlib.Core.Path.{◌≡◌, refl, ap, ◌∙◌}
 use mathlib.Core.Bool.{Bool, true, false, not}
 use mathlib.Core.List.{List, [], ◌∷◌}
-use mathlib.Core.Option.{Option, none, some}
-use Prim.Native.Nat.{ℕ, ◌+◌, ◌≤◌, ◌<◌}
+use Prim.Native.Nat.{ℕ, ◌+◌, ◌<◌}
 use native.Mathlib.Omega.{arith}
-use lib.ListN.{length, get_or, drop}
+use lib.ListN.{length, get_or}
 use Rattle.basics.specs.Choice.{pick}
 use Rattle.basics.proofs.Choice.{pick_true, pick_false}
-use Rattle.cycle_notation.specs.Piece.{CyclePiece, number, blank, mark, PlacedPiece, digit_byte, run_value, cycle_pieces, without_offsets}
+use Rattle.cycle_notation.specs.Piece.{number, blank, mark, PlacedPiece, digit_byte, cycle_pieces, without_offsets}
 use Rattle.cycle_notation.specs.Form.{in_range}
-use Rattle.cycle_notation.specs.Verdict.{Read, Verdict}
-use Rattle.cycle_notation.specs.Inner.Reader.{start, State, front, within_S, dead, read_piece, read_all, outcome, is_dead, lost, bad_index, either_read, verdict_of}
-use Rattle.cycle_notation.proofs.Whole.{read_as}
-use Rattle.cycle_reading.specs.Inner.Hand.{pieces_left, digit_run}
-use Rattle.cycle_reading.specs.Inner.Alone.{Alone, fails, through, alone_of, died}
-use Rattle.cycle_reading.specs.Inner.Front.{FrontSame, either_alone}
-use Rattle.cycle_reading.proofs.Left.{number_left, mark_left}
+use Rattle.cycle_notation.specs.Verdict.{Read}
+use Rattle.cycle_notation.specs.Inner.Reader.{start, State, front, within_S, dead, read_all, read_outcome, is_dead, bad_index, either_read, verdict_of}
+use Rattle.cycle_reading.specs.Inner.Hand.{pieces_left}
+use Rattle.cycle_reading.specs.Inner.Alone.{Alone, fails, through, alone_of, either, died}
+use Rattle.cycle_reading.specs.Inner.Front.{FrontSame, verdict_behind}
+use Rattle.cycle_reading.proofs.Left.{mark_left}
 use Rattle.cycle_reading.proofs.Both.{AloneSays, it_fails, it_reads, alone_says, lost_later, later}
-
-pub front_none : (t : List ℕ) → FrontSame t 0
-front_none t = record { runs = λ semi. refl; dies = λ semi len. refl; bad = refl }
 
 pub front_more : (t : List ℕ) (at : ℕ) → FrontSame t at → at < length t → get_or t at 0 ≡ 32 → FrontSame t (at + 1)
 unfolding read_all without_offsets died bad_index
@@ -56,33 +52,33 @@ module _ (t : List ℕ) (at to n : ℕ) (f : FrontSame t at) (here : pieces_left
   unfolding without_offsets bad_index
   behind_good = f.bad ∙ ap (λ (ps : List PlacedPiece). bad_index (without_offsets ps)) here ∙ ap not i
 
-  pub verdict_alone : verdict_of t ≡ either_alone n (alone_of true n t to) (alone_of false n t to)
+  pub verdict_alone : verdict_of t ≡ verdict_behind n (either (alone_of true n t to) (alone_of false n t to))
   unfolding verdict_of cycle_pieces pieces_left
   verdict_alone =
       pick_false (bad_index (without_offsets (pieces_left t 0))) _ _ behind_good
-      ∙ ap (either_read (outcome (read_all true front (without_offsets (pieces_left t 0)))) (outcome (read_all false front (without_offsets (pieces_left t 0)))))
+      ∙ ap (either_read (read_outcome (read_all true front (without_offsets (pieces_left t 0)))) (read_outcome (read_all false front (without_offsets (pieces_left t 0)))))
       (lost_later t (pieces_left t 0) 0 front front refl (omega arith))
       ∙ go (alone_of true n t to) (alone_says true n t to) (alone_of false n t to) (alone_says false n t to)
     where
       go : (a : Alone) → AloneSays true n (length t) (within_S n start [] [] []) (pieces_left t to) a
           → (b : Alone) → AloneSays false n (length t) (within_S n start [] [] []) (pieces_left t to) b
-          → either_read (outcome (read_all true front (without_offsets (pieces_left t 0)))) (outcome (read_all false front (without_offsets (pieces_left t 0))))
-          (later (died true front (pieces_left t 0) (length t)) (died false front (pieces_left t 0) (length t))) ≡ either_alone n a b
+          → either_read (read_outcome (read_all true front (without_offsets (pieces_left t 0)))) (read_outcome (read_all false front (without_offsets (pieces_left t 0))))
+          (later (died true front (pieces_left t 0) (length t)) (died false front (pieces_left t 0) (length t))) ≡ verdict_behind n (either a b)
       go (through sc rc) (it_reads o) b s =
-          ap (λ (x : Option Read). either_read x (outcome (read_all false front (without_offsets (pieces_left t 0))))
+          ap (λ (x : Option Read). either_read x (read_outcome (read_all false front (without_offsets (pieces_left t 0))))
           (later (died true front (pieces_left t 0) (length t)) (died false front (pieces_left t 0) (length t))))
-          (ap outcome (behind_run_lem true) ∙ o)
+          (ap read_outcome (behind_run_lem true) ∙ o)
       go (fails x) (it_fails o d) (through sc rc) (it_reads q) =
-          ap (λ (y : Option Read). either_read y (outcome (read_all false front (without_offsets (pieces_left t 0))))
+          ap (λ (y : Option Read). either_read y (read_outcome (read_all false front (without_offsets (pieces_left t 0))))
           (later (died true front (pieces_left t 0) (length t)) (died false front (pieces_left t 0) (length t))))
-          (ap outcome (behind_run_lem true) ∙ o)
-          ∙ ap (λ (y : Option Read). either_read none y (later (died true front (pieces_left t 0) (length t)) (died false front (pieces_left t 0) (length t))))
-          (ap outcome (behind_run_lem false) ∙ q)
+          (ap read_outcome (behind_run_lem true) ∙ o)
+          ∙ ap (λ (y : Option Read). either_read None y (later (died true front (pieces_left t 0) (length t)) (died false front (pieces_left t 0) (length t))))
+          (ap read_outcome (behind_run_lem false) ∙ q)
       go (fails x) (it_fails o d) (fails y) (it_fails p e) =
-          ap (λ (z : Option Read). either_read z (outcome (read_all false front (without_offsets (pieces_left t 0))))
+          ap (λ (z : Option Read). either_read z (read_outcome (read_all false front (without_offsets (pieces_left t 0))))
           (later (died true front (pieces_left t 0) (length t)) (died false front (pieces_left t 0) (length t))))
-          (ap outcome (behind_run_lem true) ∙ o)
-          ∙ ap (λ (z : Option Read). either_read none z (later (died true front (pieces_left t 0) (length t)) (died false front (pieces_left t 0) (length t))))
-          (ap outcome (behind_run_lem false) ∙ p)
-          ∙ ap (λ (k : ℕ). either_read none none (later k (died false front (pieces_left t 0) (length t)))) (behind_died true (length t) ∙ d)
-          ∙ ap (λ (k : ℕ). either_read none none (later x k)) (behind_died false (length t) ∙ e)
+          (ap read_outcome (behind_run_lem true) ∙ o)
+          ∙ ap (λ (z : Option Read). either_read None z (later (died true front (pieces_left t 0) (length t)) (died false front (pieces_left t 0) (length t))))
+          (ap read_outcome (behind_run_lem false) ∙ p)
+          ∙ ap (λ (k : ℕ). either_read None None (later k (died false front (pieces_left t 0) (length t)))) (behind_died true (length t) ∙ d)
+          ∙ ap (λ (k : ℕ). either_read None None (later x k)) (behind_died false (length t) ∙ e)

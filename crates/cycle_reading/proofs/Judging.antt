@@ -1,6 +1,5 @@
 -- What the code says of a whole text: by its two readers behind the index, or by what stands where the index should be.
---     other-through, other-later, other-first    the reader without a semicolon to come, behind the other's failure
---     both-through, both-other                   the two readers, one after the other
+--     behind-through, behind-lost                what is said of the text by its two readers
 --     index-low, index-high, index-between       a number of any length by its value up to 3,067
 --     verdict-out, verdict-end, verdict-mark     no index: a number out of range, the text's end, another piece
 --     out-low, out-high, index-here              the number that the code reads at the front
@@ -8,29 +7,26 @@
 use mathlib.Core.Path.{◌≡◌, refl, sym, ap, subst, ◌∙◌}
 use mathlib.Core.Bool.{Bool, true, false, not, ◌&&◌}
 use mathlib.Core.List.{List, [], ◌∷◌}
-use mathlib.Core.Option.{Option, none, some}
 use Prim.Native.Nat.{ℕ, ◌+◌, ◌≤◌, ◌<◌, min}
 use native.Mathlib.Omega.{arith}
-use native.Mathlib.Decide.{dec_lt}
-use lib.Dec.{eqb, leb, ltb}
+use lib.Dec.{eqb, leb}
 use lib.ListN.{length, get_or, drop}
-use borrow.Author.Tests.{lt-ltb, le-ltb, lt-leb, le-leb, ne_eqb}
+use borrow.Author.Tests.{lt-leb, le-leb, ne_eqb}
 use Rattle.basics.specs.Choice.{pick}
 use Rattle.basics.proofs.Choice.{pick_true, pick_false}
 use Rattle.cycle_notation.specs.Piece.{CyclePiece, number, blank, opening, closing, comma, semicolon, another, mark, PlacedPiece, digit_byte, run_value}
 use Rattle.cycle_notation.specs.Piece.{cycle_pieces, without_offsets}
 use Rattle.cycle_notation.specs.Form.{in_range}
-use Rattle.cycle_notation.specs.Verdict.{Read, Verdict, reads, index_out, leaves}
-use Rattle.cycle_notation.specs.Inner.Reader.{State, front, dead, indexed, read_piece, read_all, outcome, is_dead, lost, bad_index, either_read, verdict_of}
+use Rattle.cycle_notation.specs.Verdict.{Read, Verdict, index_out, leaves}
+use Rattle.cycle_notation.specs.Inner.Reader.{State, front, dead, indexed, read_all, read_outcome, is_dead, lost, bad_index, either_read, verdict_of}
 use Rattle.cycle_notation.proofs.Back.{run_dead}
 use Rattle.cycle_reading.specs.declared.Digits.{Digits}
-use Rattle.cycle_reading.specs.declared.Solo.{Solo}
-use Rattle.cycle_reading.specs.declared.Solo.TheVariants as solo
-use Rattle.cycle_reading.specs.declared.Judged.{Judged}
-use Rattle.cycle_reading.specs.declared.Judged.TheVariants as judged
-use Rattle.cycle_reading.specs.Inner.Hand.{pieces_left, digit_run, DigitsRead}
-use Rattle.cycle_reading.specs.Inner.Alone.{Alone, fails, through, alone_of, AloneRead, died}
-use Rattle.cycle_reading.specs.Inner.Front.{FrontSame, BlanksTo, either_alone, judged_by, VerdictRead}
+use Rattle.std.specs.Prelude.{Result, Ok, Err, Option, None}
+use Rattle.call.specs.Refusal.{Filled}
+use Rattle.call.specs.declared.refusal.Refusal.TheVariants.{PointCount, BadCycles}
+use Rattle.cycle_reading.specs.Inner.Hand.{pieces_left, DigitsRead}
+use Rattle.cycle_reading.specs.Inner.Alone.{Alone, fails, through, alone_of, either, AloneRead, died}
+use Rattle.cycle_reading.specs.Inner.Front.{FrontSame, verdict_behind, answered, VerdictRead}
 use Rattle.cycle_reading.proofs.Left.{number_left, mark_left, run_inside}
 use Rattle.cycle_reading.proofs.Loop.{none_left}
 use Rattle.cycle_reading.proofs.Fronts.{verdict_alone}
@@ -39,43 +35,25 @@ use Rattle.cycle_reading.proofs.Both.{lost_later, later, later_left}
 clash : {X : Type 0} → ◌≡◌ {A = ℕ} 0 1 → X
 clash e = absurd (omega arith)
 
-fails_same : {a b : ℕ} → solo.Fails a ≡ solo.Fails b → a ≡ b
+fails_same : {a b : ℕ} → ◌≡◌ {A = Result (Unit {0}) ℕ} (Err a) (Err b) → a ≡ b
 fails_same e = cc
 
 -- ---- the two readers, one after the other
 
-module _ (n x : ℕ) (s r : List ℕ) where
-  pub other_through : (b : Alone) → AloneRead b solo.Through s r → VerdictRead (either_alone n (fails x) b) (judged.Reads n) s r
-  other_through (through sc rc) h = record { returned = refl; kept = h.kept }
-  other_through (fails y) h = let q = h.returned in clash (cc)
-
-  pub other_later : (y : ℕ) → x < y → (b : Alone) → AloneRead b (solo.Fails y) s r → VerdictRead (either_alone n (fails x) b) (judged.Leaves y) s r
-  other_later y l (through sc rc) h = let q = h.returned in clash (cc)
-  other_later y l (fails z) h =
-      let e : y ≡ z = fails_same h.returned in
-      record { returned = ap judged.Leaves (e ∙ sym (pick_true (ltb x z) z x (lt-ltb x z (omega arith)))); kept = tt }
-
-  pub other_first : (y : ℕ) → ¬ (x < y) → (b : Alone) → AloneRead b (solo.Fails y) s r → VerdictRead (either_alone n (fails x) b) (judged.Leaves x) s r
-  other_first y l (through sc rc) h = let q = h.returned in clash (cc)
-  other_first y l (fails z) h =
-      let e : y ≡ z = fails_same h.returned in
-      record { returned = ap judged.Leaves (sym (pick_false (ltb x z) z x (le-ltb x z (omega arith)))); kept = tt }
-
-module _ (n : ℕ) (s r : List ℕ) (a b : Alone) where
-  pub both_through : AloneRead a solo.Through s r → VerdictRead (either_alone n a b) (judged.Reads n) s r
-  both_through h = go a h
+module _ (n : ℕ) (s r : List ℕ) (a : Alone) where
+  pub behind_through : AloneRead a (Ok tt) s r → VerdictRead (verdict_behind n a) (Ok n) s r
+  behind_through h = go a h
     where
-      go : (a : Alone) → AloneRead a solo.Through s r → VerdictRead (either_alone n a b) (judged.Reads n) s r
+      go : (a : Alone) → AloneRead a (Ok tt) s r → VerdictRead (verdict_behind n a) (Ok n) s r
       go (through sc rc) h = record { returned = refl; kept = h.kept }
       go (fails y) h = let q = h.returned in clash (cc)
 
-  pub both_other : (x : ℕ) (s' r' : List ℕ) (o : Judged) → AloneRead a (solo.Fails x) s' r' → VerdictRead (either_alone n (fails x) b) o s r
-      → VerdictRead (either_alone n a b) o s r
-  both_other x s' r' o h k = go a h
+  pub behind_lost : (place : ℕ) → AloneRead a (Err place) s r → VerdictRead (verdict_behind n a) (Err (BadCycles place)) s r
+  behind_lost place h = go a h
     where
-      go : (a : Alone) → AloneRead a (solo.Fails x) s' r' → VerdictRead (either_alone n a b) o s r
+      go : (a : Alone) → AloneRead a (Err place) s r → VerdictRead (verdict_behind n a) (Err (BadCycles place)) s r
       go (through sc rc) h = let q = h.returned in clash (cc)
-      go (fails y) h = subst (λ (z : ℕ). VerdictRead (either_alone n (fails z) b) o s r) (fails_same h.returned) k
+      go (fails y) h = record { returned = ap (λ (p : ℕ). Err (BadCycles p)) (fails_same h.returned); kept = tt }
 
 -- ---- a number of any length
 
@@ -95,41 +73,41 @@ module _ (m v : ℕ) (v_is : v ≡ min m 3067) where
 
 -- ---- no index
 
-judged_as : (t : List ℕ) (v : Verdict) (s r : List ℕ) → verdict_of t ≡ v → VerdictRead v (judged_by v) s r → VerdictRead (verdict_of t) (judged_by v) s r
-judged_as t v s r e h = subst (λ (w : Verdict). VerdictRead w (judged_by v) s r) (sym e) h
+answered_as : (t : List ℕ) (v : Verdict) (s r : List ℕ) → verdict_of t ≡ v → VerdictRead v (answered v) s r → VerdictRead (verdict_of t) (answered v) s r
+answered_as t v s r e h = subst (λ (w : Verdict). VerdictRead w (answered v) s r) (sym e) h
 
 module _ (t : List ℕ) (at : ℕ) (f : FrontSame t at) (s r : List ℕ) where
   -- both readers are lost at a place, or at the text's end
   none_reads : (place : ℕ) → bad_index (without_offsets (pieces_left t at)) ≡ false
-      → ((semi : Bool) → outcome (read_all semi front (without_offsets (pieces_left t at))) ≡ none)
+      → ((semi : Bool) → read_outcome (read_all semi front (without_offsets (pieces_left t at))) ≡ None)
       → ((semi : Bool) → died semi front (pieces_left t at) (length t) ≡ place) → verdict_of t ≡ leaves place
   unfolding verdict_of cycle_pieces pieces_left
   none_reads place b o d =
       pick_false (bad_index (without_offsets (pieces_left t 0))) _ _ (f.bad ∙ b)
-      ∙ ap (λ (x : Option Read). either_read x (outcome (read_all false front (without_offsets (pieces_left t 0)))) (lost front front (pieces_left t 0) (length t)))
-      (ap outcome (f.runs true) ∙ o true)
-      ∙ ap (λ (x : Option Read). either_read none x (lost front front (pieces_left t 0) (length t))) (ap outcome (f.runs false) ∙ o false)
+      ∙ ap (λ (x : Option Read). either_read x (read_outcome (read_all false front (without_offsets (pieces_left t 0)))) (lost front front (pieces_left t 0) (length t)))
+      (ap read_outcome (f.runs true) ∙ o true)
+      ∙ ap (λ (x : Option Read). either_read None x (lost front front (pieces_left t 0) (length t))) (ap read_outcome (f.runs false) ∙ o false)
       ∙ ap leaves (lost_later t (pieces_left t 0) 0 front front refl (omega arith)
       ∙ ap (λ (k : ℕ). later k (died false front (pieces_left t 0) (length t))) (f.dies true (length t) ∙ d true)
       ∙ ap (later place) (f.dies false (length t) ∙ d false)
       ∙ later_left place place (omega arith))
 
   pub verdict_out : (n to : ℕ) → pieces_left t at ≡ record { at = at; piece = number n } ∷ pieces_left t to → in_range n ≡ false
-      → VerdictRead (verdict_of t) judged.IndexOut s r
+      → VerdictRead (verdict_of t) (Err PointCount) s r
   unfolding verdict_of cycle_pieces pieces_left without_offsets bad_index
   verdict_out n to here i =
-      judged_as t index_out s r
+      answered_as t index_out s r
       (pick_true (bad_index (without_offsets (pieces_left t 0))) _ _
       (f.bad ∙ ap (λ (ps : List PlacedPiece). bad_index (without_offsets ps)) here ∙ ap not i))
       (record { returned = refl; kept = tt })
 
-  pub verdict_end : at ≡ length t → VerdictRead (verdict_of t) (judged.Leaves at) s r
+  pub verdict_end : at ≡ length t → VerdictRead (verdict_of t) (Err (BadCycles at)) s r
   unfolding read_all without_offsets bad_index died
   verdict_end e =
       let here : pieces_left t at ≡ [] = none_left t at e in
-      judged_as t (leaves at) s r
+      answered_as t (leaves at) s r
       (none_reads at (ap (λ (ps : List PlacedPiece). bad_index (without_offsets ps)) here)
-      (λ semi. ap (λ (ps : List PlacedPiece). outcome (read_all semi front (without_offsets ps))) here)
+      (λ semi. ap (λ (ps : List PlacedPiece). read_outcome (read_all semi front (without_offsets ps))) here)
       (λ semi. ap (λ (ps : List PlacedPiece). died semi front ps (length t)) here ∙ sym e))
       (record { returned = refl; kept = tt })
 
@@ -163,16 +141,16 @@ module _ (b : ℕ) (other : ¬ (b ≡ 32)) where
       go false false false false = refl
 
 module _ (t : List ℕ) (at : ℕ) (f : FrontSame t at) (l : at < length t) (s r : List ℕ) where
-  pub verdict_mark : ¬ (get_or t at 0 ≡ 32) → digit_byte (get_or t at 0) ≡ false → VerdictRead (verdict_of t) (judged.Leaves at) s r
+  pub verdict_mark : ¬ (get_or t at 0 ≡ 32) → digit_byte (get_or t at 0) ≡ false → VerdictRead (verdict_of t) (Err (BadCycles at)) s r
   unfolding read_all without_offsets died
   verdict_mark other d =
       let here : pieces_left t at ≡ record { at = at; piece = mark (get_or t at 0) } ∷ pieces_left t (at + 1) = mark_left t at l d in
-      judged_as t (leaves at) s r
+      answered_as t (leaves at) s r
       (none_reads t at f s r at
       (ap (λ (ps : List PlacedPiece). bad_index (without_offsets ps)) here ∙ mark_good (get_or t at 0) other (without_offsets (pieces_left t (at + 1))))
-      (λ semi. ap (λ (ps : List PlacedPiece). outcome (read_all semi front (without_offsets ps))) here
-      ∙ ap (λ (q : State). outcome (read_all semi q (without_offsets (pieces_left t (at + 1))))) (mark_lost (get_or t at 0) other)
-      ∙ ap outcome (run_dead semi (without_offsets (pieces_left t (at + 1)))))
+      (λ semi. ap (λ (ps : List PlacedPiece). read_outcome (read_all semi front (without_offsets ps))) here
+      ∙ ap (λ (q : State). read_outcome (read_all semi q (without_offsets (pieces_left t (at + 1))))) (mark_lost (get_or t at 0) other)
+      ∙ ap read_outcome (run_dead semi (without_offsets (pieces_left t (at + 1)))))
       (λ semi. ap (λ (ps : List PlacedPiece). died semi front ps (length t)) here
       ∙ ap (λ (q : State). pick (is_dead q) at (died semi q (pieces_left t (at + 1)) (length t))) (mark_lost (get_or t at 0) other)))
       (record { returned = refl; kept = tt })
@@ -187,17 +165,17 @@ module _ (t : List ℕ) (at : ℕ) (f : FrontSame t at) (l : at < length t) (e :
   here_is : pieces_left t at ≡ record { at = at; piece = number value } ∷ pieces_left t d.to
   here_is = number_left t at l e ∙ ap (λ (k : ℕ). record { at = at; piece = number value } ∷ pieces_left t k) (sym D.to_is)
 
-  pub out_low : d.value < 1 → VerdictRead (verdict_of t) judged.IndexOut s r
+  pub out_low : d.value < 1 → VerdictRead (verdict_of t) (Err PointCount) s r
   out_low h = verdict_out t at f s r value d.to here_is (index_low value d.value D.value_is h)
 
-  pub out_high : 3066 < d.value → VerdictRead (verdict_of t) judged.IndexOut s r
+  pub out_high : 3066 < d.value → VerdictRead (verdict_of t) (Err PointCount) s r
   out_high h = verdict_out t at f s r value d.to here_is (index_high value d.value D.value_is h)
 
   pub to_inside : d.to ≤ length t
   to_inside = omega (arith, D.to_is, run_inside t at (omega arith))
 
-  pub index_here : 1 ≤ d.value → d.value ≤ 3066 → (o : Judged)
-      → VerdictRead (either_alone d.value (alone_of true d.value t d.to) (alone_of false d.value t d.to)) o s r → VerdictRead (verdict_of t) o s r
+  pub index_here : 1 ≤ d.value → d.value ≤ 3066 → (o : Filled)
+      → VerdictRead (verdict_behind d.value (either (alone_of true d.value t d.to) (alone_of false d.value t d.to))) o s r → VerdictRead (verdict_of t) o s r
   index_here h k o v =
       let b = index_between value d.value D.value_is h k in
       subst (λ (w : Verdict). VerdictRead w o s r)

@@ -6,9 +6,9 @@
 --     number-left, mark-left            the first piece from an offset on: a number, or a mark
 -- Assumes nothing.
 use mathlib.Core.Path.{◌≡◌, refl, sym, ap, ◌∙◌}
-use mathlib.Core.Bool.{Bool, true, false, ◌&&◌}
+use mathlib.Core.Bool.{Bool, true, false}
 use mathlib.Core.List.{List, [], ◌∷◌}
-use Prim.Native.Nat.{ℕ, zero, suc, ◌+◌, ◌-◌, ◌*◌, ◌≤◌, ◌<◌, min}
+use Prim.Native.Nat.{ℕ, suc, ◌+◌, ◌-◌, ◌*◌, ◌≤◌, ◌<◌, min}
 use native.Mathlib.Omega.{arith}
 use native.Mathlib.Numerals.{add-one}
 use native.Mathlib.Nat.{add-zero, add-suc, suc-add}
@@ -18,8 +18,8 @@ use lib.Seq.{drop-cons, drop-length, drop-drop}
 use borrow.Author.Tests.{leb-true}
 use Rattle.basics.specs.Choice.{pick}
 use Rattle.basics.proofs.Choice.{and_left, and_right}
-use Rattle.cycle_notation.specs.Piece.{CyclePiece, number, blank, opening, closing, comma, semicolon, another, mark, PlacedPiece, digit_byte, run_value}
-use Rattle.cycle_notation.specs.Piece.{number_begun, cycle_pieces_from}
+use Rattle.cycle_notation.specs.Piece.{number, blank, opening, closing, comma, semicolon, another, mark, PlacedPiece, digit_byte, run_value}
+use Rattle.cycle_notation.specs.Piece.{cycle_pieces_from}
 use Rattle.cycle_reading.specs.Inner.Hand.{pieces_left, digit_run, bounded}
 
 pub digit_range : (b : ℕ) → digit_byte b ≡ true → (48 ≤ b) × (b ≤ 57)

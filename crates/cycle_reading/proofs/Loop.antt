@@ -2,34 +2,40 @@
 -- Assumes nothing.
 use mathlib.Core.Path.{◌≡◌, refl, sym, ap, subst, ◌∙◌}
 use mathlib.Core.Bool.{Bool, true, false, not, ◌&&◌}
-use mathlib.Core.List.{List, [], ◌∷◌, ◌++◌}
-use Prim.Native.Nat.{ℕ, zero, suc, ◌+◌, ◌-◌, ◌≤◌, ◌<◌}
+use Rattle.std.specs.Prelude.{None, Result, Ok, Err}
+use mathlib.Core.List.{List, [], ◌∷◌}
+use Prim.Native.Nat.{ℕ, zero, suc, ◌+◌, ◌≤◌, ◌<◌}
 use native.Mathlib.Omega.{arith}
 use native.Mathlib.Decide.{ℕ_discrete}
 use lib.Dec.{leb}
-use lib.ListN.{length, get_or, set, drop, length-set, replicate, get_or-replicate, length-replicate, get_or-eq_default}
+use lib.ListN.{length, get_or, set, drop, replicate, length-replicate}
 use lib.Seq.{drop-length, get_or-set_same, get_or-set_other, ext_get_or}
 use borrow.Author.Tests.{le-leb}
-use Rattle.basics.specs.Choice.{pick}
 use Rattle.basics.specs.Count.{count}
 use Rattle.basics.proofs.Choice.{clash}
 use Rattle.basics.proofs.Count.{count_yes}
 use Rattle.numbering.specs.Find.{is_in}
-use Rattle.cycle_notation.specs.Piece.{CyclePiece, number, blank, opening, closing, comma, semicolon, another, PlacedPiece, cycle_pieces_from}
+use Rattle.cycle_notation.specs.Piece.{CyclePiece, PlacedPiece, cycle_pieces_from}
 use Rattle.cycle_notation.specs.Form.{free}
 use Rattle.cycle_notation.specs.Inner.Reader.{Phase, start, opened, empty, point, wanted, closed, PartTurn, on, over, stop, turn_of, may_end}
 use Rattle.cycle_notation.specs.Table.{tabled}
 use Rattle.cycle_notation.specs.Inner.Stores.{cycles_stored, identity}
 use Rattle.cycle_notation.proofs.Stores.{length_tabled, get_d_tabled, not_in_none}
-use Rattle.cycle_reading.specs.declared.Part.{Part}
 use Rattle.cycle_reading.specs.declared.Found.{Found}
 use Rattle.cycle_reading.specs.declared.PartEnd.{PartEnd}
 use Rattle.cycle_reading.specs.declared.PartEnd.TheVariants as ending
-use Rattle.cycle_reading.specs.Inner.Hand.{piece_of, pieces_left, bounded, FoundAt, is_quiet, can_name, first_or, last_or, Hand, hand, moved, named_hand}
-use Rattle.cycle_reading.specs.Inner.Hand.{step_hand, Stepped, PartFits}
-use Rattle.cycle_reading.specs.Inner.PartRun.{PartOut, lost, passed, ended, part_run, part_end_of, made, Kept, code_of, ShutAt, HandHolds, ReadTo, PartRead}
-use Rattle.cycle_reading.specs.Inner.PartRun.{begin_at, FreshPart, Start}
+use Rattle.cycle_reading.specs.declared.phases.Phase as code
+use Rattle.cycle_reading.specs.declared.phases.Phase.TheVariants.{Start, Opened, Empty, Point, Wanted, Closed}
+use Rattle.cycle_reading.specs.declared.phases.Stop.{Stop}
+use Rattle.cycle_reading.specs.declared.phases.Stop.TheVariants.{Over, Lost}
+use Rattle.cycle_reading.specs.declared.points.Part.{Part}
+use Rattle.cycle_reading.specs.Inner.Phases.{is_quiet}
+use Rattle.cycle_reading.specs.Inner.Hand.{piece_of, pieces_left, bounded, FoundAt, part_at, Hand, hand, step_hand, hand_part, hand_left, Stepped}
+use Rattle.cycle_reading.specs.Inner.PartRun.{PartOut, lost, passed, part_run, part_end_of, Kept, code_of, phase_of, ShutAt, HandHolds, ReadTo, PartRead}
 use Rattle.cycle_reading.proofs.Held.{TurnHeld, turn_held, none_open}
+
+clash_of : {X : Type 0} → ◌≡◌ {A = ℕ} 0 1 → X
+clash_of e = absurd (omega arith)
 
 -- what a turn leads to
 abbrev pub run_after : (semi : Bool) (n : ℕ) → (done : List (List ℕ)) → ℕ → List PlacedPiece → PartTurn → PartOut
@@ -44,51 +50,16 @@ run_turn semi n ph seen cur done q ps (on ph' seen' cur' done') e = rw (part_run
 run_turn semi n ph seen cur done q ps over e = rw (part_run, e)
 run_turn semi n ph seen cur done q ps stop e = rw (part_run, e)
 
-stepped_hand : (h : Hand) (p : Part) (marks table : List ℕ) → Stepped h p marks table → hand p marks table ≡ h
-stepped_hand h p marks table s =
-    ap (λ (z : Part). hand z marks table) s.part_is
-    ∙ ap (λ (z : List ℕ). hand h.part z table) s.marks_are
-    ∙ ap (λ (z : List ℕ). hand h.part h.marks z) s.table_is
+module _ (semi : Bool) (n : ℕ) (n_most : n ≤ 3066) (ph₀ : Phase) (t : List ℕ) (from at : ℕ) (p : Part) (marks : List Bool) (table : List ℕ)
+    (R : ReadTo semi n ph₀ t from at p marks table) (found : Found) (F : FoundAt t at found) (o : Result Part Stop) (marks' : List Bool) (table' : List ℕ)
+    (S : Stepped (hand p marks table) (step_hand semi n (hand p marks table) (piece_of found.piece)) o marks' table') where
+  abbrev step : Result Hand Stop
+  step = step_hand semi n (hand p marks table) (piece_of found.piece)
 
-code_low : (ph : Phase) → code_of ph < 6
-code_low start = omega arith
-code_low opened = omega arith
-code_low empty = omega arith
-code_low point = omega arith
-code_low wanted = omega arith
-code_low closed = omega arith
-
--- no piece changes how long the table is
-step_long : (semi : Bool) (n : ℕ) (h : Hand) (q : CyclePiece) → length (step_hand semi n h q).table ≡ length h.table
-step_long semi n h (number x) = go (can_name n x h.part.phase h.part.used h.marks)
-  where
-    go : (b : Bool) → length (pick b (named_hand h (x - 1)) (moved h 7)).table ≡ length h.table
-    go true = length-set (set h.table (last_or h.part (x - 1)) (x - 1)) (x - 1) (first_or h.part (x - 1))
-        ∙ length-set h.table (last_or h.part (x - 1)) (x - 1)
-    go false = refl
-step_long semi n h blank = refl
-step_long semi n h opening = refl
-step_long semi n h closing = refl
-step_long semi n h comma = refl
-step_long semi n h semicolon = refl
-step_long semi n h another = refl
-
-module _ (semi : Bool) (n : ℕ) (n_most : n ≤ 3066) (ph₀ : Phase) (t : List ℕ) (from at : ℕ) (p : Part) (marks table : List ℕ)
-    (R : ReadTo semi n ph₀ t from at p marks table) (found : Found) (F : FoundAt t at found) (p' : Part) (marks' table' : List ℕ)
-    (S : Stepped (step_hand semi n (hand p marks table) (piece_of found.piece)) p' marks' table') where
-  u : PartTurn
-  u = turn_of semi n R.seen R.cur R.done R.ph F.piece
-
-  abbrev all : PartOut
-  all = part_run semi n ph₀ [] [] [] (pieces_left t from)
-
-  hand_is : hand p' marks' table' ≡ step_hand semi n (hand p marks table) (bounded F.piece)
-  hand_is = stepped_hand _ p' marks' table' S ∙ ap (step_hand semi n (hand p marks table)) F.kind
-
-  held_after : (v : PartTurn) → turn_of semi n R.seen R.cur R.done R.ph F.piece ≡ v → TurnHeld n R.done v (hand p' marks' table')
+  held_after : (v : PartTurn) → turn_of semi n R.seen R.cur R.done R.ph F.piece ≡ v → TurnHeld n R.done (hand p marks table) v step
   held_after v e =
-      subst (λ (h : Hand). TurnHeld n R.done v h) (sym hand_is)
-      (subst (λ (w : PartTurn). TurnHeld n R.done w (step_hand semi n (hand p marks table) (bounded F.piece))) e
+      subst (λ (q : CyclePiece). TurnHeld n R.done (hand p marks table) v (step_hand semi n (hand p marks table) q)) (sym F.kind)
+      (subst (λ (w : PartTurn). TurnHeld n R.done (hand p marks table) w (step_hand semi n (hand p marks table) (bounded F.piece))) e
       (turn_held semi n n_most R.seen R.cur R.done (hand p marks table) R.ph F.piece R.holds))
 
   all_after : (v : PartTurn) → turn_of semi n R.seen R.cur R.done R.ph F.piece ≡ v
@@ -98,47 +69,66 @@ module _ (semi : Bool) (n : ℕ) (n_most : n ≤ 3066) (ph₀ : Phase) (t : List
       ∙ run_turn semi n R.ph R.seen R.cur R.done (record { at = at; piece = F.piece }) (pieces_left t found.to) v e)
       ∙ R.same
 
-  pub again : (p'.phase ≡ 7 → ⊥) → (p'.phase ≡ 6 → ⊥) → ReadTo semi n ph₀ t from found.to p' marks' table'
-  again no_stop no-over = go (turn_of semi n R.seen R.cur R.done R.ph F.piece) refl
+  -- what the code answers, by the step
+  answer_is : (x : Result Hand Stop) → step ≡ x → o ≡ hand_part x
+  answer_is x e = S.part_is ∙ ap hand_part e
+
+  hand_is : (p' : Part) (g : Hand) → step ≡ Ok g → o ≡ Ok p' → g ≡ hand p' marks' table'
+  hand_is p' g e f =
+      let k : p' ≡ g.part = same (sym f ∙ answer_is (Ok g) e) in
+      sym (ap (λ (z : Part). hand z marks' table') k
+      ∙ ap (λ (z : List Bool). hand g.part z table') (S.marks_are ∙ ap (λ (x : Result Hand Stop). (hand_left (hand p marks table) x).marks) e)
+      ∙ ap (λ (z : List ℕ). hand g.part g.marks z) (S.table_is ∙ ap (λ (x : Result Hand Stop). (hand_left (hand p marks table) x).table) e))
+    where
+      same : {a b : Part} → ◌≡◌ {A = Result Part Stop} (Ok a) (Ok b) → a ≡ b
+      same e = cc
+
+  pub again : (p' : Part) → o ≡ Ok p' → ReadTo semi n ph₀ t from found.to p' marks' table'
+  again p' f = go (turn_of semi n R.seen R.cur R.done R.ph F.piece) refl
     where
       go : (v : PartTurn) → turn_of semi n R.seen R.cur R.done R.ph F.piece ≡ v → ReadTo semi n ph₀ t from found.to p' marks' table'
       go (on ph seen cur done) e =
+          let H = held_after (on ph seen cur done) e in
           record {
             ph = ph;
             seen = seen;
             cur = cur;
             done = done;
-            holds = held_after (on ph seen cur done) e;
+            holds = subst (λ (g : Hand). HandHolds n ph seen cur done g) (hand_is p' H.0 H.1 f) H.2;
             same = all_after (on ph seen cur done) e;
             within = F.inside;
           }
-      go over e = absurd (no-over (held_after over e).0)
-      go stop e = absurd (no_stop (held_after stop e))
-
-  long_after : length table' ≡ 3066
-  long_after = ap length S.table_is ∙ step_long semi n (hand p marks table) (piece_of found.piece) ∙ R.holds.fits.table_long
+      go over e = let z : ◌≡◌ {A = Result Part Stop} (Ok p') (Err Over) = sym f ∙ answer_is (Err Over) (held_after over e).0 in clash_of (cc)
+      go stop e = let z : ◌≡◌ {A = Result Part Stop} (Ok p') (Err Lost) = sym f ∙ answer_is (Err Lost) (held_after stop e) in clash_of (cc)
 
   read_as_lem : (out : PartOut) → out ≡ part_run semi n ph₀ [] [] [] (pieces_left t from) → (r : PartEnd) → r ≡ part_end_of out → Kept out table'
       → PartRead (part_run semi n ph₀ [] [] [] (pieces_left t from)) r table'
-  read_as_lem out e r f k = subst (λ (o : PartOut). PartRead o r table') e (record { returned = f; kept = k; long = long_after })
+  read_as_lem out e r f k = subst (λ (o : PartOut). PartRead o r table') e (record { returned = f; kept = k })
 
-  pub lost_here : p'.phase ≡ 7 → PartRead (part_run semi n ph₀ [] [] [] (pieces_left t from)) (ending.Lost at) table'
+  pub lost_here : o ≡ Err Lost → PartRead (part_run semi n ph₀ [] [] [] (pieces_left t from)) (ending.Lost at) table'
   lost_here f = go (turn_of semi n R.seen R.cur R.done R.ph F.piece) refl
     where
       go : (v : PartTurn) → turn_of semi n R.seen R.cur R.done R.ph F.piece ≡ v
           → PartRead (part_run semi n ph₀ [] [] [] (pieces_left t from)) (ending.Lost at) table'
-      go (on ph seen cur done) e = let H = held_after (on ph seen cur done) e in absurd (omega (arith, H.phase, code_low ph))
-      go over e = let H = held_after over e in absurd (omega (arith, H.0))
+      go (on ph seen cur done) e =
+          let H = held_after (on ph seen cur done) e in
+          let z : ◌≡◌ {A = Result Part Stop} (Err Lost) (Ok H.0.part) = sym f ∙ answer_is (Ok H.0) H.1 in clash_of (cc)
+      go over e = let z : ◌≡◌ {A = Result Part Stop} (Err Lost) (Err Over) = sym f ∙ answer_is (Err Over) (held_after over e).0 in clash_of (cc)
       go stop e = read_as_lem (lost at) (all_after stop e) (ending.Lost at) refl tt
 
-  pub over_here : p'.phase ≡ 6 → PartRead (part_run semi n ph₀ [] [] [] (pieces_left t from)) (ending.Over at) table'
+  pub over_here : o ≡ Err Over → PartRead (part_run semi n ph₀ [] [] [] (pieces_left t from)) (ending.Over at) table'
   over_here f = go (turn_of semi n R.seen R.cur R.done R.ph F.piece) refl
     where
       go : (v : PartTurn) → turn_of semi n R.seen R.cur R.done R.ph F.piece ≡ v
           → PartRead (part_run semi n ph₀ [] [] [] (pieces_left t from)) (ending.Over at) table'
-      go (on ph seen cur done) e = let H = held_after (on ph seen cur done) e in absurd (omega (arith, H.phase, code_low ph))
-      go over e = read_as_lem (passed at R.done) (all_after over e) (ending.Over at) refl (held_after over e).1
-      go stop e = let H = held_after stop e in absurd (omega (arith, H))
+      go (on ph seen cur done) e =
+          let H = held_after (on ph seen cur done) e in
+          let z : ◌≡◌ {A = Result Part Stop} (Err Over) (Ok H.0.part) = sym f ∙ answer_is (Ok H.0) H.1 in clash_of (cc)
+      go over e =
+          let H = held_after over e in
+          read_as_lem (passed at R.done) (all_after over e) (ending.Over at) refl
+          (S.table_is ∙ ap (λ (x : Result Hand Stop). (hand_left (hand p marks table) x).table) H.0 ∙ H.1)
+      go stop e = let z : ◌≡◌ {A = Result Part Stop} (Err Over) (Err Lost) = sym f ∙ answer_is (Err Lost) (held_after stop e) in clash_of (cc)
 
 -- the text's end
 quiet_whole : (ph : Phase) → is_quiet (code_of ph) ≡ may_end ph
@@ -161,7 +151,7 @@ pub none_left : (t : List ℕ) (at : ℕ) → at ≡ length t → pieces_left t 
 unfolding pieces_left cycle_pieces_from
 none_left t at e = ap (λ (k : ℕ). cycle_pieces_from k false (drop k t)) e ∙ ap (cycle_pieces_from (length t) false) (drop-length t)
 
-pub ended_here : (semi : Bool) (n : ℕ) (ph₀ : Phase) (t : List ℕ) (from at : ℕ) (p : Part) (marks table : List ℕ)
+pub ended_here : (semi : Bool) (n : ℕ) (ph₀ : Phase) (t : List ℕ) (from at : ℕ) (p : Part) (marks : List Bool) (table : List ℕ)
     → ReadTo semi n ph₀ t from at p marks table → at ≡ length t → (b : Bool) → b ≡ is_quiet p.phase
     → PartRead (part_run semi n ph₀ [] [] [] (pieces_left t from)) (ending.Ended b) table
 unfolding part_run
@@ -171,7 +161,6 @@ ended_here semi n ph₀ t from at p marks table R e b q =
     (record {
       returned = ap ending.Ended (q ∙ ap is_quiet R.holds.phase ∙ quiet_whole R.ph);
       kept = λ w. none_open R.done R.cur table (whole_shut R.ph R.cur R.holds.shut w) R.holds.table;
-      long = R.holds.fits.table_long;
     })
 
 -- ---- the beginning
@@ -186,44 +175,48 @@ all_free n i l =
     ∙ ap (λ (b : Bool). b && not (is_in [] (suc i))) (le-leb (suc i) n l)
     ∙ ap not (not_in_none (suc i))
 
-pub no_mark : (m i : ℕ) → ◌≡◌ {A = ℕ} (get_or (replicate m 0) i 0) 0
+no_mark : (m i : ℕ) → get_or (replicate m false) i false ≡ false
 no_mark zero i = refl
 no_mark (suc m) zero = refl
 no_mark (suc m) (suc i) = no_mark m i
 
-begin_code : (behind : Bool) → pick behind 1 0 ≡ code_of (begin_at behind)
-begin_code true = refl
-begin_code false = refl
+code_phase : (first : code.Phase) → first ≡ code_of (phase_of first)
+code_phase Start = refl
+code_phase Opened = refl
+code_phase Empty = refl
+code_phase Point = refl
+code_phase Wanted = refl
+code_phase Closed = refl
 
-begin_shut : (behind : Bool) → ShutAt (begin_at behind) []
-begin_shut true = refl
-begin_shut false = refl
+begin_shut : (ph : Phase) → ShutAt ph []
+begin_shut start = refl
+begin_shut opened = refl
+begin_shut empty = refl
+begin_shut point = tt
+begin_shut wanted = tt
+begin_shut closed = refl
 
-pub begun : (semi : Bool) (n : ℕ) (behind : Bool) (t : List ℕ) (from : ℕ) (p : Part) (marks table : List ℕ) → Start t from n marks table → FreshPart behind p
-    → ReadTo semi n (begin_at behind) t from from p marks table
+pub begun : (semi : Bool) (n : ℕ) (first : code.Phase) (t : List ℕ) (from : ℕ) (table : List ℕ) → from ≤ length t → table ≡ identity 3066
+    → ReadTo semi n (phase_of first) t from from (part_at first 0 None) (replicate 3066 false) table
 unfolding cycles_stored identity
-begun semi n behind t from p marks table B f =
+begun semi n first t from table within e =
     let all_of = count_all (λ (i : ℕ). free n [] (suc i)) n (all_free n) in record {
-      ph = begin_at behind;
+      ph = phase_of first;
       seen = [];
       cur = [];
       done = [];
       holds = record {
-        phase = f.phase ∙ begin_code behind;
-        marks = λ i k. B.no_marks i ∙ sym (ap (λ (b : Bool). pick b 1 0) (not_in_none (suc i)));
-        used = omega (arith, f.used, all_of);
-        table = B.table_is;
-        fits = record {
-          low = omega (arith, f.last);
-          first_low = omega (arith, f.first);
-          marks_long = B.marks_long;
-          table_long = ap length B.table_is ∙ length_tabled (λ (i : ℕ). i) 3066;
-        };
-        cycle = f.going;
-        shut = begin_shut behind;
+        phase = code_phase first;
+        marks = λ i k. no_mark 3066 i ∙ sym (not_in_none (suc i));
+        marks_long = length-replicate 3066 false;
+        used = omega (arith, all_of);
+        table = e;
+        fits = tt;
+        cycle = refl;
+        shut = begin_shut (phase_of first);
       };
       same = refl;
-      within = B.within;
+      within = within;
     }
 
 -- ---- the table that moves nothing

@@ -18,11 +18,10 @@
 --
 -- proofs/Answered.antt: `one_reading`; and `means_only`, that what number and place mean allows no others, so that
 -- `verdict_of` need not be read.
-use Rattle.std.specs.Prelude.{◌≡◌, ◌⊎◌, List, [], ◌++◌, ℕ, ◌≤◌, ◌<◌, take}
-use Rattle.call.specs.Refusal.{point_count, bad_cycles}
+use Rattle.std.specs.Prelude.{◌≡◌, ◌⊎◌, List, [], ◌++◌, ℕ, ◌≤◌, ◌<◌, take, Err}
+use Rattle.call.specs.Refusal.{Checked, refusal_number, refusal_place}
+use Rattle.call.specs.declared.refusal.Refusal.TheVariants.{PointCount, BadCycles}
 use Rattle.call.specs.declared.refusal.Refusal.{Refusal}
-use Rattle.call.specs.declared.refusal.Checked.{Checked}
-use Rattle.call.specs.declared.refusal.Checked.TheVariants as checked
 use Rattle.call.specs.Call.{Lent, Step, asks, stores}
 use Rattle.permutations.specs.Check.{pair_check, Passport}
 use Rattle.cycle_notation.specs.Piece.{cycle_pieces, without_offsets}
@@ -39,8 +38,8 @@ abbrev pub table_of_r : Read → List ℕ
 table_of_r q = cycle_table q.index q.of_r
 
 abbrev pub check_by : Verdict → Checked
-check_by (leaves place) = checked.Refused (bad_cycles place)
-check_by index_out = checked.Refused point_count
+check_by (leaves place) = Err (BadCycles place)
+check_by index_out = Err PointCount
 check_by (reads q) = pair_check (table_of_s q) (table_of_r q)
 
 abbrev pub cycles_check : List ℕ → Checked
@@ -63,9 +62,9 @@ read_steps t s r = asks (cycles_check t) ++ stores (read_s t) s ++ stores (read_
 -- ---- what number and place mean
 
 pub record PairFault (s r : List ℕ) (f : Refusal) : Type 0 where
-  pub first : pair_check s r ≡ checked.Refused f
-  pub low : 13 ≤ f.number
-  pub high : f.number ≤ 15
+  pub first : pair_check s r ≡ Err f
+  pub low : 13 ≤ refusal_number f
+  pub high : refusal_number f ≤ 15
   pub none : ¬ Passport s r
 
 -- the text t is right, and q is how it reads
@@ -86,7 +85,7 @@ pub data ReadCyclesMean (t : List ℕ) (a b : ℕ) (s r : List ℕ) : (number pl
       → ReadCyclesMean t a b s r 27 place
   no_index : IndexOut (without_offsets (cycle_pieces t)) → ReadCyclesMean t a b s r 12 0
   no_pair : (q : Read) → RightAs t q → (f : Refusal) → PairFault (table_of_s q) (table_of_r q) f
-      → ReadCyclesMean t a b s r f.number f.place
+      → ReadCyclesMean t a b s r (refusal_number f) (refusal_place f)
   no_room : (q : Read) → GoodPair t q → (a < q.index) ⊎ (b < q.index) → ReadCyclesMean t a b s r 11 q.index
   tables_made : (q : Read) → GoodPair t q → q.index ≤ a → q.index ≤ b → take q.index s ≡ table_of_s q
       → take q.index r ≡ table_of_r q

@@ -1,101 +1,100 @@
-// The phases of a permutation, behind each mark.
+// The phases of a permutation, and what is behind each mark: the next phase, or the end of the permutation.
 ghost use Rattle.std.specs.Prelude.{◌≡◌};
-ghost use Rattle.cycle_reading.specs.Inner.Hand.{is_quiet, behind_blank, behind_opening, behind_closing, behind_comma};
-ghost use Rattle.cycle_reading.specs.Inner.Hand.{behind_semicolon, takes_point};
+ghost use Rattle.cycle_reading.specs.Inner.Phases.{is_quiet, takes_point, behind_blank, behind_opening, behind_closing};
+ghost use Rattle.cycle_reading.specs.Inner.Phases.{behind_comma, at_semicolon, first_of_r};
 
-use super::{CLOSED, EMPTY, OPENED, OVER, POINT, START, STOP, WANTED};
-
-// Whether a blank may stand here: at the beginning of a permutation, or where it may be over.
-pub(crate) fn quiet(phase: u8) -> bool
-    ensures { result ≡ is_quiet phase }
-{
-    if phase == START {
-        return true;
-    }
-    if phase == EMPTY {
-        return true;
-    }
-    phase == CLOSED
+// At its beginning; behind its first `(`; behind `()`; behind a point; where a point must come; behind a cycle.
+#[derive(Clone, Copy)]
+pub(crate) enum Phase {
+    Start,
+    Opened,
+    Empty,
+    Point,
+    Wanted,
+    Closed,
 }
 
-// The phase behind a blank.
-pub(crate) fn behind_blank(phase: u8) -> u8
-    ensures { result ≡ behind_blank phase }
-{
-    if quiet(phase) {
-        return phase;
-    }
-    STOP
+// Why a permutation doesn't go on with a piece: it was over before the piece, or no text can go on so.
+#[derive(Clone, Copy)]
+pub(crate) enum Stop {
+    Over,
+    Lost,
 }
 
-// The phase behind a `(`, with a semicolon to come or not, and room for one more point or not.
-pub(crate) fn behind_opening(semi: bool, room: bool, phase: u8) -> u8
-    ensures { result ≡ behind_opening semi room phase }
-{
-    if phase == START {
-        return OPENED;
+impl Phase {
+    // R begins behind the semicolon, or behind its own `(`.
+    pub(crate) fn first_of_r(semi: bool) -> Phase
+        ensures { result ≡ first_of_r semi }
+    {
+        if semi { Phase::Start } else { Phase::Opened }
     }
-    if phase == EMPTY {
-        if semi {
-            return STOP;
-        }
-        return OVER;
-    }
-    if phase == CLOSED {
-        if semi {
-            if room {
-                return WANTED;
-            }
-            return STOP;
-        }
-        return OVER;
-    }
-    STOP
-}
 
-// The phase behind a `)`.
-pub(crate) fn behind_closing(phase: u8) -> u8
-    ensures { result ≡ behind_closing phase }
-{
-    if phase == OPENED {
-        return EMPTY;
+    // Whether a blank may stand here: at the beginning of a permutation, or where it may be over.
+    pub(crate) fn is_quiet(self) -> bool
+        ensures { result ≡ is_quiet self }
+    {
+        matches!(self, Phase::Start | Phase::Empty | Phase::Closed)
     }
-    if phase == POINT {
-        return CLOSED;
-    }
-    STOP
-}
 
-// The phase behind a comma.
-pub(crate) fn behind_comma(room: bool, phase: u8) -> u8
-    ensures { result ≡ behind_comma room phase }
-{
-    if phase == POINT {
-        if room {
-            return WANTED;
+    // Whether a point may come here.
+    pub(crate) fn takes_point(self) -> bool
+        ensures { result ≡ takes_point self }
+    {
+        matches!(self, Phase::Opened | Phase::Wanted)
+    }
+
+    // Behind a blank.
+    pub(crate) fn behind_blank(self) -> Result<Phase, Stop>
+        ensures { result ≡ behind_blank self }
+    {
+        if self.is_quiet() {
+            Ok(self)
+        } else {
+            Err(Stop::Lost)
         }
     }
-    STOP
-}
 
-// The phase behind a semicolon.
-pub(crate) fn behind_semicolon(semi: bool, phase: u8) -> u8
-    ensures { result ≡ behind_semicolon semi phase }
-{
-    if semi {
-        if quiet(phase) {
-            return OVER;
+    // Behind a `(`, with a semicolon to come or not, and room for one more point or not.
+    pub(crate) fn behind_opening(self, semi: bool, room: bool) -> Result<Phase, Stop>
+        ensures { result ≡ behind_opening semi room self }
+    {
+        match self {
+            Phase::Start => Ok(Phase::Opened),
+            Phase::Empty | Phase::Closed if !semi => Err(Stop::Over),
+            Phase::Closed if room => Ok(Phase::Wanted),
+            _ => Err(Stop::Lost),
         }
     }
-    STOP
-}
 
-// Whether a point may come here.
-pub(crate) fn takes_point(phase: u8) -> bool
-    ensures { result ≡ takes_point phase }
-{
-    if phase == OPENED {
-        return true;
+    // Behind a `)`.
+    pub(crate) fn behind_closing(self) -> Result<Phase, Stop>
+        ensures { result ≡ behind_closing self }
+    {
+        match self {
+            Phase::Opened => Ok(Phase::Empty),
+            Phase::Point => Ok(Phase::Closed),
+            _ => Err(Stop::Lost),
+        }
     }
-    phase == WANTED
+
+    // Behind a comma.
+    pub(crate) fn behind_comma(self, room: bool) -> Result<Phase, Stop>
+        ensures { result ≡ behind_comma room self }
+    {
+        match self {
+            Phase::Point if room => Ok(Phase::Wanted),
+            _ => Err(Stop::Lost),
+        }
+    }
+
+    // No permutation goes on behind a semicolon.
+    pub(crate) fn at_semicolon(self, semi: bool) -> Stop
+        ensures { result ≡ at_semicolon semi self }
+    {
+        if semi && self.is_quiet() {
+            Stop::Over
+        } else {
+            Stop::Lost
+        }
+    }
 }

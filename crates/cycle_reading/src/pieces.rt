@@ -12,17 +12,7 @@ const PAST: u64 = 3067;
 pub fn digit(b: u8) -> bool
     ensures { result ≡ digit_byte b }
 {
-    if b < b'0' {
-        return false;
-    }
-    b <= b'9'
-}
-
-// A byte as a wider number.
-pub(crate) fn wide(b: u8) -> u64
-    ensures { result ≡ b }
-{
-    b as u64
+    b.is_ascii_digit()
 }
 
 // m with one more digit b behind it, up to 3,067.
@@ -30,11 +20,7 @@ pub(crate) fn pushed(m: u64, b: u8) -> u64
     requires { (m ≤ 3067) × (48 ≤ b) × (b ≤ 57) }
     ensures { result ≡ min (m * 10 + (b - 48)) 3067 }
 {
-    let next = m * 10 + wide(b - b'0');
-    if PAST < next {
-        return PAST;
-    }
-    next
+    PAST.min(m * 10 + u64::from(b - b'0'))
 }
 
 // The run of digits from `from` on.
@@ -43,21 +29,15 @@ pub fn digits_at(text: &[u8], from: usize) -> Digits
     ensures { DigitsRead text.now from result }
 {
     let mut value: u64 = 0;
-    let mut i = from;
-    while i < text.len() {
-        if digit(text[i]) {
-            value = pushed(value, text[i]);
-            i += 1;
-        } else {
-            return Digits {
-                value: value,
-                to: i,
-            };
+    for i in from..text.len() {
+        if !digit(text[i]) {
+            return Digits { value, to: i };
         }
+        value = pushed(value, text[i]);
     }
     Digits {
-        value: value,
-        to: i,
+        value,
+        to: text.len(),
     }
 }
 
@@ -65,22 +45,14 @@ pub fn digits_at(text: &[u8], from: usize) -> Digits
 pub(crate) fn mark_of(b: u8) -> Piece
     ensures { piece_of result ≡ mark b }
 {
-    if b == b' ' {
-        return Piece::Blank;
+    match b {
+        b' ' => Piece::Blank,
+        b'(' => Piece::Opening,
+        b')' => Piece::Closing,
+        b',' => Piece::Comma,
+        b';' => Piece::Semicolon,
+        _ => Piece::Another,
     }
-    if b == b'(' {
-        return Piece::Opening;
-    }
-    if b == b')' {
-        return Piece::Closing;
-    }
-    if b == b',' {
-        return Piece::Comma;
-    }
-    if b == b';' {
-        return Piece::Semicolon;
-    }
-    Piece::Another
 }
 
 // The piece that begins at `at`.
@@ -89,15 +61,15 @@ pub(crate) fn piece_at(text: &[u8], at: usize) -> Found
     ensures { FoundAt text.now at result }
 {
     let b = text[at];
-    if digit(b) {
-        let run = digits_at(text, at);
+    if !digit(b) {
         return Found {
-            piece: Piece::Number(run.value),
-            to: run.to,
+            piece: mark_of(b),
+            to: at + 1,
         };
     }
+    let run = digits_at(text, at);
     Found {
-        piece: mark_of(b),
-        to: at + 1,
+        piece: Piece::Number(run.value as usize),
+        to: run.to,
     }
 }

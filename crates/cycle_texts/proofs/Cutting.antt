@@ -1,27 +1,27 @@
 -- The part of a text that is judged, as the code finds it, and the refusal of an input that goes on.
 --     run_begin, run_step, run_found, run_none    the loop back over the digits at the end of a text
 --     judged_whole, judged_cut, judged_over       where the part that is judged ends
---     stays_12, stays_27, past_end, past_both     the refusal by the tests that the code makes
+--     stays_27, past_end                the refusal by the test that the code makes
 --     pair_cut                          one of the refusals 13 to 15 is 27 with the place 65,536
 --     read_as_lem, tables_left              the answer of `read_cycles` and what it leaves, in tables of the program's length
 --     answer_whole                      the answer to an input that does not go on
 -- Assumes nothing.
-use mathlib.Core.Path.{◌≡◌, sym, ap, ◌∙◌}
-use mathlib.Core.Logic.{◌≢◌}
+use mathlib.Core.Path.{◌≡◌, refl, sym, ap, ◌∙◌}
 use mathlib.Core.Bool.{Bool, true, false}
 use mathlib.Core.List.{List, [], ◌∷◌, ◌++◌}
-use Prim.Native.Nat.{ℕ, zero, suc, ◌-◌, ◌≤◌, ◌<◌}
+use Prim.Native.Nat.{ℕ, suc, ◌-◌, ◌≤◌, ◌<◌}
 use native.Mathlib.Omega.{arith}
-use lib.Dec.{eqb, ltb}
+use lib.Dec.{ltb}
 use lib.ListN.{length, take, drop, get_or}
 use lib.Seq.{take-length, take-suc, length-take-le, drop-append_seam}
-use borrow.Author.Tests.{eq-eqb, ne_eqb, lt-ltb, le-ltb}
-use Rattle.basics.specs.Choice.{pick}
+use borrow.Author.Tests.{lt-ltb, le-ltb}
 use Rattle.basics.proofs.Choice.{pick_true, pick_false}
-use Rattle.call.specs.Refusal.{bad_cycles}
+use Rattle.call.specs.Refusal.{refusal_number, Checked, Filled}
+use Rattle.call.specs.declared.refusal.Refusal.TheVariants.{BadVertexCount, TableLength, VertexEntry, NotNeighbours, NoZero, BadPairing, NoOddSide}
+use Rattle.call.specs.declared.refusal.Refusal.TheVariants.{MatrixEntry, BadDeterminant, NoWord, TooShort, PointCount, TableEntry, WrongOrder}
+use Rattle.call.specs.declared.refusal.Refusal.TheVariants.{Unreached, EntryTooLarge, LevelTooLarge, NoGenus, BadText, BadLevel, LargeIndex}
+use Rattle.call.specs.declared.refusal.Refusal.TheVariants.{TooLargeToDraw, NotFreeLabel, LargeIntersection, NotListedBefore, FalseClaim, BadCycles, LargeEntry}
 use Rattle.call.specs.declared.refusal.Refusal.{Refusal}
-use Rattle.call.specs.declared.refusal.Checked.{Checked}
-use Rattle.call.specs.declared.refusal.Filled.{Filled}
 use Rattle.call.specs.Call.{if_accepted, at_front}
 use Rattle.call.specs.Inner.Fills.{Fills, made_if}
 use Rattle.text.specs.Reading.{text_most}
@@ -33,7 +33,7 @@ use Rattle.cycle_reading.specs.Inner.Hand.{DigitsRead}
 use Rattle.cycle_reading.specs.declared.Digits.{Digits}
 use Rattle.cycle_texts.specs.Cut.{without_run, last_run, over_most, judged_text}
 use Rattle.cycle_texts.specs.CyclesAnswer.{cycles_read, cycles_answer}
-use Rattle.cycle_texts.specs.Inner.Ends.{RunBegins, JudgedTo, cut_refusal, cut_answer, CyclesLeave}
+use Rattle.cycle_texts.specs.Inner.Ends.{RunBegins, JudgedTo, cut_refusal, CyclesLeave}
 use Rattle.cycle_texts.proofs.CyclesRuns.{split_run, digit_more, other_more}
 
 -- ---- back over the digits
@@ -101,26 +101,43 @@ module _ (longer : Bool) (t : List ℕ) (at : ℕ) (r : Digits) (go : longer ≡
 
 -- ---- the refusal
 
-module _ (end : ℕ) (f : Refusal) where
-  pub stays_12 : f.number ≡ 12 → f ≡ cut_refusal end f
-  stays_12 e = sym (pick_true (eqb f.number 12) _ _ (eq-eqb f.number 12 e))
+-- one of the refusals 13 to 15
+pub pair_cut : (end : ℕ) (f : Refusal) → 13 ≤ refusal_number f → refusal_number f ≤ 15 → cut_refusal end f ≡ BadCycles text_most
+pair_cut end BadVertexCount l h = refl
+pair_cut end (TableLength n) l h = refl
+pair_cut end (VertexEntry n) l h = refl
+pair_cut end (NotNeighbours n) l h = refl
+pair_cut end NoZero l h = refl
+pair_cut end (BadPairing n) l h = refl
+pair_cut end NoOddSide l h = refl
+pair_cut end (MatrixEntry n) l h = refl
+pair_cut end (BadDeterminant n) l h = refl
+pair_cut end NoWord l h = refl
+pair_cut end (TooShort n) l h = refl
+pair_cut end PointCount l h = absurd (omega arith)
+pair_cut end (TableEntry n) l h = refl
+pair_cut end (WrongOrder n) l h = refl
+pair_cut end (Unreached n) l h = refl
+pair_cut end (EntryTooLarge n) l h = refl
+pair_cut end LevelTooLarge l h = refl
+pair_cut end NoGenus l h = refl
+pair_cut end (BadText n) l h = refl
+pair_cut end BadLevel l h = refl
+pair_cut end LargeIndex l h = refl
+pair_cut end (TooLargeToDraw n) l h = refl
+pair_cut end (NotFreeLabel n) l h = refl
+pair_cut end LargeIntersection l h = refl
+pair_cut end (NotListedBefore n) l h = refl
+pair_cut end (FalseClaim n) l h = refl
+pair_cut end (BadCycles n) l h = absurd (omega arith)
+pair_cut end (LargeEntry n) l h = refl
 
-  is_27 : f.number ≢ 12 → f.number ≡ 27 → cut_refusal end f ≡ pick (ltb f.place end) f (bad_cycles text_most)
-  is_27 n e =
-      pick_false (eqb f.number 12) _ _ (ne_eqb f.number 12 n) ∙ pick_true (eqb f.number 27) _ _ (eq-eqb f.number 27 e)
+-- a place inside the part that is judged, and one past it
+pub stays_27 : (end p : ℕ) → p < end → BadCycles p ≡ cut_refusal end (BadCycles p)
+stays_27 end p h = sym (pick_true (ltb p end) _ _ (lt-ltb p end h))
 
-  pub stays_27 : f.number ≢ 12 → f.number ≡ 27 → f.place < end → f ≡ cut_refusal end f
-  stays_27 n e h = sym (is_27 n e ∙ pick_true (ltb f.place end) _ _ (lt-ltb f.place end h))
-
-  pub past_end : f.number ≢ 12 → f.number ≡ 27 → end ≤ f.place → bad_cycles text_most ≡ cut_refusal end f
-  past_end n e h = sym (is_27 n e ∙ pick_false (ltb f.place end) _ _ (le-ltb f.place end h))
-
-  pub past_both : f.number ≢ 12 → f.number ≢ 27 → bad_cycles text_most ≡ cut_refusal end f
-  past_both n m =
-      sym (pick_false (eqb f.number 12) _ _ (ne_eqb f.number 12 n) ∙ pick_false (eqb f.number 27) _ _ (ne_eqb f.number 27 m))
-
-  pub pair_cut : 13 ≤ f.number → f.number ≤ 15 → cut_refusal end f ≡ bad_cycles text_most
-  pair_cut l h = sym (past_both (λ e. omega arith) (λ e. omega arith))
+pub past_end : (end p : ℕ) → end ≤ p → BadCycles text_most ≡ cut_refusal end (BadCycles p)
+past_end end p h = sym (pick_false (ltb p end) _ _ (le-ltb p end h))
 
 -- ---- the answer
 

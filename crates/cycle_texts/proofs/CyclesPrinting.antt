@@ -6,6 +6,7 @@
 --     lines_by_lem      the lines for an answer
 --     printed           what the bytes mean
 -- Assumes nothing.
+use Rattle.std.specs.Prelude.{Ok, Err}
 use mathlib.Core.Path.{◌≡◌, refl, sym, ap, subst, ◌∙◌}
 use mathlib.Core.Bool.{Bool, true, false}
 use mathlib.Core.List.{List, [], ◌++◌, append-nil}
@@ -16,12 +17,9 @@ use lib.Seq.{take_at}
 use borrow.Author.Tests.{lt-ltb, le-ltb, ltb-true}
 use Rattle.basics.specs.Choice.{pick}
 use Rattle.basics.proofs.Choice.{pick_true, pick_false}
-use Rattle.call.specs.Refusal.{point_count, bad_cycles}
+use Rattle.call.specs.Refusal.{Checked, Filled}
+use Rattle.call.specs.declared.refusal.Refusal.TheVariants.{PointCount, BadCycles}
 use Rattle.call.specs.declared.refusal.Refusal.{Refusal}
-use Rattle.call.specs.declared.refusal.Checked.{Checked}
-use Rattle.call.specs.declared.refusal.Checked.TheVariants as checked
-use Rattle.call.specs.declared.refusal.Filled.{Filled}
-use Rattle.call.specs.declared.refusal.Filled.TheVariants as filled
 use Rattle.call.proofs.Apart.{refused_accepted, refused_made}
 use Rattle.call.specs.Call.{if_accepted, at_front}
 use Rattle.call.specs.Inner.Fills.{made_if}
@@ -51,34 +49,34 @@ use Rattle.cycle_texts.proofs.Cutting.{pair_cut}
 -- ---- where tables come out
 
 pub record Made (text : List ℕ) (n : ℕ) : Type 0 where
-  pub check : cycles_check text ≡ checked.Accepted
+  pub check : cycles_check text ≡ Ok tt
   pub S_long : length (read_s text) ≡ n
   pub R_long : length (read_r text) ≡ n
   pub passport : Passport (read_s text) (read_r text)
 
-made_read : (text : List ℕ) (n : ℕ) → cycles_read text ≡ filled.Made n → Made text n
+made_read : (text : List ℕ) (n : ℕ) → cycles_read text ≡ Ok n → Made text n
 made_read text n e =
     let x = ok (cycles_check text) e in
     record { check = x.0; S_long = x.1; R_long = even text ∙ x.1; passport = good (verdict_of text) x.0 }
   where
-    made_index : {k m : ℕ} → filled.Made k ≡ filled.Made m → k ≡ m
+    made_index : {k m : ℕ} → ◌≡◌ {A = Filled} (Ok k) (Ok m) → k ≡ m
     made_index e = cc
 
-    ok : (c : Checked) → made_if (length (read_s text)) c ≡ filled.Made n → (c ≡ checked.Accepted) × (length (read_s text) ≡ n)
-    ok checked.Accepted z = (refl, made_index z)
-    ok (checked.Refused f) z = refused_made z
+    ok : (c : Checked) → made_if (length (read_s text)) c ≡ Ok n → (c ≡ Ok tt) × (length (read_s text) ≡ n)
+    ok (Ok tt) z = (refl, made_index z)
+    ok (Err f) z = refused_made z
 
-    good : (v : Verdict) → check_by v ≡ checked.Accepted → Passport (read_table table_of_s v) (read_table table_of_r v)
+    good : (v : Verdict) → check_by v ≡ Ok tt → Passport (read_table table_of_s v) (read_table table_of_r v)
     good (leaves place) z = refused_accepted z
     good index_out z = refused_accepted z
     good (reads q) z = (accepted (table_of_s q) (table_of_r q)).0 z
 
-cut_never : {X : Type 0} (end : ℕ) (v : Verdict) (n : ℕ) → cut_by end v ≡ filled.Made n → X
+cut_never : {X : Type 0} (end : ℕ) (v : Verdict) (n : ℕ) → cut_by end v ≡ Ok n → X
 cut_never end (leaves place) n e = refused_made e
 cut_never end index_out n e = refused_made e
 cut_never end (reads q) n e = refused_made e
 
-pub made_pair : (longer : Bool) (text : List ℕ) (n : ℕ) → cycles_answer longer text ≡ filled.Made n → Made (judged_text longer text) n
+pub made_pair : (longer : Bool) (text : List ℕ) (n : ℕ) → cycles_answer longer text ≡ Ok n → Made (judged_text longer text) n
 made_pair true text n e = cut_never (length (judged_text true text)) (verdict_of (judged_text true text)) n e
 made_pair false text n e = made_read (judged_text false text) n e
 
@@ -87,18 +85,18 @@ cut_verdict : (end : ℕ) (t : List ℕ) (v : Verdict) → VerdictMeans t v
     → cut_answer end (made_if (length (read_table table_of_s v)) (check_by v)) ≡ cut_by end v
 cut_verdict end t (leaves place) m = by_place (ltb place end)
   where
-    by_place : (b : Bool) → filled.Refused (pick b (bad_cycles place) (bad_cycles text_most)) ≡ filled.Refused (bad_cycles (pick b place text_most))
+    by_place : (b : Bool) → ◌≡◌ {A = Filled} (Err (pick b (BadCycles place) (BadCycles text_most))) (Err (BadCycles (pick b place text_most)))
     by_place true = refl
     by_place false = refl
 cut_verdict end t index_out m = refl
 cut_verdict end t (reads q) (right _ h) = go (pair_check (table_of_s q) (table_of_r q)) refl
   where
     go : (c : Checked) → pair_check (table_of_s q) (table_of_r q) ≡ c
-        → cut_answer end (made_if (length (table_of_s q)) c) ≡ filled.Refused (bad_cycles text_most)
-    go (checked.Refused f) e =
-        let k : FaultNumber (checked.Refused f) = subst FaultNumber e (fault t q h) in
-        ap filled.Refused (pair_cut end f k.0 k.1)
-    go checked.Accepted e = refl
+        → cut_answer end (made_if (length (table_of_s q)) c) ≡ Err (BadCycles text_most)
+    go (Err f) e =
+        let k : FaultNumber (Err f) = subst FaultNumber e (fault t q h) in
+        ap Err (pair_cut end f k.0 k.1)
+    go (Ok tt) e = refl
 
 pub answer_cut : (longer : Bool) (text : List ℕ) (end : ℕ) (a : Filled) → end ≡ length (judged_text longer text) → a ≡ cycles_read (judged_text longer text)
     → longer ≡ true
@@ -110,7 +108,7 @@ answer_cut longer text end a n e h =
     ∙ sym (pick_true longer _ _ h)
 
 -- the table at the front of what is left
-pub front_of : (c : Checked) (n : ℕ) (t out out' : List ℕ) → c ≡ checked.Accepted → length t ≡ n → out' ≡ if_accepted c (at_front t out) out
+pub front_of : (c : Checked) (n : ℕ) (t out out' : List ℕ) → c ≡ Ok tt → length t ≡ n → out' ≡ if_accepted c (at_front t out) out
     → take n out' ≡ t
 front_of c n t out out' e l h =
     ap (take n) (h ∙ ap (λ (x : Checked). if_accepted x (at_front t out) out) e) ∙ take_at t (drop (length t) out) n l
@@ -138,15 +136,15 @@ module _ (text : List ℕ) where
   checked_lines q c = pair_lines_by (made_if (length (table_of_s q)) c) (table_of_s q) (table_of_r q)
 
   by_check : (q : Read) → RightAs text q → (c : Checked) → pair_check (table_of_s q) (table_of_r q) ≡ c → CyclesPrinted text false (checked_lines q c)
-  by_check q h (checked.Refused f) e =
-      let k : FaultNumber (checked.Refused f) = subst FaultNumber e (fault text q h) in
+  by_check q h (Err f) e =
+      let k : FaultNumber (Err f) = subst FaultNumber e (fault text q h) in
       answer.no_pair q h f (record {
         first = e;
         low = k.0;
         high = k.1;
         none = λ p. refused_accepted (sym e ∙ (accepted (table_of_s q) (table_of_r q)).1 p);
       })
-  by_check q h checked.Accepted e =
+  by_check q h (Ok tt) e =
       let p = (accepted (table_of_s q) (table_of_r q)).0 e in
       answer.pair_printed q (record { right = h; passport = p }) (pair_read_back (table_of_s q) (table_of_r q) (pair_fits (table_of_s q) (table_of_r q) p))
 
@@ -161,27 +159,27 @@ module _ (text : List ℕ) where
   abbrev cut_lines : List ℕ → Verdict → List ℕ
   cut_lines t v = pair_lines_by (cut_by (length t) v) (read_s t) (read_r t)
 
-  follows : {v : Verdict} (f : Refusal) → check_by v ≡ checked.Refused f → ((rest : List ℕ) → verdict_of (text ++ rest) ≡ v)
+  follows : {v : Verdict} (f : Refusal) → check_by v ≡ Err f → ((rest : List ℕ) → verdict_of (text ++ rest) ≡ v)
       → CyclesPrinted text true (refusal_line f)
   follows {v} f said all = answer.whatever_follows f (λ rest. ap check_by (all rest) ∙ said)
 
   by_place : (t : List ℕ) (place : ℕ) → place < length t → ((rest : List ℕ) → verdict_of (text ++ rest) ≡ leaves place)
       → CyclesPrinted text true (cut_lines t (leaves place))
   by_place t place l all =
-      as_printed (ap (λ (k : ℕ). refusal_line (bad_cycles k)) (pick_true (ltb place (length t)) place text_most (lt-ltb place (length t) l)))
-      (follows (bad_cycles place) refl all)
+      as_printed (ap (λ (k : ℕ). refusal_line (BadCycles k)) (pick_true (ltb place (length t)) place text_most (lt-ltb place (length t) l)))
+      (follows (BadCycles place) refl all)
 
   by_fate : (v : Verdict) → Fate (without_run text) v → CyclesPrinted text true (cut_lines (without_run text) v)
-  by_fate v (out_already all) = follows point_count refl (λ rest. all (text ++ rest) _ (pieces_split text rest))
+  by_fate v (out_already all) = follows PointCount refl (λ rest. all (text ++ rest) _ (pieces_split text rest))
   by_fate v (lost_already place l all) = by_place (without_run text) place l (λ rest. all (text ++ rest) _ (pieces_split text rest))
   by_fate v (open_short place l c) =
-      as_printed (ap (λ (k : ℕ). refusal_line (bad_cycles k))
+      as_printed (ap (λ (k : ℕ). refusal_line (BadCycles k))
       (pick_false (ltb place (length (without_run text))) place text_most (le-ltb place (length (without_run text)) l)))
       (answer.goes_on c)
   by_fate v (open_right q c) = answer.goes_on c
 
   by_seal : (v : Verdict) → Sealed text v → CyclesPrinted text true (cut_lines text v)
-  by_seal v (sealed_out all) = follows point_count refl all
+  by_seal v (sealed_out all) = follows PointCount refl all
   by_seal v (sealed_at place l all) = by_place text place l all
 
   seal_said : (v : Verdict) → Sealed text v → v ≡ verdict_of text

@@ -10,7 +10,7 @@ use mathlib.Core.Bool.{Bool, true, false, not, ◌&&◌}
 use mathlib.Core.List.{List, [], ◌∷◌, ◌++◌, append-nil, append_assoc}
 use Prim.Native.Nat.{ℕ, suc, ◌+◌, ◌≤◌, ◌<◌}
 use native.Mathlib.Omega.{arith}
-use lib.Dec.{leb, ltb}
+use lib.Dec.{leb}
 use lib.ListN.{length, length-append}
 use borrow.Author.Tests.{lt-leb}
 use Rattle.basics.specs.Choice.{pick}
@@ -19,7 +19,7 @@ use Rattle.numbering.specs.Find.{is_in}
 use Rattle.cycle_notation.specs.Piece.{CyclePiece, number, blank, opening, closing, comma, semicolon, another, PlacedPiece, digit_byte, run_value}
 use Rattle.cycle_notation.specs.Piece.{cycle_pieces_from, cycle_pieces, without_offsets}
 use Rattle.cycle_notation.specs.Form.{Blanks, here, past, free, in_range, Right, Completes}
-use Rattle.cycle_notation.specs.Place.{WrongAt, at_piece, stops_short}
+use Rattle.cycle_notation.specs.Place.{at_piece, stops_short}
 use Rattle.cycle_notation.specs.Verdict.{Read, Verdict, reads, index_out, leaves, IndexOut, VerdictMeans, right, no_index, wrong}
 use Rattle.cycle_notation.specs.Inner.Reader.{Phase, start, opened, empty, point, wanted, closed, PartTurn, on, over, stop, turn_of, State, front, within_S}
 use Rattle.cycle_notation.specs.Inner.Reader.{within_R, dead, after, begin_r, read_piece, read_all, is_dead, bad_index, verdict_of}
@@ -29,7 +29,7 @@ use Rattle.cycle_notation.proofs.Only.{shorter, verdict_only}
 use Rattle.cycle_reading.proofs.Left.{begins_number, goes_on, is_mark}
 use Rattle.cycle_reading.proofs.Filling.{range_of}
 use Rattle.cycle_texts.specs.Cut.{all_digits, without_run, last_run}
-use Rattle.cycle_texts.proofs.CyclesRuns.{split_run, run_digits, all_head, all_tail, pieces_split, grows}
+use Rattle.cycle_texts.proofs.CyclesRuns.{split_run, run_digits, all_head, pieces_split, grows}
 
 abbrev pieces_in : List ℕ → List CyclePiece
 pieces_in t = without_offsets (cycle_pieces t)

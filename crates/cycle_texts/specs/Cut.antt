@@ -7,7 +7,7 @@
 --   judged_text longer t     the part of t that is judged: all of it where the input ends there (longer is false).
 --                            Where the input goes on: all of t where the run at its end says more than 3,066, and
 --                            else t without that run
-use Rattle.std.specs.Prelude.{Bool, true, false, ◌&&◌, List, [], ◌∷◌, ℕ, ltb}
+use Rattle.std.specs.Prelude.{Bool, true, ◌&&◌, List, [], ◌∷◌, ℕ, ltb}
 use Rattle.basics.specs.Choice.{pick}
 use Rattle.cycle_notation.specs.Piece.{digit_byte, run_value}
 

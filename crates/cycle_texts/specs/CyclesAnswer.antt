@@ -12,13 +12,11 @@
 --                             from the bytes as a pair of permutations. Of an input that goes on behind the text: the
 --                             refusal by `read_cycles` of every text that begins so, whatever follows; or 27 with the
 --                             place 65,536, where the pieces before the run of digits at the end can be completed
-use Rattle.std.specs.Prelude.{◌≡◌, Bool, true, false, List, ◌++◌, ℕ, ltb, length}
+use Rattle.std.specs.Prelude.{◌≡◌, Bool, true, false, List, ◌++◌, ℕ, ltb, length, Err}
 use Rattle.basics.specs.Choice.{pick}
-use Rattle.call.specs.Refusal.{point_count, bad_cycles}
+use Rattle.call.specs.Refusal.{Filled}
+use Rattle.call.specs.declared.refusal.Refusal.TheVariants.{PointCount, BadCycles}
 use Rattle.call.specs.declared.refusal.Refusal.{Refusal}
-use Rattle.call.specs.declared.refusal.Filled.{Filled}
-use Rattle.call.specs.declared.refusal.Filled.TheVariants as filled
-use Rattle.call.specs.declared.refusal.Checked.TheVariants as checked
 use Rattle.call.specs.Inner.Fills.{made_if}
 use Rattle.text.specs.Reading.{text_most}
 use Rattle.text.specs.Line.{refusal_line}
@@ -27,7 +25,8 @@ use Rattle.cycle_notation.specs.Form.{Completes}
 use Rattle.cycle_notation.specs.Place.{WrongAt}
 use Rattle.cycle_notation.specs.Verdict.{Read, Verdict, reads, index_out, leaves, IndexOut}
 use Rattle.cycle_notation.specs.Inner.Reader.{verdict_of}
-use Rattle.cycle_reading.specs.Reading.{cycles_check, read_s, read_r, table_of_s, table_of_r, RightAs, GoodPair, PairFault}
+use Rattle.cycle_reading.specs.Reading.{cycles_check, read_s, read_r, table_of_s}
+use Rattle.cycle_reading.specs.Reading.{table_of_r, RightAs, GoodPair, PairFault}
 use Rattle.symbol_texts.specs.Pair.{pair_text, PairReadBack, pair_lines_by}
 use Rattle.cycle_texts.specs.Cut.{without_run, judged_text}
 
@@ -35,9 +34,9 @@ abbrev pub cycles_read : List ℕ → Filled
 cycles_read text = made_if (length (read_s text)) (cycles_check text)
 
 abbrev pub cut_by : ℕ → Verdict → Filled
-cut_by end (leaves place) = filled.Refused (bad_cycles (pick (ltb place end) place text_most))
-cut_by end index_out = filled.Refused point_count
-cut_by end (reads q) = filled.Refused (bad_cycles text_most)
+cut_by end (leaves place) = Err (BadCycles (pick (ltb place end) place text_most))
+cut_by end index_out = Err PointCount
+cut_by end (reads q) = Err (BadCycles text_most)
 
 abbrev pub cycles_answer : Bool → List ℕ → Filled
 cycles_answer longer text =
@@ -53,14 +52,14 @@ cycles_text longer text =
 
 pub data CyclesPrinted (text : List ℕ) : Bool → List ℕ → Type 0 where
   leaves_form : (place : ℕ) → ¬ IndexOut (without_offsets (cycle_pieces text)) → WrongAt text place
-      → CyclesPrinted text false (refusal_line (bad_cycles place))
-  no_index : IndexOut (without_offsets (cycle_pieces text)) → CyclesPrinted text false (refusal_line point_count)
+      → CyclesPrinted text false (refusal_line (BadCycles place))
+  no_index : IndexOut (without_offsets (cycle_pieces text)) → CyclesPrinted text false (refusal_line PointCount)
   no_pair : (q : Read) → RightAs text q → (f : Refusal) → PairFault (table_of_s q) (table_of_r q) f
       → CyclesPrinted text false (refusal_line f)
   pair_printed : (q : Read) → GoodPair text q
       → PairReadBack (table_of_s q) (table_of_r q) (pair_text (table_of_s q) (table_of_r q))
       → CyclesPrinted text false (pair_text (table_of_s q) (table_of_r q))
-  whatever_follows : (f : Refusal) → ((rest : List ℕ) → cycles_check (text ++ rest) ≡ checked.Refused f)
+  whatever_follows : (f : Refusal) → ((rest : List ℕ) → cycles_check (text ++ rest) ≡ Err f)
       → CyclesPrinted text true (refusal_line f)
   goes_on : Completes (without_offsets (cycle_pieces (without_run text)))
-      → CyclesPrinted text true (refusal_line (bad_cycles text_most))
+      → CyclesPrinted text true (refusal_line (BadCycles text_most))

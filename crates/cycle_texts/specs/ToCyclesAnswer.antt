@@ -11,9 +11,8 @@
 --   ExportPrintMeans a bytes    that holds wherever the tables that are asked for are accepted
 -- An export has at most 65,536 bytes (cycle_writing/specs/Export.antt, `Exported`), and the program's space one more,
 -- for the line end: the refusal 11 of `write_cycles` never occurs there.
-use Rattle.std.specs.Prelude.{◌≡◌, Bool, List, [], ◌∷◌, ◌++◌, ℕ}
-use Rattle.call.specs.declared.refusal.Checked.{Checked}
-use Rattle.call.specs.declared.refusal.Checked.TheVariants.{Accepted, Refused}
+use Rattle.std.specs.Prelude.{◌≡◌, Bool, List, [], ◌∷◌, ◌++◌, ℕ, Ok, Err}
+use Rattle.call.specs.Refusal.{Checked}
 use Rattle.text.specs.Line.{refusal_line}
 use Rattle.permutations.specs.Check.{pair_check}
 use Rattle.cycle_writing.specs.Bytes.{export_of}
@@ -21,8 +20,8 @@ use Rattle.cycle_writing.specs.Export.{Exported}
 use Rattle.symbol_texts.specs.ImportAnswer.{Request, tables, refused, request_of}
 
 abbrev pub export_line_by : Checked → List ℕ → List ℕ
-export_line_by Accepted bs = bs ++ (10 ∷ [])
-export_line_by (Refused f) bs = refusal_line f
+export_line_by (Ok tt) bs = bs ++ (10 ∷ [])
+export_line_by (Err f) bs = refusal_line f
 
 unfoldable pub export_line : (s r : List ℕ) → List ℕ
 export_line s r = export_line_by (pair_check s r) (export_of s r)
@@ -39,4 +38,4 @@ pub record ExportPrinted (s r bytes : List ℕ) : Type 0 where
   pub exported : Exported s r (export_of s r)
 
 abbrev pub ExportPrintMeans : Request → (bytes : List ℕ) → Type 0
-ExportPrintMeans a bytes = (s r : List ℕ) → a ≡ tables s r → pair_check s r ≡ Accepted → ExportPrinted s r bytes
+ExportPrintMeans a bytes = (s r : List ℕ) → a ≡ tables s r → pair_check s r ≡ Ok tt → ExportPrinted s r bytes

@@ -4,7 +4,7 @@ ghost use Rattle.decimal.specs.Writing.{Puts};
 ghost use Rattle.cycle_texts.specs.CyclesAnswer.{cycles_answer, cycles_text};
 ghost use Rattle.cycle_texts.specs.Inner.Ends.{RunBegins, JudgedTo, cut_refusal, cut_answer, CyclesLeave};
 
-use call::refusal::{BAD_CYCLES, Filled, POINT_COUNT, Refusal};
+use call::refusal::Refusal;
 use cycle_reading::pieces::{digit, digits_at};
 use cycle_reading::read_cycles;
 use symbol_texts::pair_text::pair_lines;
@@ -15,16 +15,12 @@ use text::line::refusal_line;
 fn last_run(text: &[u8]) -> usize
     ensures { RunBegins text.now result }
 {
-    let mut at = text.len();
-    while 0 < at {
-        let last = at - 1;
-        if digit(text[last]) {
-            at = last;
-        } else {
-            return at;
+    for at in (0..text.len()).rev() {
+        if !digit(text[at]) {
+            return at + 1;
         }
     }
-    at
+    0
 }
 
 // How much of a text is judged. Where the input goes on behind it, a run of digits at its end may go on as well, and
@@ -47,35 +43,25 @@ fn judged_end(text: &[u8], longer: bool) -> usize
 fn cut_refusal(refused: Refusal, end: usize) -> Refusal
     ensures { result ≡ cut_refusal end refused }
 {
-    if refused.number == POINT_COUNT {
-        return refused;
-    }
-    if refused.number == BAD_CYCLES {
-        if refused.place < end {
-            return refused;
-        }
-    }
-    Refusal {
-        number: BAD_CYCLES,
-        place: TEXT_MOST,
+    match refused {
+        Refusal::PointCount => Refusal::PointCount,
+        Refusal::BadCycles(at) if at < end => Refusal::BadCycles(at),
+        _ => Refusal::BadCycles(TEXT_MOST),
     }
 }
 
 // The answer to an input that goes on, by that of the part that is judged.
-fn cut_answer(read: Filled, end: usize) -> Filled
+fn cut_answer(read: Result<usize, Refusal>, end: usize) -> Result<usize, Refusal>
     ensures { result ≡ cut_answer end read }
 {
     match read {
-        Filled::Made(_) => Filled::Refused(Refusal {
-            number: BAD_CYCLES,
-            place: TEXT_MOST,
-        }),
-        Filled::Refused(refusal) => Filled::Refused(cut_refusal(refusal, end)),
+        Ok(_) => Err(Refusal::BadCycles(TEXT_MOST)),
+        Err(refusal) => Err(cut_refusal(refusal, end)),
     }
 }
 
 // The answer to a text, or to an input that goes on behind it; its tables.
-fn read_tables(text: &[u8], longer: bool, s: &mut [u32], r: &mut [u32]) -> Filled
+fn read_tables(text: &[u8], longer: bool, s: &mut [u32], r: &mut [u32]) -> Result<usize, Refusal>
     requires { (length s.old ≡ 3066) × (length r.old ≡ 3066) }
     ensures value { result ≡ cycles_answer longer text.now }
     ensures cycles_leave { CyclesLeave longer text.now s.old r.old
@@ -96,8 +82,8 @@ fn cycles_text(text: &[u8], longer: bool, s: &mut [u32], r: &mut [u32], out: &mu
 {
     let read = read_tables(text, longer, s, r);
     match read {
-        Filled::Made(n) => pair_lines(&s[..n], &r[..n], out),
-        Filled::Refused(refusal) => refusal_line(refusal, out),
+        Ok(n) => pair_lines(&s[..n], &r[..n], out),
+        Err(refusal) => refusal_line(refusal, out),
     }
 }
 

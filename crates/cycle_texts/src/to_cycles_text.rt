@@ -3,7 +3,6 @@ ghost use Rattle.std.specs.Prelude.{◌≡◌, ◌≤◌, length};
 ghost use Rattle.decimal.specs.Writing.{Puts};
 ghost use Rattle.cycle_texts.specs.ToCyclesAnswer.{export_line, to_cycles_text};
 
-use call::refusal::Filled;
 use cycle_writing::write_cycles;
 use decimal::put;
 use symbol_texts::import_text::read_tables;
@@ -16,8 +15,8 @@ fn export_line(s: &[u32], r: &[u32], out: &mut [u8]) -> usize
 {
     let made = write_cycles(s, r, out);
     match made {
-        Filled::Made(n) => put(b"\n", out, n),
-        Filled::Refused(refusal) => refusal_line(refusal, out),
+        Ok(n) => put(b"\n", out, n),
+        Err(refusal) => refusal_line(refusal, out),
     }
 }
 
@@ -36,8 +35,8 @@ fn to_cycles_text(
 {
     let read = read_tables(text, longer, numbers, s, r);
     match read {
-        Filled::Refused(refusal) => refusal_line(refusal, out),
-        Filled::Made(n) => export_line(&s[..n], &r[..n], out),
+        Err(refusal) => refusal_line(refusal, out),
+        Ok(n) => export_line(&s[..n], &r[..n], out),
     }
 }
 

@@ -1,7 +1,6 @@
 -- The worked example of the request, Γ0(2) as `3 (1,2);(1,3,2)`, and the whole group, whose S and R are the identity. Assumes nothing.
 use mathlib.Core.Path.{◌≡◌, refl}
-use mathlib.Core.List.{List, [], ◌∷◌}
-use Prim.Native.Nat.{ℕ}
+use mathlib.Core.List.{[], ◌∷◌}
 use Rattle.figures.specs.Cusps.{steps_to, width, iterates, none_below}
 use Rattle.decimal.specs.Decimal.{digits_onto, digits}
 use Rattle.cycle_writing.specs.Cycles.{begins_cycle, cycles_below}

@@ -1,19 +1,18 @@
 -- How long an export can get: no point is named twice, so a permutation of n points has 11n/2 bytes or less, and a few more.
 --     export_most     an export has at most 65,536 bytes
 -- Assumes nothing.
-use mathlib.Core.Path.{◌≡◌, refl, sym, ap, ◌∙◌}
+use mathlib.Core.Path.{◌≡◌, ap, ◌∙◌}
 use mathlib.Core.Logic.{◌⊎◌, inl, inr}
-use mathlib.Core.Bool.{Bool, true, false}
-use mathlib.Core.List.{List, [], ◌∷◌, ◌++◌}
-use Prim.Native.Nat.{ℕ, zero, suc, ◌+◌, ◌*◌, ◌≤◌, ◌<◌}
+use mathlib.Core.Bool.{true, false}
+use mathlib.Core.List.{List, [], ◌∷◌}
+use Prim.Native.Nat.{ℕ, zero, suc, ◌*◌, ◌≤◌, ◌<◌}
 use native.Mathlib.Decide.{ℕ_discrete}
 use native.Mathlib.Omega.{arith}
 use lib.Dec.{eqb}
 use lib.ListN.{length, get_or, length-append}
-use borrow.Author.Tests.{lt-ltb, ne_eqb, eq-eqb}
-use Rattle.basics.specs.Choice.{pick}
+use borrow.Author.Tests.{lt-ltb, ne_eqb}
 use Rattle.basics.proofs.Choice.{pick_false, either, clash}
-use Rattle.numbering.specs.Find.{find, is_in, ◌∈◌, ◌∉◌, Once}
+use Rattle.numbering.specs.Find.{find, is_in, ◌∉◌, Once}
 use Rattle.numbering.specs.Table.{image_at}
 use Rattle.numbering.proofs.Find.{in_all, once_none, once_last, once_append, once_below}
 use Rattle.figures.specs.Cusps.{cycle}
@@ -24,7 +23,7 @@ use Rattle.cycle_notation.proofs.Points.{free_range}
 use Rattle.cycle_notation.proofs.Stores.{in_head, fresh}
 use Rattle.cycle_writing.specs.Cycles.{begins_cycle, points_from_one, cycles_below, cycles_of}
 use Rattle.cycle_writing.specs.Bytes.{cycle_bytes, cycles_bytes, permutation_bytes, export_of}
-use Rattle.cycle_writing.specs.Inner.Short.{ShortTable, bytes_at, bytes_below}
+use Rattle.cycle_writing.specs.Inner.Short.{ShortTable, bytes_below}
 use Rattle.cycle_writing.proofs.Short.{Shape, pair, triple, shape, begins_above, below_yes, below_no}
 use Rattle.cycle_writing.proofs.Points.{points_last, disjoint_below}
 use Rattle.cycle_writing.proofs.Sizes.{two_size, three_size, bytes_last, empty_is, cycles_are, export_size}

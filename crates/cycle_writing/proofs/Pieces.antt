@@ -11,7 +11,7 @@ use native.Mathlib.Decide.{dec_lt}
 use native.Mathlib.Omega.{arith}
 use borrow.Author.Tests.{lt-ltb, le-ltb, le-leb}
 use Rattle.decimal.specs.Decimal.{digits_onto, digits}
-use Rattle.cycle_notation.specs.Piece.{digit_byte, CyclePiece, number, mark, run_value, PlacedPiece, number_begun, cycle_pieces_from, without_offsets}
+use Rattle.cycle_notation.specs.Piece.{digit_byte, CyclePiece, number, mark, run_value, number_begun, cycle_pieces_from, without_offsets}
 
 abbrev pub pieces_of : Bool → List ℕ → List CyclePiece
 pieces_of inside t = without_offsets (cycle_pieces_from 0 inside t)

@@ -5,11 +5,11 @@
 -- The cycles are `g x ∷ h x` for the x of a list: none is without points.
 -- Assumes nothing.
 use mathlib.Core.Path.{◌≡◌, refl, sym, ap, subst, ◌∙◌}
-use mathlib.Core.Bool.{Bool, true, false}
+use mathlib.Core.Bool.{true, false}
 use mathlib.Core.List.{List, [], ◌∷◌, ◌++◌, map, append_assoc, append-nil}
 use Prim.Native.Nat.{ℕ}
 use Rattle.decimal.specs.Decimal.{digits}
-use Rattle.cycle_notation.specs.Piece.{CyclePiece, number, blank, opening, closing, comma, semicolon, cycle_pieces_from, without_offsets}
+use Rattle.cycle_notation.specs.Piece.{CyclePiece, number, blank, opening, closing, comma, cycle_pieces_from, without_offsets}
 use Rattle.cycle_notation.specs.Form.{Blanks, here, past, More, last, further, Cycles, end, gap, cycle, Written, cycles, identity, Reading}
 use Rattle.cycle_writing.specs.Bytes.{behind_commas, cycle_bytes, cycles_bytes, permutation_bytes}
 use Rattle.cycle_writing.proofs.Pieces.{pieces_of, mark_first, number_first}

@@ -2,18 +2,19 @@
 --     one_digit .. four-digits    how many digits a number below 10,000 has
 --     two_size, three-size        a cycle of two points, of three
 --     two_at, three-at            the cycle that begins at x
---     none_at                     no cycle begins there
+--     sized_least                 a cycle has two points at least
 --     bytes-none, bytes-more      the cycles that begin below 0, below x + 1
+--     bytes_kept                  no cycle begins at x
 --     bytes_room                  there is room for the cycle at x where there is room for all
 --     empty-is, cycles-are        a permutation without cycles, and with some
 --     export_size                 the whole
 -- Assumes nothing.
 use mathlib.Core.Path.{◌≡◌, refl, sym, ap, ◌∙◌}
 use mathlib.Core.Logic.{◌⊎◌, inl, inr}
-use mathlib.Core.Bool.{Bool, true, false}
+use mathlib.Core.Bool.{true, false}
 use mathlib.Core.List.{List, [], ◌∷◌, ◌++◌, append_assoc, append-nil}
 use Prim.Native.Nat.{ℕ, zero, suc, ◌+◌, ◌/◌, ◌≤◌, ◌<◌}
-use native.Mathlib.Decide.{dec_lt}
+use native.Mathlib.Decide.{dec_lt, ℕ_discrete}
 use native.Mathlib.Numerals.{add-one}
 use native.Mathlib.Omega.{arith}
 use lib.ListN.{length, length-append}
@@ -26,7 +27,7 @@ use Rattle.figures.specs.Cusps.{cycle}
 use Rattle.permutations.specs.Pair.{image}
 use Rattle.cycle_writing.specs.Cycles.{begins_cycle, points_from_one, cycles_below, cycles_of}
 use Rattle.cycle_writing.specs.Bytes.{behind_commas, cycle_bytes, cycles_bytes, permutation_bytes, export_of}
-use Rattle.cycle_writing.specs.Inner.Short.{ShortTable, StartIn, bytes_at, bytes_below}
+use Rattle.cycle_writing.specs.Inner.Short.{StartIn, bytes_at, bytes_below}
 use Rattle.cycle_writing.proofs.Short.{Shape, pair, triple, shape, begins_above, below_yes, below_no, once_is, again_is}
 
 -- ---- digits
@@ -135,7 +136,11 @@ module _ (t : List ℕ) (x a b : ℕ) (h : StartIn t x) (ea : a ≡ image t x) (
   pub three_sized : ¬ (b ≡ x) → length (bytes_at t x) ≡ length (digits (x + 1)) + length (digits (a + 1)) + length (digits (b + 1)) + 4
   three_sized d = sym (ap length (three_here d)) ∙ three_size (x + 1) (a + 1) (b + 1)
 
-pub none_at : (t : List ℕ) (x : ℕ) → begins_cycle t x ≡ false → [] ≡ bytes_at t x
+  -- a cycle has two points at least
+  pub sized_least : length (digits (x + 1)) + length (digits (a + 1)) + 3 ≤ length (bytes_at t x)
+  sized_least = elim (ℕ_discrete b x) [ yes e ↦ omega (arith, two_sized e) | no d ↦ omega (arith, three_sized d) ]
+
+none_at : (t : List ℕ) (x : ℕ) → begins_cycle t x ≡ false → [] ≡ bytes_at t x
 unfolding bytes_at
 none_at t x e = sym (pick_false (begins_cycle t x) _ _ e)
 
@@ -167,6 +172,10 @@ bytes_next t x = go (either (begins_cycle t x))
 
 pub bytes_more : (t : List ℕ) (x : ℕ) → bytes_below t x ++ bytes_at t x ≡ bytes_below t (x + 1)
 bytes_more t x = bytes_next t x ∙ ap (bytes_below t) (sym (add-one x))
+
+-- no cycle begins at x
+pub bytes_kept : (t : List ℕ) (x : ℕ) → begins_cycle t x ≡ false → bytes_below t x ≡ bytes_below t (x + 1)
+bytes_kept t x e = sym (append-nil (bytes_below t x)) ∙ ap (λ (l : List ℕ). bytes_below t x ++ l) (none_at t x e) ∙ bytes_more t x
 
 pub size_more : (t : List ℕ) (x : ℕ) → length (bytes_below t (x + 1)) ≡ length (bytes_below t x) + length (bytes_at t x)
 size_more t x = sym (ap length (bytes_more t x)) ∙ length-append (bytes_below t x) (bytes_at t x)

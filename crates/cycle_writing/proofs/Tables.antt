@@ -6,11 +6,11 @@ use mathlib.Core.Path.{◌≡◌, refl, sym, ap, subst, ◌∙◌}
 use mathlib.Core.Logic.{◌⊎◌, inl, inr}
 use mathlib.Core.Bool.{Bool, true, false}
 use mathlib.Core.List.{List, [], ◌∷◌, ◌++◌}
-use Prim.Native.Nat.{ℕ, zero, suc, ◌+◌, ◌-◌, ◌≤◌, ◌<◌}
+use Prim.Native.Nat.{ℕ, zero, suc, ◌-◌, ◌≤◌, ◌<◌}
 use native.Mathlib.Decide.{dec_lt, ℕ_discrete}
 use native.Mathlib.Omega.{arith}
 use lib.Dec.{eqb}
-use lib.ListN.{length, get_or}
+use lib.ListN.{length}
 use lib.Seq.{ext_get_or}
 use borrow.Author.Tests.{eq-eqb, ne_eqb}
 use Rattle.basics.specs.Choice.{pick}
@@ -19,7 +19,7 @@ use Rattle.numbering.specs.Table.{image_at}
 use Rattle.figures.specs.Cusps.{cycle}
 use Rattle.numbering.specs.Find.{is_in}
 use Rattle.cycle_notation.specs.Form.{points_of}
-use Rattle.cycle_notation.specs.Table.{behind_in, turned_by, image_by, tabled, cycle_table}
+use Rattle.cycle_notation.specs.Table.{behind_in, turned_by, image_by, cycle_table}
 use Rattle.cycle_notation.proofs.Stores.{in_head, in_tail, out_tail, not_in_none, length_tabled, get_d_tabled}
 use Rattle.cycle_writing.specs.Cycles.{begins_cycle, points_from_one, cycles_below, cycles_of}
 use Rattle.cycle_writing.specs.Inner.Short.{ShortTable}

@@ -4,11 +4,10 @@
 -- Assumes nothing.
 use mathlib.Core.Path.{◌≡◌, refl, sym, ap, subst, ◌∙◌}
 use mathlib.Core.Logic.{inl, inr}
-use mathlib.Core.Bool.{true, ◌&&◌}
-use mathlib.Core.List.{List, [], ◌∷◌, ◌++◌}
-use Prim.Native.Nat.{ℕ, suc, ◌≤◌, ◌<◌}
+use mathlib.Core.Bool.{true}
+use mathlib.Core.List.{List, []}
+use Prim.Native.Nat.{ℕ, suc, ◌<◌}
 use native.Mathlib.Omega.{arith}
-use lib.Dec.{leb}
 use lib.ListN.{length}
 use borrow.Author.Tests.{le-leb}
 use Rattle.basics.specs.Count.{those}
@@ -20,7 +19,6 @@ use Rattle.cycle_notation.specs.Piece.{cycle_pieces, without_offsets}
 use Rattle.cycle_notation.specs.Form.{points_of, Disjoint, in_range, Reading, Right}
 use Rattle.cycle_notation.specs.Table.{cycle_table}
 use Rattle.cycle_notation.specs.Verdict as verdict
-use Rattle.cycle_notation.specs.Inner.Reader.{verdict_of}
 use Rattle.cycle_notation.proofs.Only.{verdict_only}
 use Rattle.cycle_writing.specs.Cycles.{begins_cycle, points_from_one, cycles_below, cycles_of}
 use Rattle.cycle_writing.specs.Bytes.{export_of}

@@ -1,4 +1,5 @@
-// The length of an export, before it is written.
+// The length of an export, before it is written. One walk for the length and the bytes, by a trait for what it puts,
+// would be no plainer: its laws would be those of both files, and the two bounds below hold of the length alone.
 ghost use Rattle.std.specs.Prelude.{◌≡◌, ◌*◌, ◌≤◌, ◌<◌, length};
 ghost use Rattle.decimal.specs.Decimal.{digits};
 ghost use Rattle.cycle_writing.specs.Cycles.{cycles_of};
@@ -13,16 +14,12 @@ fn digit_count(n: usize) -> usize
     requires { n < 10000 }
     ensures { (result ≡ length (digits n)) × (result ≤ 4) }
 {
-    if n < 10 {
-        return 1;
+    match n {
+        0..=9 => 1,
+        10..=99 => 2,
+        100..=999 => 3,
+        _ => 4,
     }
-    if n < 100 {
-        return 2;
-    }
-    if n < 1000 {
-        return 3;
-    }
-    4
 }
 
 // The length of the cycle that begins at x: its points' digits, a comma between two of them, and the brackets.
@@ -35,21 +32,10 @@ fn cycle_length(t: &[u32], x: usize) -> usize
     let first = digit_count(x + 1);
     let second = digit_count(a + 1);
     if b == x {
-        return first + second + 3;
+        first + second + 3
+    } else {
+        first + second + digit_count(b + 1) + 4
     }
-    let third = digit_count(b + 1);
-    first + second + third + 4
-}
-
-// The length of the cycle that begins at x, or 0 where none does.
-fn length_at(t: &[u32], x: usize) -> usize
-    requires { ShortTable t.now × (x < length t.now) }
-    ensures { (result ≡ length (bytes_at t.now x)) × (result ≤ 16) }
-{
-    if is_start(t, x) {
-        return cycle_length(t, x);
-    }
-    0
 }
 
 // The length of all cycles.
@@ -57,11 +43,11 @@ fn cycles_length(t: &[u32]) -> usize
     requires { ShortTable t.now }
     ensures { (result ≡ length (bytes_below t.now (length t.now))) × (result ≤ 49056) }
 {
-    let mut k: usize = 0;
-    let mut x: usize = 0;
-    while x < t.len() {
-        k += length_at(t, x);
-        x += 1;
+    let mut k = 0;
+    for x in 0..t.len() {
+        if is_start(t, x) {
+            k += cycle_length(t, x);
+        }
     }
     k
 }
@@ -72,10 +58,7 @@ fn permutation_length(t: &[u32]) -> usize
     ensures { (result ≡ length (permutation_bytes (cycles_of t.now))) × (result ≤ 49056) }
 {
     let k = cycles_length(t);
-    if k == 0 {
-        return 2;
-    }
-    k
+    if k == 0 { 2 } else { k }
 }
 
 // The length of an export: the index, a blank, S, a semicolon and R.

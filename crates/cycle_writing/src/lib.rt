@@ -3,46 +3,28 @@
 #![tactic(auto)]
 
 ghost use Rattle.std.specs.Prelude.{length};
-ghost use Rattle.call.specs.Call.{stores};
 ghost use Rattle.call.specs.Inner.Fills.{Fills, made_if};
-ghost use Rattle.permutations.specs.Check.{Passport};
 ghost use Rattle.cycle_writing.specs.Bytes.{export_of};
 ghost use Rattle.cycle_writing.specs.Export.{export_steps};
 
 use bytes::put_export;
-use call::refusal::{Checked, Filled, Refusal, TOO_SHORT};
+use call::refusal::Refusal;
 use length::export_length;
 
 mod bytes;
 mod length;
 mod start;
 
-// The export of an accepted pair, where the result space has room for it.
-fn write_accepted(s: &[u32], r: &[u32], out: &mut [u8]) -> Filled
-    requires { Passport s.now r.now }
-    ensures { Fills (stores (export_of s.now r.now) out)
-        (made_if (length (export_of s.now r.now))) result }
-{
-    let n = export_length(s, r);
-    if out.len() < n {
-        return Filled::Refused(Refusal {
-            number: TOO_SHORT,
-            place: n,
-        });
-    }
-    let end = put_export(s, r, out);
-    Filled::Made(end)
-}
-
 // The tables of S and R as text in cycle notation, at the front of the result space: the length of the text; or 12 to
 // 15, then 11 with that length.
-pub fn write_cycles(s: &[u32], r: &[u32], out: &mut [u8]) -> Filled
+pub fn write_cycles(s: &[u32], r: &[u32], out: &mut [u8]) -> Result<usize, Refusal>
     ensures { Fills (export_steps s.now r.now out)
         (made_if (length (export_of s.now r.now))) result }
 {
-    let checked = permutations::check(s, r);
-    match checked {
-        Checked::Refused(refusal) => Filled::Refused(refusal),
-        Checked::Accepted => write_accepted(s, r, out),
+    permutations::check(s, r)?;
+    let n = export_length(s, r);
+    if out.len() < n {
+        return Err(Refusal::TooShort(n));
     }
+    Ok(put_export(s, r, out))
 }

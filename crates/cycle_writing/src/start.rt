@@ -11,9 +11,5 @@ pub(crate) fn is_start(t: &[u32], x: usize) -> bool
     ensures { result ≡ begins_cycle t.now x }
 {
     let a = image(t, x);
-    if a <= x {
-        return false;
-    }
-    let b = image(t, a);
-    x <= b
+    x < a && x <= image(t, a)
 }

@@ -1,36 +1,31 @@
 -- Bytes put into a slice, and digits put into a buffer from the back.
---     put-more, put-end     one byte more of a copy; the whole copy
---     written-short, written-to    the answer's two cases
+--     put_end               a copy of all bytes
+--     written_short, written_to    the answer's two cases
 --     front_store           a store just before what stands at the end of a list puts it in front
 --     tenth                 a number of at most k digits, and of two at least, has a tenth of at most k - 1
 -- Assumes nothing.
-use mathlib.Core.Path.{◌≡◌, sym, ap, ◌∙◌}
+use Rattle.std.specs.Prelude.{Ok, Err}
+use mathlib.Core.Path.{◌≡◌, ◌∙◌}
 use mathlib.Core.List.{List, ◌∷◌}
 use Prim.Native.Nat.{ℕ, zero, suc, ◌+◌, ◌-◌, ◌/◌, ◌≤◌, ◌<◌, ◌^◌, min}
 use native.Mathlib.Nat.{pow-succ'}
-use native.Mathlib.Numerals.{add-one}
 use native.Mathlib.Omega.{arith}
-use lib.ListN.{length, get_or, drop, set, length-set}
-use lib.Seq.{paste, paste-suc, take-length, drop-cons, drop-set-lt, get_or-set_same}
+use lib.ListN.{length, drop, set, length-set}
+use lib.Seq.{paste, take-length, drop-cons, drop-set-lt, get_or-set_same}
 use borrow.Author.Tests.{le-leb, lt-leb}
-use Rattle.call.specs.Refusal.{too_short}
+use Rattle.call.specs.declared.refusal.Refusal.TheVariants.{TooShort}
 use Rattle.decimal.specs.Writing.{written_of, bytes_placed, room_most}
-use Rattle.decimal.specs.declared.Written.TheVariants as written
-
-pub put_more : (d : List ℕ) (at : ℕ) (s : List ℕ) (i : ℕ) → at + length s ≤ length d → i < length s
-    → set (paste d at s i) (at + i) (get_or s i 0) ≡ paste d at s (i + 1)
-put_more d at s i h l = paste-suc d at s i 0 (omega arith) l ∙ ap (paste d at s) (sym (add-one i))
 
 pub put_end : (d : List ℕ) (at : ℕ) (s : List ℕ) → paste d at s (length s) ≡ bytes_placed s at d
 unfolding bytes_placed
 put_end d at s = rw take-length
 
 module _ (k room at : ℕ) where
-  pub written_short : room < at + k → written.Refused (too_short (min (at + k) room_most)) ≡ written_of k room at
+  pub written_short : room < at + k → Err (TooShort (min (at + k) room_most)) ≡ written_of k room at
   unfolding written_of
   written_short h = rw (lt-leb (at + k) room h)
 
-  pub written_to : at + k ≤ room → written.To (at + k) ≡ written_of k room at
+  pub written_to : at + k ≤ room → Ok (at + k) ≡ written_of k room at
   unfolding written_of
   written_to h = rw (le-leb (at + k) room h)
 

@@ -8,6 +8,7 @@
 --     puts_front        bytes put at the front are what stands there
 --     puts_as           the same bytes in other words
 -- Assumes nothing.
+use Rattle.std.specs.Prelude.{Ok, Err}
 use mathlib.Core.Path.{◌≡◌, sym, ap, ◌∙◌}
 use mathlib.Core.List.{List, [], ◌++◌, append_assoc}
 use Prim.Native.Nat.{ℕ, ◌+◌, ◌≤◌}
@@ -16,23 +17,22 @@ use lib.ListN.{length, take, drop, length-append, length-drop}
 use lib.Seq.{take_at, drop-drop, drop-append-add, length-take-le, paste-zero}
 use Rattle.call.specs.declared.refusal.Refusal.{Refusal}
 use Rattle.decimal.specs.Writing.{written_of, bytes_placed, standing, Puts}
-use Rattle.decimal.specs.declared.Written.{Written}
-use Rattle.decimal.specs.declared.Written.TheVariants as written
+use Rattle.call.specs.Refusal.{Filled}
 use Rattle.decimal.proofs.Places.{written_to}
 
-module _ (bs out out' : List ℕ) (at : ℕ) (w : Written) (e : w ≡ written_of (length bs) (length out) at) (l : out' ≡ standing w bs at out)
+module _ (bs out out' : List ℕ) (at : ℕ) (w : Filled) (e : w ≡ written_of (length bs) (length out) at) (l : out' ≡ standing w bs at out)
     (h : at + length bs ≤ length out) where
-  to : w ≡ written.To (at + length bs)
+  to : w ≡ Ok (at + length bs)
   to = e ∙ sym (written_to (length bs) (length out) at h)
 
-  pub by_writing : (end : ℕ) → w ≡ written.To end → Puts bs at end out out'
+  pub by_writing : (end : ℕ) → w ≡ Ok end → Puts bs at end out out'
   unfolding standing
   by_writing end f =
-      let g : written.To end ≡ written.To (at + length bs) = sym f ∙ to in
-      record { end_is = cc; left = l ∙ ap (λ (x : Written). standing x bs at out) to }
+      let g : Ok end ≡ Ok (at + length bs) = sym f ∙ to in
+      record { end_is = cc; left = l ∙ ap (λ (x : Filled). standing x bs at out) to }
 
-  pub no_refusal_lem : {A : Type 0} (f : Refusal) → w ≡ written.Refused f → A
-  no_refusal_lem f e = let g : written.Refused f ≡ written.To (at + length bs) = sym e ∙ to in let z : ◌≡◌ {A = ℕ} 0 1 = cc in absurd (omega arith)
+  pub no_refusal_lem : {A : Type 0} (f : Refusal) → w ≡ Err f → A
+  no_refusal_lem f e = let g : Err f ≡ Ok (at + length bs) = sym e ∙ to in let z : ◌≡◌ {A = ℕ} 0 1 = cc in absurd (omega arith)
 
 pub puts_none : (at : ℕ) (out : List ℕ) → Puts [] at at out out
 unfolding bytes_placed

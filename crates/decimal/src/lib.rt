@@ -1,79 +1,39 @@
 // Numbers in decimal form, and other bytes, written into a lent slice (specs/Decimal.antt, specs/Writing.antt).
 #![tactic(auto)]
 
-ghost use Rattle.std.specs.Prelude.{◌≡◌, ◌+◌, ◌≤◌, min, length, drop, nat_abs};
+ghost use Rattle.std.specs.Prelude.{◌≡◌, ◌+◌, ◌≤◌, length, drop, nat_abs};
 ghost use Rattle.decimal.specs.Decimal.{digits, decimal_of};
-ghost use Rattle.decimal.specs.Writing.{room_most, written_of, bytes_placed, standing, Puts};
+ghost use Rattle.decimal.specs.Writing.{written_of, standing, Puts};
 
-use call::refusal::{Refusal, TOO_SHORT};
+use call::refusal::Refusal;
 
-// The greatest length.
-const ROOM_MOST: usize = 18446744073709551615;
-
-// What writing gives.
-#[derive(Clone, Copy)]
-pub enum Written {
-    // The bytes stand, and end before this offset.
-    To(usize),
-    // 11 with the length that the slice needs.
-    Refused(Refusal),
-}
-
-// The length that k bytes from `at` on need, or the greatest number where that is greater.
-fn needed(at: usize, k: usize) -> usize
-    ensures { result ≡ min (at + k) room_most }
-{
-    if ROOM_MOST - at < k {
-        return ROOM_MOST;
-    }
-    at + k
-}
-
-// Puts the bytes into `out` from `at` on.
-fn store(bytes: &[u8], out: &mut [u8], at: usize)
+// Puts the bytes into `out` from `at` on, where they fit by the contract; where they end.
+pub fn put(bytes: &[u8], out: &mut [u8], at: usize) -> usize
     requires { at + length bytes.now ≤ length out.old }
-    ensures { out.new ≡ bytes_placed bytes.now at out.old }
+    ensures { Puts bytes.now at result out.old out.new }
 {
-    let mut i = 0;
-    while i < bytes.len() {
-        out[at + i] = bytes[i];
-        i += 1;
-    }
+    let end = at + bytes.len();
+    out[at..end].copy_from_slice(bytes);
+    end
 }
 
 // Copies the bytes into `out` from `at` on, where they fit.
-pub fn copy(bytes: &[u8], out: &mut [u8], at: usize) -> Written
+pub fn copy(bytes: &[u8], out: &mut [u8], at: usize) -> Result<usize, Refusal>
     ensures { (result ≡ written_of (length bytes.now) (length out.old) at)
         × (out.new ≡ standing result bytes.now at out.old) }
 {
-    let k = bytes.len();
-    let room = out.len();
-    if room < at {
-        return Written::Refused(Refusal {
-            number: TOO_SHORT,
-            place: needed(at, k),
-        });
+    let end = at.saturating_add(bytes.len());
+    if out.len() < end {
+        return Err(Refusal::TooShort(end));
     }
-    if room - at < k {
-        return Written::Refused(Refusal {
-            number: TOO_SHORT,
-            place: needed(at, k),
-        });
-    }
-    store(bytes, out, at);
-    let end = at + k;
-    Written::To(end)
+    Ok(put(bytes, out, at))
 }
 
-// The magnitude of n. -1 - n is within 64 bits for each negative n, where -n is not.
+// The magnitude of n.
 pub fn size(n: i64) -> u64
     ensures { result ≡ nat_abs n }
 {
-    if n < 0 {
-        let less = (-1 - n) as u64;
-        return less + 1;
-    }
-    n as u64
+    n.unsigned_abs()
 }
 
 // The digits of m at the end of the buffer, the last one first; where they begin. A number of 64 bits has at most 20
@@ -85,13 +45,14 @@ fn digits_back(m: u64, buffer: &mut [u8; 21]) -> usize
 {
     let mut rest = m;
     let mut at: usize = 21;
+    // a `while`: how often it runs is not known before the digits are
     while 9 < rest {
         at -= 1;
-        buffer[at] = (48 + rest % 10) as u8;
-        rest = rest / 10;
+        buffer[at] = b'0' + (rest % 10) as u8;
+        rest /= 10;
     }
     at -= 1;
-    buffer[at] = (48 + rest % 10) as u8;
+    buffer[at] = b'0' + rest as u8;
     at
 }
 
@@ -110,7 +71,7 @@ fn form(n: i64, buffer: &mut [u8; 21]) -> usize
 }
 
 // Writes the decimal form of n into `out` from `at` on, where it fits.
-pub fn write(n: i64, out: &mut [u8], at: usize) -> Written
+pub fn write(n: i64, out: &mut [u8], at: usize) -> Result<usize, Refusal>
     ensures { (result ≡ written_of (length (decimal_of n)) (length out.old) at)
         × (out.new ≡ standing result (decimal_of n) at out.old) }
 {
@@ -119,24 +80,13 @@ pub fn write(n: i64, out: &mut [u8], at: usize) -> Written
     copy(&buffer[from..], out, at)
 }
 
-// The same for a natural number of 64 bits.
-pub fn write_natural(n: u64, out: &mut [u8], at: usize) -> Written
+// The same for a natural number of 64 bits. It stands beside `write`: one function for both would need a trait, which
+// is longer than these three lines.
+pub fn write_natural(n: u64, out: &mut [u8], at: usize) -> Result<usize, Refusal>
     ensures { (result ≡ written_of (length (digits n)) (length out.old) at)
         × (out.new ≡ standing result (digits n) at out.old) }
 {
     let mut buffer = [0u8; 21];
     let from = digits_back(n, &mut buffer);
     copy(&buffer[from..], out, at)
-}
-
-// Puts the bytes into `out` from `at` on, where they fit by the contract; where they end.
-pub fn put(bytes: &[u8], out: &mut [u8], at: usize) -> usize
-    requires { at + length bytes.now ≤ length out.old }
-    ensures { Puts bytes.now at result out.old out.new }
-{
-    let written = copy(bytes, out, at);
-    match written {
-        Written::To(end) => end,
-        Written::Refused(_) => at,
-    }
 }

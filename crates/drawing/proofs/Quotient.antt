@@ -5,7 +5,7 @@
 -- Assumes nothing.
 use mathlib.Core.Path.{◌≡◌, refl, sym, ap, ◌∙◌, subst}
 use mathlib.Core.Bool.{Bool, true, false, not, cond}
-use Prim.Native.Nat.{ℕ, zero, suc, ◌+◌, ◌-◌, ◌*◌, ◌^◌, ◌≤◌, ◌<◌}
+use Prim.Native.Nat.{ℕ, zero, suc, ◌-◌, ◌*◌, ◌^◌, ◌≤◌, ◌<◌}
 use native.Mathlib.Omega.{arith}
 use native.Mathlib.Nat.{mul-one, mul_comm, mul_assoc, mul_left_comm, mul-pos, zero-mul, lt_irrefl}
 use lib.Dec.{T, lit≤, ltb→lt, nltb→le, ltb, eqb, eqb→eq, not_T}
@@ -88,7 +88,8 @@ quotient_is x y X P Y =
     ∙ ap (λ (s : Bool). round binary64 s (nat_abs x) y) (unlike_plus x)
 
 pub quotient_within : (x : ℤ) (y : ℕ) → nat_abs x ≤ 2 ^ 53 → 0 < y → y ≤ 2 ^ 53 → Within 53 (quotient x (pos y)) (is_below x) (nat_abs x) y
-quotient_within x y X P Y = subst (λ (r : Float). Within 53 r (is_below x) (nat_abs x) y) (sym (quotient_is x y X P Y)) (divided (is_below x) (nat_abs x) y P X Y)
+quotient_within x y X P Y = subst (λ (r : Float). Within 53 r (is_below x) (nat_abs x) y) (sym (quotient_is x y X P Y))
+    (divided (is_below x) (nat_abs x) y P X Y)
 
 -- ---- near, as integers say it
 

@@ -1,14 +1,14 @@
 -- ALL SIDES of a symbol with small vertex entries: what `draw` asks holds of each (`drawable_side`), because both its ends are vertices or infinity and no
 -- two neighbours are both infinity; and with row i the rows of i sides are those of i + 1 (`rows_none`, `rows_more`). Assumes nothing.
 use mathlib.Core.Path.{◌≡◌, refl, sym, ◌∙◌, ap}
-use mathlib.Core.List.{List, [], ◌∷◌, ◌++◌}
+use mathlib.Core.List.{List, ◌++◌}
 use Prim.Native.Nat.{ℕ, zero, suc, ◌+◌, ◌*◌, ◌≤◌, ◌<◌}
 use native.Mathlib.Omega.{arith}
 use native.Mathlib.Decide.{dec_lt}
 use lib.Dec.{lit≤}
 use lib.IntN.{ℤ, pos, negsuc, nat_abs}
-use lib.ListN.{length, take, drop, set, length-append, length-drop}
-use lib.Seq.{sets-eq, take_at, drop_at, drop-drop}
+use lib.ListN.{length, take, drop, length-append, length-drop}
+use lib.Seq.{take_at, drop_at, drop-drop}
 use lib.Ieee.{Float}
 use Rattle.symbol.specs.Table.{numer, denom, left_num, left_den, right_num, right_den, side_at}
 use Rattle.symbol.proofs.Sides.{right_inside, right_last}
@@ -67,14 +67,6 @@ module _ (v : ℕ) (t : List ℤ) (s : SmallSymbol v t) where
 
 -- ---- rows in the result space
 
-pub four_stores : (out : List Float) (n : ℕ) (a b c d : Float) → 4 * n + 4 ≤ length out
-    → set (set (set (set out (4 * n) a) (4 * n + 1) b) (4 * n + 2) c) (4 * n + 3) d ≡ put_four n (a ∷ b ∷ c ∷ d ∷ []) out
-four_stores out n a b c d h =
-    let one : 4 * n + 1 ≡ suc (4 * n) = omega arith in
-    let two : 4 * n + 2 ≡ suc (suc (4 * n)) = omega arith in
-    let three : 4 * n + 3 ≡ suc (suc (suc (4 * n))) = omega arith in
-    rw (one, two, three) (sets-eq (a ∷ b ∷ c ∷ d ∷ []) out (4 * n) h)
-
 length_row : (r : Drawn) (k : Float) → length (row_for r k) ≡ 4
 length_row (Line x) k = refl
 length_row (Arc c r) k = refl
@@ -105,7 +97,8 @@ module _ (v : ℕ) (t : List ℤ) where
   unfolding drawn_rows
   rows_none out = record { table = refl; long = refl }
 
-  pub rows_more : (i : ℕ) (out out' : List Float) → 4 * i + 4 ≤ length out → DrawnTo v t i out out' → DrawnTo v t (suc i) out (put_four i (drawn_row v t i) out')
+  pub rows_more : (i : ℕ) (out out' : List Float) → 4 * i + 4 ≤ length out → DrawnTo v t i out out'
+      → DrawnTo v t (suc i) out (put_four i (drawn_row v t i) out')
   unfolding drawn_rows
   rows_more i out out' h r =
       let row = drawn_row v t i in

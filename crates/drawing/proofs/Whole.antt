@@ -1,33 +1,25 @@
 -- The whole numbers of a side, and how they go into floats: they fit 64 bits and are at most 2⁵³ in size.
 --
--- In order: literals (`is_0`, `is_1`); the test for 0 (`is_none`, `some_bits`, `some_size`, `none_size`) and for large numbers (`over`); what a cast
--- asks (`is_in_float`, `kind_most`); the numbers of a drawable side (`cross_adds`, `cross_small`, `twice_small`, `twice_is`).
+-- In order: literals (`is_0`, `is_1`); the test for 0 (`some_size`, `none_size`); what goes through 64 bits (`held`); the numbers of a drawable
+-- side (`cross_adds`, `cross_small`, `twice_small`, `twice_is`).
 -- Assumes nothing.
-use mathlib.Core.Path.{◌≡◌, refl, sym, ◌∙◌, ap}
-use mathlib.Core.Bool.{true, false, not, true≢false}
-use mathlib.Core.Logic.{◌⊎◌, inl, inr}
-use Prim.Native.Nat.{ℕ, zero, suc, ◌+◌, ◌*◌, ◌^◌, ◌≤◌, ◌<◌}
+use mathlib.Core.Path.{◌≡◌, refl, ◌∙◌, ap}
+use mathlib.Core.Bool.{true, false, true≢false}
+use Prim.Native.Nat.{ℕ, zero, suc, ◌*◌, ◌^◌, ◌≤◌, ◌<◌}
 use native.Mathlib.Omega.{arith}
 use native.Mathlib.Nat.{mul-le-mul, mul-pos}
-use lib.Dec.{T, ltb, leb, lit<, lit≤, le→leb, lt→ltb}
-use borrow.Author.Tests.{ltb-true, ltb-false, lt-leb, le-leb}
+use lib.Dec.{lit<}
 use lib.IntN.{ℤ, pos, negsuc, nat_abs, ◌*ℤ◌}
-use lib.Signed.{lt_z}
-use lib.Ieee.{binary64, of_bits, of_int, in_float}
+use lib.Ieee.{binary64, of_bits, of_int}
 use mir.Syntax.{w64}
 use mir.Val.{SFits, to_z, of_z}
 use mir.Facts.{to_z-of_z}
-use Rattle.basics.proofs.Choice.{either}
 use Rattle.matrix.specs.Bounds.{Adds}
 use Rattle.matrix.proofs.Integer.{abs-*, abs-+}
 use Rattle.matrix.proofs.Bounds.{fits}
 use Rattle.symbol.specs.Check.{eq_z}
 use Rattle.symbol.specs.declared.Side.{Side}
-use Rattle.symbol.specs.declared.Pairing.{Pairing}
-use Rattle.symbol.specs.declared.Pairing.TheVariants.{Even, Odd, Free, Bad}
-use Rattle.pairing.specs.Generator.{kind_of}
-use Rattle.symbol.proofs.Choice.{eq_z_true, eq_eq_z}
-use Rattle.symbol.proofs.Signed.{bits_positive}
+use Rattle.symbol.proofs.Choice.{eq_z_true}
 use Rattle.drawing.specs.Quotient.{float_of}
 use Rattle.drawing.specs.Drawn.{cross_sum, twice_product}
 use Rattle.drawing.specs.Inner.Ready.{Drawable}
@@ -44,17 +36,6 @@ is_1 = refl
 
 -- ---- comparisons
 
--- the code compares the bits
-pub is_none : (x : ℤ) → SFits w64 x → of_z w64 x ≡ 0 → eq_z x (pos 0) ≡ true
-is_none x f e = eq_eq_z x (pos 0) (bits_positive x 0 f (lit< tt) e)
-
-pub some_bits : (x : ℤ) → (of_z w64 x ≡ 0 → ⊥) → eq_z x (pos 0) ≡ false
-some_bits x h = go (either (eq_z x (pos 0)))
-  where
-    go : (eq_z x (pos 0) ≡ true) ⊎ (eq_z x (pos 0) ≡ false) → eq_z x (pos 0) ≡ false
-    go (inl e) = absurd (h (ap (of_z w64) (eq_z_true x (pos 0) e)))
-    go (inr e) = e
-
 pub some_size : (x : ℤ) → x ≡ pos (nat_abs x) → eq_z x (pos 0) ≡ false → 1 ≤ nat_abs x
 some_size (pos zero) e f = absurd (true≢false f)
 some_size (pos (suc n)) e f = omega arith
@@ -63,27 +44,7 @@ some_size (negsuc n) e f = omega arith
 pub none_size : (x : ℤ) → eq_z x (pos 0) ≡ true → nat_abs x ≡ 0
 none_size x e = ap nat_abs (eq_z_true x (pos 0) e)
 
--- what isn't below -(h + 1) is over h + 1 in size exactly where it is above h + 1
-pub over : (x : ℤ) (h : ℕ) → lt_z x (negsuc h) ≡ false → lt_z (pos (suc h)) x ≡ not (leb (nat_abs x) (suc h))
-over (pos n) h e = go (either (ltb (suc h) n))
-  where
-    go : (ltb (suc h) n ≡ true) ⊎ (ltb (suc h) n ≡ false) → ltb (suc h) n ≡ not (leb n (suc h))
-    go (inl t) = t ∙ ap not (sym (lt-leb n (suc h) (ltb-true (suc h) n t)))
-    go (inr f) = f ∙ ap not (sym (le-leb n (suc h) (ltb-false (suc h) n f)))
-over (negsuc n) h e = ap not (sym (le-leb (suc n) (suc h) (let k = ltb-false h n e in omega arith)))
-
 -- ---- casts
-
-pub is_in_float : (x : ℤ) → nat_abs x ≤ 2 ^ 53 → T (in_float binary64 x)
-unfolding in_float
-is_in_float (pos n) h = le→leb n (2 ^ 53) h
-is_in_float (negsuc n) h = lt→ltb n (2 ^ 53) h
-
-pub kind_most : (p : Pairing) → nat_abs (pos (kind_of p)) ≤ 2 ^ 53
-kind_most Even = lit≤ tt
-kind_most Odd = lit≤ tt
-kind_most (Free l) = lit≤ tt
-kind_most Bad = lit≤ tt
 
 -- an entry that went through a place of 64 signed bits
 pub held : (z : ℤ) → nat_abs z ≤ 33554432 → to_z w64 (of_z w64 z) ≡ z

@@ -10,11 +10,12 @@
 --   drawing_steps v t out     the checks 1 to 7, then 22, then the rows: 11 with the number of sides where out holds
 --                             fewer whole ones
 --   drawing_call              the exported call: the rows, the box behind them, and what they mean
-use Rattle.std.specs.Prelude.{◌≡◌, Bool, not, List, [], ◌∷◌, ◌++◌, ℕ, zero, suc, ◌+◌, ◌*◌, ◌≤◌, ◌<◌, leb, ℤ, nat_abs, Float}
+use Rattle.std.specs.Prelude.{◌≡◌, Bool, not, List, [], ◌∷◌, ◌++◌, ℕ, zero, suc, ◌+◌, ◌*◌, ◌≤◌, ◌<◌, leb}
+use Rattle.std.specs.Prelude.{ℤ, nat_abs, Float}
 use Rattle.basics.specs.Count.{first}
 use Rattle.matrix.specs.Matrix.{nth}
-use Rattle.call.specs.Refusal.{too_large_to_draw}
-use Rattle.call.specs.declared.refusal.Checked.{Checked}
+use Rattle.call.specs.Refusal.{Checked}
+use Rattle.call.specs.declared.refusal.Refusal.TheVariants.{TooLargeToDraw}
 use Rattle.call.specs.Call.{Lent, Step, asks, result_in, stores_rows, Contract}
 use Rattle.symbol.specs.Table.{side_at}
 use Rattle.symbol.specs.Check.{refuse_at, symbol_check}
@@ -46,7 +47,7 @@ abbrev pub too_large_at : List ℤ → ℕ → Bool
 too_large_at t i = not (leb (nat_abs (nth t i)) 33554432)
 
 abbrev pub check22 : ℕ → List ℤ → Checked
-check22 v t = refuse_at (first (too_large_at t) (2 * v)) (2 * v) too_large_to_draw
+check22 v t = refuse_at (first (too_large_at t) (2 * v)) (2 * v) TooLargeToDraw
 
 abbrev pub box_numbers : BoundingBox → List Float
 box_numbers b = b.left ∷ b.right ∷ b.bottom ∷ b.top ∷ []
@@ -67,7 +68,8 @@ pub record Picture (v : ℕ) (t : List ℤ) : Type 0 where
 -- ---- the call
 
 abbrev pub drawing_steps : (v : ℕ) → List ℤ → Lent (List Float) → List Step
-drawing_steps v t out = asks (symbol_check v t) ++ asks (check22 v t) ++ stores_rows 4 (v + 1) (drawn_rows v t (v + 1)) out
+drawing_steps v t out =
+    asks (symbol_check v t) ++ asks (check22 v t) ++ stores_rows 4 (v + 1) (drawn_rows v t (v + 1)) out
 
 abbrev pub drawing_call : (v : ℕ) → List ℤ → (out bounds : Lent (List Float)) → Contract
 drawing_call v t out bounds = record {

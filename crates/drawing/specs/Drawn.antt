@@ -13,8 +13,8 @@
 --   CarriedOver s             every whole number that is divided for s becomes a float with nothing lost: a d + c b, 2
 --                             b d and 1 for an arc, a, b, c and d for a line
 --   drawn_at v t i            side i of the symbol in t
---   left_reach r, right_reach r  how far a drawn side goes to the left and to the right: a line's place; centre - radius
---                              and centre + radius, each rounded once
+--   left_reach r, right_reach r  how far a drawn side goes to the left and to the right: a line's place; centre -
+--                              radius and centre + radius, each rounded once
 --   height r                  0 for a line, the radius of an arc
 use Rattle.std.specs.Prelude.{ℕ, ◌*◌, List, ℤ, pos, nat_abs, ◌+ℤ◌, ◌*ℤ◌, Float}
 use Rattle.std.specs.Float.{binary64}

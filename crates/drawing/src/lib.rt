@@ -20,7 +20,7 @@ ghost use Rattle.drawing.specs.Answer.{row_for, drawn_rows, check22, drawing_ste
 ghost use Rattle.drawing.specs.Inner.Ready.{Drawable, SmallSymbol, side_box, joint_box, put_four, drawing_check};
 ghost use Rattle.drawing.specs.Inner.Ready.{drawn};
 
-use call::refusal::{Checked, Refusal, TOO_LARGE_TO_DRAW, TOO_SHORT};
+use call::refusal::Refusal;
 use pairing::partner::kind_at;
 use symbol::{Side, check};
 
@@ -40,14 +40,6 @@ pub struct BoundingBox {
     pub right: f64,
     pub bottom: f64,
     pub top: f64,
-}
-
-// What `draw_symbol` answers.
-#[derive(Clone, Copy)]
-pub enum Drawing {
-    // The result space begins with the rows of all sides; the box is theirs.
-    Made(BoundingBox),
-    Refused(Refusal),
 }
 
 // The float nearest to x / y: neither cast rounds, so that the division alone does.
@@ -84,24 +76,20 @@ fn draw(s: Side) -> Drawn
     arc_of(s)
 }
 
+// The library has no minimum and no maximum of floats; one function for both would be told the order at each call.
+
 // b where it is below a, and a otherwise.
 fn lesser(a: f64, b: f64) -> f64
     ensures { result ≡ lesser a b }
 {
-    if b < a {
-        return b;
-    }
-    a
+    if b < a { b } else { a }
 }
 
 // b where it is above a, and a otherwise.
 fn greater(a: f64, b: f64) -> f64
     ensures { result ≡ greater a b }
 {
-    if a < b {
-        return b;
-    }
-    a
+    if a < b { b } else { a }
 }
 
 // The box around a single side. A line has no height here: it rises without end.
@@ -136,25 +124,22 @@ fn join(a: BoundingBox, b: BoundingBox) -> BoundingBox
     }
 }
 
-// The row i of out: which of the two the side is, its numbers, its kind.
+// The row of a side: which of the two it is, its numbers, its kind.
+fn row_of(side: Drawn, kind: f64) -> [f64; 4]
+    ensures { result ≡ row_for side kind }
+{
+    match side {
+        Drawn::Line(x) => [0.0, x, 0.0, kind],
+        Drawn::Arc(centre, radius) => [1.0, centre, radius, kind],
+    }
+}
+
+// Writes the row i of out.
 fn put_side(out: &mut [f64], i: usize, side: Drawn, kind: f64)
     requires { (i ≤ 1023) × (4 * i + 4 ≤ length out.old) }
     ensures { out.new ≡ put_four i (row_for side kind) out.old }
 {
-    match side {
-        Drawn::Line(x) => {
-            out[4 * i] = 0.0;
-            out[4 * i + 1] = x;
-            out[4 * i + 2] = 0.0;
-            out[4 * i + 3] = kind;
-        }
-        Drawn::Arc(centre, radius) => {
-            out[4 * i] = 1.0;
-            out[4 * i + 1] = centre;
-            out[4 * i + 2] = radius;
-            out[4 * i + 3] = kind;
-        }
-    }
+    out[4 * i..4 * i + 4].copy_from_slice(&row_of(side, kind));
 }
 
 // 1, 2 or 3, as side i is free, even or odd.
@@ -173,79 +158,60 @@ fn draw_sides(v: usize, t: &[i64], p: &[i64], out: &mut [f64]) -> BoundingBox
     ensures out_after { out.new ≡ drawn_rows v t.now (v + 1) ++ drop (4 * (v + 1)) out.old }
 {
     let mut bounds = box_of(draw(Side::at(v, t, 0)));
-    let mut i = 0;
-    while i < v + 1 {
+    for i in 0..v + 1 {
         let side = draw(Side::at(v, t, i));
         bounds = join(bounds, box_of(side));
         put_side(out, i, side, kind(v, p, i));
-        i += 1;
     }
     bounds
 }
 
 // The result space has room for one side in each whole four of its floats.
-fn draw_in_room(v: usize, t: &[i64], out: &mut [f64]) -> Drawing
+fn draw_in_room(v: usize, t: &[i64], out: &mut [f64]) -> Result<BoundingBox, Refusal>
     requires { SmallSymbol v t.now }
     ensures { Fills (stores_rows 4 (v + 1) (drawn_rows v t.now (v + 1)) out)
         (drawn (box_to v t.now (v + 1))) result }
 {
     let sides = v + 1;
     if out.len() / 4 < sides {
-        return Drawing::Refused(Refusal {
-            number: TOO_SHORT,
-            place: sides,
-        });
+        return Err(Refusal::TooShort(sides));
     }
-    Drawing::Made(draw_sides(v, t, &t[2 * v..], out))
+    Ok(draw_sides(v, t, &t[2 * v..], out))
 }
 
 // Over 2^25 in size. Up to there 2 b d and a d + c b are at most 2^51.
 fn too_large(x: i64) -> bool
     ensures { result ≡ not (leb (nat_abs x) 33554432) }
 {
-    if x < -33554432 {
-        return true;
-    }
-    x > 33554432
+    x.unsigned_abs() > 33554432
 }
 
 // Check 22, from the first vertex entry on.
-fn check_entries(v: usize, t: &[i64]) -> Checked
+fn check_entries(v: usize, t: &[i64]) -> Result<(), Refusal>
     requires { (v ≤ 1023) × (2 * v ≤ length t.now) }
     ensures { result ≡ check22 v t.now }
 {
-    let mut i = 0;
-    while i < 2 * v {
+    for i in 0..2 * v {
         if too_large(t[i]) {
-            return Checked::Refused(Refusal {
-                number: TOO_LARGE_TO_DRAW,
-                place: i,
-            });
+            return Err(Refusal::TooLargeToDraw(i));
         }
-        i += 1;
     }
-    Checked::Accepted
+    Ok(())
 }
 
 // Whether t has a symbol that can be drawn.
-fn drawing_check(v: usize, t: &[i64]) -> Checked
+fn drawing_check(v: usize, t: &[i64]) -> Result<(), Refusal>
     ensures { result ≡ drawing_check v t.now }
 {
-    let checked = check(v, t);
-    match checked {
-        Checked::Refused(refusal) => Checked::Refused(refusal),
-        Checked::Accepted => check_entries(v, t),
-    }
+    check(v, t)?;
+    check_entries(v, t)
 }
 
 // Draws the symbol in t: a row of four floats in out for each side, in their order, and the box around them; or the
 // first refusal.
-pub fn draw_symbol(v: usize, t: &[i64], out: &mut [f64]) -> Drawing
+pub fn draw_symbol(v: usize, t: &[i64], out: &mut [f64]) -> Result<BoundingBox, Refusal>
     ensures { Fills (drawing_steps v t.now out) (drawn (box_to v t.now (v + 1))) result }
 {
-    let checked = drawing_check(v, t);
-    match checked {
-        Checked::Accepted => draw_in_room(v, t, out),
-        Checked::Refused(refusal) => Drawing::Refused(refusal),
-    }
+    drawing_check(v, t)?;
+    draw_in_room(v, t, out)
 }

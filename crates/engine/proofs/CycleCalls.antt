@@ -5,7 +5,7 @@ use mathlib.Core.List.{List}
 use Prim.Native.Nat.{ℕ}
 use native.Mathlib.Nat.{le_refl}
 use lib.ListN.{length}
-use Rattle.call.specs.Refusal.{checked_refusal}
+use Rattle.call.specs.Refusal.{answer_number, answer_place}
 use Rattle.call.specs.Call.{verdict, if_accepted, Leaves}
 use Rattle.permutations.specs.Check.{Passport}
 use Rattle.cycle_notation.specs.Verdict.{Read}
@@ -22,10 +22,10 @@ one_answer t s r number place m =
 
 module _ (t s r s' r' : List ℕ) (l : Leaves (read_run t s r s' r')) where
   abbrev number : ℕ
-  number = (checked_refusal (verdict (read_run t s r s' r'))).number
+  number = answer_number (verdict (read_run t s r s' r'))
 
   abbrev place : ℕ
-  place = if_accepted (verdict (read_run t s r s' r')) (length (read_s t)) (checked_refusal (verdict (read_run t s r s' r'))).place
+  place = if_accepted (verdict (read_run t s r s' r')) (length (read_s t)) (answer_place (verdict (read_run t s r s' r')))
 
   pub read_says : ReadCyclesMean t (length s) (length r) s' r' number place
   read_says = read_means t s r s' r' l

@@ -12,14 +12,13 @@ use Rattle.matrix.specs.Matrix.{of_list}
 use Rattle.pairing.specs.Generator.{generators}
 use Rattle.pairing.specs.Subgroup.{value_of}
 use Rattle.call.specs.Space.{work_length}
-use Rattle.call.specs.Refusal.{checked_refusal}
-use Rattle.call.specs.declared.refusal.Checked.{Checked}
+use Rattle.call.specs.Refusal.{answer_number, answer_place, Checked, Answer}
 use Rattle.call.specs.Call.{Step, Asks, Clears, length_check, verdict, if_accepted, Leaves}
 use Rattle.call.proofs.Laws.{Numbered}
 use Rattle.symbol.specs.Check.{symbol_check}
-use Rattle.word.specs.Answer.{query_refusal, query_place, sign_number, part_of, word_fits, word_if}
+use Rattle.word.specs.Answer.{query_place, sign_number, part_of, word_fits, word_if}
 use Rattle.word.specs.Claim.{Tells}
-use Rattle.word.specs.declared.Queried.{Queried}
+use Rattle.word.specs.declared.FoundWord.{FoundWord}
 use Rattle.word.proofs.Finding.{walk_run}
 use Rattle.word.proofs.Order.{left_if}
 use Rattle.sheets.proofs.Said.{unit_of, ten_none}
@@ -30,8 +29,8 @@ use Rattle.engine.specs.Exported.{sign_written}
 use Rattle.engine.proofs.Numbers.{walk_numbered}
 use Rattle.engine.proofs.Said.{zero_product, zero_normal, eleven_normal, zero_sign, zero_exact, number_if, place_if, sign_if}
 
-module _ (v : ℕ) (t m : List ℤ) (w : List ℕ) (out : List ℤ) (start : ℕ) (r : Queried) (out' : List ℤ) (c : MatrixClaim v t m w out start r out')
-    (n place : ℕ) (e : n ≡ (query_refusal r).number) (p : place ≡ query_place r) where
+module _ (v : ℕ) (t m : List ℤ) (w : List ℕ) (out : List ℤ) (start : ℕ) (r : Answer FoundWord) (out' : List ℤ) (c : MatrixClaim v t m w out start r out')
+    (n place : ℕ) (e : n ≡ answer_number r) (p : place ≡ query_place r) where
   got : n ≡ 0 → ValidMatrix v t m w
   got z = c.asked (inl (sym e ∙ z))
 
@@ -79,12 +78,12 @@ module _ (v : ℕ) (t m : List ℤ) (w w' : List ℕ) (out out' : List ℤ) (sta
     c = verdict (matrix_run v t m w w' out out' start)
 
     abbrev number : ℕ
-    number = (checked_refusal c).number
+    number = answer_number c
 
     abbrev place : ℕ
-    place = if_accepted c n (checked_refusal c).place
+    place = if_accepted c n (answer_place c)
 
-    abbrev answer : Queried
+    abbrev answer : (Answer FoundWord)
     answer = word_if start n q c
 
     all : MatrixClaim v t m w out start answer out'

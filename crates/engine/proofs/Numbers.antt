@@ -9,9 +9,9 @@ use lib.ListN.{length}
 use lib.IntN.{ℤ}
 use Rattle.basics.specs.Count.{first}
 use Rattle.call.specs.Space.{work_length}
-use Rattle.call.specs.Refusal.{no_word, too_short, too_large_to_draw, large_intersection, not_listed_before, false_claim}
+use Rattle.call.specs.Refusal.{refusal_number, Checked}
+use Rattle.call.specs.declared.refusal.Refusal.TheVariants.{NoWord, TooShort, TooLargeToDraw, LargeIntersection, NotListedBefore, FalseClaim}
 use Rattle.call.specs.declared.refusal.Refusal.{Refusal}
-use Rattle.call.specs.declared.refusal.Checked.{Checked}
 use Rattle.call.specs.Call.{Step, Asks, length_check}
 use Rattle.call.proofs.Laws.{Above, Numbered, above_among, above_room}
 use Rattle.symbol.specs.Check.{refuse, symbol_check}
@@ -38,12 +38,12 @@ use Rattle.towers.specs.Tower.{symbols_check, unlisted, named_check, claim_fails
 use Rattle.towers.proofs.Checks.{symbols_among}
 use Rattle.towers.specs.Answer.{count_check, claim_steps}
 
-above_refuse : (b : Bool) (f : Refusal) → 0 < f.number → Above (refuse b f)
+above_refuse : (b : Bool) (f : Refusal) → 0 < refusal_number f → Above (refuse b f)
 above_refuse true f h = h
 above_refuse false f h = tt
 
-pub above_short : (b : Bool) (n : ℕ) → Above (refuse b (too_short n))
-above_short b n = above_refuse b (too_short n) (omega arith)
+pub above_short : (b : Bool) (n : ℕ) → Above (refuse b (TooShort n))
+above_short b n = above_refuse b (TooShort n) (omega arith)
 
 pub above_symbol : (v : ℕ) (t : List ℤ) → Above (symbol_check v t)
 above_symbol v t = above_among 1 7 (symbol_check v t) (omega arith) (check_among v t)
@@ -98,12 +98,12 @@ module _ (v : ℕ) (t : List ℤ) (w : List ℕ) where
       (above_room x (length a), (above_room y (length b), tt))
 
   -- a number of entries first, and whole rows behind
-  pub rows_numbered : (b : Bool) (n rows has : ℕ) → Numbered (Asks (refuse b (too_short n)) ∷ Asks (symbol_check v t)
+  pub rows_numbered : (b : Bool) (n rows has : ℕ) → Numbered (Asks (refuse b (TooShort n)) ∷ Asks (symbol_check v t)
       ∷ Asks (length_check work_length (length w)) ∷ Asks (length_check rows has) ∷ [])
   rows_numbered b n rows has = (above_short b n, (above_symbol v t, (above_room work_length (length w), (above_room rows has, tt))))
 
   pub common_numbered : (v' : ℕ) (t' : List ℤ) (n x y z : ℕ) (s r u : List ℕ) → Numbered (Asks (symbol_check v t) ∷ Asks (symbol_check v' t')
-      ∷ Asks (length_check work_length (length w)) ∷ Asks (refuse (ltb 3066 n) large_intersection) ∷ Asks (length_check x (length s))
+      ∷ Asks (length_check work_length (length w)) ∷ Asks (refuse (ltb 3066 n) LargeIntersection) ∷ Asks (length_check x (length s))
       ∷ Asks (length_check y (length r)) ∷ Asks (length_check z (length u)) ∷ [])
   common_numbered v' t' n x y z s r u = (
     above_symbol v t,
@@ -112,7 +112,7 @@ module _ (v : ℕ) (t : List ℤ) (w : List ℕ) where
       (
         above_room work_length (length w),
         (
-          above_refuse (ltb 3066 n) large_intersection (omega arith),
+          above_refuse (ltb 3066 n) LargeIntersection (omega arith),
           (above_room x (length s), (above_room y (length r), (above_room z (length u), tt))),
         ),
       ),
@@ -120,8 +120,8 @@ module _ (v : ℕ) (t : List ℤ) (w : List ℕ) where
   )
 
 -- the walk's checks
-pub walk_numbered : (home : Bool) (n : ℕ) (fits : Bool) → Numbered (Asks (refuse (not home) no_word) ∷ Asks (refuse (not fits) (too_short n)) ∷ [])
-walk_numbered home n fits = (above_refuse (not home) no_word (omega arith), (above_short (not fits) n, tt))
+pub walk_numbered : (home : Bool) (n : ℕ) (fits : Bool) → Numbered (Asks (refuse (not home) NoWord) ∷ Asks (refuse (not fits) (TooShort n)) ∷ [])
+walk_numbered home n fits = (above_refuse (not home) NoWord (omega arith), (above_short (not fits) n, tt))
 
 pub query_numbered : (v : ℕ) (t a b : List ℤ) (w w' : List ℕ) (out out' : List ℤ) (start : ℕ) → Numbered (query_run v t a b w w' out out' start)
 query_numbered v t a b w w' out out' start =
@@ -171,8 +171,8 @@ module _ (c : Checked) (h : Above c) where
   widths_numbered w n out = (h, (above_room work_length (length w), (above_room n (length out), tt)))
 
 pub drawing_numbered : (v : ℕ) (t : List ℤ) (b : Bool) (i n has : ℕ)
-    → Numbered (Asks (symbol_check v t) ∷ Asks (refuse b (too_large_to_draw i)) ∷ Asks (length_check n has) ∷ [])
-drawing_numbered v t b i n has = (above_symbol v t, (above_refuse b (too_large_to_draw i) (omega arith), (above_room n has, tt)))
+    → Numbered (Asks (symbol_check v t) ∷ Asks (refuse b (TooLargeToDraw i)) ∷ Asks (length_check n has) ∷ [])
+drawing_numbered v t b i n has = (above_symbol v t, (above_refuse b (TooLargeToDraw i) (omega arith), (above_room n has, tt)))
 
 -- a tower: a 65th entry, the symbols, 25; and then the work space and 26
 pub tower_numbered : (n : ℕ) (t : List ℤ) (w w' : List ℕ)
@@ -182,7 +182,7 @@ tower_numbered n t w w' =
       above_short (ltb 64 n) 64,
       (
         above_among 1 7 (symbols_check n t n) (omega arith) (symbols_among n t n),
-        (above_refuse (ltb listed n) (not_listed_before listed) (omega arith), claims n),
+        (above_refuse (ltb listed n) (NotListedBefore listed) (omega arith), claims n),
       ),
     )
   where
@@ -190,4 +190,4 @@ tower_numbered n t w w' =
     claims zero = tt
     claims (suc m) =
         let false_at = first (claim_fails (suc m) t) (suc m) in
-        (above_room work_length (length w), (above_refuse (ltb false_at (suc m)) (false_claim false_at) (omega arith), tt))
+        (above_room work_length (length w), (above_refuse (ltb false_at (suc m)) (FalseClaim false_at) (omega arith), tt))

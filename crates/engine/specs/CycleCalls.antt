@@ -9,9 +9,8 @@
 --                             there is room for them
 --   write_cycles_call s r out  `farey_write_cycles`: 0 says that an export stands at the front of the result space, of
 --                             as many bytes as the place says
-use Rattle.std.specs.Prelude.{◌≡◌, List, ℕ, ◌≤◌, length, take}
+use Rattle.std.specs.Prelude.{◌≡◌, List, ℕ, ◌≤◌, length, take, Ok}
 use Rattle.call.specs.Call.{Lent, verdict, Contract, number_of, place_of}
-use Rattle.call.specs.declared.refusal.Checked.TheVariants.{Accepted}
 use Rattle.cycle_reading.specs.Reading.{read_s, read_r, read_steps, ReadCyclesMean}
 use Rattle.cycle_writing.specs.Bytes.{export_of}
 use Rattle.cycle_writing.specs.Export.{export_steps, Exported}
@@ -33,7 +32,7 @@ OneAnswer = (t : List ℕ) (s r : Lent (List ℕ)) (number place : ℕ) → Mean
 
 pub record ExportReadBack (s r t : List ℕ) : Type 0 where
   pub answer : (a b : Lent (List ℕ)) → length s ≤ length a.entry.now → length s ≤ length b.entry.now
-      → verdict (read_steps t a b) ≡ Accepted
+      → verdict (read_steps t a b) ≡ Ok tt
   pub S_is : read_s t ≡ s
   pub R_is : read_r t ≡ r
 

@@ -1,15 +1,14 @@
 // What an exported function says of the answer of its call (specs/Exported.antt).
 ghost use Rattle.std.specs.Prelude.{◌≡◌};
-ghost use Rattle.call.specs.Refusal.{filled_refusal};
-ghost use Rattle.word.specs.Answer.{query_refusal, query_place};
-ghost use Rattle.call.specs.Inner.Fills.{decision_refusal, decision_place};
-ghost use Rattle.coset.specs.Answer.{figure_number, figure_value, figure_numbers};
+ghost use Rattle.call.specs.Refusal.{answer_number, answer_place, refusal_number, refusal_place};
+ghost use Rattle.word.specs.Answer.{query_place};
+ghost use Rattle.call.specs.Inner.Fills.{decision_place};
+ghost use Rattle.coset.specs.Answer.{figure_value, figure_numbers};
 ghost use Rattle.engine.specs.Exported.{filled_place, sign_written};
 
-use call::Decision;
-use call::refusal::{Filled, Refusal};
-use figures::{Figure, FigureRecord};
-use word::{Queried, sign_number};
+use call::refusal::Refusal;
+use figures::FigureRecord;
+use word::{FoundWord, sign_number};
 
 // A refusal's number and place, or 0 and a count.
 #[derive(Clone, Copy)]
@@ -27,11 +26,11 @@ pub(crate) struct Told {
 
 // A refusal.
 pub(crate) fn refused(refusal: Refusal) -> Said
-    ensures { (result.number ≡ refusal.number) × (result.place ≡ refusal.place) }
+    ensures { (result.number ≡ refusal_number refusal) × (result.place ≡ refusal_place refusal) }
 {
     Said {
-        number: refusal.number,
-        place: refusal.place,
+        number: refusal.number(),
+        place: refusal.place(),
     }
 }
 
@@ -45,56 +44,66 @@ pub(crate) fn counted(count: usize) -> Said
     }
 }
 
-// Of generators, tables, widths and imports.
-pub(crate) fn of_filled(answer: Filled) -> Said
-    ensures { (result.number ≡ (filled_refusal answer).number) × (result.place ≡ filled_place answer) }
+// Of calls that only check.
+pub(crate) fn of_checked(answer: Result<(), Refusal>) -> Said
+    ensures { (result.number ≡ answer_number answer) × (result.place ≡ answer_place answer) }
 {
     match answer {
-        Filled::Made(k) => counted(k),
-        Filled::Refused(refusal) => refused(refusal),
+        Ok(()) => counted(0),
+        Err(refusal) => refused(refusal),
     }
 }
 
-pub(crate) fn of_query(answer: Queried) -> Said
-    ensures { (result.number ≡ (query_refusal answer).number) × (result.place ≡ query_place answer) }
+// Of generators, tables, widths and imports.
+pub(crate) fn of_filled(answer: Result<usize, Refusal>) -> Said
+    ensures { (result.number ≡ answer_number answer) × (result.place ≡ filled_place answer) }
 {
     match answer {
-        Queried::Word(_, k, _) => counted(k),
-        Queried::Refused(refusal) => refused(refusal),
+        Ok(k) => counted(k),
+        Err(refusal) => refused(refusal),
+    }
+}
+
+pub(crate) fn of_query(answer: Result<FoundWord, Refusal>) -> Said
+    ensures { (result.number ≡ answer_number answer) × (result.place ≡ query_place answer) }
+{
+    match answer {
+        Ok(FoundWord { letters: k, .. }) => counted(k),
+        Err(refusal) => refused(refusal),
     }
 }
 
 // The sign of a word as a number, or the number that stood there.
-pub(crate) fn sign_written(answer: Queried, before: i64) -> i64
+pub(crate) fn sign_written(answer: Result<FoundWord, Refusal>, before: i64) -> i64
     ensures { result ≡ sign_written answer before }
 {
     match answer {
-        Queried::Word(_, _, sign) => sign_number(sign),
-        Queried::Refused(_) => before,
+        Ok(FoundWord { plus: sign, .. }) => sign_number(sign),
+        Err(_) => before,
     }
 }
 
 // Of a call that decides: 1 for yes, 0 for no.
-pub(crate) fn of_decision(answer: Decision) -> Said
-    ensures { (result.number ≡ (decision_refusal answer).number) × (result.place ≡ decision_place answer) }
+pub(crate) fn of_decision(answer: Result<bool, Refusal>) -> Said
+    ensures { (result.number ≡ answer_number answer) × (result.place ≡ decision_place answer) }
 {
     match answer {
-        Decision::Yes => counted(1),
-        Decision::No => counted(0),
-        Decision::Refused(refusal) => refused(refusal),
+        Ok(true) => counted(1),
+        Ok(false) => counted(0),
+        Err(refusal) => refused(refusal),
     }
 }
 
-pub(crate) fn of_figure(answer: Figure) -> Told
-    ensures { (result.number ≡ figure_number answer) × (result.value ≡ figure_value answer) }
+pub(crate) fn of_figure(answer: Result<u64, Refusal>) -> Told
+    ensures { (result.number ≡ answer_number answer) × (result.value ≡ figure_value answer) }
 {
     match answer {
-        Figure::Value(x) => Told {
+        Ok(x) => Told {
             number: 0,
             value: x,
         },
-        Figure::Refused(why) => Told {
-            number: why.number,
+        Err(why) => Told {
+            number: why.number(),
             value: 0,
         },
     }

@@ -3,7 +3,6 @@ ghost use Rattle.call.specs.Call.{Call};
 ghost use Rattle.partner_exchange.specs.Answer.{exchange_call, preview_call};
 
 use crate::answers::{of_figures, of_filled};
-use coset::Figured;
 
 // The symbol with the second sides of the labels x and y exchanged, from the front of out.
 #[unsafe(no_mangle)]
@@ -38,11 +37,11 @@ pub extern "C" fn farey_preview(
 {
     let answer = partner_exchange::preview(v, t, x, y, w, widths);
     match answer {
-        Figured::Refused(refusal) => {
-            *place = refusal.place;
-            refusal.number
+        Err(refusal) => {
+            *place = refusal.place();
+            refusal.number()
         }
-        Figured::Made(f) => {
+        Ok(f) => {
             *place = f.cusps;
             *out = of_figures(f);
             0

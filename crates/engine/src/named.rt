@@ -1,4 +1,4 @@
-// Congruence groups by name.
+// Congruence groups by name. The family is a number, since C hands in no enum of ours.
 ghost use Rattle.call.specs.Call.{Call};
 ghost use Rattle.import_rule.specs.Order.{leftmost, longest_open};
 ghost use Rattle.import_symbol.specs.Answer.{order_by};

@@ -6,8 +6,7 @@ ghost use Rattle.containment.specs.Inclusion.{contains_call};
 ghost use Rattle.intersections.specs.Answer.{intersection_call};
 ghost use Rattle.towers.specs.Answer.{tower_call};
 
-use crate::answers::{of_decision, of_filled};
-use call::refusal::checked_refusal;
+use crate::answers::{of_checked, of_decision, of_filled};
 
 // Whether two tables hold symbols of one subgroup: 1 for yes, 0 for no.
 #[unsafe(no_mangle)]
@@ -68,7 +67,7 @@ pub extern "C" fn farey_intersection(
 pub extern "C" fn farey_tower(count: usize, t: &[i64], w: &mut [u16], place: &mut usize) -> u64
     ensures { Call (tower_call count t.now w) result place.new }
 {
-    let refusal = checked_refusal(towers::tower(count, t, w));
-    *place = refusal.place;
-    refusal.number
+    let said = of_checked(towers::tower(count, t, w));
+    *place = said.place;
+    said.number
 }

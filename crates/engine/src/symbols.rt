@@ -4,18 +4,16 @@ ghost use Rattle.pairing.specs.Generator.{generators_call};
 ghost use Rattle.drawing.specs.Answer.{drawing_call};
 ghost use Rattle.engine.specs.Exported.{check_call};
 
-use crate::answers::of_filled;
-use call::refusal::checked_refusal;
-use drawing::Drawing;
+use crate::answers::{of_checked, of_filled};
 
 // The checks of a symbol: refusals 1 to 7.
 #[unsafe(no_mangle)]
 pub extern "C" fn farey_check(v: usize, t: &[i64], place: &mut usize) -> u64
     ensures { Call (check_call v t.now) result place.new }
 {
-    let refusal = checked_refusal(symbol::check(v, t));
-    *place = refusal.place;
-    refusal.number
+    let said = of_checked(symbol::check(v, t));
+    *place = said.place;
+    said.number
 }
 
 // The generators, five numbers each, from the front of out.
@@ -48,11 +46,11 @@ pub extern "C" fn farey_drawing(
 {
     let answer = drawing::draw_symbol(v, t, out);
     match answer {
-        Drawing::Refused(refusal) => {
-            *place = refusal.place;
-            refusal.number
+        Err(refusal) => {
+            *place = refusal.place();
+            refusal.number()
         }
-        Drawing::Made(b) => {
+        Ok(b) => {
             *place = v + 1;
             *bounds = [b.left, b.right, b.bottom, b.top];
             0

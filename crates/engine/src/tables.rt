@@ -4,7 +4,6 @@ ghost use Rattle.coset.specs.Answer.{tables_call, widths_call, figures_call};
 ghost use Rattle.cusp_record.specs.Answer.{cusps_call};
 
 use crate::answers::{of_figures, of_filled};
-use coset::Figured;
 
 // The tables of S, R and T, each from the front of its space.
 #[unsafe(no_mangle)]
@@ -71,11 +70,11 @@ pub extern "C" fn farey_figures(
 {
     let answer = coset::figures(v, t, w);
     match answer {
-        Figured::Refused(refusal) => {
-            *place = refusal.place;
-            refusal.number
+        Err(refusal) => {
+            *place = refusal.place();
+            refusal.number()
         }
-        Figured::Made(f) => {
+        Ok(f) => {
             *place = 0;
             *out = of_figures(f);
             0

@@ -9,13 +9,13 @@ use Prim.Native.Nat.{ℕ, zero, suc, ◌+◌, ◌*◌, ◌-◌, ◌/◌, ◌≤�
 use native.Mathlib.Omega.{arith}
 use native.Mathlib.Decide.{dec_lt}
 use native.Mathlib.Nat.{div-mul_cancel, mul-le-mul_left}
-use lib.Dec.{eqb, ltb}
+use lib.Dec.{eqb}
 use lib.ListN.{length, get_or}
 use borrow.Author.Tests.{eqb-true, lt-ltb, le-ltb}
 use Rattle.numbering.proofs.Find.{test, true_false}
 use Rattle.basics.specs.Choice.{pick}
 use Rattle.basics.proofs.Choice.{pick_false}
-use Rattle.congruence.specs.Index.{divides, least_divisor, index0}
+use Rattle.congruence.specs.Index.{least_divisor, index0}
 use Rattle.congruence.proofs.Factor.{lowest_is}
 use Rattle.congruence.proofs.Index0.{index0_is, index0_exact, index0_one, index0_splits}
 use Rattle.congruence.proofs.Theorem.{tables}

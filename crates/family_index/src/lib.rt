@@ -14,20 +14,13 @@ use congruence::modular::half_units;
 // What the program `index_table` writes is this file, byte for byte.
 pub mod gamma0;
 
-// A 16-bit number.
-fn widened(x: u16) -> u64
-    ensures { (result ≡ x) × (result ≤ 65535) }
-{
-    x as u64
-}
-
 // The entry for n of a table that is right at all its places.
 fn entry_of(table: &[u16], n: u64) -> u64
     requires { (0 < n) × (n ≤ length table.now) × (right_from 1 table.now ≡ true) }
     ensures { (result ≡ index0 n) × Gamma0Entry n result × (result ≤ 65535) }
 {
     let at = (n - 1) as usize;
-    widened(table[at])
+    u64::from(table[at])
 }
 
 // The entry of the table for N: the index of Γ0(N).

@@ -9,7 +9,7 @@
 --                                input's text are printed, and they mean what they should; where none has it, nothing
 --                                is written; and it ends within the slice
 -- No two jobs have one name (`one_job` in proofs/Names.antt).
-use Rattle.std.specs.Prelude.{ℕ, ◌≤◌, ◌≡◌, Bool, List, length}
+use Rattle.std.specs.Prelude.{Option, None, Some, ℕ, ◌≤◌, ◌≡◌, Bool, List, length}
 use Rattle.decimal.specs.Ascii.{ascii}
 use Rattle.text.specs.Input.{AnswersInput}
 use Rattle.text.specs.declared.input.Input.{Input}
@@ -26,8 +26,6 @@ use Rattle.cycle_texts.specs.CyclesAnswer.{cycles_text, CyclesPrinted}
 use Rattle.cycle_texts.specs.ToCyclesAnswer.{to_cycles_text, ExportPrintMeans}
 use Rattle.farey.specs.declared.Job.{Job}
 use Rattle.farey.specs.declared.Job.TheVariants as job
-use Rattle.farey.specs.declared.Found.{Found}
-use Rattle.farey.specs.declared.Found.TheVariants as found
 
 abbrev pub name_of : Job → List ℕ
 name_of job.Sheet = ascii "sheet"
@@ -41,9 +39,9 @@ name_of job.Tower = ascii "tower"
 name_of job.Cycles = ascii "cycles"
 name_of job.ToCycles = ascii "to-cycles"
 
-abbrev pub FindsJob : List ℕ → Found → Type 0
-FindsJob name (found.Job j) = name ≡ name_of j
-FindsJob name found.Nothing = (j : Job) → name ≡ name_of j → ⊥
+abbrev pub FindsJob : List ℕ → Option Job → Type 0
+FindsJob name (Some j) = name ≡ name_of j
+FindsJob name None = (j : Job) → name ≡ name_of j → ⊥
 
 abbrev pub bytes_of : Job → (longer : Bool) (t : List ℕ) → List ℕ
 bytes_of job.Sheet longer t = sheet_bytes longer t

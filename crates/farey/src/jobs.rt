@@ -4,7 +4,7 @@ ghost use Rattle.text.specs.Input.{AnswersInput};
 ghost use Rattle.decimal.specs.Writing.{Puts};
 ghost use Rattle.farey.specs.Jobs.{bytes_of, MeansOf, AnswersName};
 
-use crate::{Found, Job, find_job};
+use crate::{Job, find_job};
 use subgroup_texts::two_texts::Asked;
 use text::input::{Input, text_end};
 
@@ -14,8 +14,7 @@ pub fn answer_named(name: &[u8], buffer: &[u8], input: Input, out: &mut [u8; 131
     ensures { AnswersName name.now buffer.now result out.old out.new
         input }
 {
-    let found = find_job(name);
-    let Found::Job(job) = found else {
+    let Some(job) = find_job(name) else {
         return 0;
     };
     answer(job, buffer, input, out)

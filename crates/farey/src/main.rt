@@ -8,9 +8,7 @@
 
 mod jobs;
 
-ghost use Rattle.std.specs.Prelude.{◌≡◌};
 ghost use Rattle.farey.specs.Jobs.{FindsJob};
-ghost use Rattle.farey.specs.Inner.Says.{Says};
 
 use jobs::answer_named;
 use std::env::{Env, FillError};
@@ -30,13 +28,6 @@ enum Job {
     ToCycles,
 }
 
-// What a name is the name of.
-#[derive(Clone, Copy)]
-enum Found {
-    Job(Job),
-    Nothing,
-}
-
 fn main(rt: HostRuntime) {
     // The longest name has 12 bytes. An argument that is longer than 16 is none.
     let mut name = [0u8; 16];
@@ -49,10 +40,10 @@ fn main(rt: HostRuntime) {
         return;
     }
     // A name of no job waits for no input.
-    let Found::Job(_) = find_job(&name[..n]) else {
+    if find_job(&name[..n]).is_none() {
         tell_names(&rt);
         return;
-    };
+    }
     let mut text = [0u8; 65536];
     let input = stdio::read_whole(&rt, &mut text);
     let mut out = [0u8; 131072];
@@ -67,57 +58,22 @@ fn more_arguments<R: Env>(rt: &R) -> bool {
 }
 
 // The job that has this name.
-fn find_job(name: &[u8]) -> Found
+fn find_job(name: &[u8]) -> Option<Job>
     ensures { FindsJob name.now result }
 {
-    if is(name, b"sheet") {
-        return Found::Job(Job::Sheet);
+    match name {
+        b"sheet" => Some(Job::Sheet),
+        b"import" => Some(Job::Import),
+        b"import-wide" => Some(Job::ImportWide),
+        b"named" => Some(Job::Named),
+        b"same" => Some(Job::Same),
+        b"exchange" => Some(Job::Exchange),
+        b"intersection" => Some(Job::Intersection),
+        b"tower" => Some(Job::Tower),
+        b"cycles" => Some(Job::Cycles),
+        b"to-cycles" => Some(Job::ToCycles),
+        _ => None,
     }
-    if is(name, b"import") {
-        return Found::Job(Job::Import);
-    }
-    if is(name, b"import-wide") {
-        return Found::Job(Job::ImportWide);
-    }
-    if is(name, b"named") {
-        return Found::Job(Job::Named);
-    }
-    if is(name, b"same") {
-        return Found::Job(Job::Same);
-    }
-    if is(name, b"exchange") {
-        return Found::Job(Job::Exchange);
-    }
-    if is(name, b"intersection") {
-        return Found::Job(Job::Intersection);
-    }
-    if is(name, b"tower") {
-        return Found::Job(Job::Tower);
-    }
-    if is(name, b"cycles") {
-        return Found::Job(Job::Cycles);
-    }
-    if is(name, b"to-cycles") {
-        return Found::Job(Job::ToCycles);
-    }
-    Found::Nothing
-}
-
-// Whether two names are the same, byte for byte.
-fn is(one: &[u8], other: &[u8]) -> bool
-    ensures { Says result (one.now ≡ other.now) }
-{
-    if one.len() != other.len() {
-        return false;
-    }
-    let mut i = 0;
-    while i < one.len() {
-        if one[i] != other[i] {
-            return false;
-        }
-        i += 1;
-    }
-    true
 }
 
 // Tells, in one line, what the argument may be.

@@ -3,20 +3,20 @@
 -- lcm a b = a / gcd a b * b needs.
 -- In order: `gcd`; `lcm`; the least common multiple of a list; 2^64: the test, and the answers.
 -- Assumes nothing.
+use Rattle.std.specs.Prelude.{Ok, Err}
 use mathlib.Core.Path.{◌≡◌, refl, ap}
 use mathlib.Core.Logic.{inl, inr}
 use mathlib.Core.List.{List, [], ◌∷◌}
 use Prim.Native.Nat.{ℕ, zero, suc, ◌+◌, ◌*◌, ◌/◌, ◌%◌, ◌≤◌, ◌<◌, ◌∣◌}
 use native.Mathlib.Nat.{mod-lt, dvd_refl, dvd-zero, dvd_trans, dvd-mod_iff, le_of_dvd, dvd-mul_left, dvd-mul_right, mul-div_cancel'}
 use native.Mathlib.Nat.{dvd-mul_left_of_dvd, div-add-mod', dvd-add_iff_right, pos_of_dvd_of_pos, div-mul_cancel, mul-dvd-mul_left}
-use native.Mathlib.Nat.{dvd_of_mul-dvd-mul_left, one-dvd, le-div_iff_mul-le, div-lt_iff_lt-mul}
+use native.Mathlib.Nat.{dvd_of_mul-dvd-mul_left, one-dvd}
 use native.Mathlib.Omega.{arith}
 use lib.ListN.{length, get_or}
 use lib.Dec.{ltb}
 use borrow.Author.Tests.{lt-ltb, le-ltb, ltb-true, ltb-false}
-use Rattle.call.specs.Refusal.{level_too_large}
+use Rattle.call.specs.declared.refusal.Refusal.TheVariants.{LevelTooLarge}
 use Rattle.call.specs.declared.refusal.Refusal.{Refusal}
-use Rattle.figures.specs.declared.Figure.TheVariants.{Value, Refused}
 use Rattle.figures.specs.LevelOf.{euclid, gcd, lcm, lcm_from, lcm_of, TOO_LARGE, fitting, Positive, LeastMultiple}
 use Rattle.numbering.proofs.Find.{none_below_lem, test}
 
@@ -141,26 +141,20 @@ pub lcm_from_le : (m : ℕ) (l : List ℕ) → 0 < m → Positive l → m ≤ lc
 lcm_from_le m l h p = let r = lcm_from_is m l h p in le_of_dvd r.some r.base
 
 -- ---- 2^64
-pub over : (q b : ℕ) → 0 < b → 18446744073709551615 / b < q → TOO_LARGE ≤ q * b
-over q b h k = omega (arith, (div-lt_iff_lt-mul h).0 k)
-
-pub under : (q b : ℕ) → 0 < b → q ≤ 18446744073709551615 / b → q * b < TOO_LARGE
-under q b h k = omega (arith, (le-div_iff_mul-le h).0 k)
-
-pub fitting_yes : (m : ℕ) → m < TOO_LARGE → Value m ≡ fitting m
+pub fitting_yes : (m : ℕ) → m < TOO_LARGE → Ok m ≡ fitting m
 fitting_yes m h = rw (lt-ltb m TOO_LARGE h)
 
-pub fitting_no : (m : ℕ) → TOO_LARGE ≤ m → Refused level_too_large ≡ fitting m
+pub fitting_no : (m : ℕ) → TOO_LARGE ≤ m → Err LevelTooLarge ≡ fitting m
 fitting_no m h = rw (le-ltb m TOO_LARGE h)
 
 -- what an answer says of the number
-pub value_fits : (m k : ℕ) → Value k ≡ fitting m → (k ≡ m) × (k < TOO_LARGE)
+pub value_fits : (m k : ℕ) → Ok k ≡ fitting m → (k ≡ m) × (k < TOO_LARGE)
 value_fits m k e = elim (test (ltb m TOO_LARGE)) [
   | inl q ↦ let d = rw q at e in let s : k ≡ m = cc in let l = ltb-true m TOO_LARGE q in (s, omega arith)
   | inr q ↦ let d = rw q at e in let z : ◌≡◌ {A = ℕ} 0 1 = cc in let no : ⊥ = omega arith in absurd no
 ]
 
-pub refused_over : (m : ℕ) (f : Refusal) → Refused f ≡ fitting m → TOO_LARGE ≤ m
+pub refused_over : (m : ℕ) (f : Refusal) → Err f ≡ fitting m → TOO_LARGE ≤ m
 refused_over m f e = elim (test (ltb m TOO_LARGE)) [
   | inl q ↦ let d = rw q at e in let z : ◌≡◌ {A = ℕ} 0 1 = cc in let no : ⊥ = omega arith in absurd no
   | inr q ↦ ltb-false m TOO_LARGE q

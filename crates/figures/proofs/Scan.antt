@@ -1,6 +1,7 @@
 -- One law for each place in the code of the figures.
 -- In order: `mark_cycle`; `list_cycle`; `cusp_widths`; `fixed_points`; `level_of`; `figures_of`.
 -- Assumes nothing.
+use Rattle.std.specs.Prelude.{Ok, Err}
 use mathlib.Core.Path.{◌≡◌, refl, sym, ap, ◌∙◌}
 use mathlib.Core.Logic.{◌≢◌, inl, inr}
 use mathlib.Core.Bool.{true, false}
@@ -9,7 +10,7 @@ use Prim.Native.Nat.{ℕ, suc, ◌+◌, ◌-◌, ◌≤◌, ◌<◌}
 use native.Mathlib.Numerals.{add-one}
 use native.Mathlib.Omega.{arith}
 use native.Mathlib.Decide.{dec_lt, ℕ_discrete}
-use lib.ListN.{length, get_or, set, drop, length-set, length-append, length-map, length-drop}
+use lib.ListN.{length, get_or, set, take, drop, length-set, length-append, length-map, length-drop}
 use lib.Seq.{get_or-set_other, drop-cons, get_or-drop, drop-length}
 use borrow.Author.Tests.{ltb-true, ltb-false, eq-eqb, ne_eqb}
 use Rattle.numbering.specs.Find.{find, ◌∈◌, ◌∉◌, is_in}
@@ -17,11 +18,10 @@ use Rattle.numbering.specs.Table.{image_at}
 use Rattle.figures.specs.Cusps.{is_fixed, fixed_points, times, width, iterates, cycle, smallest, cusps_to, cusps, widths, cycles}
 use Rattle.basics.specs.Count.{those}
 use Rattle.call.specs.declared.refusal.Refusal.{Refusal}
-use Rattle.figures.specs.declared.Figure.{Figure}
+use Rattle.call.specs.Refusal.{Filled}
 use Rattle.figures.specs.declared.FigureRecord.{FigureRecord}
 use Rattle.figures.specs.GenusOf.{genus_of}
 use Rattle.figures.specs.FiguresOf.{figures_in}
-use Rattle.figures.specs.declared.Figure.TheVariants.{Value, Refused}
 use Rattle.figures.specs.LevelOf.{lcm, lcm_from, lcm_of, TOO_LARGE, fitting, level_of, Positive}
 use Rattle.numbering.specs.Inner.Space.{WORK, ROOM, WIDTHS, NUMBER, ORDER, R_TABLE, T_TABLE, ChangedWithin}
 use Rattle.call.specs.Space.{entries}
@@ -96,7 +96,8 @@ module _ {n x c₀ : ℕ} {w₀ : List ℕ} (p : NewCycle n x c₀ w₀) where
         record {
           sparse = k.sparse;
           low = omega (arith, walk_low, t_long);
-          new = rw k.list (omega (arith, length-append (listed c₀ w₀) (iterates t j x), run_length_lem t j x, find_right (listed c₀ w₀) (iterates t j x) y far));
+          new = rw k.list
+              (omega (arith, length-append (listed c₀ w₀) (iterates t j x), run_length_lem t j x, find_right (listed c₀ w₀) (iterates t j x) y far));
         }
 
     module _ {w' : List ℕ} (v : NowListed n w w' (listed c w ++ (y ∷ [])) (c + 1)) {z : ℕ} (ez : z ≡ get_or w' (T_TABLE + y) 0) where
@@ -311,7 +312,20 @@ module _ {n c k i : ℕ} {w₀ w : List ℕ} (s : Scanning n w₀ w c k i) where
         frame = s.frame;
       }
 
--- ---- `fixed_points`
+-- ---- parts of the work space, and `fixed_points`
+
+-- an entry of the part of w from off to off + n is an entry of the table of n entries at off
+pub record PartEntry (off n : ℕ) (w : List ℕ) (i x : ℕ) : Type 0 where
+  pub low : i < n
+  pub is : x ≡ get_or (entries off n w) i 0
+
+pub part_entry : {off n : ℕ} {w : List ℕ} {i x : ℕ} → off + n ≤ length w → i < length (take (off + n - off) (drop off w))
+    → x ≡ get_or (take (off + n - off) (drop off w)) i 0 → PartEntry off n w i x
+part_entry {off} {n} {w} {i} {x} fits low is =
+    let k : off + n - off ≡ n = omega arith in
+    let below = rw k at low in
+    record { low = omega (arith, below, entries_length off n w fits); is = rw k at is }
+
 module _ (t : List ℕ) (i : ℕ) where
   pub fixed_yes : image_at t i ≡ i → length (those (is_fixed t) (i + 1)) ≡ length (those (is_fixed t) i) + 1
   fixed_yes e = rw (add-one i, those_yes (is_fixed t) i (eq-eqb (image_at t i) i e)) (length-append (those (is_fixed t) i) (i ∷ []))
@@ -328,9 +342,6 @@ pub record Levelling (l : List ℕ) (m i : ℕ) : Type 0 where
   pub fits : m < TOO_LARGE
   pub left : lcm_from m (drop i l) ≡ lcm_of l
 
-pub level_start : (l : List ℕ) → Levelling l 1 0
-level_start l = record { some = omega arith; fits = omega arith; left = refl }
-
 module _ {off n : ℕ} {w : List ℕ} (p : PositiveTable off n w) {m i : ℕ} (s : Levelling (entries off n w) m i) where
   abbrev table : List ℕ
   table = entries off n w
@@ -338,16 +349,13 @@ module _ {off n : ℕ} {w : List ℕ} (p : PositiveTable off n w) {m i : ℕ} (s
   table_long : length table ≡ n
   table_long = entries_length off n w p.fits
 
-  pub level_end : i ≡ n → Value m ≡ level_of table
+  pub level_end : i ≡ n → Ok m ≡ level_of table
   unfolding lcm_from
   level_end e =
       let d : m ≡ lcm_of table = rw (e ∙ sym table_long, drop-length table) at s.left in
       rw (← d) (fitting_yes m s.fits)
 
-  module _ (h : i < n) {x : ℕ} (ex : x ≡ get_or w (off + i) 0) where
-    level_entry : x ≡ get_or table i 0
-    level_entry = ex ∙ sym (entries_at off n w i h)
-
+  module _ (h : i < n) {x : ℕ} (level_entry : x ≡ get_or table i 0) where
     pub level_positive : 0 < x
     level_positive = rw level_entry (p.positive.each i (omega (arith, table_long)))
 
@@ -361,19 +369,19 @@ module _ {off n : ℕ} {w : List ℕ} (p : PositiveTable off n w) {m i : ℕ} (s
     }
 
     -- over 2^64 once is over it for good
-    pub level_over : {r : Figure} (f : Refusal) → r ≡ Refused f → r ≡ fitting (lcm m x) → r ≡ level_of table
+    pub level_over : {r : Filled} (f : Refusal) → r ≡ Err f → r ≡ fitting (lcm m x) → r ≡ level_of table
     level_over f q e =
         let a = lcm_from_le (lcm m x) (drop (i + 1) table) (lcm_some m x s.some level_positive) rest_positive in
         let h = refused_over (lcm m x) f (sym q ∙ e) in
         e ∙ sym (fitting_no (lcm m x) h) ∙ fitting_no (lcm_of table) (omega (arith, h, a, level_left))
 
-    pub level_more : (k : ℕ) → Value k ≡ fitting (lcm m x) → Levelling table k (i + 1)
+    pub level_more : (k : ℕ) → Ok k ≡ fitting (lcm m x) → Levelling table k (i + 1)
     level_more k e =
         let f = value_fits (lcm m x) k e in
         record { some = rw f.0 (lcm_some m x s.some level_positive); fits = f.1; left = rw f.0 level_left }
 
 -- ---- `figures_of`
-pub all_figures : (n : ℕ) (s r u : List ℕ) {e2 e3 k : ℕ} {g l : Figure} → e2 ≡ fixed_points s → e3 ≡ fixed_points r → k ≡ length (widths u)
+pub all_figures : (n : ℕ) (s r u : List ℕ) {e2 e3 k : ℕ} {g l : Filled} → e2 ≡ fixed_points s → e3 ≡ fixed_points r → k ≡ length (widths u)
     → g ≡ genus_of n e2 e3 k → l ≡ level_of (widths u)
     → ◌≡◌ {A = FigureRecord} (record { index = n; e2 = e2; e3 = e3; cusps = k; genus = g; level = l }) (figures_in n s r u)
 all_figures n s r u a b c d e = cc

@@ -20,7 +20,8 @@
 --     Cusps t            THE THEOREM on the cusps of a permutation t: each point is in the cycle of exactly one cusp,
 --                        the smallest of them; the widths are positive and add up to the number of points
 -- `proofs/Cycle.antt` proves `width_is`, and `proofs/Cusps.antt` `cusps_are`, for every t with `Permutes t`.
-use Rattle.std.specs.Prelude.{◌≡◌, ◌≢◌, Bool, true, false, List, [], ◌∷◌, ◌++◌, map, ℕ, zero, suc, ◌+◌, ◌≤◌, ◌<◌, length, get_or, eqb, leb}
+use Rattle.std.specs.Prelude.{◌≡◌, ◌≢◌, Bool, true, false, List, [], ◌∷◌, ◌++◌, map, ℕ, zero, suc, ◌+◌, ◌≤◌, ◌<◌}
+use Rattle.std.specs.Prelude.{length, get_or, eqb, leb}
 use Rattle.numbering.specs.Find.{◌∈◌}
 use Rattle.basics.specs.Choice.{pick}
 use Rattle.basics.specs.Count.{those}

@@ -6,12 +6,11 @@
 --   GenusFormula s r   12 g = 12 + index - 3 e2 - 4 e3 - 6 cusps for a whole g from 0, of the tables s, r and their
 --                      product, the table of T
 --   TablesGenus s r    the formula, and that the genus among the figures of the tables is a number
-use Rattle.std.specs.Prelude.{◌≡◌, List, ℕ, ◌+◌, ◌*◌, ◌<◌, length}
+use Rattle.std.specs.Prelude.{◌≡◌, List, ℕ, ◌+◌, ◌*◌, ◌<◌, length, Ok}
 use Rattle.numbering.specs.Table.{image_at, ◌then_table◌}
 use Rattle.figures.specs.Cusps.{fixed_points, cusps}
 use Rattle.figures.specs.FiguresOf.{figures_in}
-use Rattle.figures.specs.declared.Figure.{Figure}
-use Rattle.figures.specs.declared.Figure.TheVariants.{Value}
+use Rattle.call.specs.Refusal.{Filled}
 use Rattle.figures.specs.RiemannHurwitz.{Transitive}
 
 pub record CosetPair (s r : List ℕ) : Type 0 where
@@ -21,11 +20,12 @@ pub record CosetPair (s r : List ℕ) : Type 0 where
 
 pub record GenusFormula (s r : List ℕ) : Type 0 where
   pub genus : ℕ
-  pub formula : 12 * genus + 3 * fixed_points s + 4 * fixed_points r + 6 * length (cusps (s then_table r)) ≡ 12 + length s
+  pub formula :
+      12 * genus + 3 * fixed_points s + 4 * fixed_points r + 6 * length (cusps (s then_table r)) ≡ 12 + length s
 
-pub record HasGenus (f : Figure) : Type 0 where
+pub record HasGenus (f : Filled) : Type 0 where
   pub genus : ℕ
-  pub is : f ≡ Value genus
+  pub is : f ≡ Ok genus
 
 pub record TablesGenus (s r : List ℕ) : Type 0 where
   pub formula : GenusFormula s r

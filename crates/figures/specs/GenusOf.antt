@@ -4,21 +4,20 @@
 --                                   refused where no number does; for tables of S and R some number always does (this
 --                                   crate)
 -- `proofs/GenusOf.antt` proves `genus_is`.
-use Rattle.std.specs.Prelude.{◌≡◌, ℕ, ◌+◌, ◌-◌, ◌*◌, ◌/◌, ◌%◌, eqb, leb}
+use Rattle.std.specs.Prelude.{◌≡◌, ℕ, ◌+◌, ◌-◌, ◌*◌, ◌/◌, ◌%◌, eqb, leb, Ok, Err}
 use Rattle.basics.specs.Choice.{pick}
-use Rattle.call.specs.Refusal.{no_genus}
-use Rattle.figures.specs.declared.Figure.{Figure}
-use Rattle.figures.specs.declared.Figure.TheVariants.{Value, Refused}
+use Rattle.call.specs.Refusal.{Filled}
+use Rattle.call.specs.declared.refusal.Refusal.TheVariants.{NoGenus}
 
-unfoldable pub genus_of : (index e2 e3 cusps : ℕ) → Figure
+unfoldable pub genus_of : (index e2 e3 cusps : ℕ) → Filled
 genus_of index e2 e3 cusps =
     let plus = 12 + index in
     let minus = 3 * e2 + 4 * e3 + 6 * cusps in
-    pick (leb minus plus) (pick (eqb ((plus - minus) % 12) 0) (Value ((plus - minus) / 12)) (Refused no_genus))
-    (Refused no_genus)
+    pick (leb minus plus) (pick (eqb ((plus - minus) % 12) 0) (Ok ((plus - minus) / 12)) (Err NoGenus))
+    (Err NoGenus)
 
 pub record Genus (index e2 e3 cusps : ℕ) : Type 0 where
-  pub right : (g : ℕ) → genus_of index e2 e3 cusps ≡ Value g → 12 * g + 3 * e2 + 4 * e3 + 6 * cusps ≡ 12 + index
-  pub found : (g : ℕ) → 12 * g + 3 * e2 + 4 * e3 + 6 * cusps ≡ 12 + index → genus_of index e2 e3 cusps ≡ Value g
+  pub right : (g : ℕ) → genus_of index e2 e3 cusps ≡ Ok g → 12 * g + 3 * e2 + 4 * e3 + 6 * cusps ≡ 12 + index
+  pub found : (g : ℕ) → 12 * g + 3 * e2 + 4 * e3 + 6 * cusps ≡ 12 + index → genus_of index e2 e3 cusps ≡ Ok g
   pub none : ((g : ℕ) → 12 * g + 3 * e2 + 4 * e3 + 6 * cusps ≡ 12 + index → ⊥) → genus_of index e2 e3 cusps
-      ≡ Refused no_genus
+      ≡ Err NoGenus

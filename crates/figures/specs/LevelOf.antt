@@ -11,12 +11,11 @@
 --     LeastMultiple l m THE THEOREM on m = lcm_of l: every entry of l divides m, and m divides whatever all entries
 --       divide
 -- `proofs/LevelOf.antt` proves `lcm_of_is : Positive l → LeastMultiple l (lcm_of l)`.
-use Rattle.std.specs.Prelude.{List, [], ◌∷◌, ℕ, zero, suc, ◌*◌, ◌/◌, ◌%◌, ◌<◌, length, get_or, ltb}
+use Rattle.std.specs.Prelude.{List, [], ◌∷◌, ℕ, zero, suc, ◌*◌, ◌/◌, ◌%◌, ◌<◌, length, get_or, ltb, Ok, Err}
 use Rattle.std.specs.Int.{◌∣◌}
 use Rattle.basics.specs.Choice.{pick}
-use Rattle.call.specs.Refusal.{level_too_large}
-use Rattle.figures.specs.declared.Figure.{Figure}
-use Rattle.figures.specs.declared.Figure.TheVariants.{Value, Refused}
+use Rattle.call.specs.Refusal.{Filled}
+use Rattle.call.specs.declared.refusal.Refusal.TheVariants.{LevelTooLarge}
 
 unfoldable pub euclid : ℕ → ℕ → ℕ → ℕ
 euclid zero a b = a
@@ -39,10 +38,10 @@ lcm_of l = lcm_from 1 l
 abbrev pub TOO_LARGE : ℕ
 TOO_LARGE = 18446744073709551616
 
-abbrev pub fitting : ℕ → Figure
-fitting m = pick (ltb m TOO_LARGE) (Value m) (Refused level_too_large)
+abbrev pub fitting : ℕ → Filled
+fitting m = pick (ltb m TOO_LARGE) (Ok m) (Err LevelTooLarge)
 
-abbrev pub level_of : List ℕ → Figure
+abbrev pub level_of : List ℕ → Filled
 level_of l = fitting (lcm_of l)
 
 pub record Positive (l : List ℕ) : Type 0 where

@@ -13,7 +13,7 @@ ghost use Rattle.figures.specs.LevelOf.{gcd, lcm, fitting, level_of};
 ghost use Rattle.figures.specs.Inner.Scan.{HoldsTable, held_t, Permuted, NewCycle, CycleDue, CycleTaken};
 ghost use Rattle.figures.specs.Inner.Scan.{CuspWidths, FiguresOf, PositiveTable};
 
-use call::refusal::{LEVEL_TOO_LARGE, NO_GENUS, Refusal};
+use call::refusal::Refusal;
 use numbering::{R_TABLE, S_TABLE, T_TABLE, WIDTHS, has, push};
 
 // How many places the table of n entries at `off` fixes.
@@ -22,13 +22,10 @@ fn fixed_points(w: &[u16], off: usize, n: usize) -> usize
     ensures { result ≡ fixed_points (entries off n w.now) }
 {
     let mut count: usize = 0;
-    let mut i: usize = 0;
-    while i < n {
-        let x = call::workspace::index(w[off + i]);
-        if x == i {
+    for (i, x) in w[off..off + n].iter().enumerate() {
+        if usize::from(*x) == i {
             count += 1;
         }
-        i += 1;
     }
     count
 }
@@ -41,34 +38,39 @@ fn mark_cycle(w: &mut [u16], n: usize, x: usize, c0: usize) -> usize
 {
     let mut c = c0;
     let mut y = x;
+    // a `loop`: the length of the cycle is what it finds
     loop {
         push(w, n, y, c);
         c += 1;
-        y = call::workspace::index(w[T_TABLE + y]);
+        y = usize::from(w[T_TABLE + y]);
         if y == x {
             return c;
         }
     }
 }
 
-// The state of the scan: c points are listed, of k cycles.
+// The state of the scan: how many points are listed, and of how many cycles.
 #[derive(Clone, Copy)]
 struct Counts {
-    c: usize,
-    k: usize,
+    points: usize,
+    cycles: usize,
 }
 
 // One point of the scan: if it is in no cycle so far, its cycle is the next cusp's, and it is the smallest point there.
-fn list_cycle(w: &mut [u16], n: usize, i: usize, c: usize, k: usize) -> Counts
-    requires { CycleDue n i c k w.old }
-    ensures { CycleTaken n i w.old w.new result.c result.k }
+fn list_cycle(w: &mut [u16], n: usize, i: usize, before: Counts) -> Counts
+    requires { CycleDue n i before.points before.cycles w.old }
+    ensures { CycleTaken n i w.old w.new result.points result.cycles }
 {
-    if has(w, n, i, c) {
-        return Counts { c, k };
+    let Counts { points, cycles } = before;
+    if has(w, n, i, points) {
+        return before;
     }
-    let c1 = mark_cycle(w, n, i, c);
-    w[WIDTHS + k] = (c1 - c) as u16;
-    Counts { c: c1, k: k + 1 }
+    let listed = mark_cycle(w, n, i, points);
+    w[WIDTHS + cycles] = (listed - points) as u16;
+    Counts {
+        points: listed,
+        cycles: cycles + 1,
+    }
 }
 
 // The widths of the cycles of T, by smallest point. How many there are.
@@ -76,53 +78,32 @@ pub fn cusp_widths(w: &mut [u16], n: usize) -> usize
     requires { Permuted n w.old }
     ensures { CuspWidths n w.old w.new result }
 {
-    let mut c: usize = 0;
-    let mut k: usize = 0;
-    let mut i: usize = 0;
-    while i < n {
-        let r = list_cycle(w, n, i, c, k);
-        c = r.c;
-        k = r.k;
-        i += 1;
+    let mut counts = Counts {
+        points: 0,
+        cycles: 0,
+    };
+    for i in 0..n {
+        counts = list_cycle(w, n, i, counts);
     }
-    k
-}
-
-// A figure: its value, or why there is none.
-#[derive(Clone, Copy)]
-pub enum Figure {
-    Value(u64),
-    Refused(Refusal),
+    counts.cycles
 }
 
 // The genus formula; 18 where it gives no whole number from 0, which tables of S and R never bring about (this crate):
 // the case stands for any four counts, of which this function asks nothing else.
-fn genus_of(index: usize, e2: usize, e3: usize, cusps: usize) -> Figure
+fn genus_of(index: usize, e2: usize, e3: usize, cusps: usize) -> Result<u64, Refusal>
     requires { (index < 4294967296) × (e2 < 4294967296) × (e3 < 4294967296) × (cusps < 4294967296) }
     ensures { result ≡ genus_of index e2 e3 cusps }
 {
     let plus = 12 + index;
     let minus = 3 * e2 + 4 * e3 + 6 * cusps;
     if plus < minus {
-        return Figure::Refused(Refusal {
-            number: NO_GENUS,
-            place: 0,
-        });
+        return Err(Refusal::NoGenus);
     }
     let d = plus - minus;
     if d % 12 != 0 {
-        return Figure::Refused(Refusal {
-            number: NO_GENUS,
-            place: 0,
-        });
+        return Err(Refusal::NoGenus);
     }
-    Figure::Value((d / 12) as u64)
-}
-
-fn wide64(x: u16) -> u64
-    ensures { result ≡ x }
-{
-    x as u64
+    Ok((d / 12) as u64)
 }
 
 // The greatest common divisor.
@@ -131,48 +112,33 @@ fn gcd_of(a: u64, b: u64) -> u64
 {
     let mut x = a;
     let mut y = b;
+    // a `while`: a step of Euclid's algorithm makes the bound
     while y != 0 {
-        let z = x % y;
-        x = y;
-        y = z;
+        (x, y) = (y, x % y);
     }
     x
 }
 
 // The least common multiple of two positive numbers; 17 where it is at or over 2^64.
-fn lcm_of(a: u64, b: u64) -> Figure
+fn lcm_of(a: u64, b: u64) -> Result<u64, Refusal>
     requires { (0 < a) × (0 < b) }
     ensures { result ≡ fitting (lcm a b) }
 {
-    let g = gcd_of(a, b);
-    let q = a / g;
-    if 18446744073709551615 / b < q {
-        return Figure::Refused(Refusal {
-            number: LEVEL_TOO_LARGE,
-            place: 0,
-        });
-    }
-    Figure::Value(q * b)
+    let q = a / gcd_of(a, b);
+    q.checked_mul(b).ok_or(Refusal::LevelTooLarge)
 }
 
 // The least common multiple of the table of n positive entries at `off`: of the widths it is the level. A common
 // multiple never falls as entries come to it, so the first one over is the answer.
-fn level_of(w: &[u16], off: usize, n: usize) -> Figure
+fn level_of(w: &[u16], off: usize, n: usize) -> Result<u64, Refusal>
     requires { PositiveTable off n w.now }
     ensures { result ≡ level_of (entries off n w.now) }
 {
     let mut m: u64 = 1;
-    let mut i: usize = 0;
-    while i < n {
-        let x = wide64(w[off + i]);
-        let r = lcm_of(m, x);
-        let Figure::Value(k) = r else {
-            return r;
-        };
-        m = k;
-        i += 1;
+    for x in &w[off..off + n] {
+        m = lcm_of(m, u64::from(*x))?;
     }
-    Figure::Value(m)
+    Ok(m)
 }
 
 // All figures of a group's tables.
@@ -182,8 +148,8 @@ pub struct FigureRecord {
     pub e2: usize,
     pub e3: usize,
     pub cusps: usize,
-    pub genus: Figure,
-    pub level: Figure,
+    pub genus: Result<u64, Refusal>,
+    pub level: Result<u64, Refusal>,
 }
 
 // The figures of the tables of S, R and T of n points. The widths stay at WIDTHS.

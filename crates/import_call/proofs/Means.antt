@@ -3,6 +3,7 @@
 -- In order: the symbol that the rule makes of a passport (`ruled_means`), and the length of its table (`has_room`); the steps behind the work space, as a run
 -- (`no_room`, `grown_in_room`); the verdict of an import, and what the exported calls say (`import_says_lem`, `length_says`).
 -- Assumes nothing.
+use Rattle.std.specs.Prelude.{Ok, Err}
 use mathlib.Core.Path.{◌≡◌, refl, sym, ◌∙◌, ap, subst}
 use mathlib.Core.List.{List, [], ◌∷◌, ◌++◌}
 use Prim.Native.Nat.{ℕ, ◌+◌, ◌*◌, ◌≤◌, ◌<◌}
@@ -10,11 +11,8 @@ use lib.ListN.{length, take, drop}
 use lib.Seq.{take_at}
 use lib.IntN.{ℤ}
 use native.Mathlib.Omega.{arith}
-use Rattle.call.specs.Refusal.{◌or_else◌, checked_refusal, too_short, entry_too_large}
-use Rattle.call.specs.declared.refusal.Checked.{Checked}
-use Rattle.call.specs.declared.refusal.Checked.TheVariants.{Accepted, Refused}
-use Rattle.call.specs.declared.refusal.Filled.{Filled}
-use Rattle.call.specs.declared.refusal.Filled.TheVariants as filled
+use Rattle.call.specs.Refusal.{◌or_else◌, answer_number, answer_place, Checked, Filled}
+use Rattle.call.specs.declared.refusal.Refusal.TheVariants.{TooShort, EntryTooLarge}
 use Rattle.call.proofs.Apart.{refused_accepted}
 use Rattle.call.proofs.Answers.{both_pass, then_next}
 use Rattle.call.specs.Space.{work_length}
@@ -73,11 +71,11 @@ pub has_room : (order : Order) (s r : List ℕ) (room : ℕ) → Passport s r �
 has_room order s r room p h = record { fits = λ v t e. rw (needed_is order s r v t p e) at h }
 
 -- the symbol of a passport that 16 doesn't refuse
-pub made_means : (order : Order) (s r : List ℕ) → Passport s r → check16 (ruled_by order s r) ≡ Accepted
+pub made_means : (order : Order) (s r : List ℕ) → Passport s r → check16 (ruled_by order s r) ≡ Ok tt
     → SymbolOfPair s r (needed_vertices r) (ruled_table (ruled_by order s r))
 made_means order s r p e = go (ruled_by order s r) refl e
   where
-    go : (g : Ruled) → ruled_by order s r ≡ g → check16 g ≡ Accepted → SymbolOfPair s r (needed_vertices r) (ruled_table (ruled_by order s r))
+    go : (g : Ruled) → ruled_by order s r ≡ g → check16 g ≡ Ok tt → SymbolOfPair s r (needed_vertices r) (ruled_table (ruled_by order s r))
     go (made v t) q z =
         let m = ruled_means order s r v t p q in
         subst (SymbolOfPair s r (needed_vertices r)) (sym (ap ruled_table q)) (subst (λ (k : ℕ). SymbolOfPair s r k t) m.vertices m)
@@ -93,16 +91,16 @@ module _ (order : Order) (s r : List ℕ) (o : List ℤ) where
   abbrev G : Ruled
   G = ruled_by order s r
 
-  pub no_room : (n : ℕ) → n ≡ needed_length r → length o < n → Fills (symbol_steps order s r o o) (made_if (needed_vertices r)) (filled.Refused (too_short n))
+  pub no_room : (n : ℕ) → n ≡ needed_length r → length o < n → Fills (symbol_steps order s r o o) (made_if (needed_vertices r)) (Err (TooShort n))
   no_room n e h =
-      fills_as (run_stop (too_short n) (length_check (needed_length r) (length o)) (Asks (check16 G) ∷ Gives (at_front (ruled_table G) o) o o ∷ [])
-      (subst (λ (k : ℕ). length_check k (length o) ≡ Refused (too_short n)) e (room_short n (length o) h)) (refl, tt)) refl
+      fills_as (run_stop (TooShort n) (length_check (needed_length r) (length o)) (Asks (check16 G) ∷ Gives (at_front (ruled_table G) o) o o ∷ [])
+      (subst (λ (k : ℕ). length_check k (length o) ≡ Err (TooShort n)) e (room_short n (length o) h)) (refl, tt)) refl
 
   pub grown_in_room : Passport s r → needed_length r ≤ length o → {a : Filled} {o' : List ℤ} → a ≡ ruled_answer G → o' ≡ ruled_left G a o
       → Fills (symbol_steps order s r o o') (made_if (needed_vertices r)) a
   grown_in_room p h {a} {o'} q z = go G refl q (z ∙ ap (λ (x : Filled). ruled_left G x o) q)
     where
-      fits : length_check (needed_length r) (length o) ≡ Accepted
+      fits : length_check (needed_length r) (length o) ≡ Ok tt
       fits = room_long (needed_length r) (length o) h
 
       go : (g : Ruled) → G ≡ g → a ≡ ruled_answer g → o' ≡ ruled_left G (ruled_answer G) o → Fills (symbol_steps order s r o o') (made_if (needed_vertices r)) a
@@ -114,16 +112,16 @@ module _ (order : Order) (s r : List ℕ) (o : List ℤ) where
           fills_as (run_pass (length_check (needed_length r) (length o)) (Asks (check16 G) ∷ Gives (at_front (ruled_table G) o) o o' ∷ []) fits
           (run_pass (check16 G) (Gives (at_front (ruled_table G) o) o o' ∷ []) (ap check16 e)
           (run_put (at_front (ruled_table G) o) o o' [] (left ∙ front) run_end)))
-          (q ∙ ap filled.Made m.vertices)
+          (q ∙ ap Ok m.vertices)
       go (over i) e q z =
           let left : o' ≡ o = z ∙ ap (λ (x : Ruled). ruled_left x (ruled_answer x) o) e in
           fills_as (run_pass (length_check (needed_length r) (length o)) (Asks (check16 G) ∷ Gives (at_front (ruled_table G) o) o o' ∷ []) fits
-          (run_stop (entry_too_large i) (check16 G) (Gives (at_front (ruled_table G) o) o o' ∷ []) (ap check16 e) (left, tt))) q
+          (run_stop (EntryTooLarge i) (check16 G) (Gives (at_front (ruled_table G) o) o o' ∷ []) (ap check16 e) (left, tt))) q
 
 -- ---- the verdict of an import
 
 -- a table that was given stands at the front
-pub front_of : (t o o' : List ℤ) (c : Checked) (n : ℕ) → length t ≡ n → o' ≡ if_accepted c (at_front t o) o → c ≡ Accepted → take n o' ≡ t
+pub front_of : (t o o' : List ℤ) (c : Checked) (n : ℕ) → length t ≡ n → o' ≡ if_accepted c (at_front t o) o → c ≡ Ok tt → take n o' ≡ t
 front_of t o o' c n k l e = ap (take n) (l ∙ ap (λ (x : Checked). if_accepted x (at_front t o) o) e) ∙ take_at t (drop (length t) o) n k
 
 pub above16 : (g : Ruled) → Above (check16 g)
@@ -134,22 +132,22 @@ module _ (order : Order) (s r w : List ℕ) (o : List ℤ) where
   abbrev pub import_verdict : Checked
   import_verdict =
       pair_check s r or_else length_check work_length (length w) or_else length_check (needed_length r) (length o)
-      or_else check16 (ruled_by order s r) or_else Accepted
+      or_else check16 (ruled_by order s r) or_else (Ok tt)
 
-  pub accepted_means : import_verdict ≡ Accepted → SymbolOfPair s r (needed_vertices r) (ruled_table (ruled_by order s r))
+  pub accepted_means : import_verdict ≡ Ok tt → SymbolOfPair s r (needed_vertices r) (ruled_table (ruled_by order s r))
   accepted_means e =
-      let last = check16 (ruled_by order s r) or_else Accepted in
+      let last = check16 (ruled_by order s r) or_else (Ok tt) in
       let a = both_pass (pair_check s r) (length_check work_length (length w) or_else length_check (needed_length r) (length o) or_else last) e in
       let b = both_pass (length_check work_length (length w)) (length_check (needed_length r) (length o) or_else last) a.1 in
       let d = both_pass (length_check (needed_length r) (length o)) last b.1 in
-      made_means order s r ((accepted s r).0 a.0) (both_pass (check16 (ruled_by order s r)) Accepted d.1).0
+      made_means order s r ((accepted s r).0 a.0) (both_pass (check16 (ruled_by order s r)) (Ok tt) d.1).0
 
 -- what the exported call says
 module _ (order : Order) (s r : List ℕ) (w : Lent (List ℕ)) (out : Lent (List ℤ)) (l : Leaves (import_steps order s r w out)) where
   abbrev o : List ℤ
   o = out.entry.now
 
-  in_space : import_verdict order s r w.entry.now o ≡ Accepted → SymbolOfPair s r (needed_vertices r) (take (3 * needed_vertices r + 1) out.exit.now)
+  in_space : import_verdict order s r w.entry.now o ≡ Ok tt → SymbolOfPair s r (needed_vertices r) (take (3 * needed_vertices r + 1) out.exit.now)
   in_space e =
       let m = accepted_means order s r w.entry.now o e in
       subst (SymbolOfPair s r (needed_vertices r)) (sym (front_of (ruled_table (ruled_by order s r)) o out.exit.now (import_verdict order s r w.entry.now o)
@@ -164,15 +162,15 @@ module _ (order : Order) (s r : List ℕ) (w : Lent (List ℕ)) (out : Lent (Lis
 
 -- ---- the length alone
 
-none_after : (c : Checked) → (c or_else Accepted) ≡ c
-none_after Accepted = refl
-none_after (Refused f) = refl
+none_after : (c : Checked) → (c or_else (Ok tt)) ≡ c
+none_after (Ok tt) = refl
+none_after (Err f) = refl
 
 -- an import of a passport that gets to its result space
 in_room : (order : Order) (s r w : List ℕ) (o : List ℤ) → Passport s r → work_length ≤ length w
-    → import_verdict order s r w o ≡ (length_check (needed_length r) (length o) or_else check16 (ruled_by order s r) or_else Accepted)
+    → import_verdict order s r w o ≡ (length_check (needed_length r) (length o) or_else check16 (ruled_by order s r) or_else (Ok tt))
 in_room order s r w o p h =
-    let rest = length_check (needed_length r) (length o) or_else check16 (ruled_by order s r) or_else Accepted in
+    let rest = length_check (needed_length r) (length o) or_else check16 (ruled_by order s r) or_else (Ok tt) in
     sym (then_next (pair_check s r) (length_check work_length (length w) or_else rest) ((accepted s r).1 p))
     ∙ sym (then_next (length_check work_length (length w)) rest (room_long work_length (length w) h))
 
@@ -186,18 +184,18 @@ length_of_import s r p = record {
       (n, n ∙ sym (ruled_means order s r v t p e).precisely.symbol.long);
   enough = λ order w out h l.
       let o = out.entry.now in
-      let last = check16 (ruled_by order s r) or_else Accepted in
+      let last = check16 (ruled_by order s r) or_else (Ok tt) in
       in_room order s r w.entry.now o p h ∙ sym (then_next (length_check (needed_length r) (length o)) last (room_long (needed_length r) (length o) l))
       ∙ none_after (check16 (ruled_by order s r));
   fewer = λ order w out h l.
       let o = out.entry.now in
-      let last = check16 (ruled_by order s r) or_else Accepted in
+      let last = check16 (ruled_by order s r) or_else (Ok tt) in
       in_room order s r w.entry.now o p h ∙ ap (λ (c : Checked). c or_else last) (room_short (needed_length r) (length o) l);
 }
 
-pub length_says : (s r : List ℕ) → (checked_refusal (pair_check s r or_else Accepted)).number ≡ 0
-    → LengthOfImport s r (if_accepted (pair_check s r or_else Accepted) (needed_length r) (checked_refusal (pair_check s r or_else Accepted)).place)
+pub length_says : (s r : List ℕ) → answer_number (pair_check s r or_else (Ok tt)) ≡ 0
+    → LengthOfImport s r (if_accepted (pair_check s r or_else (Ok tt)) (needed_length r) (answer_place (pair_check s r or_else (Ok tt))))
 length_says s r =
     made_says (record { steps = Asks (pair_check s r) ∷ []; count = needed_length r; Says = λ number place. Unit {0} }) (LengthOfImport s r)
     (above_among 12 15 (pair_check s r) (omega arith) (pairs_among s r), tt)
-    (λ e. length_of_import s r ((accepted s r).0 (both_pass (pair_check s r) Accepted e).0))
+    (λ e. length_of_import s r ((accepted s r).0 (both_pass (pair_check s r) (Ok tt) e).0))

@@ -19,9 +19,8 @@
 --                        more the symbol's table goes, of just n numbers, or the answer is 16; a shorter space is
 --                        refused with 11 and n
 --   import_length_call   the exported call: 12 to 15, or that length
-use Rattle.std.specs.Prelude.{◌≡◌, List, ◌++◌, ℕ, ◌+◌, ◌-◌, ◌*◌, ◌/◌, ◌≤◌, ◌<◌, length, take, ℤ}
-use Rattle.call.specs.Refusal.{too_short}
-use Rattle.call.specs.declared.refusal.Checked.TheVariants.{Refused}
+use Rattle.std.specs.Prelude.{◌≡◌, List, ◌++◌, ℕ, ◌+◌, ◌-◌, ◌*◌, ◌/◌, ◌≤◌, ◌<◌, length, take, ℤ, Err}
+use Rattle.call.specs.declared.refusal.Refusal.TheVariants.{TooShort}
 use Rattle.call.specs.Space.{work_length}
 use Rattle.call.specs.Call.{Lent, Step, length_check, asks, work, result_in, at_front, verdict, Contract}
 use Rattle.numbering.specs.Order.{order_of}
@@ -81,7 +80,7 @@ pub record LengthOfImport (s r : List ℕ) (n : ℕ) : Type 0 where
   pub enough : (order : Order) (w : Lent (List ℕ)) (out : Lent (List ℤ)) → work_length ≤ length w.entry.now
       → n ≤ length out.entry.now → verdict (import_steps order s r w out) ≡ check16 (ruled_by order s r)
   pub fewer : (order : Order) (w : Lent (List ℕ)) (out : Lent (List ℤ)) → work_length ≤ length w.entry.now
-      → length out.entry.now < n → verdict (import_steps order s r w out) ≡ Refused (too_short n)
+      → length out.entry.now < n → verdict (import_steps order s r w out) ≡ Err (TooShort n)
 
 abbrev pub import_length_call : (s r : List ℕ) → Contract
 import_length_call s r = record {

@@ -11,13 +11,11 @@ fn fixed_points(r: &[u32]) -> usize
     ensures { (result ≡ fixed_points r.now) × (result ≤ length r.now) }
 {
     let mut count: usize = 0;
-    let mut i: usize = 0;
-    while i < r.len() {
+    for i in 0..r.len() {
         let x = wide(r[i]);
         if x == i {
             count += 1;
         }
-        i += 1;
     }
     count
 }

@@ -10,30 +10,37 @@ ghost use Rattle.import_symbol.specs.Answer.{order_by};
 ghost use Rattle.import_call.specs.Import.{needed_vertices, needed_length};
 ghost use Rattle.import_call.specs.Import.{symbol_into, import_steps, import_length_call};
 
-use call::refusal::{Checked, Filled, Refusal, TOO_SHORT};
+use call::refusal::Refusal;
 use length::needed_length;
 use permutations::check;
 
 mod length;
 
 // The symbol of an accepted pair, by the wide rule or by the rule, where the result space has room for its table.
-fn grow_within(s: &[u32], r: &[u32], w: &mut [u16], out: &mut [i64], wide: bool) -> Filled
+fn grow_within(
+    s: &[u32],
+    r: &[u32],
+    w: &mut [u16],
+    out: &mut [i64],
+    wide: bool,
+) -> Result<usize, Refusal>
     requires { Passport s.now r.now × (32768 ≤ length w.old) }
     ensures { Fills (symbol_into (order_by wide) s.now r.now out)
         (made_if (needed_vertices r.now)) result }
 {
     let n = needed_length(r);
-    if out.len() < n {
-        return Filled::Refused(Refusal {
-            number: TOO_SHORT,
-            place: n,
-        });
-    }
+    call::room(n, out.len())?;
     import_symbol::grow(s, r, w, out, wide)
 }
 
 // The same; the work space is cleared after.
-fn import_accepted(s: &[u32], r: &[u32], w: &mut [u16], out: &mut [i64], wide: bool) -> Filled
+fn import_accepted(
+    s: &[u32],
+    r: &[u32],
+    w: &mut [u16],
+    out: &mut [i64],
+    wide: bool,
+) -> Result<usize, Refusal>
     requires { Passport s.now r.now × (32768 ≤ length w.old) }
     ensures fills { Fills (symbol_into (order_by wide) s.now r.now out)
         (made_if (needed_vertices r.now)) result }
@@ -47,37 +54,28 @@ fn import_accepted(s: &[u32], r: &[u32], w: &mut [u16], out: &mut [i64], wide: b
 // The symbol of the matrices that fix point 0, from the tables of S and R, by the wide rule or by the rule: the number
 // of its vertices, its table at the front of the result space; or 12 to 15, then the work space, then the result space,
 // then 16.
-pub fn import_by(s: &[u32], r: &[u32], w: &mut [u16], out: &mut [i64], wide: bool) -> Filled
+pub fn import_by(
+    s: &[u32],
+    r: &[u32],
+    w: &mut [u16],
+    out: &mut [i64],
+    wide: bool,
+) -> Result<usize, Refusal>
     ensures { Fills (import_steps (order_by wide) s.now r.now w out)
         (made_if (needed_vertices r.now)) result }
 {
-    let checked = check(s, r);
-    match checked {
-        Checked::Refused(refusal) => Filled::Refused(refusal),
-        Checked::Accepted => {
-            if w.len() < call::workspace::WORK {
-                return Filled::Refused(Refusal {
-                    number: TOO_SHORT,
-                    place: call::workspace::WORK,
-                });
-            }
-            import_accepted(s, r, w, out, wide)
-        }
-    }
+    check(s, r)?;
+    call::room(call::workspace::WORK, w.len())?;
+    import_accepted(s, r, w, out, wide)
 }
 
 // The length of the table of the symbol that an import would make, 3v + 1, for a caller who books the result space:
 // 12 to 15, or the length. No symbol is made, and no work space is needed.
-pub fn import_length(s: &[u32], r: &[u32]) -> Filled
+pub fn import_length(s: &[u32], r: &[u32]) -> Result<usize, Refusal>
     ensures { Fills (import_length_call s.now r.now).steps
         (made_if (needed_length r.now)) result }
 {
-    let checked = check(s, r);
-    match checked {
-        Checked::Refused(refusal) => Filled::Refused(refusal),
-        Checked::Accepted => {
-            let n = needed_length(r);
-            Filled::Made(n)
-        }
-    }
+    check(s, r)?;
+    let n = needed_length(r);
+    Ok(n)
 }

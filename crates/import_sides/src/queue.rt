@@ -133,6 +133,7 @@ fn count(w: &[u16], l: usize) -> usize
 {
     let mut i: usize = 0;
     let mut at = l;
+    // a `while`: it goes along the links of a chain
     while at != 0 {
         let c = at - 1;
         at = entry(w, LINK + c);
@@ -211,6 +212,7 @@ pub fn walk(s: &[u32], r: &[u32], w: &mut [u16]) -> Outcome
     begin(w);
     let mut h: usize = 0;
     let mut k: usize = 3;
+    // a `while`: its bound grows with each side that is split
     while h + 3 < 2 * k {
         let t = take_next_side(s, r, w, h, k);
         if t.stop {

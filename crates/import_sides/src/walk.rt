@@ -189,6 +189,7 @@ pub fn walk(s: &[u32], r: &[u32], w: &mut [u16]) -> Outcome
     start(s, r, w);
     let mut d: usize = 0;
     let mut k: usize = 3;
+    // a `while`: its bound grows with each side that is split
     while 0 < k {
         let t = take_side(s, r, w, d, k);
         if t.stop {

@@ -4,6 +4,7 @@
 -- (`large_over`, `large_room`, `large_made`); the cases of the rule (`rule_first`, `rule_second`, `rule_large`); the four numbers of a small
 -- symbol (`small_room`, `four_stores`).
 -- Assumes nothing.
+use Rattle.std.specs.Prelude.{Ok, Err}
 use mathlib.Core.Path.{◌≡◌, refl, sym, ◌∙◌, ap}
 use mathlib.Core.Bool.{Bool, true, false, ◌&&◌}
 use mathlib.Core.List.{List, [], ◌∷◌, ◌++◌}
@@ -13,9 +14,8 @@ use lib.Dec.{eqb}
 use lib.ListN.{length, get_or, set, drop}
 use lib.IntN.{ℤ, pos, negsuc}
 use borrow.Author.Tests.{eq-eqb, ne_eqb}
-use Rattle.call.specs.Refusal.{entry_too_large}
-use Rattle.call.specs.declared.refusal.Filled.{Filled}
-use Rattle.call.specs.declared.refusal.Filled.TheVariants.{Made, Refused}
+use Rattle.call.specs.Refusal.{Filled}
+use Rattle.call.specs.declared.refusal.Refusal.TheVariants.{EntryTooLarge}
 use Rattle.basics.specs.Choice.{pick}
 use Rattle.call.specs.Space.{zeros}
 use Rattle.call.proofs.Zeros.{length_zeros, get_d_zeros}
@@ -64,7 +64,7 @@ module _ (order : Order) (s r : List ℕ) where
   whole_of w stop d (whole e g) f = g
 
   pub large_over : (w : List ℕ) (stop : Bool) (d : ℕ) (o : List ℤ) → WalkLeaves order s r w stop d → stop ≡ true
-      → (Refused (entry_too_large d) ≡ ruled_answer large) × (o ≡ ruled_left large (Refused (entry_too_large d)) o)
+      → (Err (EntryTooLarge d) ≡ ruled_answer large) × (o ≡ ruled_left large (Err (EntryTooLarge d)) o)
   large_over w stop d o (halted e g) f = (sym (ap (λ (x : Grew). ruled_answer (symbol_by σ κ x)) g), refl)
   large_over w stop d o (whole e g) f = clash f e
 
@@ -75,8 +75,8 @@ module _ (order : Order) (s r : List ℕ) where
   large_room w d room g h = h.fits (d - 1) (symbol_table (rows_of σ κ (done_in w d))) (made_is w d g)
 
   pub large_made : (w : List ℕ) (d : ℕ) (o y : List ℤ) → Whole order s r w d → y ≡ table_written σ κ w d o
-      → (Made (d - 1) ≡ ruled_answer large) × (y ≡ ruled_left large (Made (d - 1)) o)
-  large_made w d o y g e = (sym (ap ruled_answer (made_is w d g)), e ∙ sym (ap (λ (x : Ruled). ruled_left x (Made (d - 1)) o) (made_is w d g)))
+      → (Ok (d - 1) ≡ ruled_answer large) × (y ≡ ruled_left large (Ok (d - 1)) o)
+  large_made w d o y g e = (sym (ap ruled_answer (made_is w d g)), e ∙ sym (ap (λ (x : Ruled). ruled_left x (Ok (d - 1)) o) (made_is w d g)))
 
   -- ---- the cases of the rule
 

@@ -13,7 +13,7 @@ ghost use Rattle.import_symbol.specs.Answer.{order_by};
 ghost use Rattle.import_symbol.specs.Inner.Answer.{ruled_answer, ruled_left};
 
 use crate::write::{write_four, write_table};
-use call::refusal::{ENTRY_TOO_LARGE, Filled, Refusal};
+use call::refusal::Refusal;
 use import_rule::turned;
 use import_sides::walk::Outcome;
 use permutations::image;
@@ -21,13 +21,13 @@ use permutations::image;
 mod write;
 
 // The symbol of one vertex, with the pairings x and -3.
-fn grow_small(out: &mut [i64], x: i64) -> Filled
+fn grow_small(out: &mut [i64], x: i64) -> Result<usize, Refusal>
     requires { 4 ≤ length out.old }
     ensures value { result ≡ ruled_answer (one_vertex x (negsuc 2)) }
     ensures out_after { out.new ≡ ruled_left (one_vertex x (negsuc 2)) result out.old }
 {
     write_four(out, x);
-    Filled::Made(1)
+    Ok(1)
 }
 
 // The sides of the symbol of a group that is none of the small ones, from a clear work space: by the wide rule, or by
@@ -43,7 +43,13 @@ fn sides(s: &[u32], r: &[u32], w: &mut [u16], wide: bool) -> Outcome
 }
 
 // The symbol of a group that is none of the small ones.
-fn grow_large(s: &[u32], r: &[u32], w: &mut [u16], out: &mut [i64], wide: bool) -> Filled
+fn grow_large(
+    s: &[u32],
+    r: &[u32],
+    w: &mut [u16],
+    out: &mut [i64],
+    wide: bool,
+) -> Result<usize, Refusal>
     requires { Pair s.now r.now × (32768 ≤ length w.old) × Large s.now r.now
         × HasRoom (large_by (order_by wide) s.now r.now) (length out.old) }
     ensures value { result ≡ ruled_answer (large_by (order_by wide) s.now r.now) }
@@ -54,18 +60,21 @@ fn grow_large(s: &[u32], r: &[u32], w: &mut [u16], out: &mut [i64], wide: bool) 
     let t = sides(s, r, w, wide);
     let d = t.d;
     if t.stop {
-        return Filled::Refused(Refusal {
-            number: ENTRY_TOO_LARGE,
-            place: d,
-        });
+        return Err(Refusal::EntryTooLarge(d));
     }
     write_table(s, r, w, d, out);
     let v = d - 1;
-    Filled::Made(v)
+    Ok(v)
 }
 
 // The symbol of the matrices that fix point 0, where Q does.
-fn grow_fixed(s: &[u32], r: &[u32], w: &mut [u16], out: &mut [i64], wide: bool) -> Filled
+fn grow_fixed(
+    s: &[u32],
+    r: &[u32],
+    w: &mut [u16],
+    out: &mut [i64],
+    wide: bool,
+) -> Result<usize, Refusal>
     requires { Pair s.now r.now × (32768 ≤ length w.old) × (by_q (image s.now) (image r.now) 0 ≡ 0)
         × HasRoom (ruled_by (order_by wide) s.now r.now) (length out.old) }
     ensures value { result ≡ ruled_answer (ruled_by (order_by wide) s.now r.now) }
@@ -86,7 +95,13 @@ fn grow_fixed(s: &[u32], r: &[u32], w: &mut [u16], out: &mut [i64], wide: bool) 
 // The symbol of the matrices that fix point 0, for an accepted pair and a result space that its table fits, by the wide
 // rule or by the rule: the number of its vertices, its table at the front of the result space; or 16 with the side that
 // can't be split.
-pub fn grow(s: &[u32], r: &[u32], w: &mut [u16], out: &mut [i64], wide: bool) -> Filled
+pub fn grow(
+    s: &[u32],
+    r: &[u32],
+    w: &mut [u16],
+    out: &mut [i64],
+    wide: bool,
+) -> Result<usize, Refusal>
     requires { Pair s.now r.now × (32768 ≤ length w.old)
         × HasRoom (ruled_by (order_by wide) s.now r.now) (length out.old) }
     ensures value { result ≡ ruled_answer (ruled_by (order_by wide) s.now r.now) }

@@ -1,5 +1,6 @@
 // The finished symbol, written from the sides done in the work space to the front of the result space.
-ghost use Rattle.std.specs.Prelude.{◌≡◌, [], ◌∷◌, ◌++◌, ◌+◌, ◌-◌, ◌*◌, ◌≤◌, ◌<◌, length, get_or, set, drop, pos, negsuc, ◌-ℤ◌};
+ghost use Rattle.std.specs.Prelude.{◌≡◌, [], ◌∷◌, ◌++◌, ◌+◌, ◌-◌, ◌*◌, ◌≤◌, ◌<◌, length, get_or, set, drop};
+ghost use Rattle.std.specs.Prelude.{pos, negsuc, ◌-ℤ◌};
 ghost use Rattle.permutations.specs.Pair.{image};
 ghost use Rattle.import_rule.specs.Fixed.{by_q};
 ghost use Rattle.import_rule.specs.Rule.{least};
@@ -68,10 +69,8 @@ fn write_vertices(w: &[u16], v: usize, out: &mut [i64])
     requires { (v ≤ 1024) × (32768 ≤ length w.now) × (2 * v ≤ length out.old) }
     ensures { out.new ≡ (vertices_to w.now v ++ drop (2 * v) out.old) }
 {
-    let mut i: usize = 0;
-    while i < v {
+    for i in 0..v {
         write_vertex(w, i, out);
-        i += 1;
     }
 }
 
@@ -141,10 +140,8 @@ fn write_pairings(s: &[u32], r: &[u32], w: &mut [u16], d: usize, out: &mut [i64]
 {
     let v = d - 1;
     let mut c: usize = 0;
-    let mut i: usize = 0;
-    while i < d {
+    for i in 0..d {
         c = write_pairing(s, r, w, i, 2 * v + i, c, out);
-        i += 1;
     }
 }
 

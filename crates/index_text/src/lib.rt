@@ -9,7 +9,7 @@ ghost use Rattle.index_text.specs.Lines.{entry_line, entry_lines, constant_lines
 
 use congruence::modular::index_of_gamma0;
 use decimal::put;
-use text::line::put_digits;
+use text::line::Decimal;
 
 // The line for n.
 fn put_entry(n: u64, out: &mut [u8], at: usize) -> usize
@@ -17,7 +17,7 @@ fn put_entry(n: u64, out: &mut [u8], at: usize) -> usize
     ensures { Puts (entry_line n) at result out.old out.new × (result ≤ at + 26) }
 {
     let first = put(b"    ", out, at);
-    let second = put_digits(index_of_gamma0(n), out, first);
+    let second = index_of_gamma0(n).put(out, first);
     put(b",\n", out, second)
 }
 
@@ -27,9 +27,7 @@ fn put_entries(out: &mut [u8], at: usize) -> usize
     ensures { Puts (entry_lines 1000) at result out.old out.new × (result ≤ at + 26000) }
 {
     let mut end = at;
-    let mut n: u64 = 0;
-    while n < 1000 {
-        n += 1;
+    for n in 1..=1000 {
         end = put_entry(n, out, end);
     }
     end

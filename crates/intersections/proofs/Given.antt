@@ -1,5 +1,6 @@
 -- What is given: the table of T is made of those of S and R (`composes`, `composed-…`), and 24 goes before the result spaces (`given_large`, `given_few`).
 -- Assumes nothing.
+use Rattle.std.specs.Prelude.{Ok, Err}
 use mathlib.Core.Path.{◌≡◌, ◌∙◌, ap}
 use mathlib.Core.Logic.{inl}
 use mathlib.Core.List.{List}
@@ -7,8 +8,7 @@ use Prim.Native.Nat.{ℕ, ◌≤◌, ◌<◌}
 use native.Mathlib.Omega.{arith}
 use lib.ListN.{length}
 use borrow.Author.Tests.{lt-ltb, le-ltb}
-use Rattle.call.specs.Refusal.{large_intersection}
-use Rattle.call.specs.declared.refusal.Checked.TheVariants.{Accepted, Refused}
+use Rattle.call.specs.declared.refusal.Refusal.TheVariants.{LargeIntersection}
 use Rattle.call.specs.Space.{entries}
 use Rattle.numbering.specs.Table.{◌then_table◌}
 use Rattle.numbering.specs.Inner.Space.{S_TABLE, R_TABLE, T_TABLE, put_to}
@@ -18,10 +18,10 @@ use Rattle.numbering.proofs.Table.{then_length}
 use Rattle.intersections.specs.Answer.{too_many}
 use Rattle.intersections.specs.Inner.Pairs.{GiveTables}
 
-pub given_large : (n : ℕ) → 3066 < n → too_many n ≡ Refused large_intersection
+pub given_large : (n : ℕ) → 3066 < n → too_many n ≡ Err LargeIntersection
 given_large n h = rw (lt-ltb 3066 n h)
 
-pub given_few : (n : ℕ) → n ≤ 3066 → too_many n ≡ Accepted
+pub given_few : (n : ℕ) → n ≤ 3066 → too_many n ≡ Ok tt
 given_few n h = rw (le-ltb 3066 n h)
 
 module _ {w : List ℕ} {n : ℕ} (g : GiveTables w n) (few : n ≤ 3066) where

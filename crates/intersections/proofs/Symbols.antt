@@ -2,6 +2,7 @@
 -- so is what is given (`gives`, `given_common`).
 -- Why: behind the tables that were kept stand zeros, as past the end of a list; so both are the same maps, and have the same numbering.
 -- Assumes nothing.
+use Rattle.std.specs.Prelude.{Err}
 use mathlib.Core.Path.{◌≡◌, sym, ◌∙◌, ap, subst, fun_ext}
 use mathlib.Core.List.{List, [], ◌∷◌, ◌++◌}
 use Prim.Native.Nat.{ℕ, ◌+◌, ◌*◌, ◌≤◌, ◌<◌}
@@ -10,10 +11,8 @@ use native.Mathlib.Decide.{dec_lt}
 use lib.ListN.{length, get_or, drop, length-append, length-drop}
 use lib.Seq.{get_or-drop}
 use lib.IntN.{ℤ}
-use Rattle.call.specs.Refusal.{◌or_else◌, large_intersection}
-use Rattle.call.specs.declared.refusal.Checked.{Checked}
-use Rattle.call.specs.declared.refusal.Filled.{Filled}
-use Rattle.call.specs.declared.refusal.Filled.TheVariants as filled
+use Rattle.call.specs.Refusal.{◌or_else◌, Checked, Filled}
+use Rattle.call.specs.declared.refusal.Refusal.TheVariants.{LargeIntersection}
 use Rattle.call.specs.Call.{Step, Asks, Gives, length_check, verdict, LeavesFrom}
 use Rattle.call.specs.Inner.Fills.{Fills, made_if}
 use Rattle.call.proofs.Laws.{kept, run_stop, fills_as}
@@ -219,10 +218,10 @@ module _ {v : ℕ} {t : List ℤ} {v' : ℕ} {t' : List ℤ} (ok : IsSymbol v t)
     given_common k = elim (dec_lt 3066 count) [
       | yes h ↦ (let e = given_large count h in
           let rest = spaces (entries S_TABLE count w) (entries R_TABLE count w) T in
-          let is : q ≡ filled.Refused large_intersection = k.answer ∙ ap (λ (c : Checked). made_if count (c or_else verdict rest)) e in
-          let as_it_was = kept large_intersection rest (subst (λ (c : Checked). LeavesFrom c (c or_else verdict rest) rest) e k.leaves) in
+          let is : q ≡ Err LargeIntersection = k.answer ∙ ap (λ (c : Checked). made_if count (c or_else verdict rest)) e in
+          let as_it_was = kept LargeIntersection rest (subst (λ (c : Checked). LeavesFrom c (c or_else verdict rest) rest) e k.leaves) in
           fills_as {by = made_if N}
-          (run_stop large_intersection (too_many N) (spaces (common_s v t v' t') (common_r v t v' t') (common_t v t v' t')) (given_large N (m.large h)) as_it_was)
+          (run_stop LargeIntersection (too_many N) (spaces (common_s v t v' t') (common_r v t v' t') (common_t v t v' t')) (given_large N (m.large h)) as_it_was)
           is)
       | no h ↦ given_as (m.points (omega arith)) (m.S_is (omega arith)) (m.R_is (omega arith))
           (ap (λ (l : List ℕ). l then_table entries R_TABLE count w) (m.S_is (omega arith))

@@ -11,8 +11,8 @@
 --   intersection_call    THE CALL: the first symbol's refusals, then the second's, then the work space, then 24, then
 --                        the tables of S, R and T in their result spaces
 use Rattle.std.specs.Prelude.{◌≡◌, List, ◌++◌, ℕ, ◌<◌, ltb, length, ℤ}
-use Rattle.call.specs.Refusal.{large_intersection}
-use Rattle.call.specs.declared.refusal.Checked.{Checked}
+use Rattle.call.specs.Refusal.{Checked}
+use Rattle.call.specs.declared.refusal.Refusal.TheVariants.{LargeIntersection}
 use Rattle.call.specs.Call.{Lent, asks, work, stores, Contract}
 use Rattle.symbol.specs.Check.{refuse, symbol_check}
 use Rattle.symbol.specs.Symbol.{IsSymbol}
@@ -22,7 +22,7 @@ abbrev pub most : ℕ
 most = 3066
 
 abbrev pub too_many : ℕ → Checked
-too_many n = refuse (ltb most n) large_intersection
+too_many n = refuse (ltb most n) LargeIntersection
 
 -- ---- what the answer means
 

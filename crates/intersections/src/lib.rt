@@ -15,7 +15,7 @@ ghost use Rattle.intersections.specs.Inner.Pairs.{VisitPair, PairVisited, WalkPa
 ghost use Rattle.intersections.specs.Inner.Pairs.{give_steps};
 
 use buckets::{FORMER, LATTER, enter};
-use call::refusal::{Checked, Filled, LARGE_INTERSECTION, Refusal};
+use call::refusal::Refusal;
 use containment::sameness::keep;
 use coset::arrange::arrange;
 use coset::copy_tables;
@@ -66,6 +66,7 @@ fn list_pairs(w: &mut [u16], s: &[u16], r: &[u16], s2: &[u16], r2: &[u16], m: us
     enter(w, m, 0, 0, 0);
     let mut count: usize = 1;
     let mut i: usize = 0;
+    // a `while`: its bound grows with each pair that is listed
     while i < count {
         count = visit(w, s, r, s2, r2, m, i, count);
         if MOST < count {
@@ -77,17 +78,20 @@ fn list_pairs(w: &mut [u16], s: &[u16], r: &[u16], s2: &[u16], r2: &[u16], m: us
 }
 
 // The tables of n pairs in the result spaces, where there are at most 3,066 and there is room for all three.
-fn give(w: &mut [u16], n: usize, s: &mut [u32], r: &mut [u32], u: &mut [u32]) -> Filled
+fn give(
+    w: &mut [u16],
+    n: usize,
+    s: &mut [u32],
+    r: &mut [u32],
+    u: &mut [u32],
+) -> Result<usize, Refusal>
     requires { GiveTables w.old n }
     ensures fills { Fills (give_steps n (entries S_TABLE n w.old) (entries R_TABLE n w.old)
         (entries S_TABLE n w.old then_table entries R_TABLE n w.old) s r u) (made_if n) result }
     ensures w_len_unchanged { length w.new ≡ length w.old }
 {
     if MOST < n {
-        return Filled::Refused(Refusal {
-            number: LARGE_INTERSECTION,
-            place: 0,
-        });
+        return Err(Refusal::LargeIntersection);
     }
     compose(w, S_TABLE, R_TABLE, T_TABLE, n, n);
     copy_tables(w, n, s, r, u)
@@ -103,7 +107,7 @@ fn intersect(
     a: &mut [u32],
     b: &mut [u32],
     c: &mut [u32],
-) -> Filled
+) -> Result<usize, Refusal>
     requires { IsSymbol v t.now × IsSymbol n u.now × (work_length ≤ length w.old) }
     ensures fills { Fills (give_steps (length (common_cosets v t.now n u.now))
         (common_s v t.now n u.now) (common_r v t.now n u.now)
@@ -139,13 +143,10 @@ pub fn intersection(
     a: &mut [u32],
     b: &mut [u32],
     c: &mut [u32],
-) -> Filled
+) -> Result<usize, Refusal>
     ensures { Fills (intersection_call v t.now n u.now w a b c).steps
         (made_if (length (common_cosets v t.now n u.now))) result }
 {
-    let admitted = admit_both(v, t, n, u, w.len());
-    match admitted {
-        Checked::Refused(refusal) => Filled::Refused(refusal),
-        Checked::Accepted => intersect(v, t, n, u, w, a, b, c),
-    }
+    admit_both(v, t, n, u, w.len())?;
+    intersect(v, t, n, u, w, a, b, c)
 }

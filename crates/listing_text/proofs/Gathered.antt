@@ -3,6 +3,7 @@
 --     Gathered v t k rows         the symbol was accepted, there are k generators, and their rows are `rows`
 --     gathered, ungathered        what the answer of `generators` tells: it made them, or its refusal is that of the checks
 -- Assumes nothing.
+use Rattle.std.specs.Prelude.{Ok, Err}
 use mathlib.Core.Path.{◌≡◌, refl, sym, ap, ◌∙◌}
 use mathlib.Core.List.{List, [], ◌∷◌, ◌++◌}
 use Prim.Native.Nat.{ℕ, ◌*◌, ◌≤◌}
@@ -11,12 +12,8 @@ use lib.IntN.{ℤ}
 use lib.ListN.{length, take, drop, length-map}
 use lib.Seq.{take_at}
 use Rattle.call.specs.Space.{work_length}
-use Rattle.call.specs.Refusal.{◌or_else◌}
+use Rattle.call.specs.Refusal.{◌or_else◌, Checked, Filled}
 use Rattle.call.specs.declared.refusal.Refusal.{Refusal}
-use Rattle.call.specs.declared.refusal.Checked.{Checked}
-use Rattle.call.specs.declared.refusal.Checked.TheVariants.{Accepted, Refused}
-use Rattle.call.specs.declared.refusal.Filled.{Filled}
-use Rattle.call.specs.declared.refusal.Filled.TheVariants as filled
 use Rattle.call.proofs.Apart.{refused_accepted}
 use Rattle.call.proofs.Answers.{both_pass, pass_both}
 use Rattle.call.specs.Call.{Step, Asks, Clears, Gives, length_check}
@@ -37,7 +34,7 @@ pub rows_long : (v : ℕ) (t : List ℤ) → length (generator_table v t) ≡ 5 
 rows_long v t = length_rows v t (leaders v t)
 
 pub record Gathered (v : ℕ) (t : List ℤ) (k : ℕ) (rows : List ℤ) : Type 0 where
-  pub passed : symbol_check v t ≡ Accepted
+  pub passed : symbol_check v t ≡ Ok tt
   pub symbol : IsSymbol v t
   pub count : k ≡ length (leaders v t)
   pub few : k ≤ 1024
@@ -54,12 +51,12 @@ module _ (v : ℕ) (t : List ℤ) (w : List ℕ) (out : List ℤ) where
   steps w' out' =
       Asks (symbol_check v t) ∷ Asks long ∷ Clears w w' ∷ Asks room ∷ Gives (generator_table v t ++ drop (length (generator_table v t)) out) out out' ∷ []
 
-  pub gathered : {w' : List ℕ} {out' : List ℤ} {r : Filled} → Fills (steps w' out') (made_if (length (leaders v t))) r → (k : ℕ) → r ≡ filled.Made k
+  pub gathered : {w' : List ℕ} {out' : List ℤ} {r : Filled} → Fills (steps w' out') (made_if (length (leaders v t))) r → (k : ℕ) → r ≡ Ok k
       → Gathered v t k (take (5 * k) out')
   gathered g k e =
       let run = run_made g k e in
       let n = made_count g k e in
-      let passed = (both_pass (symbol_check v t) (long or_else room or_else Accepted) run.is).0 in
+      let passed = (both_pass (symbol_check v t) (long or_else room or_else (Ok tt)) run.is).0 in
       let ok = (accepted v t).0 passed in
       let table = generator_table v t in
       record {
@@ -72,13 +69,13 @@ module _ (v : ℕ) (t : List ℤ) (w : List ℕ) (out : List ℤ) where
       }
 
   pub ungathered : {w' : List ℕ} {out' : List ℤ} {r : Filled} → work_length ≤ length w → 5120 ≤ length out
-      → Fills (steps w' out') (made_if (length (leaders v t))) r → (f : Refusal) → r ≡ filled.Refused f → symbol_check v t ≡ Refused f
+      → Fills (steps w' out') (made_if (length (leaders v t))) r → (f : Refusal) → r ≡ Err f → symbol_check v t ≡ Err f
   ungathered h k g f e = go (symbol_check v t) refl (run_refused g f e).is
     where
-      go : (c : Checked) → symbol_check v t ≡ c → (c or_else long or_else room or_else Accepted) ≡ Refused f → c ≡ Refused f
-      go (Refused q) i j = j
-      go Accepted i j =
+      go : (c : Checked) → symbol_check v t ≡ c → (c or_else long or_else room or_else (Ok tt)) ≡ Err f → c ≡ Err f
+      go (Err q) i j = j
+      go (Ok tt) i j =
           let most = leaders_most v t ((accepted v t).0 i) in
           let fits = room_long (length (generator_table v t)) (length out) (omega (arith, rows_long v t, most, k)) in
-          let all = pass_both long (room or_else Accepted) (room_long work_length (length w) h) (pass_both room Accepted fits refl) in
+          let all = pass_both long (room or_else (Ok tt)) (room_long work_length (length w) h) (pass_both room (Ok tt) fits refl) in
           refused_accepted (sym j ∙ all)

@@ -17,31 +17,28 @@
 --                                   (`Meaning`), so that the genus is a number in its line; each generator has
 --                                   determinant 1 (`Generates`)
 --   ListingMeans ..                 that holds for every text whose numbers are a symbol's
-use Rattle.std.specs.Prelude.{◌≡◌, Bool, List, [], ◌∷◌, ◌++◌, map, ℕ, zero, suc, ◌*◌, ℤ, pos, length, take, drop, get_or}
+use Rattle.std.specs.Prelude.{Ok, Err}
+use Rattle.std.specs.Prelude.{◌≡◌, Bool, List, [], ◌∷◌, ◌++◌, map, ℕ}
+use Rattle.std.specs.Prelude.{zero, suc, ◌*◌, ℤ, pos, length, take, drop, get_or}
 use Rattle.matrix.specs.Matrix.{nth}
 use Rattle.basics.specs.Choice.{pick}
 use Rattle.decimal.specs.Decimal.{digits}
 use Rattle.text.specs.Piece.{pieces, numbers}
 use Rattle.text.specs.Reading.{symbol_format, input_of, vertex_count}
-use Rattle.text.specs.declared.Reading.{Reading}
-use Rattle.text.specs.declared.Reading.TheVariants as reading
+use Rattle.call.specs.Refusal.{Filled, refusal_number, refusal_place}
 use Rattle.decimal.specs.Ascii.{ascii}
-use Rattle.text.specs.Line.{natural, line, refusal_line}
-use Rattle.call.specs.Refusal.{checked_refusal}
-use Rattle.call.specs.Call.{if_accepted}
+use Rattle.text.specs.Line.{natural, line, refusal_line, answer_lines}
 use Rattle.symbol.specs.Check.{eq_z, symbol_check}
 use Rattle.symbol.specs.Symbol.{IsSymbol}
 use Rattle.pairing.specs.Generator.{leaders, generator_table, Generates}
-use Rattle.figures.specs.declared.Figure.{Figure}
-use Rattle.figures.specs.declared.Figure.TheVariants as figure
 use Rattle.figures.specs.declared.FigureRecord.{FigureRecord}
 use Rattle.coset.specs.Tables.{table_s, table_r, table_t}
 use Rattle.coset.specs.Answer.{widths_of, figures_of, Meaning}
 
-unfoldable pub figure_line : List ℕ → Figure → List ℕ
-figure_line name (figure.Value x) = line name (natural x ∷ [])
-figure_line name (figure.Refused f) =
-    name ++ line (ascii " refused") (natural f.number ∷ natural f.place ∷ [])
+unfoldable pub figure_line : List ℕ → Filled → List ℕ
+figure_line name (Ok x) = line name (natural x ∷ [])
+figure_line name (Err f) =
+    name ++ line (ascii " refused") (natural (refusal_number f) ∷ natural (refusal_place f) ∷ [])
 
 abbrev pub kind_word : ℤ → List ℕ
 kind_word z = pick (eq_z z (pos 1)) (ascii " free") (pick (eq_z z (pos 2)) (ascii " even") (ascii " odd"))
@@ -58,7 +55,7 @@ count_lines n e2 e3 k =
     line (ascii "index") (natural n ∷ []) ++ line (ascii "elliptic") (natural e2 ∷ natural e3 ∷ [])
     ++ line (ascii "cusps") (natural k ∷ [])
 
-unfoldable pub cusp_lines : (widths : List ℕ) → (genus level : Figure) → List ℕ
+unfoldable pub cusp_lines : (widths : List ℕ) → (genus level : Filled) → List ℕ
 cusp_lines widths genus level =
     line (ascii "widths") (map natural widths) ++ figure_line (ascii "genus") genus ++ figure_line (ascii "level") level
 
@@ -80,12 +77,11 @@ listed_lines v t =
 
 unfoldable pub listing_lines : ℕ → List ℤ → List ℕ
 listing_lines v t =
-    let c = symbol_check v t in
-    if_accepted c (listed_lines v t) (refusal_line (checked_refusal c))
+    answer_lines (symbol_check v t) (listed_lines v t)
 
-abbrev pub read_by : Reading → List ℤ → List ℕ
-read_by (reading.Numbers k) ns = listing_lines (vertex_count (nth ns 0)) (drop 1 (take k ns))
-read_by (reading.Refused f) ns = refusal_line f
+abbrev pub read_by : Filled → List ℤ → List ℕ
+read_by (Ok k) ns = listing_lines (vertex_count (nth ns 0)) (drop 1 (take k ns))
+read_by (Err f) ns = refusal_line f
 
 unfoldable pub listing_of : Bool → List ℕ → List ℕ
 listing_of longer text = read_by (input_of longer symbol_format text 3071) (numbers (pieces text))
@@ -100,6 +96,6 @@ pub record Listed (v : ℕ) (t : List ℤ) (bytes : List ℕ) : Type 0 where
 abbrev pub ListingMeans : (longer : Bool) (text bytes : List ℕ) → Type 0
 ListingMeans longer text bytes =
     let ns = numbers (pieces text) in
-    (k : ℕ) → input_of longer symbol_format text 3071 ≡ reading.Numbers k
+    (k : ℕ) → input_of longer symbol_format text 3071 ≡ Ok k
     → IsSymbol (vertex_count (nth ns 0)) (drop 1 (take k ns))
     → Listed (vertex_count (nth ns 0)) (drop 1 (take k ns)) bytes

@@ -11,14 +11,13 @@ ghost use Rattle.pairing.specs.Generator.{leaders, generator_table};
 ghost use Rattle.listing_text.specs.Listing.{listed_lines, listing_lines, listing_of, ListingMeans};
 ghost use Rattle.listing_text.specs.Inner.Parts.{ListingSpaces, parts_of};
 
-use call::refusal::Filled;
 use coset::survey;
 use figures::FigureRecord;
 use lines::{figure_lines, generator_part, table_lines};
 use pairing::generator::generators;
 use text::input::{Input, text_end};
 use text::line::refusal_line;
-use text::{Reading, read_symbol, vertex_count};
+use text::{read_symbol, vertex_count};
 
 mod lines;
 
@@ -57,10 +56,9 @@ fn list_symbol(v: usize, t: &[i64], w: &mut [u16], table: &mut [i64], out: &mut 
     requires { ListingSpaces w.old table.old out.old }
     ensures { Puts (listing_lines v t.now) 0 result out.old out.new }
 {
-    let made = generators(v, t, w, table);
-    match made {
-        Filled::Refused(refusal) => refusal_line(refusal, out),
-        Filled::Made(g) => {
+    match generators(v, t, w, table) {
+        Err(refused) => refusal_line(refused, out),
+        Ok(g) => {
             let end = 5 * g;
             list_accepted(v, t, &table[..end], g, w, out)
         }
@@ -79,10 +77,9 @@ fn list_text(
     requires { (length numbers.old ≡ 3071) × ListingSpaces w.old table.old out.old }
     ensures { Puts (listing_of longer text.now) 0 result out.old out.new }
 {
-    let read = read_symbol(text, longer, 2, numbers);
-    match read {
-        Reading::Refused(refusal) => refusal_line(refusal, out),
-        Reading::Numbers(k) => {
+    match read_symbol(text, longer, 2, numbers) {
+        Err(refusal) => refusal_line(refusal, out),
+        Ok(k) => {
             let v = vertex_count(numbers[0]);
             list_symbol(v, &numbers[1..k], w, table, out)
         }

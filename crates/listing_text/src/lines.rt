@@ -4,31 +4,28 @@ ghost use Rattle.call.specs.Space.{work_length, entries};
 ghost use Rattle.numbering.specs.Inner.Space.{S_TABLE, WIDTHS, R_TABLE, T_TABLE};
 ghost use Rattle.text.specs.Line.{natural, line};
 ghost use Rattle.decimal.specs.Writing.{Puts};
-ghost use Rattle.listing_text.specs.Listing.{figure_line, count_lines, cusp_lines, figure_lines, generator_line};
+ghost use Rattle.listing_text.specs.Listing.{figure_line, count_lines, cusp_lines};
+ghost use Rattle.listing_text.specs.Listing.{figure_lines, kind_word, generator_line};
 ghost use Rattle.listing_text.specs.Listing.{generator_lines, generator_part, table_lines};
 
+use call::refusal::Refusal;
 use decimal::put;
-use figures::{Figure, FigureRecord};
+use figures::FigureRecord;
 use numbering::{R_TABLE, S_TABLE, T_TABLE, WIDTHS};
-use text::line::{line_of_cells, line_of_integers, line_of_one, line_of_two, put_digits};
+use text::line::{Decimal, line_of};
 
 // A figure's value, or its refusal.
-fn figure_line(name: &[u8], figure: Figure, out: &mut [u8], at: usize) -> usize
+fn figure_line(name: &[u8], figure: Result<u64, Refusal>, out: &mut [u8], at: usize) -> usize
     requires { at + (length name.now + 51) ≤ length out.old }
     ensures { Puts (figure_line name.now figure) at result out.old out.new
         × (result ≤ at + (length name.now + 51)) }
 {
     match figure {
-        Figure::Value(x) => line_of_one(name, x, out, at),
-        Figure::Refused(refusal) => {
+        Ok(x) => line_of(name, &[x], out, at),
+        Err(refusal) => {
             let first = put(name, out, at);
-            line_of_two(
-                b" refused",
-                refusal.number,
-                refusal.place as u64,
-                out,
-                first,
-            )
+            let numbers = [refusal.number(), refusal.place() as u64];
+            line_of(b" refused", &numbers, out, first)
         }
     }
 }
@@ -38,9 +35,9 @@ fn count_lines(index: usize, e2: usize, e3: usize, cusps: usize, out: &mut [u8])
     requires { 105 ≤ length out.old }
     ensures { Puts (count_lines index e2 e3 cusps) 0 result out.old out.new × (result ≤ 105) }
 {
-    let first = line_of_one(b"index", index as u64, out, 0);
-    let second = line_of_two(b"elliptic", e2 as u64, e3 as u64, out, first);
-    line_of_one(b"cusps", cusps as u64, out, second)
+    let first = line_of(b"index", &[index], out, 0);
+    let second = line_of(b"elliptic", &[e2, e3], out, first);
+    line_of(b"cusps", &[cusps], out, second)
 }
 
 // The n entries of the table at `off` in the work space, as one line.
@@ -50,11 +47,18 @@ fn table_line(name: &[u8], w: &[u16], off: usize, n: usize, out: &mut [u8], at: 
         out.old out.new × (result ≤ at + (length name.now + 6 * n + 1)) }
 {
     let end = off + n;
-    line_of_cells(name, &w[off..end], out, at)
+    line_of(name, &w[off..end], out, at)
 }
 
 // The widths of the k cusps, which are in the work space, genus and level.
-fn cusp_lines(w: &[u16], k: usize, genus: Figure, level: Figure, out: &mut [u8], at: usize) -> usize
+fn cusp_lines(
+    w: &[u16],
+    k: usize,
+    genus: Result<u64, Refusal>,
+    level: Result<u64, Refusal>,
+    out: &mut [u8],
+    at: usize,
+) -> usize
     requires { (WIDTHS + k ≤ length w.now) × (at + (6 * k + 150) ≤ length out.old) }
     ensures { Puts (cusp_lines (entries WIDTHS k w.now) genus level) at result out.old
         out.new × (result ≤ at + (6 * k + 150)) }
@@ -64,21 +68,26 @@ fn cusp_lines(w: &[u16], k: usize, genus: Figure, level: Figure, out: &mut [u8],
     figure_line(b"level", level, out, second)
 }
 
+// The word of a kind of generator, with a space in front. The tables that a user lends keep the kinds as numbers.
+fn kind_word(kind: i64) -> &'static [u8]
+    ensures word { result.now ≡ kind_word kind }
+    ensures short { length result.now ≤ 5 }
+{
+    match kind {
+        1 => b" free",
+        2 => b" even",
+        _ => b" odd",
+    }
+}
+
 // The generator with the number j, from its row in the table: its kind and its entries.
 fn generator_line(j: usize, row: &[i64], out: &mut [u8], at: usize) -> usize
     requires { (length row.now ≡ 5) × (at + 110 ≤ length out.old) }
     ensures { Puts (generator_line j row.now) at result out.old out.new
         × (result ≤ at + 110) }
 {
-    let first = put_digits(j as u64, out, at);
-    let kind = row[0];
-    if kind == 1 {
-        return line_of_integers(b" free", &row[1..], out, first);
-    }
-    if kind == 2 {
-        return line_of_integers(b" even", &row[1..], out, first);
-    }
-    line_of_integers(b" odd", &row[1..], out, first)
+    let first = j.put(out, at);
+    line_of(kind_word(row[0]), &row[1..], out, first)
 }
 
 // The first n generators of the table.
@@ -88,12 +97,10 @@ fn generator_lines(table: &[i64], n: usize, out: &mut [u8], at: usize) -> usize
         × (result ≤ at + 110 * n) }
 {
     let mut end = at;
-    let mut i = 0;
-    while i < n {
+    for i in 0..n {
         let from = 5 * i;
         let to = from + 5;
         end = generator_line(i + 1, &table[from..to], out, end);
-        i += 1;
     }
     end
 }
@@ -104,7 +111,7 @@ pub(crate) fn generator_part(table: &[i64], n: usize, out: &mut [u8], at: usize)
     ensures { Puts (generator_part n table.now) at result out.old out.new
         × (result ≤ at + (110 * n + 32)) }
 {
-    let first = line_of_one(b"generators", n as u64, out, at);
+    let first = line_of(b"generators", &[n], out, at);
     generator_lines(table, n, out, first)
 }
 
@@ -126,8 +133,6 @@ pub(crate) fn figure_lines(f: FigureRecord, w: &[u16], out: &mut [u8]) -> usize
     ensures { Puts (figure_lines f (entries WIDTHS f.cusps w.now)) 0 result out.old
         out.new × (result ≤ 24831) }
 {
-    let genus = f.genus;
-    let level = f.level;
     let first = count_lines(f.index, f.e2, f.e3, f.cusps, out);
-    cusp_lines(w, f.cusps, genus, level, out, first)
+    cusp_lines(w, f.cusps, f.genus, f.level, out, first)
 }

@@ -52,7 +52,7 @@ fn sum_of_products(x: i64, y: i64, z: i64, w: i64) -> i64
     x * y + z * w
 }
 
-// x y - z w
+// x y - z w: as a sum of products it would first need -z, so each of the two has its function
 fn difference_of_products(x: i64, y: i64, z: i64, w: i64) -> i64
     requires { Adds x y z w }
     ensures { result ≡ x *ℤ y -ℤ z *ℤ w }

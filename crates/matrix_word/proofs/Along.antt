@@ -2,7 +2,7 @@
 -- entry by entry (`round_is`); the matrix that is followed is as small as M (`along_ready`, `one_ready`); whether it comes home (`home_is`).
 -- Assumes nothing.
 use mathlib.Core.Path.{◌≡◌, refl, sym, ◌∙◌, ap, subst}
-use mathlib.Core.List.{List, [], ◌∷◌}
+use mathlib.Core.List.{List, []}
 use Prim.Native.Nat.{ℕ, ◌^◌, ◌≤◌}
 use native.Mathlib.Decide.{ℕ_discrete}
 use lib.Dec.{eqb, lit≤}
@@ -24,7 +24,8 @@ use Rattle.walk_runs.specs.declared.Stop.{Stop}
 use Rattle.call.specs.Inner.Fills.{Fills}
 use Rattle.word.specs.Answer.{closes, word_if, found_if}
 use Rattle.word.specs.Inner.Ready.{home_along, letters_along, sign_along_walk, WalkReady}
-use Rattle.word.specs.declared.Queried.{Queried}
+use Rattle.call.specs.Refusal.{Answer}
+use Rattle.word.specs.declared.FoundWord.{FoundWord}
 use Rattle.word.proofs.Turned.{followed_by}
 use Rattle.word.proofs.Finding.{walk_run, as_found_after, told, at_home, away}
 use Rattle.matrix_word.specs.Answer.{most_entry, identity_rows, is_member, member_word}
@@ -76,7 +77,7 @@ module _ (v : ℕ) (t m a : List ℤ) (e : of_list a ≡ followed v t (of_list m
   along_is = e ∙ ap (followed v t) (sym (one_times (of_list m)))
 
   -- its steps are those of the walk from the identity, where the space was left as it was first
-  pub as_one : (out out1 out' : List ℤ) (start : ℕ) (r : Queried) → out1 ≡ out
+  pub as_one : (out out1 out' : List ℤ) (start : ℕ) (r : Answer FoundWord) → out1 ≡ out
       → Fills (walk_run (home_along v t (of_list a)) (letters_along v t (of_list a)) out1 out' start)
       (word_if start (length (letters_along v t (of_list a))) (sign_along_walk v t (of_list a))) r
       → Fills (walk_run (is_member v t m) (member_word v t m) out out' start) (found_if v t identity_rows m start) r

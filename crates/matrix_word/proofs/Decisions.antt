@@ -1,34 +1,22 @@
 -- A decision from a verdict: what yes and no say of it (`yes_by`, `no_by`), and of the number in which it is told (`bit_one`, `bit_zero`).
 -- Assumes nothing.
-use mathlib.Core.Path.{◌≡◌, refl, sym}
+use Rattle.std.specs.Prelude.{Ok, Err}
+use mathlib.Core.Path.{◌≡◌, refl}
 use mathlib.Core.Bool.{Bool, true, false}
-use Prim.Native.Nat.{ℕ}
 use native.Mathlib.Omega.{arith}
-use Rattle.call.specs.declared.refusal.Refusal.{Refusal}
-use Rattle.call.specs.declared.refusal.Checked.{Checked}
-use Rattle.call.specs.declared.refusal.Checked.TheVariants.{Accepted, Refused}
-use Rattle.call.specs.declared.Decision.TheVariants as decision
+use Rattle.call.specs.Refusal.{Checked}
 use Rattle.call.specs.Call.{bit}
 use Rattle.call.specs.Inner.Fills.{decided}
 
-apart : decision.Yes ≡ decision.No → ⊥
-apart e = let z : ◌≡◌ {A = ℕ} 0 1 = cc in omega arith
+pub yes_by : (k : Bool) (c : Checked) → decided k c ≡ Ok true → (c ≡ Ok tt) × (k ≡ true)
+yes_by true (Ok tt) e = (refl, refl)
+yes_by false (Ok tt) e = cc
+yes_by k (Err f) e = cc
 
-refused_yes : (f : Refusal) → decision.Refused f ≡ decision.Yes → ⊥
-refused_yes f e = let z : ◌≡◌ {A = ℕ} 0 1 = cc in omega arith
-
-refused_no : (f : Refusal) → decision.Refused f ≡ decision.No → ⊥
-refused_no f e = let z : ◌≡◌ {A = ℕ} 0 1 = cc in omega arith
-
-pub yes_by : (k : Bool) (c : Checked) → decided k c ≡ decision.Yes → (c ≡ Accepted) × (k ≡ true)
-yes_by true Accepted e = (refl, refl)
-yes_by false Accepted e = absurd (apart (sym e))
-yes_by k (Refused f) e = absurd (refused_yes f e)
-
-pub no_by : (k : Bool) (c : Checked) → decided k c ≡ decision.No → (c ≡ Accepted) × (k ≡ false)
-no_by true Accepted e = absurd (apart e)
-no_by false Accepted e = (refl, refl)
-no_by k (Refused f) e = absurd (refused_no f e)
+pub no_by : (k : Bool) (c : Checked) → decided k c ≡ Ok false → (c ≡ Ok tt) × (k ≡ false)
+no_by true (Ok tt) e = cc
+no_by false (Ok tt) e = (refl, refl)
+no_by k (Err f) e = cc
 
 pub bit_one : (k : Bool) → bit k ≡ 1 → k ≡ true
 bit_one true e = refl

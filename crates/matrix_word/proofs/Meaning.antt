@@ -1,8 +1,9 @@
 -- WHAT THE ANSWERS FOR ONE MATRIX MEAN. In order: a word from the identity to M is a word for M (`in_H`, `of_H`, `value_of_lem`, the normal form `form_of`); the
 -- claim of the word (`matrix_claim`); yes or no (`member_means`), and what its numbers say (`member_tells`, `member_says`).
 -- Assumes nothing.
+use Rattle.std.specs.Prelude.{Ok, Err}
 use mathlib.Core.Path.{◌≡◌, refl, sym, ◌∙◌, ap, subst}
-use mathlib.Core.Logic.{◌⊎◌, inl, inr, ◌↔◌}
+use mathlib.Core.Logic.{inl, inr}
 use mathlib.Core.Bool.{Bool, true, false}
 use mathlib.Core.List.{List, [], ◌∷◌}
 use Prim.Native.Nat.{ℕ, ◌≤◌}
@@ -14,14 +15,10 @@ use Rattle.matrix.specs.Matrix.{Mat, ◌⊗◌, 𝟙, det, ◌≈◌, of_list}
 use Rattle.matrix.specs.Action as action
 use Rattle.matrix.proofs.Matrix.{⊗-idr, ≈-sym}
 use Rattle.call.specs.Space.{work_length}
-use Rattle.call.specs.Refusal.{checked_refusal}
+use Rattle.call.specs.Refusal.{answer_number, answer_place, Checked, Decision, Answer}
 use Rattle.call.specs.declared.refusal.Refusal.{Refusal}
-use Rattle.call.specs.declared.refusal.Checked.{Checked}
-use Rattle.call.specs.declared.refusal.Checked.TheVariants.{Accepted, Refused}
-use Rattle.call.specs.declared.Decision.{Decision}
-use Rattle.call.specs.declared.Decision.TheVariants as decision
-use Rattle.call.specs.Call.{Step, Asks, Clears, length_check, verdict, if_accepted, bit}
-use Rattle.call.specs.Inner.Fills.{decided, decision_refusal, decision_place}
+use Rattle.call.specs.Call.{Asks, length_check, verdict, if_accepted, bit}
+use Rattle.call.specs.Inner.Fills.{decided, decision_place}
 use Rattle.call.proofs.Apart.{refused_accepted}
 use Rattle.call.proofs.Laws.{Numbered, above_room, above_among, accepted_by}
 use Rattle.symbol.specs.Check.{symbol_check}
@@ -34,7 +31,7 @@ use Rattle.coset.proofs.InWords.{from_coset, to_coset}
 use Rattle.right_cosets.specs.Leads.{leads}
 use Rattle.word.specs.Answer.{found_checks, found_if, word_if, word_left}
 use Rattle.word.specs.Claim.{SameRightCoset, NormalWord, Answered}
-use Rattle.word.specs.declared.Queried.{Queried}
+use Rattle.word.specs.declared.FoundWord.{FoundWord}
 use Rattle.word.proofs.Claim.{answered, joined_home, home_joined, joined_same, same_joined}
 use Rattle.word.proofs.Refused.{in_order, reached, reaches, checked, second, Before, before_ten, gets_asked, gets_short}
 use Rattle.matrix_word.specs.Answer.{identity_rows, matrix_check, is_member, member_word, member_sign, member_of, matrix_word_of}
@@ -82,16 +79,16 @@ module _ (v : ℕ) (t : List ℤ) (M : Mat) where
 
 -- ---- the word
 
-valid_matrix : {v : ℕ} {t m : List ℤ} {w : List ℕ} → symbol_check v t ≡ Accepted → matrix_check m ≡ Accepted → work_length ≤ length w → ValidMatrix v t m w
+valid_matrix : {v : ℕ} {t m : List ℤ} {w : List ℕ} → symbol_check v t ≡ Ok tt → matrix_check m ≡ Ok tt → work_length ≤ length w → ValidMatrix v t m w
 valid_matrix {v} {t} {m} s p k = let q = passed_matrix m p in record { symbol = (accepted v t).0 s; work = k; entries = q.0; unit = q.1 }
 
-matrix_before : (m : List ℤ) (f : Refusal) → matrix_check m ≡ Refused f → Before f
+matrix_before : (m : List ℤ) (f : Refusal) → matrix_check m ≡ Err f → Before f
 matrix_before m f e = elim (matrix_numbers m f e) [
   | inl z ↦ (λ y. omega (arith, z, y), λ y. omega (arith, z, y), λ y. omega (arith, z, y))
   | inr z ↦ (λ y. omega (arith, z, y), λ y. omega (arith, z, y), λ y. omega (arith, z, y))
 ]
 
-pub matrix_claim : (v : ℕ) (t m : List ℤ) (w : List ℕ) (out : List ℤ) (start : ℕ) (r : Queried) (out' : List ℤ)
+pub matrix_claim : (v : ℕ) (t m : List ℤ) (w : List ℕ) (out : List ℤ) (start : ℕ) (r : Answer FoundWord) (out' : List ℤ)
     → r ≡ matrix_word_of v t m (length w) (length out) start → out' ≡ word_left r (member_word v t m) out → MatrixClaim v t m w out start r out'
 matrix_claim v t m w out start r out' e f =
     let l = member_word v t m in
@@ -105,7 +102,7 @@ matrix_claim v t m w out start r out' e f =
           let z : r ≡ found_if v t identity_rows m start found = e ∙ ap (word_if start (length l) s)
           (reached (symbol_check v t) (matrix_check m) found w ((accepted v t).1 q.symbol) (matrix_passed m q.entries q.unit) q.work) in
           subst (λ (o : List ℤ). Answered v t one (of_list m) l s out start r o) (sym f)
-          (subst (λ (x : Queried). Answered v t one (of_list m) l s out start x (word_left x l out)) (sym z)
+          (subst (λ (x : Answer FoundWord). Answered v t one (of_list m) l s out start x (word_left x l out)) (sym z)
           (answered q.symbol identity_rows m one_unit q.unit out start));
     }
 
@@ -119,7 +116,7 @@ module _ (v : ℕ) (t m : List ℤ) (w : List ℕ) where
   found = is_member v t m
 
   abbrev all : Checked
-  all = in_order (symbol_check v t) (matrix_check m) Accepted w
+  all = in_order (symbol_check v t) (matrix_check m) (Ok tt) w
 
   abbrev r : Decision
   r = member_of v t m (length w)
@@ -139,18 +136,18 @@ module _ (v : ℕ) (t m : List ℤ) (w : List ℕ) where
   one_leads = refl
 
   -- all checks pass exactly where the call gets to its walk
-  accepted_asked : all ≡ Accepted → ValidMatrix v t m w
-  accepted_asked e = elim (reaches (symbol_check v t) (matrix_check m) Accepted w) [
+  accepted_asked : all ≡ Ok tt → ValidMatrix v t m w
+  accepted_asked e = elim (reaches (symbol_check v t) (matrix_check m) (Ok tt) w) [
     | inl g ↦ valid_matrix g.accepted g.passed g.work
     | inr (inl s) ↦ refused_accepted (sym s.is ∙ e)
     | inr (inr (checked f g s)) ↦ refused_accepted (sym s ∙ e)
     | inr (inr (second f g s)) ↦ refused_accepted (sym s ∙ e)
   ]
 
-  by_found : ValidMatrix v t m w → (k : Bool) → found ≡ k → r ≡ decided k Accepted
+  by_found : ValidMatrix v t m w → (k : Bool) → found ≡ k → r ≡ decided k (Ok tt)
   by_found q k e =
-      ap (decided found) (reached (symbol_check v t) (matrix_check m) Accepted w ((accepted v t).1 q.symbol) (matrix_passed m q.entries q.unit) q.work)
-      ∙ ap (λ (b : Bool). decided b Accepted) e
+      ap (decided found) (reached (symbol_check v t) (matrix_check m) (Ok tt) w ((accepted v t).1 q.symbol) (matrix_passed m q.entries q.unit) q.work)
+      ∙ ap (λ (b : Bool). decided b (Ok tt)) e
 
   pub member_means : MemberMeans v t m w r
   member_means = record {
@@ -177,25 +174,25 @@ module _ (v : ℕ) (t m : List ℤ) (w : List ℕ) where
   )
 
   -- 0 says that all checks pass
-  zero_accepted : (checked_refusal all).number ≡ 0 → all ≡ Accepted
+  zero_accepted : answer_number all ≡ 0 → all ≡ Ok tt
   zero_accepted z = accepted_by (Asks (symbol_check v t) ∷ Asks (matrix_check m) ∷ Asks (length_check work_length (length w)) ∷ []) member_numbered z
 
   abbrev told : ℕ
-  told = if_accepted all (bit found) (checked_refusal all).place
+  told = if_accepted all (bit found) (answer_place all)
 
-  pub member_tells : ((checked_refusal all).number ≡ (decision_refusal (decided found all)).number) × (told ≡ decision_place (decided found all))
+  pub member_tells : (answer_number all ≡ answer_number (decided found all)) × (told ≡ decision_place (decided found all))
   member_tells = go found all
     where
-      go : (b : Bool) (c : Checked) → ((checked_refusal c).number ≡ (decision_refusal (decided b c)).number)
-          × (if_accepted c (bit b) (checked_refusal c).place ≡ decision_place (decided b c))
-      go true Accepted = (refl, refl)
-      go false Accepted = (refl, refl)
-      go b (Refused f) = (refl, refl)
+      go : (b : Bool) (c : Checked) → (answer_number c ≡ answer_number (decided b c))
+          × (if_accepted c (bit b) (answer_place c) ≡ decision_place (decided b c))
+      go true (Ok tt) = (refl, refl)
+      go false (Ok tt) = (refl, refl)
+      go b (Err f) = (refl, refl)
 
-  told_is : all ≡ Accepted → told ≡ bit found
-  told_is e = ap (λ (c : Checked). if_accepted c (bit found) (checked_refusal c).place) e
+  told_is : all ≡ Ok tt → told ≡ bit found
+  told_is e = ap (λ (c : Checked). if_accepted c (bit found) (answer_place c)) e
 
-  pub member_says : MemberSays v t m w (checked_refusal all).number told
+  pub member_says : MemberSays v t m w (answer_number all) told
   member_says = record {
     asked = λ z. accepted_asked (zero_accepted z);
     yes = λ z.

@@ -18,14 +18,13 @@ use Rattle.std.specs.Prelude.{Bool, not, List, [], ◌∷◌, ◌++◌, ℕ, leb
 use Rattle.basics.specs.Count.{first}
 use Rattle.matrix.specs.Matrix.{nth, of_list}
 use Rattle.call.specs.Space.{work_length}
-use Rattle.call.specs.Refusal.{◌or_else◌, large_entry, bad_determinant}
-use Rattle.call.specs.declared.refusal.Checked.{Checked}
-use Rattle.call.specs.declared.Decision.{Decision}
+use Rattle.call.specs.Refusal.{◌or_else◌, Checked, Decision, Answer}
+use Rattle.call.specs.declared.refusal.Refusal.TheVariants.{LargeEntry, BadDeterminant}
 use Rattle.call.specs.Call.{Lent, Step, asks, work, length_check, verdict}
 use Rattle.call.specs.Inner.Fills.{decided}
 use Rattle.symbol.specs.Check.{refuse, refuse_at, symbol_check}
 use Rattle.word.specs.Answer.{unit, closes, found_word, found_sign, found_steps, found_checks, found_if}
-use Rattle.word.specs.declared.Queried.{Queried}
+use Rattle.word.specs.declared.FoundWord.{FoundWord}
 
 -- ---- the matrix
 
@@ -39,7 +38,7 @@ abbrev pub oversized : List ℤ → ℕ → Bool
 oversized m i = not (leb (nat_abs (nth m i)) most_entry)
 
 abbrev pub matrix_check : List ℤ → Checked
-matrix_check m = refuse_at (first (oversized m) 4) 4 large_entry or_else refuse (not (unit m)) (bad_determinant 0)
+matrix_check m = refuse_at (first (oversized m) 4) 4 LargeEntry or_else refuse (not (unit m)) (BadDeterminant 0)
 
 -- ---- the walk
 
@@ -67,7 +66,7 @@ member_of v t m work =
 abbrev pub matrix_word_steps : (v : ℕ) (t m : List ℤ) → Lent (List ℕ) → Lent (List ℤ) → (start : ℕ) → List Step
 matrix_word_steps v t m w out start = member_steps v t m w ++ found_steps v t identity_rows m out start
 
-abbrev pub matrix_word_of : (v : ℕ) (t m : List ℤ) (work room start : ℕ) → Queried
+abbrev pub matrix_word_of : (v : ℕ) (t m : List ℤ) (work room start : ℕ) → (Answer FoundWord)
 matrix_word_of v t m work room start =
     found_if v t identity_rows m start
     (verdict (asks (symbol_check v t) ++ asks (matrix_check m) ++ asks (length_check work_length work)

@@ -20,24 +20,23 @@
 --                           tables back to it
 --   MemberSays              the same by what the exported call returns
 --   matrix_word_call, signed_matrix_word_call, member_call  THE EXPORTED CALLS
-use Rattle.std.specs.Prelude.{◌≡◌, ◌⊎◌, ◌↔◌, List, ◌++◌, ℕ, ◌≤◌, length, ℤ, pos, negsuc}
+use Rattle.std.specs.Prelude.{◌≡◌, ◌⊎◌, ◌↔◌, List, ◌++◌, ℕ, ◌≤◌, length, ℤ, pos, negsuc, Ok, true, false}
 use Rattle.matrix.specs.Matrix.{det, ◌≈◌, of_list}
 use Rattle.matrix.specs.Bounds.{Small}
-use Rattle.call.specs.Refusal.{no_word, too_short}
+use Rattle.call.specs.Refusal.{answer_number, refusal_number, Decision, Answer}
+use Rattle.call.specs.declared.refusal.Refusal.TheVariants.{NoWord, TooShort}
 use Rattle.call.specs.Space.{work_length}
 use Rattle.call.specs.Call.{Lent, result_in, bit, Contract}
-use Rattle.call.specs.Inner.Fills.{decision_refusal, decision_place}
-use Rattle.call.specs.declared.Decision.{Decision}
-use Rattle.call.specs.declared.Decision.TheVariants as decision
+use Rattle.call.specs.Inner.Fills.{decision_place}
 use Rattle.symbol.specs.Symbol.{IsSymbol}
 use Rattle.pairing.specs.Generator.{generators}
 use Rattle.pairing.specs.Subgroup.{value_of, InH}
 use Rattle.coset.specs.Positions.{NormalForm}
 use Rattle.coset.specs.Tables.{table_s, table_r}
 use Rattle.right_cosets.specs.Leads.{leads}
-use Rattle.word.specs.Answer.{query_refusal, part_of, sign_number}
+use Rattle.word.specs.Answer.{part_of, sign_number}
 use Rattle.word.specs.Claim.{Answered, ShortWork, Tells, scaled}
-use Rattle.word.specs.declared.Queried.{Queried}
+use Rattle.word.specs.declared.FoundWord.{FoundWord}
 use Rattle.matrix_word.specs.Answer.{most_entry, identity_rows, is_member, member_word, member_sign}
 use Rattle.matrix_word.specs.Answer.{member_steps, member_of, matrix_word_steps, matrix_word_of}
 
@@ -49,19 +48,19 @@ pub record ValidMatrix (v : ℕ) (t m : List ℤ) (w : List ℕ) : Type 0 where
 
 -- ---- a word
 
-pub record MatrixClaim (v : ℕ) (t m : List ℤ) (w : List ℕ) (out : List ℤ) (start : ℕ) (r : Queried)
+pub record MatrixClaim (v : ℕ) (t m : List ℤ) (w : List ℕ) (out : List ℤ) (start : ℕ) (r : Answer FoundWord)
     (out' : List ℤ) : Type 0 where
-  pub asked : ((query_refusal r).number ≡ 0) ⊎ ((query_refusal r).number ≡ no_word.number) → ValidMatrix v t m w
-  pub short : (n : ℕ) → (query_refusal r).number ≡ (too_short n).number → ValidMatrix v t m w ⊎ ShortWork w r
+  pub asked : (answer_number r ≡ 0) ⊎ (answer_number r ≡ refusal_number NoWord) → ValidMatrix v t m w
+  pub short : (n : ℕ) → answer_number r ≡ refusal_number (TooShort n) → ValidMatrix v t m w ⊎ ShortWork w r
   pub answered : ValidMatrix v t m w
       → Answered v t (of_list identity_rows) (of_list m) (member_word v t m) (member_sign v t m) out start r out'
 
 pub record MatrixSays (v : ℕ) (t m : List ℤ) (w : List ℕ) (start n place : ℕ) (out' : List ℤ) : Type 0 where
-  pub none : n ≡ no_word.number → ValidMatrix v t m w × (InH (generators v t) (of_list m) → ⊥)
+  pub none : n ≡ refusal_number NoWord → ValidMatrix v t m w × (InH (generators v t) (of_list m) → ⊥)
   pub asked : n ≡ 0 → ValidMatrix v t m w
   pub product : n ≡ 0 → value_of (generators v t) (part_of out' start place) ≈ of_list m
   pub normal : n ≡ 0 → NormalForm v t (of_list m) (part_of out' start place)
-  pub short : n ≡ (too_short 0).number → ValidMatrix v t m w
+  pub short : n ≡ refusal_number (TooShort 0) → ValidMatrix v t m w
       → InH (generators v t) (of_list m) × (place ≡ length (member_word v t m))
       × NormalForm v t (of_list m) (member_word v t m)
 
@@ -72,9 +71,9 @@ pub record MatrixSignSays (v : ℕ) (t m : List ℤ) (start n place : ℕ) (sign
 -- ---- yes or no
 
 pub record MemberMeans (v : ℕ) (t m : List ℤ) (w : List ℕ) (r : Decision) : Type 0 where
-  pub yes : (r ≡ decision.Yes) ↔ (ValidMatrix v t m w × InH (generators v t) (of_list m))
-  pub no : (r ≡ decision.No) ↔ (ValidMatrix v t m w × (InH (generators v t) (of_list m) → ⊥))
-  pub points : ValidMatrix v t m w → (r ≡ decision.Yes) ↔ (leads (table_s v t) (table_r v t) (of_list m) ≡ 0)
+  pub yes : (r ≡ Ok true) ↔ (ValidMatrix v t m w × InH (generators v t) (of_list m))
+  pub no : (r ≡ Ok false) ↔ (ValidMatrix v t m w × (InH (generators v t) (of_list m) → ⊥))
+  pub points : ValidMatrix v t m w → (r ≡ Ok true) ↔ (leads (table_s v t) (table_r v t) (of_list m) ≡ 0)
 
 pub record MemberSays (v : ℕ) (t m : List ℤ) (w : List ℕ) (n place : ℕ) : Type 0 where
   pub asked : n ≡ 0 → ValidMatrix v t m w
@@ -109,6 +108,6 @@ member_call v t m w = record {
   count = bit (is_member v t m);
   Says = λ number place.
       let r = member_of v t m (length w.entry.now) in
-      (number ≡ (decision_refusal r).number) × (place ≡ decision_place r) × MemberMeans v t m w.entry.now r
+      (number ≡ answer_number r) × (place ≡ decision_place r) × MemberMeans v t m w.entry.now r
       × MemberSays v t m w.entry.now number place;
 }

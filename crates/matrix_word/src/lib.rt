@@ -4,106 +4,61 @@
 // specs/Answer.antt says what is answered and left, specs/Claim.antt what that means.
 #![tactic(auto)]
 
-ghost use Rattle.std.specs.Prelude.{◌≡◌, leb, length, nat_abs};
-ghost use Rattle.basics.specs.Choice.{pick};
-ghost use Rattle.basics.specs.Count.{first};
+ghost use Rattle.std.specs.Prelude.{◌≡◌, Ok, length};
 ghost use Rattle.matrix.specs.Matrix.{of_list};
 ghost use Rattle.matrix.specs.Bounds.{Small};
 ghost use Rattle.call.specs.Space.{zeros, work_length};
 ghost use Rattle.call.specs.Refusal.{◌or_else◌};
 ghost use Rattle.call.specs.Call.{length_check};
 ghost use Rattle.call.specs.Inner.Fills.{Fills, decided};
-ghost use Rattle.call.specs.declared.Decision.TheVariants.{Yes, No};
 ghost use Rattle.symbol.specs.Symbol.{IsSymbol};
 ghost use Rattle.coset.specs.Positions.{followed};
 ghost use Rattle.word.specs.Answer.{found_steps, found_if};
-ghost use Rattle.matrix_word.specs.Answer.{most_entry, identity_rows, oversized, matrix_check, is_member};
+ghost use Rattle.matrix_word.specs.Answer.{most_entry, identity_rows, matrix_check, is_member};
 ghost use Rattle.matrix_word.specs.Answer.{member_steps, matrix_word_steps};
 ghost use Rattle.matrix_word.specs.Claim.{ValidMatrix};
 ghost use Rattle.matrix_word.specs.Inner.Ready.{matrix_admitted, MatrixReady};
 
 use crate::unit::determinant_is_one;
-use call::Decision;
-use call::refusal::{BAD_DETERMINANT, Checked, LARGE_ENTRY, Refusal, TOO_SHORT};
+use call::refusal::Refusal;
 use coset::steps::{build, is_turned};
 use symbol::check;
 use walk_runs::tally;
-use word::{Queried, find};
+use word::{FoundWord, find, first_beyond};
 
 pub mod unit;
 
-// Whether x is at most 10¹⁸ in size.
-fn is_within(x: i64) -> bool
-    ensures { result ≡ leb (nat_abs x) most_entry }
-{
-    if x < -1000000000000000000 {
-        return false;
-    }
-    x <= 1000000000000000000
-}
-
-// The first entry of m that is too large, or 4.
-fn first_oversized(m: [i64; 4]) -> usize
-    ensures { result ≡ first (oversized m) 4 }
-{
-    let mut i: usize = 0;
-    while i < 4 {
-        if !is_within(m[i]) {
-            return i;
-        }
-        i += 1;
-    }
-    4
-}
+// No entry may be larger in size: 10¹⁸.
+const MOST_ENTRY: u64 = 1000000000000000000;
 
 // Refusals 28 and 9: the first entry that is too large, then a determinant that isn't 1.
-fn matrix_check(m: [i64; 4]) -> Checked
+fn matrix_check(m: [i64; 4]) -> Result<(), Refusal>
     ensures { result ≡ matrix_check m }
 {
-    let i = first_oversized(m);
+    let i = first_beyond(&m, MOST_ENTRY);
     if i < 4 {
-        return Checked::Refused(Refusal {
-            number: LARGE_ENTRY,
-            place: i,
-        });
+        return Err(Refusal::LargeEntry(i));
     }
     if !determinant_is_one(m) {
-        return Checked::Refused(Refusal {
-            number: BAD_DETERMINANT,
-            place: 0,
-        });
+        return Err(Refusal::BadDeterminant(0));
     }
-    Checked::Accepted
+    Ok(())
 }
 
 // The same, and then the length of the work space.
-fn matrix_and_work(m: [i64; 4], work: usize) -> Checked
+fn matrix_and_work(m: [i64; 4], work: usize) -> Result<(), Refusal>
     ensures { result ≡ (matrix_check m or_else length_check work_length work) }
 {
-    let checked = matrix_check(m);
-    match checked {
-        Checked::Refused(refusal) => Checked::Refused(refusal),
-        Checked::Accepted => {
-            if work < call::workspace::WORK {
-                return Checked::Refused(Refusal {
-                    number: TOO_SHORT,
-                    place: call::workspace::WORK,
-                });
-            }
-            Checked::Accepted
-        }
-    }
+    matrix_check(m)?;
+    call::room(call::workspace::WORK, work)
 }
 
 // The checks 1 to 7 of the symbol in t, then these.
-fn admit(v: usize, t: &[i64], m: [i64; 4], work: usize) -> Checked
+fn admit(v: usize, t: &[i64], m: [i64; 4], work: usize) -> Result<(), Refusal>
     ensures { result ≡ matrix_admitted v t.now m work }
 {
-    let checked = check(v, t);
-    match checked {
-        Checked::Refused(refusal) => Checked::Refused(refusal),
-        Checked::Accepted => matrix_and_work(m, work),
-    }
+    check(v, t)?;
+    matrix_and_work(m, work)
 }
 
 // The matrix that the walk along m follows: m, or S⁻¹ m S where it starts turned round.
@@ -126,7 +81,7 @@ fn word_along(
     m: [i64; 4],
     out: &mut [i16],
     start: usize,
-) -> Queried
+) -> Result<FoundWord, Refusal>
     requires { MatrixReady t.now v w.now m home }
     ensures { Fills (found_steps v t.now identity_rows m out start)
         (found_if v t.now identity_rows m start) result }
@@ -148,7 +103,14 @@ fn comes_home(t: &[i64], v: usize, w: &[u16], home: usize, m: [i64; 4]) -> bool
 }
 
 // The answer for an accepted symbol and matrix; the work space is cleared after.
-fn answer(v: usize, t: &[i64], m: [i64; 4], w: &mut [u16], out: &mut [i16], start: usize) -> Queried
+fn answer(
+    v: usize,
+    t: &[i64],
+    m: [i64; 4],
+    w: &mut [u16],
+    out: &mut [i16],
+    start: usize,
+) -> Result<FoundWord, Refusal>
     requires { ValidMatrix v t.now m w.old }
     ensures fills { Fills (found_steps v t.now identity_rows m out start)
         (found_if v t.now identity_rows m start) result }
@@ -161,18 +123,15 @@ fn answer(v: usize, t: &[i64], m: [i64; 4], w: &mut [u16], out: &mut [i16], star
 }
 
 // Yes or no, for the same.
-fn decide(v: usize, t: &[i64], m: [i64; 4], w: &mut [u16]) -> Decision
+fn decide(v: usize, t: &[i64], m: [i64; 4], w: &mut [u16]) -> Result<bool, Refusal>
     requires { ValidMatrix v t.now m w.old }
-    ensures value { result ≡ pick (is_member v t.now m) Yes No }
+    ensures value { result ≡ Ok (is_member v t.now m) }
     ensures w_after { w.new ≡ zeros (length w.old) }
 {
     let home = build(t, v, w);
     let yes = comes_home(t, v, w, home, m);
     call::workspace::clear(w);
-    if yes {
-        return Decision::Yes;
-    }
-    Decision::No
+    Ok(yes)
 }
 
 // A word in the generators whose value is M up to sign, with that sign, from the start place on in `out`: checks 1 to
@@ -184,24 +143,18 @@ pub fn matrix_word(
     w: &mut [u16],
     out: &mut [i16],
     start: usize,
-) -> Queried
+) -> Result<FoundWord, Refusal>
     ensures { Fills (matrix_word_steps v t.now m w out start)
         (found_if v t.now identity_rows m start) result }
 {
-    let admitted = admit(v, t, m, w.len());
-    match admitted {
-        Checked::Refused(refusal) => Queried::Refused(refusal),
-        Checked::Accepted => answer(v, t, m, w, out, start),
-    }
+    admit(v, t, m, w.len())?;
+    answer(v, t, m, w, out, start)
 }
 
 // Whether M is in the group: checks 1 to 7, then 28 and 9, then the work space.
-pub fn is_member(v: usize, t: &[i64], m: [i64; 4], w: &mut [u16]) -> Decision
+pub fn is_member(v: usize, t: &[i64], m: [i64; 4], w: &mut [u16]) -> Result<bool, Refusal>
     ensures { Fills (member_steps v t.now m w) (decided (is_member v t.now m)) result }
 {
-    let admitted = admit(v, t, m, w.len());
-    match admitted {
-        Checked::Refused(refusal) => Decision::Refused(refusal),
-        Checked::Accepted => decide(v, t, m, w),
-    }
+    admit(v, t, m, w.len())?;
+    decide(v, t, m, w)
 }

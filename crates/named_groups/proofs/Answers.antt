@@ -1,6 +1,7 @@
 -- The arms of the calls: one law for each way out, and what the number 0 says.
 -- In order: the group that passed; tables (`no_room_S`, `no_room_R`, `tables_in_room`, `tables_say`); the symbol (`symbol_made`, `symbol_says`).
 -- Assumes nothing.
+use Rattle.std.specs.Prelude.{Ok, Err}
 use mathlib.Core.Path.{◌≡◌, refl, sym, ◌∙◌, ap, subst}
 use mathlib.Core.List.{List, [], ◌∷◌, ◌++◌}
 use Prim.Native.Nat.{ℕ, ◌+◌, ◌*◌, ◌≤◌, ◌<◌}
@@ -8,11 +9,8 @@ use native.Mathlib.Omega.{arith}
 use lib.ListN.{length, take, drop}
 use lib.Seq.{take_at}
 use lib.IntN.{ℤ}
-use Rattle.call.specs.Refusal.{◌or_else◌, checked_refusal, too_short}
-use Rattle.call.specs.declared.refusal.Checked.{Checked}
-use Rattle.call.specs.declared.refusal.Checked.TheVariants as checked
-use Rattle.call.specs.declared.refusal.Filled.{Filled}
-use Rattle.call.specs.declared.refusal.Filled.TheVariants as filled
+use Rattle.call.specs.Refusal.{◌or_else◌, answer_number, answer_place, Checked, Filled}
+use Rattle.call.specs.declared.refusal.Refusal.TheVariants.{TooShort}
 use Rattle.call.proofs.Answers.{both_pass}
 use Rattle.call.proofs.Numbered.{Among}
 use Rattle.call.specs.Space.{work_length, zeros}
@@ -37,15 +35,15 @@ use Rattle.named_groups.proofs.Tables.{family_cosets_lem, passport}
 use Rattle.named_groups.proofs.Symbols.{symbol_named}
 
 -- a family by its number, whose checks were passed
-pub group_by : (k n : ℕ) {f : Family} → f ≡ family_of k → group_check k n ≡ checked.Accepted → Group f n
+pub group_by : (k n : ℕ) {f : Family} → f ≡ family_of k → group_check k n ≡ Ok tt → Group f n
 group_by k n e d = rw e (group_of k n (check_named k n d))
 
 pub groups_among : (k n : ℕ) → Among 20 21 (group_check k n)
 groups_among k n = go (group_check k n) refl
   where
     go : (c : Checked) → group_check k n ≡ c → Among 20 21 c
-    go (checked.Refused f) e = group_numbers k n e
-    go checked.Accepted e = tt
+    go (Err f) e = group_numbers k n e
+    go (Ok tt) e = tt
 
 module _ (f : Family) (n : ℕ) (g : Group f n) where
   pub length_S : length (family_s f n) ≡ family_index f n
@@ -71,17 +69,17 @@ module _ (f : Family) (n : ℕ) (g : Group f n) {k : ℕ} (e : k ≡ family_inde
   abbrev for_R : (r' : List ℕ) → List Step
   for_R r' = Asks (length_check (length (family_r f n)) (length r)) ∷ Gives (at_front (family_r f n) r) r r' ∷ []
 
-  pub no_room_S : length s < k → Fills (table_steps f n s r s r) (made_if (family_index f n)) (filled.Refused (too_short k))
+  pub no_room_S : length s < k → Fills (table_steps f n s r s r) (made_if (family_index f n)) (Err (TooShort k))
   no_room_S h = fills_as (short_write (family_s f n) s k long_S (for_R r) h (refl, tt)) refl
 
-  pub no_room_R : k ≤ length s → length r < k → Fills (table_steps f n s r s r) (made_if (family_index f n)) (filled.Refused (too_short k))
-  no_room_R h i = fills_as (run_hold (family_s f n) s k long_S (for_R r) (too_short k) h (short_write (family_r f n) r k long_R [] i tt)) refl
+  pub no_room_R : k ≤ length s → length r < k → Fills (table_steps f n s r s r) (made_if (family_index f n)) (Err (TooShort k))
+  no_room_R h i = fills_as (run_hold (family_s f n) s k long_S (for_R r) (TooShort k) h (short_write (family_r f n) r k long_R [] i tt)) refl
 
   pub tables_in_room : k ≤ length s → k ≤ length r → {s' r' : List ℕ} → s' ≡ family_s f n ++ drop (family_index f n) s
-      → r' ≡ family_r f n ++ drop (family_index f n) r → Fills (table_steps f n s r s' r') (made_if (family_index f n)) (filled.Made k)
+      → r' ≡ family_r f n ++ drop (family_index f n) r → Fills (table_steps f n s r s' r') (made_if (family_index f n)) (Ok k)
   tables_in_room h i {s'} {r'} p q =
       fills_as (run_write (family_s f n) s k long_S (for_R r') s' h (p ∙ ap (λ (m : ℕ). family_s f n ++ drop m s) (sym e))
-      (run_write (family_r f n) r k long_R [] r' i (q ∙ ap (λ (m : ℕ). family_r f n ++ drop m r) (sym e)) run_end)) (ap filled.Made e)
+      (run_write (family_r f n) r k long_R [] r' i (q ∙ ap (λ (m : ℕ). family_r f n ++ drop m r) (sym e)) run_end)) (ap Ok e)
 
 -- tables and symbols of a family that was found by its number
 pub tables_by : (k n : ℕ) {f : Family} → f ≡ family_of k → (s r s' r' : List ℕ) {a : Filled} → Fills (table_steps f n s r s' r') (made_if (family_index f n)) a
@@ -105,13 +103,13 @@ module _ (k n : ℕ) (w s r : List ℕ) where
   abbrev pub tables_verdict : Checked
   tables_verdict =
       group_check k n or_else length_check work_length (length w) or_else length_check (length S) (length s) or_else length_check (length R) (length r)
-      or_else checked.Accepted
+      or_else (Ok tt)
 
-  pub tables_say : (checked_refusal tables_verdict).number ≡ 0
-      → NamedTables k n (if_accepted tables_verdict (family_index (family_of k) n) (checked_refusal tables_verdict).place)
+  pub tables_say : answer_number tables_verdict ≡ 0
+      → NamedTables k n (if_accepted tables_verdict (family_index (family_of k) n) (answer_place tables_verdict))
   tables_say =
       let behind = length_check work_length (length w) or_else length_check (length S) (length s) or_else length_check (length R) (length r)
-      or_else checked.Accepted in
+      or_else (Ok tt) in
       made_says (record {
         steps = Asks (group_check k n) ∷ Asks (length_check work_length (length w)) ∷ Asks (length_check (length S) (length s))
             ∷ Asks (length_check (length R) (length r)) ∷ [];
@@ -134,7 +132,7 @@ front {k} {n} t l e len d = rw d (take_at t (drop n l) k (len ∙ sym e))
 pub front_length : {k n : ℕ} (t l : List ℕ) {s : List ℕ} → k ≡ n → length t ≡ n → s ≡ t ++ drop n l → k ≡ length (take k s)
 front_length t l e len d = e ∙ sym len ∙ ap length (sym (front t l e len d))
 
-accepted_pair : (f : Family) (n : ℕ) → Group f n → pair_check (family_s f n) (family_r f n) ≡ checked.Accepted
+accepted_pair : (f : Family) (n : ℕ) → Group f n → pair_check (family_s f n) (family_r f n) ≡ Ok tt
 accepted_pair f n g = (accepted (family_s f n) (family_r f n)).1 (passport f n g)
 
 -- an import of the family's tables, wherever they stand, passes 12 to 15 and the work space
@@ -161,18 +159,18 @@ module _ (order : Order) (k n : ℕ) (w : List ℕ) (o : List ℤ) where
 
   abbrev pub symbol_verdict : Checked
   symbol_verdict =
-      group_check k n or_else length_check work_length (length w) or_else length_check needed (length o) or_else check16 (named_rule order k n) or_else checked.Accepted
+      group_check k n or_else length_check work_length (length w) or_else length_check needed (length o) or_else check16 (named_rule order k n) or_else (Ok tt)
 
-  pub symbol_accepted : symbol_verdict ≡ checked.Accepted → NamedSymbol (family_of k) n (needed_vertices (family_r (family_of k) n)) table
+  pub symbol_accepted : symbol_verdict ≡ Ok tt → NamedSymbol (family_of k) n (needed_vertices (family_r (family_of k) n)) table
   symbol_accepted e =
-      let last = check16 (named_rule order k n) or_else checked.Accepted in
+      let last = check16 (named_rule order k n) or_else (Ok tt) in
       let a = both_pass (group_check k n) (length_check work_length (length w) or_else length_check needed (length o) or_else last) e in
       let b = both_pass (length_check work_length (length w)) (length_check needed (length o) or_else last) a.1 in
       let d = both_pass (length_check needed (length o)) last b.1 in
       let g = group_of k n (check_named k n a.0) in
       symbol_named (family_of k) n g (needed_vertices (family_r (family_of k) n)) table
       (made_means order (family_s (family_of k) n) (family_r (family_of k) n) (passport (family_of k) n g)
-      (both_pass (check16 (named_rule order k n)) checked.Accepted d.1).0)
+      (both_pass (check16 (named_rule order k n)) (Ok tt) d.1).0)
 
 -- what the exported call says: it stands at the front of the result space
 module _ (order : Order) (k n : ℕ) (w : Lent (List ℕ)) (out : Lent (List ℤ)) (l : Leaves (named_symbol_steps order k n w out)) where
@@ -182,7 +180,7 @@ module _ (order : Order) (k n : ℕ) (w : Lent (List ℕ)) (out : Lent (List ℤ
   abbrev vertices : ℕ
   vertices = needed_vertices (family_r (family_of k) n)
 
-  symbol_in_space : symbol_verdict order k n w.entry.now o ≡ checked.Accepted
+  symbol_in_space : symbol_verdict order k n w.entry.now o ≡ Ok tt
       → NamedSymbol (family_of k) n vertices (take (3 * vertices + 1) out.exit.now)
   symbol_in_space e =
       let m = symbol_accepted order k n w.entry.now o e in

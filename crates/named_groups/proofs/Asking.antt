@@ -1,20 +1,18 @@
 -- Laws for the queries on groups with names: what `make_symbol` leaves and the query on it (`query_over`, `query_made`), what `named_query_by` asks for
 -- (`query_ready`, `as_named`), and the claim from the steps (`claimed`).
 -- Assumes nothing.
+use Rattle.std.specs.Prelude.{Ok, Err}
 use mathlib.Core.Path.{◌≡◌, refl, sym, ◌∙◌, ap, subst}
 use mathlib.Core.Bool.{false}
-use mathlib.Core.List.{List, [], ◌∷◌, ◌++◌}
+use mathlib.Core.List.{List, [], ◌∷◌}
 use Prim.Native.Nat.{ℕ, ◌+◌, ◌*◌, ◌≤◌}
 use native.Mathlib.Omega.{arith}
 use lib.ListN.{length, take, drop}
 use lib.Seq.{take_at}
 use lib.IntN.{ℤ}
-use Rattle.call.specs.Refusal.{◌or_else◌, entry_too_large}
+use Rattle.call.specs.Refusal.{◌or_else◌, Checked, Filled, Answer}
+use Rattle.call.specs.declared.refusal.Refusal.TheVariants.{EntryTooLarge}
 use Rattle.call.specs.declared.refusal.Refusal.{Refusal}
-use Rattle.call.specs.declared.refusal.Checked.{Checked}
-use Rattle.call.specs.declared.refusal.Checked.TheVariants.{Accepted, Refused}
-use Rattle.call.specs.declared.refusal.Filled.{Filled}
-use Rattle.call.specs.declared.refusal.Filled.TheVariants as filled
 use Rattle.call.proofs.Answers.{both_pass}
 use Rattle.call.specs.Space.{work_length, zeros}
 use Rattle.call.specs.Call.{Step, Asks, Clears, Gives, length_check, at_front, if_accepted, verdict, Leaves}
@@ -24,7 +22,7 @@ use Rattle.congruence.specs.Cosets.{family_s, family_r}
 use Rattle.congruence.specs.declared.Family.{Family}
 use Rattle.congruence_tables.specs.Inner.Held.{Group}
 use Rattle.import_rule.specs.Order.{Order}
-use Rattle.import_rule.specs.Symbol.{Ruled, made, over, ruled_by}
+use Rattle.import_rule.specs.Symbol.{Ruled, made, ruled_by}
 use Rattle.import_symbol.specs.Answer.{check16, ruled_table}
 use Rattle.import_call.specs.Import.{needed_vertices, needed_length}
 use Rattle.import_call.proofs.Means.{symbol_steps}
@@ -32,8 +30,7 @@ use Rattle.import_call.proofs.Told.{told_made, told_refused, rule_made, rule_ove
 use Rattle.import_call.proofs.Answering.{past_check}
 use Rattle.word.specs.Answer.{matrices_check, found_if}
 use Rattle.word.specs.Claim.{ValidQuery}
-use Rattle.word.specs.declared.Queried.{Queried}
-use Rattle.word.specs.declared.Queried.TheVariants as queried
+use Rattle.word.specs.declared.FoundWord.{FoundWord}
 use Rattle.word.proofs.Pair.{unit_is}
 use Rattle.word.proofs.Finding.{walk_run}
 use Rattle.word.proofs.Order.{passed_small, left_if, query_run, asked_fills}
@@ -52,9 +49,9 @@ ruled_run rule a b out out' start = Asks (check16 rule) ∷ walk_run (ruled_clos
 
 -- ---- what was made
 
-only16 : (c : Checked) {x : Refusal} → (c or_else Accepted) ≡ Refused x → c ≡ Refused x
-only16 Accepted e = e
-only16 (Refused f) e = e
+only16 : (c : Checked) {x : Refusal} → (c or_else (Ok tt)) ≡ Err x → c ≡ Err x
+only16 (Ok tt) e = e
+only16 (Err f) e = e
 
 module _ (f : Family) (n : ℕ) (g : Group f n) (order : Order) where
   abbrev G : Ruled
@@ -68,22 +65,22 @@ module _ (f : Family) (n : ℕ) (g : Group f n) (order : Order) where
         let p = passport f n g in
         past_check (room_long (needed_length (family_r f n)) (length zs) (omega (arith, p.most, p.even, long))) k
 
-    pub query_over : {x : Refusal} → a' ≡ filled.Refused x → (a b out : List ℤ) (start : ℕ)
-        → Fills (ruled_run G a b out out start) (ruled_if G a b start) (queried.Refused x)
+    pub query_over : {x : Refusal} → a' ≡ Err x → (a b out : List ℤ) (start : ℕ)
+        → Fills (ruled_run G a b out out start) (ruled_if G a b start) (Err x)
     query_over {x} d a b out start =
-        let o = rule_over G (only16 (check16 G) (told_refused (needed_vertices (family_r f n)) (check16 G or_else Accepted) behind.answer d)) in
+        let o = rule_over G (only16 (check16 G) (told_refused (needed_vertices (family_r f n)) (check16 G or_else (Ok tt)) behind.answer d)) in
         let i = o.side in
-        subst (λ (g : Ruled). Fills (ruled_run g a b out out start) (ruled_if g a b start) (queried.Refused x)) (sym o.is)
-        (fills_as (run_stop (entry_too_large i) (Refused (entry_too_large i)) (walk_run false [] out out start) refl (refl, tt)) (ap queried.Refused o.refusal))
+        subst (λ (g : Ruled). Fills (ruled_run g a b out out start) (ruled_if g a b start) (Err x)) (sym o.is)
+        (fills_as (run_stop (EntryTooLarge i) (Err (EntryTooLarge i)) (walk_run false [] out out start) refl (refl, tt)) (ap Err o.refusal))
 
-    module _ {v : ℕ} (d : a' ≡ filled.Made v) where
-      passed16 : (check16 G or_else Accepted) ≡ Accepted
-      passed16 = (told_made (check16 G or_else Accepted) behind.answer d).0
+    module _ {v : ℕ} (d : a' ≡ Ok v) where
+      passed16 : (check16 G or_else (Ok tt)) ≡ Ok tt
+      passed16 = (told_made (check16 G or_else (Ok tt)) behind.answer d).0
 
       is_made : G ≡ made v (ruled_table G)
       is_made =
-          rule_made order (family_s f n) (family_r f n) (passport f n g) (both_pass (check16 G) Accepted passed16).0
-          ∙ ap (λ (x : ℕ). made x (ruled_table G)) (sym (told_made (check16 G or_else Accepted) behind.answer d).1)
+          rule_made order (family_s f n) (family_r f n) (passport f n g) (both_pass (check16 G) (Ok tt) passed16).0
+          ∙ ap (λ (x : ℕ). made x (ruled_table G)) (sym (told_made (check16 G or_else (Ok tt)) behind.answer d).1)
 
       symbol : NamedSymbol f n v (ruled_table G)
       symbol = rule_symbol f n g order v (ruled_table G) is_made
@@ -100,7 +97,7 @@ module _ (f : Family) (n : ℕ) (g : Group f n) (order : Order) where
       front_long = sym symbol.symbol.long ∙ ap length (sym front_is)
 
       -- the query on the symbol that was made
-      pub query_made : (a b : List ℤ) (w w1 w' : List ℕ) (out out' : List ℤ) (start : ℕ) {r : Queried} → QueryReady f n a b w → length w1 ≡ length w
+      pub query_made : (a b : List ℤ) (w w1 w' : List ℕ) (out out' : List ℤ) (start : ℕ) {r : Answer FoundWord} → QueryReady f n a b w → length w1 ≡ length w
           → Fills (query_run v (take (3 * v + 1) T) a b w1 w' out out' start) (found_if v (take (3 * v + 1) T) a b start) r
           → Fills (ruled_run G a b out out' start) (ruled_if G a b start) r × (w' ≡ zeros (length w))
       query_made a b w w1 w' out out' start {r} q ew g =
@@ -124,7 +121,7 @@ module _ (f : Family) (n : ℕ) (g : Group f n) (order : Order) where
 -- ---- `named_query_by`
 
 -- the group that a number names, in the steps
-pub as_named : (order : Order) (k n : ℕ) (a b out out' : List ℤ) (start : ℕ) {f : Family} {r : Queried} → f ≡ family_of k
+pub as_named : (order : Order) (k n : ℕ) (a b out out' : List ℤ) (start : ℕ) {f : Family} {r : Answer FoundWord} → f ≡ family_of k
     → Fills (ruled_run (ruled_by order (family_s f n) (family_r f n)) a b out out' start) (ruled_if (ruled_by order (family_s f n) (family_r f n)) a b start) r
     → Fills (ruled_run (named_rule order k n) a b out out' start) (ruled_if (named_rule order k n) a b start) r
 as_named order k n a b out out' start {f} {r} d g =
@@ -132,7 +129,7 @@ as_named order k n a b out out' start {f} {r} d g =
     (ruled_if (ruled_by order (family_s h n) (family_r h n)) a b start) r)
     d g
 
-pub query_ready : (k n : ℕ) (a b : List ℤ) (w : List ℕ) {f : Family} → group_check k n ≡ Accepted → Passed a b → work_length ≤ length w → f ≡ family_of k
+pub query_ready : (k n : ℕ) (a b : List ℤ) (w : List ℕ) {f : Family} → group_check k n ≡ Ok tt → Passed a b → work_length ≤ length w → f ≡ family_of k
     → QueryReady f n a b w
 query_ready k n a b w e p i d =
     let s = passed_small a b p.entries in

@@ -1,46 +1,41 @@
 -- The checks 20 and 21 accept exactly the groups with names: `group_verdict`; and their numbers, `group_numbers`.
 -- Assumes nothing.
+use Rattle.std.specs.Prelude.{Ok, Err}
 use mathlib.Core.Path.{◌≡◌, refl, sym, ◌∙◌, ap}
-use mathlib.Core.Logic.{◌↔◌, ◌≢◌}
-use mathlib.Core.Bool.{true, false, not, ◌&&◌}
 use Prim.Native.Nat.{ℕ, ◌≤◌, ◌<◌}
 use native.Mathlib.Omega.{arith}
 use native.Mathlib.Decide.{dec_le}
-use lib.Dec.{leb}
-use borrow.Author.Tests.{le-leb, lt-leb, ne_eqb}
-use Rattle.call.specs.declared.refusal.Checked.{Checked}
-use Rattle.call.specs.declared.refusal.Checked.TheVariants as checked
+use borrow.Author.Tests.{le-leb, lt-leb}
+use Rattle.call.specs.Refusal.{Checked, answer_number, refusal_number}
+use Rattle.call.specs.declared.refusal.Refusal.TheVariants.{BadLevel, LargeIndex}
 use Rattle.call.specs.declared.refusal.Refusal.{Refusal}
-use Rattle.call.specs.Refusal.{checked_refusal, bad_level, large_index}
 use Rattle.call.proofs.Apart.{refused_accepted}
-use Rattle.call.proofs.Numbered.{Among}
 use Rattle.congruence.specs.Index.{family_index}
 use Rattle.congruence.specs.declared.Family.{Family}
-use Rattle.congruence.specs.declared.Family.TheVariants as family
 use Rattle.congruence_tables.specs.Inner.Held.{Group}
 use Rattle.congruence.proofs.Theorem.{indexes}
 use Rattle.named_groups.specs.Group.{family_of, group_check, NamedGroup, GroupVerdict}
 
 module _ (k n : ℕ) where
-  pub check_family : 2 < k → group_check k n ≡ checked.Refused bad_level
+  pub check_family : 2 < k → group_check k n ≡ Err BadLevel
   check_family h = rw (lt-leb k 2 h)
 
-  pub check_some : k ≤ 2 → n < 1 → group_check k n ≡ checked.Refused bad_level
+  pub check_some : k ≤ 2 → n < 1 → group_check k n ≡ Err BadLevel
   check_some a h = rw (le-leb k 2 a, lt-leb 1 n h)
 
-  pub check_most : k ≤ 2 → 1 ≤ n → 1000 < n → group_check k n ≡ checked.Refused bad_level
+  pub check_most : k ≤ 2 → 1 ≤ n → 1000 < n → group_check k n ≡ Err BadLevel
   check_most a b h = rw (le-leb k 2 a, le-leb 1 n b, lt-leb n 1000 h)
 
-  pub check_few : k ≤ 2 → 1 ≤ n → n ≤ 1000 → 3066 < family_index (family_of k) n → group_check k n ≡ checked.Refused large_index
+  pub check_few : k ≤ 2 → 1 ≤ n → n ≤ 1000 → 3066 < family_index (family_of k) n → group_check k n ≡ Err LargeIndex
   check_few a b c h = rw (le-leb k 2 a, le-leb 1 n b, le-leb n 1000 c, lt-leb (family_index (family_of k) n) 3066 h)
 
-  pub check_accepts : NamedGroup k n → group_check k n ≡ checked.Accepted
+  pub check_accepts : NamedGroup k n → group_check k n ≡ Ok tt
   check_accepts g = rw (le-leb k 2 g.named, le-leb 1 n g.some, le-leb n 1000 g.most, le-leb (family_index (family_of k) n) 3066 g.few)
 
-  no_refusal_lem : {c : Checked} {f : Refusal} → c ≡ checked.Refused f → c ≡ checked.Accepted → ⊥
+  no_refusal_lem : {c : Checked} {f : Refusal} → c ≡ Err f → c ≡ Ok tt → ⊥
   no_refusal_lem e d = refused_accepted (sym e ∙ d)
 
-  pub check_named : group_check k n ≡ checked.Accepted → NamedGroup k n
+  pub check_named : group_check k n ≡ Ok tt → NamedGroup k n
   check_named e = elim (dec_le k 2) [
     | no h ↦ absurd (no_refusal_lem (check_family (omega arith)) e)
     | yes a ↦ elim (dec_le 1 n) [
@@ -64,21 +59,12 @@ group_of k n g = record { modulus = record { some = g.some; most = g.most }; few
 pub verdict_as : {k n : ℕ} {c : Checked} → group_check k n ≡ c → GroupVerdict k n c
 verdict_as {k} {n} e = rw e at (group_verdict k n)
 
-pub family_0 : (k : ℕ) → k ≡ 0 → family.Gamma0 ≡ family_of k
-family_0 k e = rw e
-
-pub family_1 : (k : ℕ) → k ≡ 1 → family.Gamma1 ≡ family_of k
-family_1 k e = rw e
-
-pub family_2 : (k : ℕ) → k ≢ 0 → k ≢ 1 → family.Gamma ≡ family_of k
-family_2 k d e = rw (ne_eqb k 0 d, ne_eqb k 1 e)
-
 -- the index that was computed is that of the family's number
 pub index_by : {i : ℕ} (k n : ℕ) {f : Family} → i ≡ family_index f n → f ≡ family_of k → i ≡ family_index (family_of k) n
 index_by k n e d = e ∙ ap (λ (f : Family). family_index f n) d
 
 -- the numbers of the two refusals
-pub group_numbers : (k n : ℕ) {f : Refusal} → group_check k n ≡ checked.Refused f → (20 ≤ f.number) × (f.number ≤ 21)
+pub group_numbers : (k n : ℕ) {f : Refusal} → group_check k n ≡ Err f → (20 ≤ refusal_number f) × (refusal_number f ≤ 21)
 group_numbers k n {f} e = elim (dec_le k 2) [
   | no h ↦ by_number (sym (check_family k n (omega arith)) ∙ e) (omega arith) (omega arith)
   | yes a ↦ elim (dec_le 1 n) [
@@ -93,6 +79,6 @@ group_numbers k n {f} e = elim (dec_le k 2) [
   ]
 ]
   where
-    by_number : {g h : Refusal} → checked.Refused g ≡ checked.Refused h → 20 ≤ g.number → g.number ≤ 21 → (20 ≤ h.number) × (h.number ≤ 21)
-    by_number {g} {h} e p q = let z : checked_refusal (checked.Refused g) ≡ checked_refusal (checked.Refused h) = ap checked_refusal e in
-        let y : g.number ≡ h.number = ap (λ (x : Refusal). x.number) z in (omega arith, omega arith)
+    by_number : {g h : Refusal} → ◌≡◌ {A = Checked} (Err g) (Err h) → 20 ≤ refusal_number g → refusal_number g ≤ 21
+        → (20 ≤ refusal_number h) × (refusal_number h ≤ 21)
+    by_number e p q = let z = ap (λ (c : Checked). answer_number c) e in (omega (arith, z, p), omega (arith, z, q))

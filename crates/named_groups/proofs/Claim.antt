@@ -3,21 +3,20 @@
 -- meets it; and the claim of a pair query holds of that symbol.
 -- In order: the symbol that the rule gives; the order of refusals; the claim.
 -- Assumes nothing.
+use Rattle.std.specs.Prelude.{Err}
 use mathlib.Core.Path.{◌≡◌, refl, sym, ◌∙◌, ap, subst}
 use mathlib.Core.Logic.{◌⊎◌, inl, inr, ◌↔◌}
-use mathlib.Core.List.{List, []}
-use Prim.Native.Nat.{ℕ, ◌+◌, ◌*◌, ◌≤◌, ◌<◌}
+use mathlib.Core.List.{List}
+use Prim.Native.Nat.{ℕ, ◌≤◌, ◌<◌}
 use native.Mathlib.Omega.{arith}
-use lib.ListN.{length, take, drop}
+use lib.ListN.{length}
 use lib.IntN.{ℤ}
 use Rattle.matrix.specs.Matrix.{Mat, ◌⊗◌, adj, of_list}
 use Rattle.matrix.proofs.Matrix.{det_one, det_adj}
-use Rattle.basics.specs.Count.{first}
 use Rattle.basics.proofs.Count.{first_clear}
-use Rattle.call.specs.Refusal.{no_word, too_short, entry_too_large}
+use Rattle.call.specs.Refusal.{answer_number, refusal_number, Checked, Answer, outcome}
+use Rattle.call.specs.declared.refusal.Refusal.TheVariants.{NoWord, TooShort, EntryTooLarge}
 use Rattle.call.specs.declared.refusal.Refusal.{Refusal}
-use Rattle.call.specs.declared.refusal.Checked.{Checked}
-use Rattle.call.specs.declared.refusal.Checked.TheVariants.{Refused}
 use Rattle.call.proofs.Numbered.{Among}
 use Rattle.call.specs.Space.{work_length}
 use Rattle.pairing.specs.Generator.{generators}
@@ -31,14 +30,14 @@ use Rattle.congruence_tables.specs.Inner.Held.{Group}
 use Rattle.import_rule.specs.Order.{Order}
 use Rattle.import_rule.specs.Symbol.{Ruled, made, over, ruled_by}
 use Rattle.call.specs.Call.{verdict}
-use Rattle.word.specs.Answer.{query_refusal, large, matrices_check, found_word, found_sign, found_if, found_checks, word_left}
-use Rattle.word.specs.Claim.{SameRightCoset, Found, Answered, ShortWork}
-use Rattle.word.specs.declared.Queried.{Queried}
+use Rattle.word.specs.Answer.{large, matrices_check, found_word, found_sign, found_if, found_checks, word_left}
+use Rattle.word.specs.Claim.{SameRightCoset, Answered, ShortWork}
+use Rattle.word.specs.declared.FoundWord.{FoundWord}
 use Rattle.word.proofs.Pair.{small_clear, unit_is, is_unit}
-use Rattle.word.proofs.Claim.{same_number, answered}
+use Rattle.word.proofs.Claim.{outcome_number, answered}
 use Rattle.word.proofs.Order.{passed_small}
 use Rattle.word.proofs.Refused.{Passed, passed_by, pair_passes, pair_among, in_order, Gets, Short, Stopped, checked, second, reached, reaches}
-use Rattle.named_groups.specs.Group.{family_of, group_check, NamedGroup}
+use Rattle.named_groups.specs.Group.{family_of, group_check}
 use Rattle.named_groups.specs.Answer.{named_rule, NamedSymbol, ruled_word, ruled_if, ruled_checks, named_query_by}
 use Rattle.named_groups.specs.Claim.{ValidNamedQuery, NamedAnswered, RuleMakes, NamedClaim}
 use Rattle.named_groups.proofs.Checked.{check_named, check_accepts, group_of, group_numbers}
@@ -63,7 +62,7 @@ pair_passed a b sa sb ua ub = record {
 
 -- ---- the claim
 
-module _ (order : Order) (k n : ℕ) (a b : List ℤ) (w : List ℕ) (out : List ℤ) (start : ℕ) (r : Queried) (out' : List ℤ) where
+module _ (order : Order) (k n : ℕ) (a b : List ℤ) (w : List ℕ) (out : List ℤ) (start : ℕ) (r : Answer FoundWord) (out' : List ℤ) where
   abbrev G : Ruled
   G = named_rule order k n
 
@@ -97,21 +96,21 @@ module _ (order : Order) (k n : ℕ) (a b : List ℤ) (w : List ℕ) (out : List
     by z = e ∙ ap (ruled_if G a b start) z
 
     -- an answer other than 16 is given where the rule gives a symbol
-    makes : (g : Ruled) → G ≡ g → r ≡ ruled_if g a b start (verdict (ruled_checks g a b start (length out))) → ((query_refusal r).number ≡ 16 → ⊥)
+    makes : (g : Ruled) → G ≡ g → r ≡ ruled_if g a b start (verdict (ruled_checks g a b start (length out))) → (answer_number r ≡ 16 → ⊥)
         → RuleMakes order k n
     makes (made v t) d q h = record { vertices = v; table = t; is = d }
-    makes (over i) d q h = absurd (h (same_number (ap query_refusal q)))
+    makes (over i) d q h = absurd (h (outcome_number r (ap outcome q)))
 
     -- a number that the checks before don't give
-    asked_by : ((query_refusal r).number < 8) ⊎ ((query_refusal r).number ≡ 10) ⊎ ((query_refusal r).number ≡ 11)
-        → ((query_refusal r).number ≡ 11 → work_length ≤ length w)
+    asked_by : (answer_number r < 8) ⊎ (answer_number r ≡ 10) ⊎ (answer_number r ≡ 11)
+        → (answer_number r ≡ 11 → work_length ≤ length w)
         → ValidNamedQuery k n a b w × RuleMakes order k n
     asked_by h long = go (reaches (group_check k n) (matrices_check a b) found w)
       where
-        no : {f : Refusal} → all ≡ Refused f → (f.number < 8 → ⊥) → (f.number ≡ 10 → ⊥) → (f.number ≡ 11 → ⊥)
+        no : {f : Refusal} → all ≡ Err f → (refusal_number f < 8 → ⊥) → (refusal_number f ≡ 10 → ⊥) → (refusal_number f ≡ 11 → ⊥)
             → ValidNamedQuery k n a b w × RuleMakes order k n
         no s x y z =
-            let q = same_number (ap query_refusal (by s)) in
+            let q = outcome_number r (ap outcome (by s)) in
             elim h [ inl l ↦ absurd (x (omega (arith, l, q))) | inr (inl l) ↦ absurd (y (sym q ∙ l)) | inr (inr l) ↦ absurd (z (sym q ∙ l)) ]
 
         stopped : Stopped (group_check k n) (matrices_check a b) found w → ValidNamedQuery k n a b w × RuleMakes order k n
@@ -125,26 +124,26 @@ module _ (order : Order) (k n : ℕ) (a b : List ℤ) (w : List ℕ) (out : List
           asked_of g,
           makes G refl (by g.is) (λ z. elim h [ inl l ↦ omega (arith, l, z) | inr (inl l) ↦ omega (arith, l, z) | inr (inr l) ↦ omega (arith, l, z) ]),
         )
-        go (inr (inl s)) = absurd (omega (arith, long (same_number (ap query_refusal (by s.is))), s.low))
+        go (inr (inl s)) = absurd (omega (arith, long (outcome_number r (ap outcome (by s.is))), s.low))
         go (inr (inr s)) = stopped s
 
-    zero_ten : ((query_refusal r).number ≡ 0) ⊎ ((query_refusal r).number ≡ no_word.number) → ValidNamedQuery k n a b w × RuleMakes order k n
+    zero_ten : (answer_number r ≡ 0) ⊎ (answer_number r ≡ refusal_number NoWord) → ValidNamedQuery k n a b w × RuleMakes order k n
     zero_ten h = elim h [
       | inl z ↦ asked_by (inl (omega (arith, z))) (λ y. absurd (omega (arith, y, z)))
       | inr z ↦ asked_by (inr (inl z)) (λ y. absurd (omega (arith, y, z)))
     ]
 
-    short_by : (m : ℕ) → (query_refusal r).number ≡ (too_short m).number → (ValidNamedQuery k n a b w × RuleMakes order k n) ⊎ ShortWork w r
+    short_by : (m : ℕ) → answer_number r ≡ refusal_number (TooShort m) → (ValidNamedQuery k n a b w × RuleMakes order k n) ⊎ ShortWork w r
     short_by m h = elim (reaches (group_check k n) (matrices_check a b) found w) [
       | inl g ↦ inl (asked_by (inr (inr h)) (λ y. g.work))
-      | inr (inl s) ↦ inr (s.low, ap query_refusal (by s.is))
+      | inr (inl s) ↦ inr (s.low, ap outcome (by s.is))
       | inr (inr (checked f q s)) ↦ (
           let z = group_numbers k n q in
-          absurd (omega (arith, z.0, same_number (ap query_refusal (by s)), h))
+          absurd (omega (arith, z.0, outcome_number r (ap outcome (by s)), h))
           )
       | inr (inr (second f q s)) ↦ (
           let z = subst (Among 8 9) q (pair_among a b) in
-          absurd (omega (arith, z.1, same_number (ap query_refusal (by s)), h))
+          absurd (omega (arith, z.1, outcome_number r (ap outcome (by s)), h))
           )
     ]
 
@@ -165,7 +164,7 @@ module _ (order : Order) (k n : ℕ) (a b : List ℤ) (w : List ℕ) (out : List
           let z : r ≡ found_if v t a b start (verdict (found_checks v t a b start (length out))) = rw g at (found_of e q) in
           let y : out' ≡ word_left r (found_word v t A B) out = rw g at d in
           subst (λ (o : List ℤ). Answered v t A B (found_word v t A B) (found_sign v t A B) out start r o) (sym y)
-          (subst (λ (x : Queried). Answered v t A B (found_word v t A B) (found_sign v t A B) out start x (word_left x (found_word v t A B) out)) (sym z)
+          (subst (λ (x : Answer FoundWord). Answered v t A B (found_word v t A B) (found_sign v t A B) out start x (word_left x (found_word v t A B) out)) (sym z)
           (answered symbol.symbol a b q.unit_A q.unit_B out start))
 
       joined_meets : SameRightCoset v t A B ↔ Meets (family_of k) n (B ⊗ adj A)
@@ -185,8 +184,8 @@ module _ (order : Order) (k n : ℕ) (a b : List ℤ) (w : List ℕ) (out : List
             none = ((λ h m. c.none.0 h (j.1 m)), (λ h. c.none.1 (λ y. h (j.0 y))));
           }
 
-    answered_over : (i : ℕ) → G ≡ over i → query_refusal r ≡ entry_too_large i
-    answered_over i g = ap query_refusal (rw g at (found_of e q))
+    answered_over : (i : ℕ) → G ≡ over i → outcome r ≡ Err (EntryTooLarge i)
+    answered_over i g = ap outcome (rw g at (found_of e q))
 
   pub named_claim : r ≡ named_query_by order k n a b (length w) (length out) start → out' ≡ word_left r (ruled_word G a b) out
       → NamedClaim order k n a b w out start r out'

@@ -1,11 +1,9 @@
 -- The symbol that the rule gives for a family's tables is one of the group: `symbol_named`.
 -- Assumes nothing.
-use mathlib.Core.Path.{◌≡◌, sym, ◌∙◌}
+use mathlib.Core.Path.{sym, ◌∙◌}
 use mathlib.Core.List.{List}
 use Prim.Native.Nat.{ℕ}
 use lib.IntN.{ℤ}
-use Rattle.matrix.specs.Matrix.{Mat}
-use Rattle.right_cosets.specs.Condition.{Unit}
 use Rattle.congruence.specs.Cosets.{family_s, family_r}
 use Rattle.congruence.specs.declared.Family.{Family}
 use Rattle.congruence_tables.specs.Inner.Held.{Group}

@@ -23,7 +23,7 @@
 use Rattle.std.specs.Prelude.{◌≡◌, ◌↔◌, Bool, true, false, List, [], ◌++◌, ℕ, ◌+◌, ◌-◌, ◌*◌, length, take, ℤ}
 use Rattle.matrix.specs.Matrix.{Mat, of_list}
 use Rattle.call.specs.Space.{work_length}
-use Rattle.call.specs.declared.refusal.Checked.{Checked}
+use Rattle.call.specs.Refusal.{Checked, Answer}
 use Rattle.call.specs.Call.{Lent, Step, asks, work, length_check, stores, verdict, Contract}
 use Rattle.symbol.specs.Symbol.{IsSymbol}
 use Rattle.pairing.specs.Generator.{generators}
@@ -38,11 +38,11 @@ use Rattle.right_cosets.specs.Cosets.{CosetsOf}
 use Rattle.congruence.specs.declared.Family.{Family}
 use Rattle.import_rule.specs.Order.{Order}
 use Rattle.import_rule.specs.Symbol.{Ruled, made, over, ruled_by}
-use Rattle.import_symbol.specs.Answer.{check16, ruled_table}
+use Rattle.import_symbol.specs.Answer.{check16}
 use Rattle.permutations.specs.Check.{Passport}
 use Rattle.import_call.specs.Import.{needed_vertices, symbol_into}
 use Rattle.word.specs.Answer.{matrices_check, closes, found_word, found_sign, walk_checks, word_steps, word_if}
-use Rattle.word.specs.declared.Queried.{Queried}
+use Rattle.word.specs.declared.FoundWord.{FoundWord}
 use Rattle.named_groups.specs.Group.{family_of, group_check}
 
 -- ---- the tables
@@ -107,18 +107,19 @@ abbrev pub ruled_steps : Ruled → (a b : List ℤ) → Lent (List ℤ) → (sta
 ruled_steps rule a b out start =
     asks (check16 rule) ++ word_steps (ruled_closes rule a b) (ruled_word rule a b) out start
 
-abbrev pub named_query_steps : Order → (k n : ℕ) (a b : List ℤ) → Lent (List ℕ) → Lent (List ℤ) → (start : ℕ) → List Step
+abbrev pub named_query_steps : Order → (k n : ℕ) (a b : List ℤ) → Lent (List ℕ) → Lent (List ℤ) → (start : ℕ)
+    → List Step
 named_query_steps order k n a b w out start =
     asks (group_check k n) ++ asks (matrices_check a b) ++ work w ++ ruled_steps (named_rule order k n) a b out start
 
-abbrev pub ruled_if : Ruled → (a b : List ℤ) (start : ℕ) → Checked → Queried
+abbrev pub ruled_if : Ruled → (a b : List ℤ) (start : ℕ) → Checked → (Answer FoundWord)
 ruled_if rule a b start = word_if start (length (ruled_word rule a b)) (ruled_sign rule a b)
 
 abbrev pub ruled_checks : Ruled → (a b : List ℤ) (start room : ℕ) → List Step
 ruled_checks rule a b start room =
     asks (check16 rule) ++ walk_checks (ruled_closes rule a b) (ruled_word rule a b) start room
 
-abbrev pub named_query_by : Order → (k n : ℕ) (a b : List ℤ) (work room start : ℕ) → Queried
+abbrev pub named_query_by : Order → (k n : ℕ) (a b : List ℤ) (work room start : ℕ) → (Answer FoundWord)
 named_query_by order k n a b work room start =
     ruled_if (named_rule order k n) a b start
     (verdict (asks (group_check k n) ++ asks (matrices_check a b) ++ asks (length_check work_length work)

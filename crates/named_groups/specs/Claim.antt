@@ -18,10 +18,11 @@
 --   named_query_call         THE EXPORTED CALLS, by the rule and by the wide rule: the steps of a query, the number of
 --                            letters, and what it says
 --   named_signed_query_call  the same with the sign as one more result
-use Rattle.std.specs.Prelude.{◌≡◌, ◌⊎◌, ◌↔◌, List, ◌++◌, ℕ, ◌≤◌, length, ℤ}
+use Rattle.std.specs.Prelude.{◌≡◌, ◌⊎◌, ◌↔◌, List, ◌++◌, ℕ, ◌≤◌, length, ℤ, Err}
 use Rattle.matrix.specs.Matrix.{Mat, ◌⊗◌, adj, ◌≈◌, of_list}
 use Rattle.matrix.specs.Bounds.{Small}
-use Rattle.call.specs.Refusal.{no_word, too_short, entry_too_large}
+use Rattle.call.specs.Refusal.{answer_number, refusal_number, Answer, outcome}
+use Rattle.call.specs.declared.refusal.Refusal.TheVariants.{NoWord, TooShort, EntryTooLarge}
 use Rattle.call.specs.Space.{work_length}
 use Rattle.pairing.specs.Generator.{generators}
 use Rattle.pairing.specs.Subgroup.{IsWord, value_of}
@@ -31,11 +32,12 @@ use Rattle.congruence.specs.declared.Family.{Family}
 use Rattle.import_rule.specs.Order.{Order}
 use Rattle.import_rule.specs.Symbol.{made, over}
 use Rattle.call.specs.Call.{Lent, result_in, Contract}
-use Rattle.word.specs.Answer.{found_word, found_sign, part_of, query_refusal, sign_number}
+use Rattle.word.specs.Answer.{found_word, found_sign, part_of, sign_number}
 use Rattle.word.specs.Claim.{Found, NormalWord, Answered, ShortWork, SignSays, Tells}
-use Rattle.word.specs.declared.Queried.{Queried}
+use Rattle.word.specs.declared.FoundWord.{FoundWord}
 use Rattle.named_groups.specs.Group.{family_of, NamedGroup}
-use Rattle.named_groups.specs.Answer.{named_rule, NamedSymbol, ruled_word, ruled_sign, named_query_steps, named_query_by}
+use Rattle.named_groups.specs.Answer.{named_rule, NamedSymbol, ruled_word, ruled_sign, named_query_steps}
+use Rattle.named_groups.specs.Answer.{named_query_by}
 
 pub record ValidNamedQuery (k n : ℕ) (a b : List ℤ) (w : List ℕ) : Type 0 where
   pub group : NamedGroup k n
@@ -45,12 +47,12 @@ pub record ValidNamedQuery (k n : ℕ) (a b : List ℤ) (w : List ℕ) : Type 0 
   pub unit_A : Unit (of_list a)
   pub unit_B : Unit (of_list b)
 
-pub record NamedAnswered (f : Family) (n v : ℕ) (t : List ℤ) (A B : Mat) (out : List ℤ) (start : ℕ) (r : Queried)
-    (out' : List ℤ) : Type 0 where
+pub record NamedAnswered (f : Family) (n v : ℕ) (t : List ℤ) (A B : Mat) (out : List ℤ) (start : ℕ)
+    (r : Answer FoundWord) (out' : List ℤ) : Type 0 where
   pub symbol : NamedSymbol f n v t
   pub claim : Answered v t A B (found_word v t A B) (found_sign v t A B) out start r out'
   pub found : Found (found_word v t A B) r ↔ Meets f n (B ⊗ adj A)
-  pub none : (query_refusal r ≡ no_word) ↔ (Meets f n (B ⊗ adj A) → ⊥)
+  pub none : (outcome r ≡ Err NoWord) ↔ (Meets f n (B ⊗ adj A) → ⊥)
 
 -- the rule gives a symbol
 pub record RuleMakes (order : Order) (k n : ℕ) : Type 0 where
@@ -58,20 +60,20 @@ pub record RuleMakes (order : Order) (k n : ℕ) : Type 0 where
   pub table : List ℤ
   pub is : named_rule order k n ≡ made vertices table
 
-pub record NamedClaim (order : Order) (k n : ℕ) (a b : List ℤ) (w : List ℕ) (out : List ℤ) (start : ℕ) (r : Queried)
-    (out' : List ℤ) : Type 0 where
-  pub asked : ((query_refusal r).number ≡ 0) ⊎ ((query_refusal r).number ≡ no_word.number)
+pub record NamedClaim (order : Order) (k n : ℕ) (a b : List ℤ) (w : List ℕ) (out : List ℤ) (start : ℕ)
+    (r : Answer FoundWord) (out' : List ℤ) : Type 0 where
+  pub asked : (answer_number r ≡ 0) ⊎ (answer_number r ≡ refusal_number NoWord)
       → ValidNamedQuery k n a b w × RuleMakes order k n
-  pub short : (m : ℕ) → (query_refusal r).number ≡ (too_short m).number
+  pub short : (m : ℕ) → answer_number r ≡ refusal_number (TooShort m)
       → (ValidNamedQuery k n a b w × RuleMakes order k n) ⊎ ShortWork w r
   pub answered : ValidNamedQuery k n a b w → (v : ℕ) (t : List ℤ) → named_rule order k n ≡ made v t
       → NamedAnswered (family_of k) n v t (of_list a) (of_list b) out start r out'
-  pub over : ValidNamedQuery k n a b w → (i : ℕ) → named_rule order k n ≡ over i → query_refusal r ≡ entry_too_large i
+  pub over : ValidNamedQuery k n a b w → (i : ℕ) → named_rule order k n ≡ over i → outcome r ≡ Err (EntryTooLarge i)
 
 pub record NamedQuerySays (order : Order) (k n : ℕ) (a b : List ℤ) (w : List ℕ) (start number place : ℕ)
     (out' : List ℤ) : Type 0 where
-  pub asked : (number ≡ 0) ⊎ (number ≡ no_word.number) → ValidNamedQuery k n a b w × RuleMakes order k n
-  pub none : number ≡ no_word.number → Meets (family_of k) n (of_list b ⊗ adj (of_list a)) → ⊥
+  pub asked : (number ≡ 0) ⊎ (number ≡ refusal_number NoWord) → ValidNamedQuery k n a b w × RuleMakes order k n
+  pub none : number ≡ refusal_number NoWord → Meets (family_of k) n (of_list b ⊗ adj (of_list a)) → ⊥
   pub some : number ≡ 0 → Meets (family_of k) n (of_list b ⊗ adj (of_list a))
   pub letters : number ≡ 0 → (v : ℕ) (t : List ℤ) → named_rule order k n ≡ made v t
       → IsWord (length (generators v t)) (part_of out' start place)
@@ -79,7 +81,7 @@ pub record NamedQuerySays (order : Order) (k n : ℕ) (a b : List ℤ) (w : List
       → value_of (generators v t) (part_of out' start place) ⊗ of_list a ≈ of_list b
   pub normal : number ≡ 0 → (v : ℕ) (t : List ℤ) → named_rule order k n ≡ made v t
       → NormalWord v t (of_list a) (of_list b) (part_of out' start place)
-  pub short : number ≡ (too_short 0).number → ValidNamedQuery k n a b w → (v : ℕ) (t : List ℤ)
+  pub short : number ≡ refusal_number (TooShort 0) → ValidNamedQuery k n a b w → (v : ℕ) (t : List ℤ)
       → named_rule order k n ≡ made v t
       → (length (found_word v t (of_list a) (of_list b)) ≡ place)
       × NormalWord v t (of_list a) (of_list b) (found_word v t (of_list a) (of_list b))

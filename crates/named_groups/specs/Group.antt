@@ -6,11 +6,10 @@
 --                       `group_verdict`)
 --   GroupVerdict k n c  c is the answer of the two checks, and it is that the group is accepted exactly when it is one
 --                       with a name; and the index that they compare is the number of right cosets
-use Rattle.std.specs.Prelude.{◌≡◌, ◌↔◌, not, ◌&&◌, ℕ, ◌≤◌, leb, eqb}
+use Rattle.std.specs.Prelude.{◌≡◌, ◌↔◌, not, ◌&&◌, ℕ, ◌≤◌, leb, eqb, Ok}
 use Rattle.basics.specs.Choice.{pick}
-use Rattle.call.specs.Refusal.{◌or_else◌, bad_level, large_index}
-use Rattle.call.specs.declared.refusal.Checked.{Checked}
-use Rattle.call.specs.declared.refusal.Checked.TheVariants.{Accepted}
+use Rattle.call.specs.Refusal.{◌or_else◌, Checked}
+use Rattle.call.specs.declared.refusal.Refusal.TheVariants.{BadLevel, LargeIndex}
 use Rattle.symbol.specs.Check.{refuse}
 use Rattle.congruence.specs.Congruence.{Meets}
 use Rattle.right_cosets.specs.Transversal.{Everything, Index}
@@ -22,8 +21,8 @@ abbrev pub family_of : ℕ → Family
 family_of k = pick (eqb k 0) family.Gamma0 (pick (eqb k 1) family.Gamma1 family.Gamma)
 
 abbrev pub group_check : (k n : ℕ) → Checked
-group_check k n = refuse (not (leb k 2 && leb 1 n && leb n 1000)) bad_level or_else refuse
-    (not (leb (family_index (family_of k) n) 3066)) large_index
+group_check k n = refuse (not (leb k 2 && leb 1 n && leb n 1000)) BadLevel or_else refuse
+    (not (leb (family_index (family_of k) n) 3066)) LargeIndex
 
 pub record NamedGroup (k n : ℕ) : Type 0 where
   pub named : k ≤ 2
@@ -33,5 +32,5 @@ pub record NamedGroup (k n : ℕ) : Type 0 where
 
 pub record GroupVerdict (k n : ℕ) (c : Checked) : Type 0 where
   pub returned : c ≡ group_check k n
-  pub means : (c ≡ Accepted) ↔ NamedGroup k n
+  pub means : (c ≡ Ok tt) ↔ NamedGroup k n
   pub index : 1 ≤ n → Index Everything (Meets (family_of k) n) (family_index (family_of k) n)

@@ -18,79 +18,61 @@ ghost use Rattle.named_groups.specs.Answer.{named_tables_steps, named_rule, name
 ghost use Rattle.named_groups.specs.Answer.{ruled_steps, named_query_steps, ruled_if};
 ghost use Rattle.named_groups.specs.Inner.Ready.{QueryReady};
 
-use call::refusal::{BAD_LEVEL, Checked, Filled, LARGE_INDEX, Refusal, TOO_SHORT};
+use call::refusal::Refusal;
 use congruence::Family;
 use family_index::family_index;
-use word::{Queried, pair_check};
+use word::{FoundWord, pair_check};
 
 // The family with the number k.
 pub fn family_of(k: u64) -> Family
     ensures { result ≡ family_of k }
 {
-    if k == 0 {
-        return Family::Gamma0;
+    match k {
+        0 => Family::Gamma0,
+        1 => Family::Gamma1,
+        _ => Family::Gamma,
     }
-    if k == 1 {
-        return Family::Gamma1;
-    }
-    Family::Gamma
 }
 
 // The checks 20 and 21.
-pub fn check(k: u64, n: u64) -> Checked
+pub fn check(k: u64, n: u64) -> Result<(), Refusal>
     ensures { GroupVerdict k n result }
 {
-    if 2 < k {
-        return Checked::Refused(Refusal {
-            number: BAD_LEVEL,
-            place: 0,
-        });
-    }
-    if n < 1 {
-        return Checked::Refused(Refusal {
-            number: BAD_LEVEL,
-            place: 0,
-        });
-    }
-    if 1000 < n {
-        return Checked::Refused(Refusal {
-            number: BAD_LEVEL,
-            place: 0,
-        });
+    if 2 < k || n < 1 || 1000 < n {
+        return Err(Refusal::BadLevel);
     }
     if 3066 < family_index(family_of(k), n) {
-        return Checked::Refused(Refusal {
-            number: LARGE_INDEX,
-            place: 0,
-        });
+        return Err(Refusal::LargeIndex);
     }
-    Checked::Accepted
+    Ok(())
 }
 
 // The tables at the front of s and r, where there is room for both.
-fn fill_tables(f: Family, n: u64, w: &mut [u16], s: &mut [u32], r: &mut [u32]) -> Filled
+fn fill_tables(
+    f: Family,
+    n: u64,
+    w: &mut [u16],
+    s: &mut [u32],
+    r: &mut [u32],
+) -> Result<usize, Refusal>
     requires { Group f n × (work_length ≤ length w.old) }
     ensures { Fills (stores (family_s f n) s ++ stores (family_r f n) r) (made_if (family_index f n)) result }
 {
     let k = family_index(f, n) as usize;
-    if s.len() < k {
-        return Filled::Refused(Refusal {
-            number: TOO_SHORT,
-            place: k,
-        });
-    }
-    if r.len() < k {
-        return Filled::Refused(Refusal {
-            number: TOO_SHORT,
-            place: k,
-        });
-    }
+    call::room(k, s.len())?;
+    call::room(k, r.len())?;
     congruence_tables::tables(f, n, w, s, r);
-    Filled::Made(k)
+    Ok(k)
 }
 
 // The same; the work space is cleared after.
-fn make_tables(f: Family, n: u64, w: &mut [u16], s: &mut [u32], r: &mut [u32]) -> Filled
+fn make_tables(
+    f: Family,
+    n: u64,
+    w: &mut [u16],
+    s: &mut [u32],
+    r: &mut [u32],
+) -> Result<usize, Refusal>
     requires { Group f n × (work_length ≤ length w.old) }
     ensures fills { Fills (stores (family_s f n) s ++ stores (family_r f n) r) (made_if (family_index f n)) result }
     ensures w_after { w.new ≡ zeros (length w.old) }
@@ -102,26 +84,28 @@ fn make_tables(f: Family, n: u64, w: &mut [u16], s: &mut [u32], r: &mut [u32]) -
 
 // The tables of S and R of the group, each at the front of its space: 20, 21, then the work space, then the spaces for
 // S and R.
-pub fn named_tables(k: u64, n: u64, w: &mut [u16], s: &mut [u32], r: &mut [u32]) -> Filled
+pub fn named_tables(
+    k: u64,
+    n: u64,
+    w: &mut [u16],
+    s: &mut [u32],
+    r: &mut [u32],
+) -> Result<usize, Refusal>
     ensures { Fills (named_tables_steps k n w s r) (made_if (family_index (family_of k) n)) result }
 {
-    let checked = check(k, n);
-    match checked {
-        Checked::Refused(refusal) => Filled::Refused(refusal),
-        Checked::Accepted => {
-            if w.len() < call::workspace::WORK {
-                return Filled::Refused(Refusal {
-                    number: TOO_SHORT,
-                    place: call::workspace::WORK,
-                });
-            }
-            make_tables(family_of(k), n, w, s, r)
-        }
-    }
+    check(k, n)?;
+    call::room(call::workspace::WORK, w.len())?;
+    make_tables(family_of(k), n, w, s, r)
 }
 
 // The symbol of the group's tables, by the wide rule or by the rule; the work space is cleared after.
-fn make_symbol(f: Family, n: u64, w: &mut [u16], out: &mut [i64], wide: bool) -> Filled
+fn make_symbol(
+    f: Family,
+    n: u64,
+    w: &mut [u16],
+    out: &mut [i64],
+    wide: bool,
+) -> Result<usize, Refusal>
     requires { Group f n × (work_length ≤ length w.old) }
     ensures fills { Fills (symbol_into (order_by wide) (family_s f n) (family_r f n) out)
         (made_if (needed_vertices (family_r f n))) result }
@@ -135,23 +119,19 @@ fn make_symbol(f: Family, n: u64, w: &mut [u16], out: &mut [i64], wide: bool) ->
 
 // The symbol of the group, by the wide rule or by the rule, its table at the front of out: 20, 21, then the work space,
 // then out, then 16.
-pub fn named_symbol_by(k: u64, n: u64, w: &mut [u16], out: &mut [i64], wide: bool) -> Filled
+pub fn named_symbol_by(
+    k: u64,
+    n: u64,
+    w: &mut [u16],
+    out: &mut [i64],
+    wide: bool,
+) -> Result<usize, Refusal>
     ensures { Fills (named_symbol_steps (order_by wide) k n w out)
         (made_if (needed_vertices (family_r (family_of k) n))) result }
 {
-    let checked = check(k, n);
-    match checked {
-        Checked::Refused(refusal) => Filled::Refused(refusal),
-        Checked::Accepted => {
-            if w.len() < call::workspace::WORK {
-                return Filled::Refused(Refusal {
-                    number: TOO_SHORT,
-                    place: call::workspace::WORK,
-                });
-            }
-            make_symbol(family_of(k), n, w, out, wide)
-        }
-    }
+    check(k, n)?;
+    call::room(call::workspace::WORK, w.len())?;
+    make_symbol(family_of(k), n, w, out, wide)
 }
 
 // The answer for an accepted group and pair: by the symbol that the rule gives, or 16. The work space is cleared after.
@@ -164,18 +144,15 @@ fn answer_query(
     out: &mut [i16],
     start: usize,
     wide: bool,
-) -> Queried
+) -> Result<FoundWord, Refusal>
     requires { QueryReady f n a b w.old }
     ensures fills { Fills (ruled_steps (ruled_by (order_by wide) (family_s f n) (family_r f n)) a b out start)
         (ruled_if (ruled_by (order_by wide) (family_s f n) (family_r f n)) a b start) result }
     ensures w_after { w.new ≡ zeros (length w.old) }
 {
     let mut t = [0i64; 3070];
-    let made = make_symbol(f, n, w, &mut t, wide);
-    match made {
-        Filled::Refused(refusal) => Queried::Refused(refusal),
-        Filled::Made(v) => word::query(v, &t[..3 * v + 1], a, b, w, out, start),
-    }
+    let v = make_symbol(f, n, w, &mut t, wide)?;
+    word::query(v, &t[..3 * v + 1], a, b, w, out, start)
 }
 
 // A word in the generators of the group's symbol, by the wide rule or by the rule, that takes A to B up to sign: 20,
@@ -189,27 +166,12 @@ pub fn named_query_by(
     out: &mut [i16],
     start: usize,
     wide: bool,
-) -> Queried
+) -> Result<FoundWord, Refusal>
     ensures { Fills (named_query_steps (order_by wide) k n a b w out start)
         (ruled_if (named_rule (order_by wide) k n) a b start) result }
 {
-    let checked = check(k, n);
-    match checked {
-        Checked::Refused(refusal) => Queried::Refused(refusal),
-        Checked::Accepted => {
-            let paired = pair_check(a, b);
-            match paired {
-                Checked::Refused(refusal) => Queried::Refused(refusal),
-                Checked::Accepted => {
-                    if w.len() < call::workspace::WORK {
-                        return Queried::Refused(Refusal {
-                            number: TOO_SHORT,
-                            place: call::workspace::WORK,
-                        });
-                    }
-                    answer_query(family_of(k), n, a, b, w, out, start, wide)
-                }
-            }
-        }
-    }
+    check(k, n)?;
+    pair_check(a, b)?;
+    call::room(call::workspace::WORK, w.len())?;
+    answer_query(family_of(k), n, a, b, w, out, start, wide)
 }

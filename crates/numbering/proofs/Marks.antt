@@ -174,7 +174,8 @@ module _ {from to size n : ℕ} {w₀ : List ℕ} (p : Renames from to size n w�
         ∙ listed_number p.sparse y (image_in j i)
         ∙ ap (find points) (image_at_lem j i) ∙ sym (renamed_at points (image_at table) j (omega arith)))
 
-    pub rename_both : {w' : List ℕ} → w' ≡ put_to w to (entries to n w then_table entries NUMBER size w) n → w' ≡ put_to w₀ to (renamed points (image_at table)) n
+    pub rename_both : {w' : List ℕ} → w' ≡ put_to w to (entries to n w then_table entries NUMBER size w) n
+        → w' ≡ put_to w₀ to (renamed points (image_at table)) n
     rename_both d =
         let kept = put_apart images_put NUMBER size apart_numbers (omega (arith, p.sparse.room, p.sparse.long)) in
         put_again images_put (renamed points (image_at table)) (renamed_length points (image_at table) ∙ points_long)

@@ -41,7 +41,8 @@ entries_push off k w x h =
 -- a store elsewhere leaves it as it was
 pub entries_set : (off n : ℕ) (w : List ℕ) (i x : ℕ) → off + n ≤ length w → Apart off n i 1 → entries off n (set w i x) ≡ entries off n w
 entries_set off n w i x h apart =
-    entries_same off n w (set w i x) (length-set w i x) h (λ k lo hi. get_or-set_other w i k x 0 (λ e. elim apart [ inl p ↦ omega arith | inr p ↦ omega arith ]))
+    entries_same off n w (set w i x) (length-set w i x) h
+    (λ k lo hi. get_or-set_other w i k x 0 (λ e. elim apart [ inl p ↦ omega arith | inr p ↦ omega arith ]))
 
 -- ---- all but a part is as before
 pub within_refl : (a b : ℕ) (w : List ℕ) → ChangedWithin a b w w

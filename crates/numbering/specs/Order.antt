@@ -4,12 +4,12 @@
 --     add l x                     l with x behind it if x is new
 --     visit σ ρ l i               l after a visit to its entry at i: the S image, and next the R image, are added
 --     order_to σ ρ start i        the points that have a number when the first i in order have been visited, by number
---     order_of σ ρ start size      all points that get a number, by number: with `size` points, `size` visits are enough
+--     order_of σ ρ start size     all points that get a number, by number: with `size` points, `size` visits are enough
 --     up_to n                      0, 1, .., n - 1: the numbering of the points by their numbers (proofs/Numbered.antt)
 --     Maps σ ρ start size         σ and ρ map the points into themselves, and the start is a point
 --     Reached σ ρ start x         σ and ρ lead from the start to x
---     Numbering σ ρ start size l  THE THEOREM on the numbering l = order_of σ ρ start size: no repeats, the start first,
---                                 closed under σ and ρ, exactly the points that are reached, at most `size` many
+--     Numbering σ ρ start size l  THE THEOREM on the numbering l = order_of σ ρ start size: no repeats, the start
+--                                 first, closed under σ and ρ, exactly the points that are reached, at most `size` many
 -- `proofs/Order.antt` proves `numbering : Maps σ ρ start size → Numbering σ ρ start size (order_of σ ρ start size)`.
 use Rattle.std.specs.Prelude.{◌≡◌, List, [], ◌∷◌, ◌++◌, ℕ, zero, suc, ◌≤◌, ◌<◌, length, get_or, ltb}
 use Rattle.numbering.specs.Find.{◌∈◌, is_in, Once}

@@ -35,12 +35,8 @@ pub fn has(w: &[u16], size: usize, x: usize, n: usize) -> bool
     requires x_lt_size { x < size }
     ensures { result ≡ is_in (listed n w.now) x }
 {
-    let k = call::workspace::index(w[NUMBER + x]);
-    if n <= k {
-        return false;
-    }
-    let y = call::workspace::index(w[ORDER + k]);
-    y == x
+    let k = usize::from(w[NUMBER + x]);
+    k < n && usize::from(w[ORDER + k]) == x
 }
 
 // The point x, which has no number, takes the number n.
@@ -72,9 +68,9 @@ fn visit_at(w: &mut [u16], size: usize, i: usize, n: usize) -> usize
         (visit (image_at (entries SIGMA size w.old)) (image_at (entries RHO size w.old))
         (listed n w.old) i) result }
 {
-    let x = call::workspace::index(w[ORDER + i]);
-    let s = call::workspace::index(w[SIGMA + x]);
-    let r = call::workspace::index(w[RHO + x]);
+    let x = usize::from(w[ORDER + i]);
+    let s = usize::from(w[SIGMA + x]);
+    let r = usize::from(w[RHO + x]);
     let k = enter(w, size, s, n);
     enter(w, size, r, k)
 }
@@ -87,6 +83,7 @@ fn number(w: &mut [u16], start: usize, size: usize) -> usize
     push(w, size, start, 0);
     let mut n: usize = 1;
     let mut i: usize = 0;
+    // a `while`: its bound grows with each point that is listed
     while i < n {
         n = visit_at(w, size, i, n);
         i += 1;
@@ -101,11 +98,9 @@ pub fn compose(w: &mut [u16], a: usize, b: usize, to: usize, n: usize, m: usize)
     ensures { w.new
         ≡ put_to w.old to (entries a n w.old then_table entries b m w.old) n }
 {
-    let mut j: usize = 0;
-    while j < n {
-        let x = call::workspace::index(w[a + j]);
+    for j in 0..n {
+        let x = usize::from(w[a + j]);
         w[to + j] = w[b + x];
-        j += 1;
     }
 }
 
@@ -133,20 +128,12 @@ pub fn tables(w: &mut [u16], start: usize, size: usize) -> usize
     n
 }
 
-fn wide32(x: u16) -> u32
-    ensures { result ≡ x }
-{
-    x as u32
-}
-
 // The table of n entries at `off`, at the front of out.
 pub fn copy_out(w: &[u16], off: usize, n: usize, out: &mut [u32])
     requires { Copies off n w.now out.old }
     ensures { out.new ≡ entries off n w.now ++ drop n out.old }
 {
-    let mut j: usize = 0;
-    while j < n {
-        out[j] = wide32(w[off + j]);
-        j += 1;
+    for j in 0..n {
+        out[j] = u32::from(w[off + j]);
     }
 }

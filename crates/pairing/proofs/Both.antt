@@ -8,6 +8,7 @@
 --   two_say                what a number 0 says of two symbols, where nothing is asked behind the work space
 --   with_space             a work space that is long enough adds no refusal
 -- Assumes nothing.
+use Rattle.std.specs.Prelude.{Ok, Err}
 use mathlib.Core.Path.{◌≡◌, refl, sym, ◌∙◌, ap}
 use mathlib.Core.Bool.{Bool}
 use mathlib.Core.List.{List, [], ◌∷◌}
@@ -16,15 +17,11 @@ use native.Mathlib.Omega.{arith}
 use lib.IntN.{ℤ}
 use lib.ListN.{length}
 use Rattle.call.specs.Space.{work_length, zeros}
-use Rattle.call.specs.Refusal.{◌or_else◌, checked_refusal}
+use Rattle.call.specs.Refusal.{◌or_else◌, answer_number, answer_place, Checked, Decision}
 use Rattle.call.specs.declared.refusal.Refusal.{Refusal}
-use Rattle.call.specs.declared.refusal.Checked.{Checked}
-use Rattle.call.specs.declared.refusal.Checked.TheVariants.{Accepted, Refused}
 use Rattle.call.proofs.Answers.{both_pass, pass_both}
 use Rattle.call.specs.Call.{Lent, Step, Asks, Clears, length_check, if_accepted}
 use Rattle.call.specs.Inner.Fills.{Fills, decided}
-use Rattle.call.specs.declared.Decision.{Decision}
-use Rattle.call.specs.declared.Decision.TheVariants as decision
 use Rattle.call.proofs.Laws.{Run, Untouched, Numbered, run_end, run_stop, run_pass, room_long, admit_stop, admit_pass, above_among, above_room, made_says}
 use Rattle.call.proofs.Laws.{fills_as}
 use Rattle.symbol.specs.Check.{symbol_check}
@@ -33,26 +30,26 @@ use Rattle.symbol.proofs.Accepted.{accepted, check_among}
 use Rattle.pairing.specs.Inner.Admitted.{admitted_of, both_admitted}
 use Rattle.pairing.proofs.Admitted.{admitted}
 
-pub with_space : (c d : Checked) (work : ℕ) → work_length ≤ work → (c or_else d or_else length_check work_length work or_else Accepted) ≡ (c or_else d)
-with_space c d work h = ap (λ (x : Checked). c or_else d or_else x or_else Accepted) (room_long work_length work h) ∙ go c d
+pub with_space : (c d : Checked) (work : ℕ) → work_length ≤ work → (c or_else d or_else length_check work_length work or_else (Ok tt)) ≡ (c or_else d)
+with_space c d work h = ap (λ (x : Checked). c or_else d or_else x or_else (Ok tt)) (room_long work_length work h) ∙ go c d
   where
-    go : (c d : Checked) → (c or_else d or_else Accepted) ≡ (c or_else d)
-    go (Refused f) d = refl
-    go Accepted (Refused f) = refl
-    go Accepted Accepted = refl
+    go : (c d : Checked) → (c or_else d or_else (Ok tt)) ≡ (c or_else d)
+    go (Err f) d = refl
+    go (Ok tt) (Err f) = refl
+    go (Ok tt) (Ok _) = refl
 
 module _ (v : ℕ) (t : List ℤ) (v' : ℕ) (t' : List ℤ) where
-  pub two_symbols_lem : (d : Checked) → (symbol_check v t or_else symbol_check v' t' or_else d) ≡ Accepted → IsSymbol v t × IsSymbol v' t'
+  pub two_symbols_lem : (d : Checked) → (symbol_check v t or_else symbol_check v' t' or_else d) ≡ Ok tt → IsSymbol v t × IsSymbol v' t'
   two_symbols_lem d e =
       let p = both_pass (symbol_check v t) (symbol_check v' t' or_else d) e in
       let q = both_pass (symbol_check v' t') d p.1 in
       ((accepted v t).0 p.0, (accepted v' t').0 q.0)
 
-  pub two_accepted : (d : Checked) → IsSymbol v t → IsSymbol v' t' → d ≡ Accepted → (symbol_check v t or_else symbol_check v' t' or_else d) ≡ Accepted
+  pub two_accepted : (d : Checked) → IsSymbol v t → IsSymbol v' t' → d ≡ Ok tt → (symbol_check v t or_else symbol_check v' t' or_else d) ≡ Ok tt
   two_accepted d s s' e =
       pass_both (symbol_check v t) (symbol_check v' t' or_else d) ((accepted v t).1 s) (pass_both (symbol_check v' t') d ((accepted v' t').1 s') e)
 
-  pub both_admitted_lem : (work : ℕ) → Accepted ≡ both_admitted v t v' t' work → IsSymbol v t × IsSymbol v' t' × (work_length ≤ work)
+  pub both_admitted_lem : (work : ℕ) → Ok tt ≡ both_admitted v t v' t' work → IsSymbol v t × IsSymbol v' t' × (work_length ≤ work)
   both_admitted_lem work e =
       let p = both_pass (symbol_check v t) (admitted_of v' t' work) (sym e) in
       let q = admitted v' t' work (sym p.1) in
@@ -66,37 +63,37 @@ module _ (v : ℕ) (t : List ℤ) (v' : ℕ) (t' : List ℤ) where
     abbrev behind : List Step
     behind = Asks (length_check work_length (length w)) ∷ Clears w w' ∷ l
 
-    pub run_both : {d : Checked} → Accepted ≡ both_admitted v t v' t' (length w) → w' ≡ zeros (length w) → Run l d
+    pub run_both : {d : Checked} → Ok tt ≡ both_admitted v t v' t' (length w) → w' ≡ zeros (length w) → Run l d
         → Run (Asks (symbol_check v t) ∷ Asks (symbol_check v' t') ∷ behind) d
     run_both e z k =
         let p = both_pass (symbol_check v t) (admitted_of v' t' (length w)) (sym e) in
         run_pass (symbol_check v t) (Asks (symbol_check v' t') ∷ behind) p.0 (admit_pass w l (symbol_check v' t') w' (sym p.1) z k)
 
-    pub stop_both : (f : Refusal) → Refused f ≡ both_admitted v t v' t' (length w) → w' ≡ w → Untouched l
-        → Run (Asks (symbol_check v t) ∷ Asks (symbol_check v' t') ∷ behind) (Refused f)
+    pub stop_both : (f : Refusal) → Err f ≡ both_admitted v t v' t' (length w) → w' ≡ w → Untouched l
+        → Run (Asks (symbol_check v t) ∷ Asks (symbol_check v' t') ∷ behind) (Err f)
     stop_both f e same u = go (symbol_check v t) refl e
       where
-        go : (x : Checked) → symbol_check v t ≡ x → Refused f ≡ (x or_else admitted_of v' t' (length w))
-            → Run (Asks (symbol_check v t) ∷ Asks (symbol_check v' t') ∷ behind) (Refused f)
-        go (Refused g) q z = run_stop f (symbol_check v t) (Asks (symbol_check v' t') ∷ behind) (q ∙ sym z) (same, u)
-        go Accepted q z = run_pass (symbol_check v t) (Asks (symbol_check v' t') ∷ behind) q (admit_stop w l (symbol_check v' t') w' f z same u)
+        go : (x : Checked) → symbol_check v t ≡ x → Err f ≡ (x or_else admitted_of v' t' (length w))
+            → Run (Asks (symbol_check v t) ∷ Asks (symbol_check v' t') ∷ behind) (Err f)
+        go (Err g) q z = run_stop f (symbol_check v t) (Asks (symbol_check v' t') ∷ behind) (q ∙ sym z) (same, u)
+        go (Ok tt) q z = run_pass (symbol_check v t) (Asks (symbol_check v' t') ∷ behind) q (admit_stop w l (symbol_check v' t') w' f z same u)
 
   module _ (w w' : List ℕ) (b : Bool) where
     abbrev deciding : List Step
     deciding = Asks (symbol_check v t) ∷ Asks (symbol_check v' t') ∷ behind w w' []
 
-    pub refused_both : (f : Refusal) → Refused f ≡ both_admitted v t v' t' (length w) → w' ≡ w → Fills deciding (decided b) (decision.Refused f)
-    refused_both f e same = fills_as {by = decided b} (stop_both w w' [] f e same tt) refl
+    pub refused_both : {a : Decision} (f : Refusal) → Err f ≡ both_admitted v t v' t' (length w) → w' ≡ w → a ≡ Err f → Fills deciding (decided b) a
+    refused_both f e same is = fills_as {by = decided b} (stop_both w w' [] f e same tt) is
 
-    pub decided_both : {x : Bool} {a : Decision} → Accepted ≡ both_admitted v t v' t' (length w) → w' ≡ zeros (length w) → x ≡ b → a ≡ decided x Accepted
+    pub decided_both : {x : Bool} {a : Decision} → Ok tt ≡ both_admitted v t v' t' (length w) → w' ≡ zeros (length w) → x ≡ b → a ≡ decided x (Ok tt)
         → Fills deciding (decided b) a
-    decided_both e z same is = fills_as {by = decided b} (run_both w w' [] e z run_end) (is ∙ ap (λ (y : Bool). decided y Accepted) same)
+    decided_both e z same is = fills_as {by = decided b} (run_both w w' [] e z run_end) (is ∙ ap (λ (y : Bool). decided y (Ok tt)) same)
 
   pub two_say : (w : Lent (List ℕ)) (M : ℕ → Type 0) (count : ℕ) → (IsSymbol v t → IsSymbol v' t' → M count)
-      → let c = symbol_check v t or_else symbol_check v' t' or_else length_check work_length (length w.entry.now) or_else Accepted in
-      (checked_refusal c).number ≡ 0 → M (if_accepted c count (checked_refusal c).place)
+      → let c = symbol_check v t or_else symbol_check v' t' or_else length_check work_length (length w.entry.now) or_else (Ok tt) in
+      answer_number c ≡ 0 → M (if_accepted c count (answer_place c))
   two_say w M count m =
       let space = Asks (length_check work_length (length w.entry.now)) ∷ [] in
       made_says (record { steps = Asks (symbol_check v t) ∷ Asks (symbol_check v' t') ∷ space; count = count; Says = λ number place. number ≡ 0 → M place }) M
       (two_numbered space (above_room work_length (length w.entry.now), tt))
-      (λ e. (let p = two_symbols_lem (length_check work_length (length w.entry.now) or_else Accepted) e in m p.0 p.1))
+      (λ e. (let p = two_symbols_lem (length_check work_length (length w.entry.now) or_else (Ok tt)) e in m p.0 p.1))

@@ -7,18 +7,17 @@
 -- Assumes nothing.
 use mathlib.Core.Path.{◌≡◌, refl, sym, ◌∙◌, ap}
 use mathlib.Core.Logic.{◌⊎◌, inl, inr}
-use mathlib.Core.Bool.{Bool, true, false}
+use mathlib.Core.Bool.{true, false}
 use mathlib.Core.List.{List}
 use Prim.Native.Nat.{ℕ, suc, ◌+◌, ◌-◌, ◌<◌, ◌≤◌}
 use native.Mathlib.Omega.{arith}
 use native.Mathlib.Decide.{ℕ_discrete}
 use lib.Dec.{ltb, eqb}
-use lib.ListN.{length, get_or, set, length-set}
+use lib.ListN.{get_or, set, length-set}
 use lib.Seq.{get_or-set_same, get_or-set_other}
 use borrow.Author.Tests.{lt-ltb, le-ltb, eq-eqb, ne_eqb, eqb-true, not-false}
 use lib.IntN.{ℤ, pos, nat_abs}
 use Rattle.matrix.specs.Matrix.{nth}
-use Rattle.basics.specs.Choice.{pick}
 use Rattle.call.specs.Space.{work_length, zeros}
 use Rattle.call.proofs.Zeros.{length_zeros, get_d_zeros}
 use Rattle.basics.specs.Count.{first}
@@ -267,9 +266,11 @@ module _ (v : ℕ) (most : v ≤ 1023) (p : List ℤ) (paired : Clear (unpaired_
     where
       free : (l : ℕ) → pairing_of v (nth p i) ≡ Free l → Dec (get_or w (FIRST + l) 0 ≡ 0) → PairedTo v p (suc i) (met l i w)
       free l e (yes z) = rw (pick_true (eqb (get_or w (FIRST + l) 0) 0) (set w (FIRST + l) (i + 1))
-          (set (set w (PARTNER + i) (get_or w (FIRST + l) 0 - 1)) (PARTNER + (get_or w (FIRST + l) 0 - 1)) i) (eq-eqb (get_or w (FIRST + l) 0) 0 z)) (met_first l e z)
+          (set (set w (PARTNER + i) (get_or w (FIRST + l) 0 - 1)) (PARTNER + (get_or w (FIRST + l) 0 - 1)) i)
+          (eq-eqb (get_or w (FIRST + l) 0) 0 z)) (met_first l e z)
       free l e (no z) = rw (pick_false (eqb (get_or w (FIRST + l) 0) 0) (set w (FIRST + l) (i + 1))
-          (set (set w (PARTNER + i) (get_or w (FIRST + l) 0 - 1)) (PARTNER + (get_or w (FIRST + l) 0 - 1)) i) (ne_eqb (get_or w (FIRST + l) 0) 0 z)) (met_again l e z)
+          (set (set w (PARTNER + i) (get_or w (FIRST + l) 0 - 1)) (PARTNER + (get_or w (FIRST + l) 0 - 1)) i)
+          (ne_eqb (get_or w (FIRST + l) 0) 0 z)) (met_again l e z)
 
       not_free : (q : Pairing) → pairing_of v (nth p i) ≡ q → ((l : ℕ) → q ≡ Free l → ⊥) → PairedTo v p (suc i) w
       not_free q e n = met_other (λ l f. n l (sym e ∙ f))
@@ -279,17 +280,6 @@ module _ (v : ℕ) (most : v ≤ 1023) (p : List ℤ) (paired : Clear (unpaired_
       go Odd e = not_free Odd e (λ l f. let z : ◌≡◌ {A = ℕ} 0 1 = cc in omega arith)
       go (Free l) e = free l e (ℕ_discrete (get_or w (FIRST + l) 0) 0)
       go Bad e = not_free Bad e (λ l f. let z : ◌≡◌ {A = ℕ} 0 1 = cc in omega arith)
-
-pub length_met_by : (q : Pairing) (i : ℕ) (w : List ℕ) → length (met_by q i w) ≡ length w
-length_met_by Even i w = refl
-length_met_by Odd i w = refl
-length_met_by (Free l) i w = go (eqb (get_or w (FIRST + l) 0) 0)
-  where
-    go : (b : Bool) → length (pick b (set w (FIRST + l) (i + 1))
-        (set (set w (PARTNER + i) (get_or w (FIRST + l) 0 - 1)) (PARTNER + (get_or w (FIRST + l) 0 - 1)) i)) ≡ length w
-    go true = length-set w (FIRST + l) (i + 1)
-    go false = simp length-set
-length_met_by Bad i w = refl
 
 -- ---- the start and the end
 
@@ -310,11 +300,3 @@ paired_all v p paired w t = record {
   partners = λ j l h e. let a = partner_in_lem v p paired j l h e in let k = a.within in
       t.partners j l (omega arith) e (omega arith);
 }
-
--- what was remembered of a label is a side
-pub first_bound : (v : ℕ) (p : List ℤ) (i : ℕ) (w : List ℕ) → PairedTo v p i w → (l : ℕ) → 1 ≤ l → l ≤ v + 1 → get_or w (FIRST + l) 0 ≤ i
-first_bound v p i w t l a b = go (search_first (labelled p l) i)
-  where
-    go : Clear (labelled p l) i ⊎ Found (labelled p l) i → get_or w (FIRST + l) 0 ≤ i
-    go (inl c) = omega (arith, t.firsts l a b, seen_none p l i c)
-    go (inr f) = let h = f.below in omega (arith, t.firsts l a b, seen_found p l i (first (labelled p l) i) refl h)

@@ -1,16 +1,15 @@
 -- The table of generators, row by row.
 --
--- In order: five stores are a row (`five_stores`); what the table of the first i sides becomes with one more (`rows_yes`, `rows_no`),
--- from none to all (`rows_none`, `rows_all`); what listing needs of an accepted symbol (`symbol_small`, `symbol_paired`); the
--- generator of a side by its pairing (`generator_by_lem`).
+-- In order: what the table of the first i sides becomes with a row more (`rows_yes`); what listing needs of an accepted
+-- symbol (`symbol_small`, `symbol_paired`); the generator of a side by its pairing (`generator_by_lem`).
 -- Assumes nothing.
 use mathlib.Core.Path.{◌≡◌, refl, sym, ◌∙◌, ap}
-use mathlib.Core.Bool.{Bool, true, false}
+use mathlib.Core.Bool.{Bool, true}
 use mathlib.Core.List.{List, [], ◌∷◌, ◌++◌, append_assoc, append-nil}
 use Prim.Native.Nat.{ℕ, suc, ◌+◌, ◌*◌, ◌≤◌}
 use native.Mathlib.Omega.{arith}
-use lib.ListN.{length, set, take, drop, length-append, length-drop}
-use lib.Seq.{sets-eq, take_at, drop_at, drop-drop, length-take-le}
+use lib.ListN.{length, take, drop, length-append, length-drop}
+use lib.Seq.{take_at, drop_at, drop-drop, length-take-le}
 use lib.IntN.{ℤ, pos}
 use Rattle.matrix.specs.Matrix.{nth, to_list}
 use Rattle.basics.specs.Choice.{pick}
@@ -20,24 +19,15 @@ use Rattle.symbol.specs.Check.{unpaired_in}
 use Rattle.symbol.specs.Inner.Ready.{SmallSide}
 use Rattle.symbol.specs.Symbol.{IsSymbol}
 use Rattle.pairing.specs.Generator.{partner, pairing_at, is_leader_in, kind_of, is_leader, leaders, frame_at, generator_by, generator, generator_row}
-use Rattle.pairing.specs.Generator.{generator_rows, generator_table}
+use Rattle.pairing.specs.Generator.{generator_rows}
 use Rattle.pairing.specs.Inner.Work.{AllPaired, PartnersReady, put_row, RowsTo}
 use Rattle.symbol.specs.declared.Pairing.{Pairing}
-use Rattle.call.specs.Refusal.{bad_pairing}
-use Rattle.basics.proofs.Count.{length_those, count_yes, count_no}
+use Rattle.call.specs.declared.refusal.Refusal.TheVariants.{BadPairing}
+use Rattle.basics.proofs.Count.{length_those, count_yes}
 use Rattle.symbol.proofs.Accepted.{accepted, range_of, passed_all, passes_at}
 use Rattle.symbol.proofs.Seeking.{side_small}
 
--- ---- five stores
-
-pub five_stores : (out : List ℤ) (n : ℕ) (k a b c d : ℤ) → 5 * n + 5 ≤ length out
-    → set (set (set (set (set out (5 * n) k) (5 * n + 1) a) (5 * n + 2) b) (5 * n + 3) c) (5 * n + 4) d ≡ put_row n (k ∷ a ∷ b ∷ c ∷ d ∷ []) out
-five_stores out n k a b c d h =
-    let one : 5 * n + 1 ≡ suc (5 * n) = omega arith in
-    let two : 5 * n + 2 ≡ suc (suc (5 * n)) = omega arith in
-    let three : 5 * n + 3 ≡ suc (suc (suc (5 * n))) = omega arith in
-    let four : 5 * n + 4 ≡ suc (suc (suc (suc (5 * n)))) = omega arith in
-    rw (one, two, three, four) (sets-eq (k ∷ a ∷ b ∷ c ∷ d ∷ []) out (5 * n) h)
+-- ---- a row
 
 pub length_put_row : (n : ℕ) (r out : List ℤ) → length r ≡ 5 → 5 * n + 5 ≤ length out → length (put_row n r out) ≡ length out
 length_put_row n r out e h =
@@ -55,9 +45,6 @@ module _ (v : ℕ) (t : List ℤ) where
   rows-++ [] m = refl
   rows-++ (i ∷ l) m = ap (λ (r : List ℤ). generator_row v t i ++ r) (rows-++ l m)
       ∙ sym (append_assoc (generator_row v t i) (generator_rows v t l) (generator_rows v t m))
-
-  pub rows_none : (out : List ℤ) → RowsTo v t 0 0 out out
-  rows_none out = record { number = refl; table = refl }
 
   module _ (i n : ℕ) (out out' : List ℤ) (r : RowsTo v t i n out out') where
     front : List ℤ
@@ -93,18 +80,6 @@ module _ (v : ℕ) (t : List ℤ) where
               ∙ ap (λ (x : List ℤ). x ++ drop (5 * (n + 1)) out) (sym rows_are);
         }
 
-    -- side i doesn't lead
-    pub rows_no : is_leader v t i ≡ false → RowsTo v t (suc i) n out out'
-    rows_no e = record {
-      number = r.number ∙ sym (count_no (is_leader v t) i e);
-      table = r.table ∙ ap (λ (l : List ℕ). generator_rows v t l ++ drop (5 * n) out)
-          (sym (ap (λ (b : Bool). those (is_leader v t) i ++ pick b (i ∷ []) []) e ∙ append-nil (those (is_leader v t) i)));
-    }
-
-  -- all sides: the whole table
-  pub rows_all : (n : ℕ) (out out' : List ℤ) → RowsTo v t (v + 1) n out out' → out' ≡ generator_table v t ++ drop (5 * n) out
-  rows_all n out out' r = r.table
-
 -- ---- what listing needs of an accepted symbol
 
 module _ (v : ℕ) (t : List ℤ) (s : IsSymbol v t) where
@@ -114,13 +89,10 @@ module _ (v : ℕ) (t : List ℤ) (s : IsSymbol v t) where
   pub symbol_paired : AllPaired v (pairing_entries v t)
   symbol_paired = record {
     long = omega (arith, length-drop (2 * v) t, s.long);
-    none = (passes_at (unpaired_in v (pairing_entries v t)) (v + 1) bad_pairing (passed_all v t ((accepted v t).1 s)).six).none;
+    none = (passes_at (unpaired_in v (pairing_entries v t)) (v + 1) BadPairing (passed_all v t ((accepted v t).1 s)).six).none;
   }
 
 module _ (v : ℕ) (t p : List ℤ) (w : List ℕ) (r : PartnersReady v t p w) where
-  pub prepared_long : v + 1 ≤ length p
-  prepared_long = omega (arith, ap length r.part, length-drop (2 * v) t, r.symbol.long)
-
   pub prepared_leads : (i : ℕ) → is_leader_in v p i ≡ is_leader v t i
   prepared_leads i = ap (λ (l : List ℤ). is_leader_in v l i) r.part
 

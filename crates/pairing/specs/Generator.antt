@@ -12,7 +12,8 @@
 --   Generates v t         what a list that was made means: the table is a symbol, and each generator has determinant 1,
 --                         so that its adjugate is its inverse
 --   generators_call       checks 1 to 7, the work space, the generators; it counts them
-use Rattle.std.specs.Prelude.{◌≡◌, Bool, true, false, not, ◌&&◌, List, [], ◌∷◌, ◌++◌, map, ℕ, ◌+◌, ◌<◌, ltb, eqb, ℤ, pos, length, get_or}
+use Rattle.std.specs.Prelude.{◌≡◌, Bool, true, false, not, ◌&&◌, List, [], ◌∷◌, ◌++◌, map, ℕ, ◌+◌, ◌<◌, ltb, eqb}
+use Rattle.std.specs.Prelude.{ℤ, pos, length, get_or}
 use Rattle.matrix.specs.Matrix.{nth, Mat, ◌⊗◌, 𝟙, det, adj, mat_s, mat_q, to_list}
 use Rattle.basics.specs.Choice.{pick}
 use Rattle.basics.specs.Count.{first, count, those}

@@ -12,7 +12,7 @@ ghost use Rattle.pairing.specs.Inner.Work.{Partnered, PartnersReady, put_row, Ro
 
 use super::admit::admit;
 use super::partner::{PARTNER, kind_at, pair_sides};
-use call::refusal::{Checked, Filled, Refusal, TOO_SHORT};
+use call::refusal::Refusal;
 use symbol::{Pairing, Side, read_pairing};
 
 // Whether side i is the leftmost side of its generator.
@@ -20,10 +20,8 @@ fn leads_at(v: usize, p: &[i64], w: &[u16], i: usize) -> bool
     requires { (v ≤ 1023) × (i ≤ v) × (v + 1 ≤ length p.now) × Partnered v p.now w.now }
     ensures { result ≡ is_leader_in v p.now i }
 {
-    let pairing = read_pairing(v, p[i]);
-    match pairing {
-        Pairing::Even => true,
-        Pairing::Odd => true,
+    match read_pairing(v, p[i]) {
+        Pairing::Even | Pairing::Odd => true,
         Pairing::Free(_) => i < call::workspace::index(w[PARTNER + i]),
         Pairing::Bad => false,
     }
@@ -35,12 +33,10 @@ fn count_leaders(v: usize, p: &[i64], w: &[u16]) -> usize
     ensures { result ≡ count (is_leader_in v p.now) (v + 1) }
 {
     let mut n = 0;
-    let mut i = 0;
-    while i <= v {
+    for i in 0..v + 1 {
         if leads_at(v, p, w, i) {
             n += 1;
         }
-        i += 1;
     }
     n
 }
@@ -51,8 +47,7 @@ fn generator_at(v: usize, t: &[i64], p: &[i64], w: &[u16], i: usize) -> [i64; 4]
     ensures { result ≡ to_list (generator v t.now i) }
 {
     let side = Side::at(v, t, i);
-    let pairing = read_pairing(v, p[i]);
-    match pairing {
+    match read_pairing(v, p[i]) {
         Pairing::Even => side.even(),
         Pairing::Odd => side.odd(),
         Pairing::Free(_) => {
@@ -70,10 +65,7 @@ fn put_row(out: &mut [i64], n: usize, kind: i64, m: [i64; 4])
 {
     let at = 5 * n;
     out[at] = kind;
-    out[at + 1] = m[0];
-    out[at + 2] = m[1];
-    out[at + 3] = m[2];
-    out[at + 4] = m[3];
+    out[at + 1..at + 5].copy_from_slice(&m);
 }
 
 // Lists the generator that side i leads behind n others, if it leads one: how many there are then.
@@ -105,15 +97,19 @@ fn list_all(v: usize, t: &[i64], p: &[i64], w: &[u16], out: &mut [i64])
         ++ drop (5 * count (is_leader v t.now) (v + 1)) out.old }
 {
     let mut n = 0;
-    let mut i = 0;
-    while i <= v {
+    for i in 0..v + 1 {
         n = list_side(v, t, p, w, i, n, out);
-        i += 1;
     }
 }
 
 // Lists the generators where out has room for them.
-fn list_if_room(v: usize, t: &[i64], p: &[i64], w: &[u16], out: &mut [i64]) -> Filled
+fn list_if_room(
+    v: usize,
+    t: &[i64],
+    p: &[i64],
+    w: &[u16],
+    out: &mut [i64],
+) -> Result<usize, Refusal>
     requires { PartnersReady v t.now p.now w.now }
     ensures { Fills (stores (generator_table v t.now) out)
         (made_if (length (leaders v t.now))) result }
@@ -121,17 +117,14 @@ fn list_if_room(v: usize, t: &[i64], p: &[i64], w: &[u16], out: &mut [i64]) -> F
     let n = count_leaders(v, p, w);
     let needed = 5 * n;
     if out.len() < needed {
-        return Filled::Refused(Refusal {
-            number: TOO_SHORT,
-            place: needed,
-        });
+        return Err(Refusal::TooShort(needed));
     }
     list_all(v, t, p, w, out);
-    Filled::Made(n)
+    Ok(n)
 }
 
 // The same for an accepted symbol; the work space is cleared before and after.
-fn list_accepted(v: usize, t: &[i64], w: &mut [u16], out: &mut [i64]) -> Filled
+fn list_accepted(v: usize, t: &[i64], w: &mut [u16], out: &mut [i64]) -> Result<usize, Refusal>
     requires { IsSymbol v t.now × (work_length ≤ length w.old) }
     ensures fills { Fills (stores (generator_table v t.now) out)
         (made_if (length (leaders v t.now))) result }
@@ -147,13 +140,10 @@ fn list_accepted(v: usize, t: &[i64], w: &mut [u16], out: &mut [i64]) -> Filled
 
 // The generators of the symbol in t with their kinds, from the front of out: checks 1 to 7, then the work space, then
 // the result space.
-pub fn generators(v: usize, t: &[i64], w: &mut [u16], out: &mut [i64]) -> Filled
+pub fn generators(v: usize, t: &[i64], w: &mut [u16], out: &mut [i64]) -> Result<usize, Refusal>
     ensures { Fills (generators_call v t.now w out).steps
         (made_if (length (leaders v t.now))) result }
 {
-    let admitted = admit(v, t, w.len());
-    match admitted {
-        Checked::Refused(refusal) => Filled::Refused(refusal),
-        Checked::Accepted => list_accepted(v, t, w, out),
-    }
+    admit(v, t, w.len())?;
+    list_accepted(v, t, w, out)
 }

@@ -33,12 +33,8 @@ fn pair_side(v: usize, x: i64, i: usize, w: &mut [u16])
     requires { (v ≤ 1023) × (i ≤ v) × (work_length ≤ length w.old) × FirstsBounded v w.old }
     ensures { w.new ≡ met_by (pairing_of v x) i w.old }
 {
-    let pairing = read_pairing(v, x);
-    match pairing {
-        Pairing::Even => {}
-        Pairing::Odd => {}
-        Pairing::Free(l) => meet(l, i, w),
-        Pairing::Bad => {}
+    if let Pairing::Free(l) = read_pairing(v, x) {
+        meet(l, i, w);
     }
 }
 
@@ -48,10 +44,8 @@ pub fn pair_sides(v: usize, p: &[i64], w: &mut [u16])
     ensures { Partnered v p.now w.new
         × (length w.new ≡ length w.old) }
 {
-    let mut i = 0;
-    while i <= v {
+    for i in 0..v + 1 {
         pair_side(v, p[i], i, w);
-        i += 1;
     }
 }
 
@@ -60,8 +54,7 @@ pub fn kind_at(v: usize, p: &[i64], i: usize) -> i64
     requires { (v ≤ 1023) × (i < length p.now) }
     ensures { result ≡ pos (kind_of (pairing_of v (nth p.now i))) }
 {
-    let pairing = read_pairing(v, p[i]);
-    match pairing {
+    match read_pairing(v, p[i]) {
         Pairing::Even => 2,
         Pairing::Odd => 3,
         Pairing::Free(_) => 1,

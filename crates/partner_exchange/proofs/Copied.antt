@@ -3,6 +3,7 @@
 -- In order: one entry more is copied (`copied_more`, `copied_all`); equal bits are equal numbers (`bits_equal`); the search for a label's first and second
 -- side is the definition's (`first_found`, `second_found`); the two labels written over the copy make the exchanged table (`put_both`).
 -- Assumes nothing.
+use Rattle.std.specs.Prelude.{Ok, Err}
 use mathlib.Core.Path.{◌≡◌, refl, sym, ◌∙◌, ap}
 use mathlib.Core.Logic.{inl, inr}
 use mathlib.Core.Bool.{Bool, true, false, not, ◌&&◌}
@@ -24,8 +25,7 @@ use Rattle.matrix.specs.Matrix.{nth}
 use Rattle.basics.specs.Choice.{pick}
 use Rattle.basics.specs.Count.{first}
 use Rattle.basics.proofs.Choice.{either, clash}
-use Rattle.call.specs.Refusal.{not_free_label}
-use Rattle.call.specs.declared.refusal.Checked.TheVariants.{Accepted, Refused}
+use Rattle.call.specs.declared.refusal.Refusal.TheVariants.{NotFreeLabel}
 use Rattle.symbol.specs.Table.{pairing_entries}
 use Rattle.symbol.specs.Check.{eq_z}
 use Rattle.symbol.specs.Symbol.{IsSymbol}
@@ -90,16 +90,16 @@ module _ (v : ℕ) (p : List ℤ) (x : ℤ) where
 
 -- check 23, by what was found
 module _ (v : ℕ) (p : List ℤ) (x y : ℤ) where
-  pub first_not : is_free_label v p x ≡ false → Refused (not_free_label 0) ≡ check23 v p x y
+  pub first_not : is_free_label v p x ≡ false → Err (NotFreeLabel 0) ≡ check23 v p x y
   first_not e = rw e
 
-  pub second_not : is_free_label v p x ≡ true → is_free_label v p y ≡ false → Refused (not_free_label 1) ≡ check23 v p x y
+  pub second_not : is_free_label v p x ≡ true → is_free_label v p y ≡ false → Err (NotFreeLabel 1) ≡ check23 v p x y
   second_not e f = rw (e, f)
 
-  pub repeated : is_free_label v p x ≡ true → is_free_label v p y ≡ true → eq_z x y ≡ true → Refused (not_free_label 1) ≡ check23 v p x y
+  pub repeated : is_free_label v p x ≡ true → is_free_label v p y ≡ true → eq_z x y ≡ true → Err (NotFreeLabel 1) ≡ check23 v p x y
   repeated e f g = rw (e, f, g)
 
-  pub both_free : is_free_label v p x ≡ true → is_free_label v p y ≡ true → eq_z x y ≡ false → Accepted ≡ check23 v p x y
+  pub both_free : is_free_label v p x ≡ true → is_free_label v p y ≡ true → eq_z x y ≡ false → Ok tt ≡ check23 v p x y
   both_free e f g = rw (e, f, g)
 
 module _ (v : ℕ) (t p : List ℤ) (x : ℤ) (ok : IsSymbol v t) (is : p ≡ pairing_entries v t) where

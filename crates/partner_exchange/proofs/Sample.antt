@@ -1,10 +1,10 @@
 -- Γ(2) by the definitions, computed: 1 2 2 1 becomes 1 2 1 2, and that 1 2 2 1 again; 1 1 2 2, whose labels stand apart, becomes 1 2 2 1, and is not
 -- given back. A number that is no label, and a repeat, have their refusals. Assumes nothing.
+use Rattle.std.specs.Prelude.{Ok, Err}
 use mathlib.Core.Path.{◌≡◌, refl}
 use mathlib.Core.List.{List, [], ◌∷◌}
 use lib.IntN.{ℤ, pos, negsuc}
-use Rattle.call.specs.Refusal.{not_free_label}
-use Rattle.call.specs.declared.refusal.Checked.TheVariants.{Accepted, Refused}
+use Rattle.call.specs.declared.refusal.Refusal.TheVariants.{NotFreeLabel}
 use Rattle.partner_exchange.specs.Exchange.{exchanged}
 use Rattle.partner_exchange.specs.Answer.{exchange_check}
 
@@ -33,14 +33,14 @@ not_back : exchanged 3 apart (pos 1) (pos 2) ≡ nested
 unfolding exchanged nested apart with
 not_back = refl
 
-free : exchange_check 3 apart (pos 2) (pos 1) ≡ Accepted
+free : exchange_check 3 apart (pos 2) (pos 1) ≡ Ok tt
 unfolding apart with
 free = refl
 
-no_label : exchange_check 3 apart (negsuc 1) (negsuc 2) ≡ Refused (not_free_label 0)
+no_label : exchange_check 3 apart (negsuc 1) (negsuc 2) ≡ Err (NotFreeLabel 0)
 unfolding apart with
 no_label = refl
 
-repeat : exchange_check 3 apart (pos 2) (pos 2) ≡ Refused (not_free_label 1)
+repeat : exchange_check 3 apart (pos 2) (pos 2) ≡ Err (NotFreeLabel 1)
 unfolding apart with
 repeat = refl

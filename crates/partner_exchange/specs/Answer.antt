@@ -9,8 +9,7 @@
 --   PreviewMeaning v t x y      the exchange is a trade, and the exchanged symbol means what the tables of a symbol
 --                               mean: its figures and widths are those that `farey_figures` and `farey_widths` give
 use Rattle.std.specs.Prelude.{◌≡◌, List, ◌++◌, ℕ, length, ℤ}
-use Rattle.call.specs.Refusal.{◌or_else◌}
-use Rattle.call.specs.declared.refusal.Checked.{Checked}
+use Rattle.call.specs.Refusal.{◌or_else◌, Checked}
 use Rattle.call.specs.Call.{Lent, Step, asks, work, stores, result_in, Contract}
 use Rattle.symbol.specs.Table.{pairing_entries}
 use Rattle.symbol.specs.Check.{symbol_check}

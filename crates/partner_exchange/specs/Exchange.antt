@@ -14,8 +14,8 @@ use Rattle.std.specs.Prelude.{Bool, not, ◌&&◌, List, ℕ, ◌+◌, ◌*◌, 
 use Rattle.matrix.specs.Matrix.{nth}
 use Rattle.matrix.specs.Euclid.{positive}
 use Rattle.basics.specs.Count.{first}
-use Rattle.call.specs.Refusal.{◌or_else◌, not_free_label}
-use Rattle.call.specs.declared.refusal.Checked.{Checked}
+use Rattle.call.specs.Refusal.{◌or_else◌, Checked}
+use Rattle.call.specs.declared.refusal.Refusal.TheVariants.{NotFreeLabel}
 use Rattle.symbol.specs.Table.{pairing_entries}
 use Rattle.symbol.specs.Check.{eq_z, refuse}
 use Rattle.pairing.specs.Generator.{partner}
@@ -41,5 +41,5 @@ is_free_label v p x = positive x && ltb (first_side_in v p x) (v + 1)
 
 abbrev pub check23 : ℕ → List ℤ → (x y : ℤ) → Checked
 check23 v p x y =
-    refuse (not (is_free_label v p x)) (not_free_label 0) or_else refuse (not (is_free_label v p y))
-    (not_free_label 1) or_else refuse (eq_z x y) (not_free_label 1)
+    refuse (not (is_free_label v p x)) (NotFreeLabel 0) or_else refuse (not (is_free_label v p y))
+    (NotFreeLabel 1) or_else refuse (eq_z x y) (NotFreeLabel 1)

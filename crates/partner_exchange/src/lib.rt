@@ -16,8 +16,9 @@ ghost use Rattle.partner_exchange.specs.Exchange.{first_side, second_side, excha
 ghost use Rattle.partner_exchange.specs.Answer.{exchange_check, exchange_call, preview_steps};
 ghost use Rattle.partner_exchange.specs.Inner.Ready.{label_test, Exchangeable};
 
-use call::refusal::{Checked, Filled, NOT_FREE_LABEL, Refusal, TOO_SHORT};
-use coset::{Figured, copy_widths, survey};
+use call::refusal::Refusal;
+use coset::{copy_widths, survey};
+use figures::FigureRecord;
 use symbol::check;
 
 // Whether two numbers are the same.
@@ -43,14 +44,12 @@ fn find_side(v: usize, p: &[i64], x: i64, skip: usize) -> usize
     requires { (v ≤ 1023) × (v + 1 ≤ length p.now) }
     ensures { result ≡ first (label_test p.now x skip) (v + 1) }
 {
-    let mut k: usize = 0;
-    while k <= v {
+    for k in 0..v + 1 {
         if has_label(p, x, skip, k) {
             return k;
         }
-        k += 1;
     }
-    k
+    v + 1
 }
 
 // Whether x is the free label of a side.
@@ -65,40 +64,28 @@ fn is_free_label(v: usize, p: &[i64], x: i64) -> bool
 }
 
 // Check 23, on the pairings.
-fn check_labels(v: usize, p: &[i64], x: i64, y: i64) -> Checked
+fn check_labels(v: usize, p: &[i64], x: i64, y: i64) -> Result<(), Refusal>
     requires { (v ≤ 1023) × (v + 1 ≤ length p.now) }
     ensures { result ≡ check23 v p.now x y }
 {
     if !is_free_label(v, p, x) {
-        return Checked::Refused(Refusal {
-            number: NOT_FREE_LABEL,
-            place: 0,
-        });
+        return Err(Refusal::NotFreeLabel(0));
     }
     if !is_free_label(v, p, y) {
-        return Checked::Refused(Refusal {
-            number: NOT_FREE_LABEL,
-            place: 1,
-        });
+        return Err(Refusal::NotFreeLabel(1));
     }
     if equal(x, y) {
-        return Checked::Refused(Refusal {
-            number: NOT_FREE_LABEL,
-            place: 1,
-        });
+        return Err(Refusal::NotFreeLabel(1));
     }
-    Checked::Accepted
+    Ok(())
 }
 
 // Whether t has a symbol in which x and y can be exchanged.
-fn exchange_check(v: usize, t: &[i64], x: i64, y: i64) -> Checked
+fn exchange_check(v: usize, t: &[i64], x: i64, y: i64) -> Result<(), Refusal>
     ensures { result ≡ exchange_check v t.now x y }
 {
-    let checked = check(v, t);
-    match checked {
-        Checked::Refused(refusal) => Checked::Refused(refusal),
-        Checked::Accepted => check_labels(v, &t[2 * v..], x, y),
-    }
+    check(v, t)?;
+    check_labels(v, &t[2 * v..], x, y)
 }
 
 // The table t at the front of out.
@@ -106,10 +93,8 @@ fn copy_table(t: &[i64], out: &mut [i64])
     requires { length t.now ≤ length out.old }
     ensures { out.new ≡ t.now ++ drop (length t.now) out.old }
 {
-    let mut j: usize = 0;
-    while j < t.len() {
+    for j in 0..t.len() {
         out[j] = t[j];
-        j += 1;
     }
 }
 
@@ -135,35 +120,27 @@ fn put_exchanged(v: usize, t: &[i64], x: i64, y: i64, out: &mut [i64])
 }
 
 // The same where there is room for it.
-fn exchange_in_room(v: usize, t: &[i64], x: i64, y: i64, out: &mut [i64]) -> Filled
+fn exchange_in_room(v: usize, t: &[i64], x: i64, y: i64, out: &mut [i64]) -> Result<usize, Refusal>
     requires { Exchangeable v t.now x y }
     ensures { Fills (stores (exchanged v t.now x y) out) (made_if v) result }
 {
     let n = 3 * v + 1;
-    if out.len() < n {
-        return Filled::Refused(Refusal {
-            number: TOO_SHORT,
-            place: n,
-        });
-    }
+    call::room(n, out.len())?;
     put_exchanged(v, t, x, y, out);
-    Filled::Made(v)
+    Ok(v)
 }
 
 // The symbol in t, with the second sides of the labels x and y exchanged, goes to the front of out: checks 1 to 7, then
 // 23, then out.
-pub fn exchange(v: usize, t: &[i64], x: i64, y: i64, out: &mut [i64]) -> Filled
+pub fn exchange(v: usize, t: &[i64], x: i64, y: i64, out: &mut [i64]) -> Result<usize, Refusal>
     ensures { Fills (exchange_call v t.now x y out).steps (made_if v) result }
 {
-    let checked = exchange_check(v, t, x, y);
-    match checked {
-        Checked::Refused(refusal) => Filled::Refused(refusal),
-        Checked::Accepted => exchange_in_room(v, t, x, y, out),
-    }
+    exchange_check(v, t, x, y)?;
+    exchange_in_room(v, t, x, y, out)
 }
 
 // The figures of an accepted symbol, with its widths at the front of out; the work space is cleared after.
-fn ask(v: usize, u: &[i64], w: &mut [u16], out: &mut [u32]) -> Figured
+fn ask(v: usize, u: &[i64], w: &mut [u16], out: &mut [u32]) -> Result<FigureRecord, Refusal>
     requires { IsSymbol v u.now × (work_length ≤ length w.old) }
     ensures fills { Fills (stores (widths_of v u.now) out) (figured_if (figures_of v u.now)) result }
     ensures w_after { w.new ≡ zeros (length w.old) }
@@ -171,24 +148,24 @@ fn ask(v: usize, u: &[i64], w: &mut [u16], out: &mut [u32]) -> Figured
     let f = survey(v, u, w);
     let made = copy_widths(w, f.cusps, out);
     call::workspace::clear(w);
-    match made {
-        Filled::Refused(refusal) => Figured::Refused(refusal),
-        Filled::Made(_) => Figured::Made(f),
-    }
+    made?;
+    Ok(f)
 }
 
 // The same of the exchanged symbol, which is made in an array and is gone after.
-fn preview_exchanged(v: usize, t: &[i64], x: i64, y: i64, w: &mut [u16], out: &mut [u32]) -> Figured
+fn preview_exchanged(
+    v: usize,
+    t: &[i64],
+    x: i64,
+    y: i64,
+    w: &mut [u16],
+    out: &mut [u32],
+) -> Result<FigureRecord, Refusal>
     requires { Exchangeable v t.now x y }
     ensures { Fills (work w ++ stores (widths_of v (exchanged v t.now x y)) out)
         (figured_if (figures_of v (exchanged v t.now x y))) result }
 {
-    if w.len() < call::workspace::WORK {
-        return Figured::Refused(Refusal {
-            number: TOO_SHORT,
-            place: call::workspace::WORK,
-        });
-    }
+    call::room(call::workspace::WORK, w.len())?;
     let mut u = [0i64; 3070];
     put_exchanged(v, t, x, y, &mut u);
     ask(v, &u[..3 * v + 1], w, out)
@@ -196,13 +173,17 @@ fn preview_exchanged(v: usize, t: &[i64], x: i64, y: i64, w: &mut [u16], out: &m
 
 // The figures of the symbol that `exchange` would make, and the widths of its cusps at the front of out: checks 1 to 7,
 // then 23, then the work space, then out. No symbol is written.
-pub fn preview(v: usize, t: &[i64], x: i64, y: i64, w: &mut [u16], out: &mut [u32]) -> Figured
+pub fn preview(
+    v: usize,
+    t: &[i64],
+    x: i64,
+    y: i64,
+    w: &mut [u16],
+    out: &mut [u32],
+) -> Result<FigureRecord, Refusal>
     ensures { Fills (preview_steps v t.now x y w out)
         (figured_if (figures_of v (exchanged v t.now x y))) result }
 {
-    let checked = exchange_check(v, t, x, y);
-    match checked {
-        Checked::Refused(refusal) => Figured::Refused(refusal),
-        Checked::Accepted => preview_exchanged(v, t, x, y, w, out),
-    }
+    exchange_check(v, t, x, y)?;
+    preview_exchanged(v, t, x, y, w, out)
 }

@@ -3,6 +3,7 @@
 -- In order: the checks one by one (`passed_all`, `all_passed`); entries of a table (`entry_low`); what passing says
 -- (`passport`) and why a passport passes (`passing`); the theorem (`accepted`, `verdict`); the two tables as maps (`permuting_of`).
 -- Assumes nothing.
+use Rattle.std.specs.Prelude.{Ok}
 use mathlib.Core.Path.{◌≡◌, refl, sym, ◌∙◌, ap}
 use mathlib.Core.Logic.{◌↔◌}
 use mathlib.Core.Bool.{Bool, true, false, not, ◌&&◌, ◌||◌}
@@ -13,15 +14,14 @@ use native.Mathlib.Decide.{dec_lt}
 use lib.Dec.{leb, ltb, eqb}
 use lib.ListN.{length, get_or}
 use borrow.Author.Tests.{leb-true, eqb-true, ltb-true, lt-ltb, le-ltb, le-leb, eq-eqb, ne_eqb, not-false}
-use Rattle.call.specs.Refusal.{◌or_else◌, point_count, table_entry, wrong_order, unreached}
-use Rattle.call.specs.declared.refusal.Checked.{Checked}
-use Rattle.call.specs.declared.refusal.Checked.TheVariants.{Accepted}
+use Rattle.call.specs.Refusal.{◌or_else◌, Checked}
+use Rattle.call.specs.declared.refusal.Refusal.TheVariants.{PointCount, TableEntry, WrongOrder, Unreached}
 use Rattle.call.proofs.Answers.{both_pass, pass_both}
 use Rattle.basics.specs.Count.{first}
 use Rattle.basics.proofs.Choice.{and_left, and_right}
 use Rattle.basics.proofs.Count.{Clear, first_clear}
 use Rattle.numbering.specs.Find.{find, is_in, ◌∈◌}
-use Rattle.numbering.specs.Order.{order_of, Numbering}
+use Rattle.numbering.specs.Order.{order_of}
 use Rattle.numbering.proofs.Order.{numbering}
 use Rattle.permutations.specs.Pair.{image, Permuting}
 use Rattle.permutations.specs.Check.{check12, earlier, bad_entry, check13, twice_moved, thrice_moved, check14, not_reached, check15, pair_check, Passport}
@@ -39,7 +39,7 @@ pub record Passed (s r : List ℕ) : Type 0 where
   pub thrice : Clear (thrice_moved r) (length r)
   pub all : Clear (not_reached s r) (length s)
 
-pub passed_all : (s r : List ℕ) → pair_check s r ≡ Accepted → Passed s r
+pub passed_all : (s r : List ℕ) → pair_check s r ≡ Ok tt → Passed s r
 passed_all s r e =
     let a = both_pass (check12 s r) (check13 s or_else check13 r or_else check14 twice_moved s or_else check14 thrice_moved r or_else check15 s r) e in
     let b = both_pass (check13 s) (check13 r or_else check14 twice_moved s or_else check14 thrice_moved r or_else check15 s r) a.1 in
@@ -48,24 +48,24 @@ passed_all s r e =
     let f = both_pass (check14 thrice_moved r) (check15 s r) d.1 in
     record {
       twelve = not-false (leb 1 (length s) && leb (length s) 3066 && eqb (length r) (length s))
-          (passes (not (leb 1 (length s) && leb (length s) 3066 && eqb (length r) (length s))) point_count a.0);
-      entries_S = passes_at (bad_entry s) (length s) table_entry b.0;
-      entries_R = passes_at (bad_entry r) (length r) table_entry c.0;
-      twice = passes_at (twice_moved s) (length s) wrong_order d.0;
-      thrice = passes_at (thrice_moved r) (length r) wrong_order f.0;
-      all = passes_at (not_reached s r) (length s) unreached f.1;
+          (passes (not (leb 1 (length s) && leb (length s) 3066 && eqb (length r) (length s))) PointCount a.0);
+      entries_S = passes_at (bad_entry s) (length s) TableEntry b.0;
+      entries_R = passes_at (bad_entry r) (length r) TableEntry c.0;
+      twice = passes_at (twice_moved s) (length s) WrongOrder d.0;
+      thrice = passes_at (thrice_moved r) (length r) WrongOrder f.0;
+      all = passes_at (not_reached s r) (length s) Unreached f.1;
     }
 
-pub all_passed : (s r : List ℕ) → Passed s r → pair_check s r ≡ Accepted
+pub all_passed : (s r : List ℕ) → Passed s r → pair_check s r ≡ Ok tt
 all_passed s r p =
     pass_both (check12 s r) (check13 s or_else check13 r or_else check14 twice_moved s or_else check14 thrice_moved r or_else check15 s r)
-    (pass (not (leb 1 (length s) && leb (length s) 3066 && eqb (length r) (length s))) point_count (ap not p.twelve))
+    (pass (not (leb 1 (length s) && leb (length s) 3066 && eqb (length r) (length s))) PointCount (ap not p.twelve))
     (pass_both (check13 s) (check13 r or_else check14 twice_moved s or_else check14 thrice_moved r or_else check15 s r)
-    (pass_at (bad_entry s) (length s) table_entry p.entries_S)
-    (pass_both (check13 r) (check14 twice_moved s or_else check14 thrice_moved r or_else check15 s r) (pass_at (bad_entry r) (length r) table_entry p.entries_R)
-    (pass_both (check14 twice_moved s) (check14 thrice_moved r or_else check15 s r) (pass_at (twice_moved s) (length s) wrong_order p.twice)
-    (pass_both (check14 thrice_moved r) (check15 s r) (pass_at (thrice_moved r) (length r) wrong_order p.thrice)
-    (pass_at (not_reached s r) (length s) unreached p.all)))))
+    (pass_at (bad_entry s) (length s) TableEntry p.entries_S)
+    (pass_both (check13 r) (check14 twice_moved s or_else check14 thrice_moved r or_else check15 s r) (pass_at (bad_entry r) (length r) TableEntry p.entries_R)
+    (pass_both (check14 twice_moved s) (check14 thrice_moved r or_else check15 s r) (pass_at (twice_moved s) (length s) WrongOrder p.twice)
+    (pass_both (check14 thrice_moved r) (check15 s r) (pass_at (thrice_moved r) (length r) WrongOrder p.thrice)
+    (pass_at (not_reached s r) (length s) Unreached p.all)))))
 
 -- ---- entries of a table
 
@@ -181,7 +181,7 @@ module _ (s r : List ℕ) (p : Passport s r) where
 
 -- ---- THE CHECKS ACCEPT EXACTLY THE PASSPORTS
 
-pub accepted : (s r : List ℕ) → (pair_check s r ≡ Accepted) ↔ Passport s r
+pub accepted : (s r : List ℕ) → (pair_check s r ≡ Ok tt) ↔ Passport s r
 accepted s r = (λ e. passport s r (passed_all s r e), λ p. all_passed s r (passing s r p))
 
 pub verdict : (s r : List ℕ) (c : Checked) → c ≡ pair_check s r → PairVerdict s r c

@@ -7,7 +7,8 @@ use native.Mathlib.Omega.{arith}
 use lib.Dec.{ltb, leb, eqb}
 use lib.ListN.{length}
 use Rattle.basics.specs.Count.{first}
-use Rattle.call.specs.Refusal.{◌or_else◌, point_count, table_entry, wrong_order, unreached}
+use Rattle.call.specs.Refusal.{◌or_else◌}
+use Rattle.call.specs.declared.refusal.Refusal.TheVariants.{PointCount, TableEntry, WrongOrder, Unreached}
 use Rattle.call.proofs.Numbered.{Among, among_first}
 use Rattle.symbol.proofs.Accepted.{among_refuse}
 use Rattle.permutations.specs.Check.{check12, bad_entry, check13, twice_moved, thrice_moved, check14, not_reached, check15, pair_check}
@@ -25,9 +26,9 @@ pairs_among s r =
     let c14' = check14 twice_moved s or_else c14 in
     let c13 = check13 r or_else c14' in
     let c13' = check13 s or_else c13 in
-    among_first 12 15 (check12 s r) c13' (among_refuse 12 15 (not (leb 1 n && leb n 3066 && eqb (length r) n)) point_count (omega arith) (omega arith))
-    (among_first 12 15 (check13 s) c13 (among_refuse 12 15 (ltb i n) (table_entry i) (omega arith) (omega arith))
-    (among_first 12 15 (check13 r) c14' (among_refuse 12 15 (ltb j (length r)) (table_entry j) (omega arith) (omega arith))
-    (among_first 12 15 (check14 twice_moved s) c14 (among_refuse 12 15 (ltb x n) (wrong_order x) (omega arith) (omega arith))
-    (among_first 12 15 (check14 thrice_moved r) c15 (among_refuse 12 15 (ltb y (length r)) (wrong_order y) (omega arith) (omega arith))
-    (among_refuse 12 15 (ltb z n) (unreached z) (omega arith) (omega arith))))))
+    among_first 12 15 (check12 s r) c13' (among_refuse 12 15 (not (leb 1 n && leb n 3066 && eqb (length r) n)) PointCount (omega arith) (omega arith))
+    (among_first 12 15 (check13 s) c13 (among_refuse 12 15 (ltb i n) (TableEntry i) (omega arith) (omega arith))
+    (among_first 12 15 (check13 r) c14' (among_refuse 12 15 (ltb j (length r)) (TableEntry j) (omega arith) (omega arith))
+    (among_first 12 15 (check14 twice_moved s) c14 (among_refuse 12 15 (ltb x n) (WrongOrder x) (omega arith) (omega arith))
+    (among_first 12 15 (check14 thrice_moved r) c15 (among_refuse 12 15 (ltb y (length r)) (WrongOrder y) (omega arith) (omega arith))
+    (among_refuse 12 15 (ltb z n) (Unreached z) (omega arith) (omega arith))))))

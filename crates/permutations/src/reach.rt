@@ -1,82 +1,77 @@
 // The check 15: the points that are reached from 0, listed with a queue and a mark for each.
-ghost use Rattle.std.specs.Prelude.{◌≡◌, ◌≤◌, ◌<◌, length};
-ghost use Rattle.basics.specs.Count.{first};
+ghost use Rattle.std.specs.Prelude.{◌≡◌, ◌<◌, length};
 ghost use Rattle.permutations.specs.Pair.{image};
-ghost use Rattle.permutations.specs.Check.{not_reached};
-ghost use Rattle.permutations.specs.Inner.Reach.{QueueHolds, Entered, VisitedAt, Two, Blank, AllReached};
+ghost use Rattle.permutations.specs.Check.{check15};
+ghost use Rattle.permutations.specs.Inner.Reach.{QueueHolds, Entered, VisitedAt, Two, AllReached};
 
 use crate::image;
+use call::refusal::Refusal;
 
-// The point x comes to the end of the queue of n points, if it is new; how many there are then.
-fn enter(seen: &mut [u8; 3072], queue: &mut [u16; 3072], size: usize, x: usize, n: usize) -> usize
-    requires { QueueHolds n size seen.old queue.old × (x < size) }
-    ensures { Entered x n size queue.old seen.new queue.new result }
-{
-    if seen[x] != 0 {
-        return n;
+// The points that are reached so far: how many, in a queue, and a mark for each point that is in it.
+#[derive(Drop)]
+struct Reached {
+    count: usize,
+    queue: [u16; 3072],
+    marks: [bool; 3072],
+}
+
+impl Reached {
+    // The point x comes to the end of the queue, if it is new.
+    fn enter(&mut self, size: usize, x: usize)
+        requires { QueueHolds self.old.count size self.old.marks self.old.queue × (x < size) }
+        ensures { Entered x self.old.count size self.old.queue self.new.marks self.new.queue self.new.count }
+    {
+        if self.marks[x] {
+            return;
+        }
+        self.marks[x] = true;
+        self.queue[self.count] = x as u16;
+        self.count += 1;
     }
-    seen[x] = 1;
-    queue[n] = x as u16;
-    n + 1
+
+    // The images of the queue's entry i come to its end, if they are new.
+    fn visit(&mut self, s: &[u32], r: &[u32], i: usize)
+        requires { Two s.now r.now × QueueHolds self.old.count (length s.now) self.old.marks self.old.queue
+            × (i < self.old.count) }
+        ensures { VisitedAt (image s.now) (image r.now) i self.old.count (length s.now)
+            self.old.queue self.new.marks self.new.queue self.new.count }
+    {
+        let x = usize::from(self.queue[i]);
+        self.enter(s.len(), image(s, x));
+        self.enter(s.len(), image(r, x));
+    }
 }
 
-// The images of the queue's entry i come to its end, if they are new.
-fn visit(
-    s: &[u32],
-    r: &[u32],
-    seen: &mut [u8; 3072],
-    queue: &mut [u16; 3072],
-    i: usize,
-    n: usize,
-) -> usize
-    requires { Two s.now r.now × QueueHolds n (length s.now) seen.old queue.old × (i < n) }
-    ensures { VisitedAt (image s.now) (image r.now) i n (length s.now)
-        queue.old seen.new queue.new result }
+// All points that are reached from 0.
+fn list_reached(s: &[u32], r: &[u32]) -> Reached
+    requires { Two s.now r.now }
+    ensures { AllReached s.now r.now result.marks }
 {
-    let x = call::workspace::index(queue[i]);
-    let a = image(s, x);
-    let b = image(r, x);
-    let k = enter(seen, queue, s.len(), a, n);
-    enter(seen, queue, s.len(), b, k)
-}
-
-// Marks all points that are reached from 0.
-fn list_reached(s: &[u32], r: &[u32], seen: &mut [u8; 3072], queue: &mut [u16; 3072])
-    requires { Two s.now r.now × Blank seen.old queue.old }
-    ensures { AllReached s.now r.now seen.new }
-{
-    seen[0] = 1;
-    queue[0] = 0;
-    let mut n: usize = 1;
+    let mut reached = Reached {
+        count: 1,
+        queue: [0; 3072],
+        marks: [false; 3072],
+    };
+    reached.marks[0] = true;
     let mut i: usize = 0;
-    while i < n {
-        n = visit(s, r, seen, queue, i, n);
+    // a `while`: its bound grows with each point that is reached
+    while i < reached.count {
+        reached.visit(s, r, i);
         i += 1;
     }
+    reached
 }
 
-// The first point without a mark, or the number of points.
-fn first_unmarked(s: &[u32], r: &[u32], seen: &[u8; 3072]) -> usize
-    requires { (length s.now ≤ 3066) × AllReached s.now r.now seen.now }
-    ensures { result ≡ first (not_reached s.now r.now) (length s.now) }
-{
-    let mut x: usize = 0;
-    while x < s.len() {
-        if seen[x] == 0 {
-            return x;
-        }
-        x += 1;
-    }
-    x
-}
-
-// The smallest point that isn't reached from 0, or the number of points.
-pub(crate) fn first_unreached(s: &[u32], r: &[u32]) -> usize
+// Check 15: the first point that isn't reached from 0 is refused.
+pub(crate) fn check_reached(s: &[u32], r: &[u32]) -> Result<(), Refusal>
     requires { Two s.now r.now }
-    ensures { result ≡ first (not_reached s.now r.now) (length s.now) }
+    ensures { result ≡ check15 s.now r.now }
 {
-    let mut seen = [0u8; 3072];
-    let mut queue = [0u16; 3072];
-    list_reached(s, r, &mut seen, &mut queue);
-    first_unmarked(s, r, &seen)
+    let reached = list_reached(s, r);
+    for x in 0..s.len() {
+        if !reached.marks[x] {
+            return Err(Refusal::Unreached(x));
+        }
+    }
+    Ok(())
 }

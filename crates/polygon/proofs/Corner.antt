@@ -4,7 +4,7 @@
 -- Assumes nothing.
 use mathlib.Core.Path.{◌≡◌, refl, sym, ◌∙◌, ap}
 use mathlib.Core.Bool.{Bool, true, false}
-use Prim.Native.Nat.{ℕ, zero, suc, ◌+◌, ◌*◌, ◌-◌, ◌%◌, ◌≤◌, ◌<◌}
+use Prim.Native.Nat.{ℕ, zero, suc, ◌+◌, ◌*◌, ◌-◌, ◌%◌, ◌<◌}
 use native.Mathlib.Omega.{arith}
 use lib.IntN.{ℤ, pos, ◌+ℤ◌, ◌*ℤ◌, +ℤ_idl, +ℤ_idr, *ℤ-zero}
 use mir.Val.{bool_byte}
@@ -13,7 +13,6 @@ use Rattle.matrix.proofs.Integer.{*-one}
 use Rattle.matrix.proofs.Matrix.{⊗-assoc, Q_Q}
 use Rattle.polygon.specs.Cut.{corners}
 use Rattle.polygon.specs.Step.{turn_q}
-use Rattle.polygon.specs.Triangles.{fraction}
 use Rattle.polygon.specs.Corner.{Apex, left, middle, right, edge_from, edge_to, TurnsTo, FrameTurns, Turning}
 use Rattle.polygon.proofs.Flip.{turn_last, turn_next, c0, c1, c2, which}
 
@@ -25,10 +24,6 @@ turning m =
     (rw (zero_one m.a m.b, zero_one m.c m.d), rw (one-zero m.a m.b, one-zero m.c m.d))
 
 -- ---- the arithmetic
-
-pub byte_low : (b : Bool) → bool_byte b ≤ 1
-byte_low true = omega arith
-byte_low false = omega arith
 
 pub corner_is : (b : Bool) (c : ℕ) → c < 3 → TurnsTo b c ((c + 1 + bool_byte b) % 3)
 corner_is false zero h = refl

@@ -17,7 +17,6 @@ pub mod Start
 pub mod Followed
 pub mod Polygon
 pub mod Tests
-pub mod Letters
 pub mod Space
 pub mod Scanning
 pub mod Partners

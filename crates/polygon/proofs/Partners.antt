@@ -4,18 +4,16 @@
 -- tables together, and beside a number stored elsewhere (`tables_set`).
 -- Assumes nothing.
 use mathlib.Core.Path.{◌≡◌, refl, sym, ◌∙◌, ap}
-use mathlib.Core.Logic.{◌⊎◌, inl, inr}
 use mathlib.Core.Bool.{Bool, true, false}
 use mathlib.Core.List.{List}
-use Prim.Native.Nat.{ℕ, suc, ◌+◌, ◌-◌, ◌≤◌, ◌<◌}
+use Prim.Native.Nat.{ℕ, suc, ◌+◌, ◌≤◌, ◌<◌}
 use native.Mathlib.Omega.{arith}
-use native.Mathlib.Decide.{ℕ_discrete, dec_lt}
 use native.Mathlib.Numerals.{add-one}
-use lib.Dec.{ltb, eqb}
+use lib.Dec.{ltb}
 use lib.ListN.{length, get_or, set, length-set}
-use lib.Seq.{get_or-set_same, get_or-set_other, ext_get_or}
+use lib.Seq.{get_or-set_same, get_or-set_other}
 use lib.IntN.{ℤ}
-use borrow.Author.Tests.{eq-eqb, ne_eqb, ltb-false}
+use borrow.Author.Tests.{ltb-false}
 use borrow.Author.Count.{below_more}
 use Rattle.basics.specs.Choice.{pick}
 use Rattle.basics.specs.Count.{count}
@@ -24,22 +22,18 @@ use Rattle.pairing.specs.Inner.Work as pairing
 use Rattle.symbol.specs.Symbol.{IsSymbol}
 use Rattle.pairing.specs.Generator.{partner, pairing_at, is_leader, is_leader_by, generator_number}
 use Rattle.symbol.specs.declared.Pairing.{Pairing}
-use Rattle.symbol.specs.declared.Pairing.TheVariants.{Even, Odd, Free, Bad}
+use Rattle.symbol.specs.declared.Pairing.TheVariants.{Free}
 use Rattle.polygon.specs.Cut.{places}
-use Rattle.polygon.specs.Step.{start_of}
 use Rattle.polygon.specs.Inner.Space.{GENERATOR, Above}
 use Rattle.pairing.specs.Inner.Work.{PARTNER}
 use Rattle.polygon.specs.Inner.Scanning.{CutLeft}
 use Rattle.polygon.specs.Inner.Partners.{PartnersHeld, NumberedTo, Numbered}
 use Rattle.polygon.specs.Inner.Tables.{PolygonTables}
 use Rattle.polygon.proofs.Space.{table_above, still}
-use Rattle.basics.proofs.Choice.{either, clash}
-use Rattle.polygon.proofs.SymbolFacts.{count_most, Kind, even, odd, free, kind, Mate, free_mate, free_label, label_mates, number_mate}
+use Rattle.basics.proofs.Choice.{clash}
+use Rattle.polygon.proofs.SymbolFacts.{count_most, Kind, even, odd, free, kind, number_mate}
 
 module _ (t : List ℤ) (v : ℕ) (ok : IsSymbol v t) where
-  pub numbered_none : (w : List ℕ) → 32768 ≤ length w → PartnersHeld t v w → NumberedTo t v w 0 0
-  numbered_none w long q = record { long = long; partnered = q; count = refl; numbers = λ j h. absurd (omega arith) }
-
   module _ (w : List ℕ) (i n : ℕ) (p : NumberedTo t v w i n) (h : i ≤ v) where
     -- the number x is stored for side i
     numbered_more : (x : ℕ) (c : ℕ) → x ≡ generator_number v t i → c ≡ count (is_leader v t) (suc i) → NumberedTo t v (set w (GENERATOR + i) x) (i + 1) c
@@ -86,16 +80,10 @@ module _ (t : List ℤ) (v : ℕ) (ok : IsSymbol v t) where
         (p.count ∙ let y : count (is_leader v t) i ≡ count (is_leader v t) i + 0 = omega arith in
         y ∙ ap (λ (b : Bool). count (is_leader v t) i + pick b 1 0) (sym e))
 
-  pub numbered_all : (w : List ℕ) (i n : ℕ) → NumberedTo t v w i n → v < i → Numbered t v w
-  numbered_all w i n p h = record { numbers = λ j b. p.numbers j (omega arith) }
-
 -- ---- what they leave alone
 
 pub above_refl : (w : List ℕ) → Above w w
 above_refl w = record { same = refl; below = λ k h. refl }
-
-pub above_trans : (a b c : List ℕ) → Above a b → Above b c → Above a c
-above_trans a b c f g = record { same = g.same ∙ f.same; below = λ k h. g.below k h ∙ f.below k h }
 
 pub above_set : (a b : List ℕ) (i x : ℕ) → Above a b → 28672 ≤ i → Above a (set b i x)
 above_set a b i x f h = record { same = length-set b i x ∙ f.same; below = λ k l. get_or-set_other b i k x 0 (λ e. omega arith) ∙ f.below k l }

@@ -18,13 +18,13 @@ use native.Mathlib.Numerals.{add-one}
 use lib.Dec.{eqb}
 use lib.ListN.{length, length-replicate}
 use lib.IntN.{ℤ, pos, negsuc, nat_abs, ◌+ℤ◌}
-use borrow.Author.Tests.{eqb-true, eqb-false, lt-ltb, le-ltb, eq-eqb, ne_eqb}
+use borrow.Author.Tests.{eqb-true, eqb-false, eq-eqb, ne_eqb}
 use Rattle.matrix.specs.Matrix.{Mat, mat, ◌⊗◌, 𝟙, det, mat_s, ◌≈◌}
 use Rattle.basics.specs.Choice.{pick}
 use Rattle.matrix.proofs.Matrix.{≈-neg, ◌∙≈◌, ≈-right}
 use Rattle.matrix.proofs.Ring.{con, var, lit, const, ◌⊛◌, ring_m, mat_eq}
 use Rattle.basics.specs.Count.{first}
-use Rattle.symbol.specs.Table.{numer, denom, left_num, left_den}
+use Rattle.symbol.specs.Table.{numer, denom, left_num}
 use Rattle.symbol.specs.Check.{is_zero, eq_z}
 use Rattle.symbol.specs.Symbol.{IsSymbol}
 use Rattle.pairing.specs.Generator.{frame_at}
@@ -34,7 +34,7 @@ use Rattle.basics.proofs.Count.{found}
 use Rattle.symbol.proofs.Choice.{eq_z_true}
 use Rattle.basics.proofs.Choice.{either, and_left, and_right}
 use Rattle.polygon.proofs.SymbolFacts.{below_suc, first_below}
-use Rattle.polygon.proofs.Chord.{chord, Over, left_den_lem, side_chord, last_side}
+use Rattle.polygon.proofs.Chord.{chord, Over, side_chord, last_side}
 use Rattle.polygon.proofs.Mediant.{S_twice, sum_or_half, mediant, Triangle, triangle}
 use Rattle.polygon.proofs.Edges.{Known, corner, face, known_more, known_in, Knowns, frames, put, spun, frame_outer, frame_corner, frame_same}
 use Rattle.polygon.proofs.Edges.{Way, Fits, open_side_lem, open_triangle, join}

@@ -3,7 +3,7 @@
 -- In order: denominators and the top of the stack as they are read; whether the top is a mediant (`ready_at`); one vertex: the state between two
 -- triangles (`Mid`) with its start, turn and end; the scan over all vertices (`Part`); the cut (`cut_left`).
 -- Assumes nothing.
-use mathlib.Core.Path.{◌≡◌, refl, sym, ◌∙◌, ap}
+use mathlib.Core.Path.{◌≡◌, refl, sym, ◌∙◌, ap, subst}
 use mathlib.Core.Bool.{Bool, true, false}
 use mathlib.Core.List.{List, [], ◌∷◌}
 use Prim.Native.Nat.{ℕ, zero, suc, ◌+◌, ◌-◌, ◌*◌, ◌≤◌, ◌<◌}
@@ -12,7 +12,7 @@ use native.Mathlib.Omega.{arith}
 use native.Mathlib.Decide.{ℕ_discrete}
 use lib.Dec.{eqb, T}
 use lib.ListN.{length, get_or, set, replicate, length-set, length-replicate, get_or-replicate}
-use lib.Seq.{get_or-set_same, get_or-set_other, ext_get_or}
+use lib.Seq.{get_or-set_same, get_or-set_other, ext_get_or, paste, paste-zero, paste-suc}
 use lib.IntN.{ℤ, pos, nat_abs}
 use lib.Signed.{non_neg}
 use borrow.Author.Count.{below_more}
@@ -184,7 +184,8 @@ module _ (t : List ℤ) (v : ℕ) (w₀ : List ℕ) (i n₀ m₀ : ℕ) (room : 
         low = omega arith;
         rest =
             rw (q, p, b, a, e)
-            (sym (push_yes t (cell (get_or w (STACK + (n - 1)) 0) (get_or w (HANDLE + (n - 1)) 0)) (cells_in w (n - 1)) (entries FLIP (places v) w) m h (suc i) r')
+            (sym (push_yes t (cell (get_or w (STACK + (n - 1)) 0) (get_or w (HANDLE + (n - 1)) 0)) (cells_in w (n - 1))
+            (entries FLIP (places v) w) m h (suc i) r')
             ∙ ap (λ (l : List Cell). push t l (entries FLIP (places v) w) m h (suc i)) (sym pop)
             ∙ d.rest);
       }
@@ -244,13 +245,23 @@ pub record ClearedTo (w₀ w : List ℕ) (k : ℕ) : Type 0 where
 pub cleared_none : (w : List ℕ) → ClearedTo w w 0
 cleared_none w = record { frame = frame_refl w; zeros = λ j h. absurd (omega arith) }
 
-pub cleared_more : (w₀ w : List ℕ) (k : ℕ) → ClearedTo w₀ w k → k < 4096 → 32768 ≤ length w₀ → ClearedTo w₀ (set w (FLIP + k) 0) (k + 1)
+pub cleared_more : (w₀ w : List ℕ) (k : ℕ) → ClearedTo w₀ w k → k < 4096 → 32768 ≤ length w₀ → ClearedTo w₀ (set w (FLIP + k) 0) (suc k)
 cleared_more w₀ w k c h long =
     let e = get_or-set_same w (FLIP + k) 0 0 (omega (arith, c.frame.same)) in
     record {
       frame = frame_flip w₀ w k 0 c.frame h;
-      zeros = below_more _ k (λ j l. get_or-set_other w (FLIP + k) (FLIP + j) 0 0 (λ z. omega arith) ∙ c.zeros j l) e;
+      zeros = λ i h. below_more _ k (λ j l. get_or-set_other w (FLIP + k) (FLIP + j) 0 0 (λ z. omega arith) ∙ c.zeros j l) e i (omega arith);
     }
+
+-- n numbers filled with 0, of which j are looked at
+pub cleared_to : (w : List ℕ) (n j : ℕ) → j ≤ n → n ≤ 4096 → 32768 ≤ length w → ClearedTo w (paste w FLIP (replicate n 0) j) j
+cleared_to w n zero h k l = subst (λ (x : List ℕ). ClearedTo w x 0) (paste-zero w FLIP (replicate n 0)) (cleared_none w)
+cleared_to w n (suc j) h k l =
+    let s : List ℕ = replicate n 0 in
+    let e = paste-suc w FLIP s j 0 (omega arith) (omega (arith, length-replicate {A = ℕ} n 0)) in
+    let z : get_or s j 0 ≡ 0 = get_or-replicate n j 0 0 (omega arith) in
+    subst (λ (x : List ℕ). ClearedTo w x (suc j)) (ap (λ (b : ℕ). set (paste w FLIP s j) (FLIP + j) b) (sym z) ∙ e)
+    (cleared_more w (paste w FLIP s j) j (cleared_to w n j (omega arith) k l) (omega arith) l)
 
 pub cleared_all : (v : ℕ) (w₀ w : List ℕ) (k : ℕ) → ClearedTo w₀ w k → 4 * v + 1 ≤ k → Cleared v w₀ w
 cleared_all v w₀ w k c h = record { frame = c.frame; zeros = λ j l. c.zeros j (omega arith) }

@@ -4,30 +4,24 @@
 -- their numbers (`letter_signed`, `number_read`), what S writes (`writes_even`, ..), what Q and P write (`turn_writes`); the start.
 -- Assumes nothing.
 use mathlib.Core.Path.{◌≡◌, refl, sym, ◌∙◌, ap}
-use mathlib.Core.Logic.{inl, inr}
-use mathlib.Core.Bool.{Bool, true, false, not, ◌&&◌}
+use mathlib.Core.Bool.{Bool, true, false}
 use mathlib.Core.List.{List, []}
 use Prim.Native.Nat.{ℕ, zero, suc, ◌+◌, ◌-◌, ◌*◌, ◌≤◌, ◌<◌}
 use native.Mathlib.Omega.{arith}
 use native.Mathlib.Decide.{dec_lt}
 use lib.Dec.{ltb}
 use lib.ListN.{get_or}
-use lib.IntN.{ℤ, pos, negsuc, neg_ℤ}
-use borrow.Author.Tests.{ne_eqb}
+use lib.IntN.{ℤ, pos, neg_ℤ}
 use Rattle.matrix.specs.Words.{S, Q, P}
 use Rattle.basics.specs.Choice.{pick}
-use Rattle.symbol.specs.Table.{pairing_entry, pairing_of}
-use Rattle.symbol.specs.Check.{is_zero, eq_z}
 use Rattle.symbol.specs.Symbol.{IsSymbol}
 use Rattle.pairing.specs.Generator.{partner, pairing_at, is_leader, generator_number}
-use Rattle.symbol.specs.declared.Pairing.{Pairing}
 use Rattle.symbol.specs.declared.Pairing.TheVariants.{Even, Odd, Free, Bad}
 use Rattle.polygon.specs.Cut.{corners, outer, places, flip, under_zero}
-use Rattle.polygon.specs.Step.{odd_at, Real, cross_by, crossed, step_s, written, forth, back, turned, start_of}
+use Rattle.polygon.specs.Step.{Real, cross_by, crossed, step_s, written, forth, back, turned, start_of}
 use Rattle.polygon.specs.Inner.Space.{FLIP, GENERATOR}
 use Rattle.pairing.specs.Inner.Work.{PARTNER}
 use Rattle.polygon.specs.Inner.Tables.{PolygonTables, letters_of}
-use Rattle.basics.proofs.Choice.{either}
 use Rattle.polygon.proofs.SymbolFacts.{count_most, Kind, even, odd, free, kind, Mate, free_mate, Number, number_even, number_odd, number_first}
 use Rattle.polygon.proofs.SymbolFacts.{number_second, length_generators}
 use Rattle.polygon.proofs.Flip.{Cutting, cutting, real_in}
@@ -189,26 +183,6 @@ module _ (t : List ℤ) (v : ℕ) (w : List ℕ) (T : PolygonTables t v w) where
       go false = sym (at_face v t p (p - corners v) (λ i. forth (generator_number v t i)) (omega arith))
 
 -- ---- the start
-
-abbrev pub odd_kind : Pairing → Bool
-odd_kind Even = false
-odd_kind Odd = true
-odd_kind (Free l) = false
-odd_kind Bad = false
-
-odd_kind_lem : (v : ℕ) (x : ℤ) → eq_z x (negsuc 2) ≡ odd_kind (pairing_of v x)
-odd_kind_lem v (pos zero) = refl
-odd_kind_lem v (pos (suc l)) = elim (either (ltb l (v + 1))) [ inl b ↦ rw b | inr b ↦ rw b ]
-odd_kind_lem v (negsuc zero) = refl
-odd_kind_lem v (negsuc (suc zero)) = refl
-odd_kind_lem v (negsuc (suc (suc zero))) = refl
-odd_kind_lem v (negsuc (suc (suc (suc n)))) = ne_eqb (suc (suc (suc n))) 2 (λ e. omega arith)
-
-pub turned_by_lem : (v : ℕ) (t : List ℤ) (k : Pairing) → is_zero t (v - 1) ≡ true → pairing_at v t v ≡ k → turned v t ≡ not (odd_kind k)
-turned_by_lem v t k z e = ap (λ (b : Bool). b && not (odd_at v t v)) z ∙ ap not (odd_kind_lem v (pairing_entry v t v)) ∙ ap (λ (x : Pairing). not (odd_kind x)) e
-
-pub turned_no : (v : ℕ) (t : List ℤ) → is_zero t (v - 1) ≡ false → turned v t ≡ false
-turned_no v t z = ap (λ (b : Bool). b && not (odd_at v t v)) z
 
 pub start_turned : (v : ℕ) (t : List ℤ) → turned v t ≡ true → start_of v t ≡ under_zero v t
 unfolding start_of

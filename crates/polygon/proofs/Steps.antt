@@ -65,7 +65,8 @@ module _ (v : ℕ) (t : List ℤ) where
   unfolding written
   silent_S p h = at_corner (flip v t p) (λ j. crossed (pairing_at v t j) j (partner v t j) (generator_number v t j)) h
 
-  pub step_face : (p i : ℕ) → Real v t p → flip v t p ≡ outer v i → step_s v t p ≡ cross_by (pairing_at v t i) p (outer v i) (flip v t (outer v (partner v t i)))
+  pub step_face : (p i : ℕ) → Real v t p → flip v t p ≡ outer v i
+      → step_s v t p ≡ cross_by (pairing_at v t i) p (outer v i) (flip v t (outer v (partner v t i)))
   step_face p i r e = moves p r ∙ ap (across v t p) e ∙ across_face p i
 
   pub step_inner : (p : ℕ) → Real v t p → flip v t p < corners v → step_s v t p ≡ flip v t p

@@ -15,7 +15,8 @@
 --                      infinity to 0
 --   start_frame v t    the matrix of that edge, up to sign: the identity, or S
 --   origin_of v t      the position that stands for the coset H, whose frame lies in H: the start, or its image under S
-use Rattle.std.specs.Prelude.{◌≡◌, Bool, true, not, ◌&&◌, ◌||◌, List, [], ◌∷◌, ℕ, ◌+◌, ◌-◌, ◌%◌, ltb, eqb, ℤ, pos, negsuc, neg_ℤ}
+use Rattle.std.specs.Prelude.{◌≡◌, Bool, true, not, ◌&&◌, ◌||◌, List, [], ◌∷◌, ℕ, ◌+◌, ◌-◌, ◌%◌, ltb, eqb}
+use Rattle.std.specs.Prelude.{ℤ, pos, negsuc, neg_ℤ}
 use Rattle.matrix.specs.Matrix.{Mat, 𝟙, mat_s}
 use Rattle.matrix.specs.Words.{Letter, S, Q, P}
 use Rattle.basics.specs.Choice.{pick}
@@ -73,7 +74,8 @@ abbrev pub at_side : ℕ → ℕ → (ℕ → List ℤ) → List ℤ
 at_side v q f = pick (ltb q (corners v)) [] (f (q - corners v))
 
 unfoldable pub written : ℕ → List ℤ → Letter → ℕ → List ℤ
-written v t S p = at_side v (flip v t p) (λ (i : ℕ). crossed (pairing_at v t i) i (partner v t i) (generator_number v t i))
+written v t S p =
+    at_side v (flip v t p) (λ (i : ℕ). crossed (pairing_at v t i) i (partner v t i) (generator_number v t i))
 written v t Q p = at_side v p (λ (i : ℕ). forth (generator_number v t i))
 written v t P p = at_side v p (λ (i : ℕ). back (generator_number v t i))
 

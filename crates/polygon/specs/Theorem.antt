@@ -65,7 +65,8 @@ pub record Polygon (v : ℕ) (t : List ℤ) : Type 0 where
       → frame p ⊗ letter x ≈ value_of (generators v t) (written v t x p) ⊗ frame (goes v t x p)
   -- H
   pub stabiliser : (m : Mat) → det m ≡ pos 1 → InH (generators v t) m ↔ (walk_ends v t m ≡ start_of v t)
-  pub found : (m : Mat) → det m ≡ pos 1 → walk_ends v t m ≡ start_of v t → m ≈ value_of (generators v t) (walk_writes v t m)
+  pub found : (m : Mat) → det m ≡ pos 1 → walk_ends v t m ≡ start_of v t
+      → m ≈ value_of (generators v t) (walk_writes v t m)
   -- cosets
   pub cosets : (m n : Mat) → det m ≡ pos 1 → det n ≡ pos 1
       → (arrives v t (origin_of v t) m ≡ arrives v t (origin_of v t) n) ↔ SameCoset (generators v t) m n

@@ -27,28 +27,30 @@ pub struct Notes {
     pub under: usize,
 }
 
-// The vertex on top of a stack of n cells, -1/0 where there is none.
-fn top_vertex(w: &[u16], n: usize) -> usize
-    requires { (n ≤ 1024) × (32768 ≤ length w.now) }
-    ensures { result ≡ below (cells_in w.now n) }
-{
-    if n == 0 {
-        return 0;
-    }
-    let top = n - 1;
-    call::workspace::index(w[STACK + top])
+// A cell of the stack: a vertex, and the position under the chord to it.
+#[derive(Clone, Copy)]
+struct Cell {
+    vertex: usize,
+    handle: usize,
 }
 
-// Its handle.
-fn top_handle(w: &[u16], n: usize) -> usize
+// The top one of n cells; where there is none, -1/0 with the handle 0.
+fn top_cell(w: &[u16], n: usize) -> Cell
     requires { (n ≤ 1024) × (32768 ≤ length w.now) }
-    ensures { result ≡ handle (cells_in w.now n) }
+    ensures vertex { result.vertex ≡ below (cells_in w.now n) }
+    ensures handle { result.handle ≡ handle (cells_in w.now n) }
 {
     if n == 0 {
-        return 0;
+        return Cell {
+            vertex: 0,
+            handle: 0,
+        };
     }
     let top = n - 1;
-    call::workspace::index(w[HANDLE + top])
+    Cell {
+        vertex: call::workspace::index(w[STACK + top]),
+        handle: call::workspace::index(w[HANDLE + top]),
+    }
 }
 
 // Whether the vertex on top of the stack makes a triangle with the one below it and y.
@@ -59,8 +61,8 @@ fn ready(t: &[i64], v: usize, w: &[u16], y: usize, n: usize) -> bool
     if n == 0 {
         return false;
     }
-    let a = top_vertex(w, n);
-    let b = top_vertex(w, n - 1);
+    let a = top_cell(w, n).vertex;
+    let b = top_cell(w, n - 1).vertex;
     let da = denominator(t, v, a);
     let db = denominator(t, v, b);
     let dy = denominator(t, v, y);
@@ -77,14 +79,15 @@ fn link(w: &mut [u16], p: usize, q: usize)
 }
 
 // The vertex i + 1 of the scan: every triangle that it closes is cut off, and then it is pushed.
-fn settle(t: &[i64], v: usize, w: &mut [u16], i: usize, n0: usize, m0: usize) -> Progress
-    requires { ScanRoom t.now v w.old i n0 m0 }
-    ensures { Settled t.now v w.old i n0 m0 w.new result.n result.m }
+fn settle(t: &[i64], v: usize, w: &mut [u16], i: usize, before: Progress) -> Progress
+    requires { ScanRoom t.now v w.old i before.n before.m }
+    ensures { Settled t.now v w.old i before.n before.m w.new result.n result.m }
 {
-    let mut n = n0;
-    let mut m = m0;
+    let mut n = before.n;
+    let mut m = before.m;
     let mut h = 3 * (v - 1) + i;
     let y = i + 1;
+    // a `while`: how many triangles y closes is known only when they are cut off
     while ready(t, v, w, y, n) {
         let top = n - 1;
         let hl = call::workspace::index(w[HANDLE + top]);
@@ -104,12 +107,7 @@ fn clear_flips(v: usize, w: &mut [u16])
     requires { (v ≤ 1023) × (32768 ≤ length w.old) }
     ensures { Cleared v w.old w.new }
 {
-    let end = 4 * v + 1;
-    let mut k: usize = 0;
-    while k < end {
-        w[FLIP + k] = 0;
-        k += 1;
-    }
+    w[FLIP..FLIP + 4 * v + 1].fill(0);
 }
 
 // The first vertex that is 0/1, or v where there is none.
@@ -117,12 +115,10 @@ fn zero_vertex(t: &[i64], v: usize) -> usize
     requires { (v ≤ 1023) × (2 * v ≤ length t.now) }
     ensures { result ≡ first (is_zero t.now) v }
 {
-    let mut i: usize = 0;
-    while i < v {
+    for i in 0..v {
         if is_zero(t, i) {
             return i;
         }
-        i += 1;
     }
     v
 }
@@ -132,10 +128,7 @@ fn noted(w: &[u16], n: usize, i: usize, z: usize, under: usize) -> usize
     requires { (n ≤ 1024) × (32768 ≤ length w.now) }
     ensures { result ≡ pick (eqb i z) (handle (cells_in w.now n)) under }
 {
-    if i == z {
-        return top_handle(w, n);
-    }
-    under
+    if i == z { top_cell(w, n).handle } else { under }
 }
 
 // The scan over all vertices, with a note of the handle of vertex z + 1 when it has been pushed.
@@ -144,18 +137,16 @@ fn scan_vertices(t: &[i64], v: usize, z: usize, w: &mut [u16]) -> Notes
         × ((k : ℕ) → k < places v → get_or w.old (FLIP + k) 0 ≡ 0) }
     ensures { Scanned t.now v z w.old w.new result.n result.under }
 {
-    let mut n: usize = 0;
-    let mut m: usize = 0;
-    let mut under: usize = 0;
-    let mut i: usize = 0;
-    while i < v {
-        let r = settle(t, v, w, i, n, m);
-        n = r.n;
-        m = r.m;
-        under = noted(w, n, i, z, under);
-        i += 1;
+    let mut progress = Progress { n: 0, m: 0 };
+    let mut under = 0;
+    for i in 0..v {
+        progress = settle(t, v, w, i, progress);
+        under = noted(w, progress.n, i, z, under);
     }
-    Notes { n, under }
+    Notes {
+        n: progress.n,
+        under,
+    }
 }
 
 // The cut of the polygon: the table of other sides is filled, and the position under the chord from -1/0 to 0/1 is
@@ -167,8 +158,7 @@ pub(crate) fn cut(t: &[i64], v: usize, w: &mut [u16]) -> usize
     let z = zero_vertex(t, v);
     clear_flips(v, w);
     let r = scan_vertices(t, v, z, w);
-    let n = r.n;
-    let h = top_handle(w, n);
+    let h = top_cell(w, r.n).handle;
     link(w, 3 * (v - 1) + v, h);
     r.under
 }

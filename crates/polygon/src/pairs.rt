@@ -14,14 +14,9 @@ fn is_leading(t: &[i64], v: usize, w: &[u16], i: usize) -> bool
     requires { IsSymbol v t.now × PartnersHeld t.now v w.now × (i ≤ v) × (32768 ≤ length w.now) }
     ensures { result ≡ is_leader v t.now i }
 {
-    let kind = pairing(t, v, i);
-    match kind {
-        Pairing::Even => true,
-        Pairing::Odd => true,
-        Pairing::Free(_) => {
-            let k = partner_of(w, i);
-            i < k
-        }
+    match pairing(t, v, i) {
+        Pairing::Even | Pairing::Odd => true,
+        Pairing::Free(_) => i < partner_of(w, i),
         Pairing::Bad => false,
     }
 }
@@ -32,8 +27,7 @@ fn number_side(t: &[i64], v: usize, w: &mut [u16], i: usize, n: usize) -> usize
     ensures { Above w.old w.new
         × NumberedTo t.now v w.new (i + 1) result }
 {
-    let leading = is_leading(t, v, w, i);
-    if leading {
+    if is_leading(t, v, w, i) {
         w[GENERATOR + i] = (n + 1) as u16;
         return n + 1;
     }
@@ -49,10 +43,8 @@ pub(crate) fn number_sides(t: &[i64], v: usize, w: &mut [u16])
     ensures { Above w.old w.new × PartnersHeld t.now v w.new
         × Numbered t.now v w.new }
 {
-    let mut n: usize = 0;
-    let mut i: usize = 0;
-    while i < v + 1 {
+    let mut n = 0;
+    for i in 0..v + 1 {
         n = number_side(t, v, w, i, n);
-        i += 1;
     }
 }

@@ -1,7 +1,6 @@
 // Reading the symbol, and the tables in the work space.
 ghost use Rattle.std.specs.Prelude.{◌≡◌, ◌+◌, ◌*◌, ◌≤◌, ◌<◌, length, get_or};
 ghost use Rattle.symbol.specs.Symbol.{IsSymbol};
-ghost use Rattle.matrix.specs.Matrix.{nth};
 ghost use Rattle.pairing.specs.Generator.{pairing_at};
 ghost use Rattle.polygon.specs.Cut.{den};
 ghost use Rattle.polygon.specs.Inner.Space.{FLIP, GENERATOR};
@@ -24,23 +23,15 @@ pub(crate) fn denominator(t: &[i64], v: usize, y: usize) -> u64
     x as u64
 }
 
-// The i-th of the pairings p.
-fn entry(p: &[i64], i: usize) -> i64
-    requires { i < length p.now }
-    ensures { result ≡ nth p.now i }
-{
-    p[i]
-}
-
 // What side i is paired as.
 pub(crate) fn pairing(t: &[i64], v: usize, i: usize) -> Pairing
     requires { IsSymbol v t.now × (i ≤ v) }
     ensures { result ≡ pairing_at v t.now i }
 {
-    let a = 2 * v;
-    let x = entry(&t[a..], i);
-    read_pairing(v, x)
+    read_pairing(v, t[2 * v + i])
 }
+
+// Three readings, of a table each: one function for them would be told the table at each call.
 
 // The position beyond the edge at p.
 pub(crate) fn beyond(w: &[u16], p: usize) -> usize

@@ -34,8 +34,7 @@ pub fn step_s(t: &[i64], v: usize, w: &[u16], p: usize) -> usize
         return q;
     }
     let i = q - b;
-    let kind = pairing(t, v, i);
-    match kind {
+    match pairing(t, v, i) {
         Pairing::Even => p,
         Pairing::Odd => q,
         Pairing::Free(_) => {
@@ -52,10 +51,7 @@ fn as_letter(j: usize, inverse: bool) -> i16
     ensures { result ≡ pick inverse (neg_ℤ (pos j)) (pos j) }
 {
     let x = j as i16;
-    if inverse {
-        return -x;
-    }
-    x
+    if inverse { -x } else { x }
 }
 
 // The letter that S writes at the real position p, 0 where it writes none.
@@ -70,8 +66,7 @@ pub fn letter_s(t: &[i64], v: usize, w: &[u16], p: usize) -> i16
     }
     let i = q - b;
     let j = number_of(w, i);
-    let kind = pairing(t, v, i);
-    match kind {
+    match pairing(t, v, i) {
         Pairing::Even => as_letter(j, false),
         Pairing::Odd => 0,
         Pairing::Free(_) => {
@@ -100,17 +95,7 @@ pub fn is_turned(t: &[i64], v: usize) -> bool
     requires { IsSymbol v t.now }
     ensures { result ≡ turned v t.now }
 {
-    let zero = is_zero(t, v - 1);
-    if !zero {
-        return false;
-    }
-    let kind = pairing(t, v, v);
-    match kind {
-        Pairing::Even => true,
-        Pairing::Odd => false,
-        Pairing::Free(_) => true,
-        Pairing::Bad => true,
-    }
+    is_zero(t, v - 1) && !matches!(pairing(t, v, v), Pairing::Odd)
 }
 
 // Where the walk starts, from the position under the chord to 0/1.
@@ -118,8 +103,7 @@ pub(crate) fn start_position(t: &[i64], v: usize, w: &[u16], under: usize) -> us
     requires { PolygonTables t.now v w.now × (under ≡ under_zero v t.now) }
     ensures { result ≡ start_of v t.now }
 {
-    let turned = is_turned(t, v);
-    if turned {
+    if is_turned(t, v) {
         return under;
     }
     beyond(w, under)

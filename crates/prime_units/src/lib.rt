@@ -29,6 +29,7 @@ pub fn own_part(d: usize, p: usize) -> usize
     ensures { OwnPart p d result }
 {
     let mut r: usize = 1;
+    // a `while`: how many powers there are is what it finds
     while d % (r * p) == 0 {
         r = r * p;
     }
@@ -40,12 +41,10 @@ pub fn inverse(q: usize, g: usize) -> usize
     requires { (1 < q) × (q ≤ 4096) × (g ≤ q) }
     ensures { InverseOrNone q g result }
 {
-    let mut h: usize = 1;
-    while h <= q {
+    for h in 1..q + 1 {
         if g * h % q == 1 {
             return h;
         }
-        h += 1;
     }
     0
 }
@@ -59,6 +58,7 @@ pub fn share(d: usize, p: usize) -> usize
     let co = d / r;
     let one = 1 % r;
     let mut e: usize = 0;
+    // a `while`: that one of the multiples fits is a theorem, and no count of the code
     while e % r != one {
         e += co;
     }

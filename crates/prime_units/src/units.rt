@@ -36,12 +36,10 @@ fn mark_powers(w: &mut [u16], q: usize, g: usize)
     ensures changed_within { ChangedWithin MARKS MARKS_END w.old w.new }
 {
     let mut x: usize = 1;
-    let mut i: usize = 0;
-    while i < q {
+    for i in 0..q {
         mark(w, q, g, x);
         mark(w, q, g, q - x);
         x = x * g % q;
-        i += 1;
     }
 }
 
@@ -61,12 +59,10 @@ fn all_marked(w: &[u16], p: usize, q: usize) -> bool
     requires { (0 < p) × (q ≤ 4095) × (work_length ≤ length w.now) }
     ensures { result ≡ true → MarkedTo p q w.now }
 {
-    let mut u: usize = 1;
-    while u < q {
+    for u in 1..q {
         if lacks(w, p, u) {
             return false;
         }
-        u += 1;
     }
     true
 }
@@ -77,10 +73,8 @@ fn clear_marks(w: &mut [u16], q: usize)
     ensures unmarked { Unmarked q w.new }
     ensures changed_within { ChangedWithin MARKS MARKS_END w.old w.new }
 {
-    let mut j: usize = 0;
-    while j <= q {
+    for j in 0..q + 1 {
         w[MARKS + j] = 0;
-        j += 1;
     }
 }
 
@@ -108,13 +102,11 @@ pub fn find_unit(w: &mut [u16], p: usize, q: usize) -> Found
     ensures found_unit { FoundUnit q result }
     ensures changed_within { ChangedWithin MARKS MARKS_END w.old w.new }
 {
-    let mut g: usize = 1;
-    while g < q {
+    for g in 1..q {
         let h = try_unit(w, p, q, g);
         if 0 < h {
             return Found { g, h };
         }
-        g += 1;
     }
     Found { g: 0, h: 0 }
 }

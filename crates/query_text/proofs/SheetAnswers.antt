@@ -5,6 +5,7 @@
 --     by_reading_lem              the bytes for a text, by what it gives
 --     print_means                 what the bytes mean
 -- Assumes nothing.
+use Rattle.std.specs.Prelude.{Ok, Err}
 use mathlib.Core.Path.{◌≡◌, refl, sym, ap, ◌∙◌, subst}
 use mathlib.Core.Bool.{Bool}
 use mathlib.Core.List.{List, ◌++◌}
@@ -15,12 +16,9 @@ use lib.IntN.{ℤ}
 use lib.ListN.{length, take, drop, length-drop, replicate, length-replicate}
 use lib.Seq.{take-length}
 use borrow.Author.Tests.{ltb-false}
-use Rattle.call.specs.Refusal.{◌or_else◌, too_short}
+use Rattle.call.specs.Refusal.{◌or_else◌, Checked, Filled}
+use Rattle.call.specs.declared.refusal.Refusal.TheVariants.{TooShort}
 use Rattle.call.specs.declared.refusal.Refusal.{Refusal}
-use Rattle.call.specs.declared.refusal.Checked.{Checked}
-use Rattle.call.specs.declared.refusal.Checked.TheVariants as checked
-use Rattle.call.specs.declared.refusal.Filled.{Filled}
-use Rattle.call.specs.declared.refusal.Filled.TheVariants as filled
 use Rattle.call.proofs.Apart.{refused_made}
 use Rattle.call.proofs.Answers.{both_pass}
 use Rattle.call.specs.Space.{work_length}
@@ -29,15 +27,12 @@ use Rattle.call.specs.Inner.Fills.{Fills, made_if}
 use Rattle.symbol.specs.Check.{symbol_check}
 use Rattle.symbol.proofs.Accepted.{passes}
 use Rattle.text.specs.Piece.{pieces, numbers}
-use Rattle.text.specs.declared.Reading.{Reading}
-use Rattle.text.specs.declared.Reading.TheVariants.{Numbers}
 use Rattle.text.specs.Line.{refusal_line}
-use Rattle.query_text.specs.Reply.{letters_lent}
 use Rattle.text.specs.Reading.{count_in, by_reading}
 use Rattle.sheets.specs.Sheet.{pairs_in, space_at, lines_to, entries_check, sheet_checks}
 use Rattle.sheets.proofs.Spaces.{line_means}
 use Rattle.sheets.proofs.Whole.{sheet_run}
-use Rattle.query_text.specs.Printed.{sheet_reading, table_of, pairs_of, lines_lent, unused, pair_lines, sheet_verdict, lines_if, printed, sheet_bytes}
+use Rattle.query_text.specs.Printed.{sheet_reading, table_of, pairs_of, unused, pair_lines, sheet_verdict, lines_if, printed, sheet_bytes}
 use Rattle.query_text.specs.Printed.{SheetPrintMeans}
 use Rattle.query_text.specs.Inner.SheetTable.{printed_rows, SheetSpaces, LinesRoom}
 use Rattle.query_text.proofs.SheetFresh.{print_same}
@@ -64,23 +59,23 @@ called_as {w} {lines} {letters} {r} {w'} {lines'} {letters'} {v} {v'} {t} {t'} {
     (subst (λ (x : List ℤ). Called w lines letters r w' lines' letters' v' x p) f (subst (λ (n : ℕ). Called w lines letters r w' lines' letters' n t p) e c))
 
 -- an answer by a verdict: what was made, or the refusal
-made_by_lem : (n k : ℕ) (c : Checked) → made_if n c ≡ filled.Made k → (c ≡ checked.Accepted) × (k ≡ n)
-made_by_lem n k checked.Accepted e = (refl, (let z : n ≡ k = cc in sym z))
-made_by_lem n k (checked.Refused f) e = refused_made e
+made_by_lem : (n k : ℕ) (c : Checked) → made_if n c ≡ Ok k → (c ≡ Ok tt) × (k ≡ n)
+made_by_lem n k (Ok tt) e = (refl, (let z : n ≡ k = cc in sym z))
+made_by_lem n k (Err f) e = refused_made e
 
-refused_by : (n : ℕ) (f : Refusal) (c : Checked) → made_if n c ≡ filled.Refused f → c ≡ checked.Refused f
-refused_by n f checked.Accepted e = refused_made (sym e)
-refused_by n f (checked.Refused g) e = let z : g ≡ f = cc in ap checked.Refused z
+refused_by : (n : ℕ) (f : Refusal) (c : Checked) → made_if n c ≡ Err f → c ≡ Err f
+refused_by n f (Ok tt) e = refused_made (sym e)
+refused_by n f (Err g) e = let z : g ≡ f = cc in ap Err z
 
 -- a sheet that isn't refused has no more lines than its table
-few_lines : (v : ℕ) (t p : List ℤ) (work lines : ℕ) → verdict (sheet_checks v t p work lines) ≡ checked.Accepted → pairs_in p ≤ lines / 4
+few_lines : (v : ℕ) (t p : List ℤ) (work lines : ℕ) → verdict (sheet_checks v t p work lines) ≡ Ok tt → pairs_in p ≤ lines / 4
 few_lines v t p work lines e =
     let table = length_check (pairs_in p) (lines / 4) in
-    let q = both_pass (entries_check (length p)) (symbol_check v t or_else length_check work_length work or_else table or_else checked.Accepted) e in
-    let r = both_pass (symbol_check v t) (length_check work_length work or_else table or_else checked.Accepted) q.1 in
-    let k = both_pass (length_check work_length work) (table or_else checked.Accepted) r.1 in
-    let l = both_pass table checked.Accepted k.1 in
-    ltb-false (lines / 4) (pairs_in p) (passes (ltb (lines / 4) (pairs_in p)) (too_short (pairs_in p)) l.0)
+    let q = both_pass (entries_check (length p)) (symbol_check v t or_else length_check work_length work or_else table or_else (Ok tt)) e in
+    let r = both_pass (symbol_check v t) (length_check work_length work or_else table or_else (Ok tt)) q.1 in
+    let k = both_pass (length_check work_length work) (table or_else (Ok tt)) r.1 in
+    let l = both_pass table (Ok tt) k.1 in
+    ltb-false (lines / 4) (pairs_in p) (passes (ltb (lines / 4) (pairs_in p)) (TooShort (pairs_in p)) l.0)
 
 -- ---- by the numbers of a text
 
@@ -106,13 +101,13 @@ module _ (ns : List ℤ) {w : List ℕ} {lines letters : List ℤ} {out : List �
   in_spaces =
       ap (λ (i : ℕ). verdict (sheet_checks v t p i (length lines))) s.work ∙ ap (λ (i : ℕ). verdict (sheet_checks v t p work_length i)) s.table
 
-  pub refused_printed : (f : Refusal) → r ≡ filled.Refused f → refusal_line f ≡ printed ns
+  pub refused_printed : (f : Refusal) → r ≡ Err f → refusal_line f ≡ printed ns
   unfolding printed
   refused_printed f e =
       ap (λ (x : Checked). lines_if x (pair_lines v t p unused n)) (sym (refused_by n f all (sym c.fills.answer ∙ e)) ∙ in_spaces)
 
-  module _ (k : ℕ) (e : r ≡ filled.Made k) where
-    made : (all ≡ checked.Accepted) × (k ≡ n)
+  module _ (k : ℕ) (e : r ≡ Ok k) where
+    made : (all ≡ Ok tt) × (k ≡ n)
     made = made_by_lem n k all (sym c.fills.answer ∙ e)
 
     few : n ≤ 256
@@ -149,10 +144,10 @@ module _ (ns : List ℤ) {w : List ℕ} {lines letters : List ℤ} {out : List �
 
 -- ---- by what a text gives
 
-pub by_reading_lem : (longer : Bool) (t : List ℕ) (r : Reading) → r ≡ sheet_reading longer t
+pub by_reading_lem : (longer : Bool) (t : List ℕ) (r : Filled) → r ≡ sheet_reading longer t
     → by_reading printed refusal_line r (numbers (pieces t)) ≡ sheet_bytes longer t
 unfolding sheet_bytes
-by_reading_lem longer t r e = ap (λ (x : Reading). by_reading printed refusal_line x (numbers (pieces t))) e
+by_reading_lem longer t r e = ap (λ (x : Filled). by_reading printed refusal_line x (numbers (pieces t))) e
 
 -- ---- what it means
 
@@ -160,7 +155,7 @@ pub print_means : (longer : Bool) (text : List ℕ) {bytes : List ℕ} → bytes
 unfolding sheet_bytes printed
 print_means longer text {bytes} b k e = record {
   answer = λ letters lent.
-      b ∙ ap (λ (x : Reading). by_reading printed refusal_line x all) e
+      b ∙ ap (λ (x : Filled). by_reading printed refusal_line x all) e
       ∙ ap (lines_if (sheet_verdict ns))
       (sym (print_same (count_in ns) (table_of ns) (pairs_of ns) letters (replicate {A = ℕ} work_length 0) lent (length-replicate {A = ℕ} work_length 0)
       (pairs_in (pairs_of ns))));

@@ -11,7 +11,8 @@ use lib.ListN.{length, length-replicate}
 use Rattle.matrix.specs.Matrix.{of_list}
 use Rattle.call.specs.Space.{work_length}
 use Rattle.word.specs.Answer.{found_word, query_of}
-use Rattle.word.specs.declared.Queried.{Queried}
+use Rattle.call.specs.Refusal.{Answer}
+use Rattle.word.specs.declared.FoundWord.{FoundWord}
 use Rattle.query_text.specs.Reply.{said, letters_lent}
 use Rattle.sheets.specs.Sheet.{matrix_a, matrix_b, word_end, space_at, answer_at}
 use Rattle.sheets.proofs.Spaces.{kept}
@@ -34,7 +35,7 @@ module _ (v : ℕ) (t p : List ℤ) (out out' : List ℤ) (e : length out ≡ le
     next_same zero = refl
     next_same (suc i) =
         let h = next_same i in
-        ap (λ (r : Queried). word_end r (space_at v t p (length w) out i).next) (answer_by i h)
+        ap (λ (r : Answer FoundWord). word_end r (space_at v t p (length w) out i).next) (answer_by i h)
         ∙ ap (word_end (answer_at v t p (length w) out' i)) h
 
     answer_same : (work : ℕ) → length w ≡ work → (i : ℕ) → answer_at v t p work out i ≡ answer_at v t p work out' i
@@ -46,7 +47,7 @@ module _ (v : ℕ) (t p : List ℤ) (out out' : List ℤ) (e : length out ≡ le
   lines_same w h (suc i) =
       let l = found_word v t (of_list (matrix_a p i)) (of_list (matrix_b p i)) in
       ap (λ (x : List ℕ). x ++ said (answer_at v t p work_length out i) l) (lines_same w h i)
-      ∙ ap (λ (r : Queried). pair_lines v t p out' i ++ said r l) (answer_same w work_length h i)
+      ∙ ap (λ (r : Answer FoundWord). pair_lines v t p out' i ++ said r l) (answer_same w work_length h i)
 
 length_unused : length unused ≡ letters_lent
 unfolding unused

@@ -1,17 +1,17 @@
 -- Lines of the table, put one after another as the code does it.
 --     refused-line, word_bytes, word-used     a line, by the numbers that the code reads in it
+--     signs_apart                  the test of the sign
 --     Printing                     the state of the loop: `printing_none` and `printing_more` are its start and a turn
 -- Assumes nothing.
 use mathlib.Core.Path.{◌≡◌, refl, sym, ap, ◌∙◌, subst}
 use mathlib.Core.Bool.{Bool, true, false, not}
 use mathlib.Core.List.{List, [], ◌∷◌}
-use Prim.Native.Nat.{ℕ, zero, suc, ◌+◌, ◌*◌, ◌≤◌}
+use Prim.Native.Nat.{ℕ, suc, ◌+◌, ◌*◌, ◌≤◌}
 use native.Mathlib.Omega.{arith}
-use lib.Dec.{eqb}
-use lib.IntN.{ℤ, pos, nat_abs}
-use lib.Signed.{lt_z}
+use lib.IntN.{ℤ, pos, negsuc, nat_abs}
+use lib.Signed.{lt_z, le_z}
 use lib.ListN.{length}
-use borrow.Author.Tests.{eq-eqb, ne_eqb}
+use borrow.Author.Tests.{eq-eqb, ne_eqb, le-ltb, le-leb}
 use Rattle.basics.proofs.Choice.{pick_true, pick_false}
 use Rattle.matrix.specs.Matrix.{nth}
 use Rattle.decimal.specs.Ascii.{ascii}
@@ -55,6 +55,11 @@ module _ (l letters : List ℤ) where
     pub word_used : used l letters ≡ length word
     unfolding used
     word_used = pick_true (is_word l) (length (named_word l letters)) 0 zero_first ∙ ap length (sym w)
+
+-- the test that the code makes on the sign
+pub signs_apart : (z : ℤ) → lt_z z (pos 0) ≡ not (le_z (pos 0) z)
+signs_apart (pos n) = rw (le-ltb n 0 (omega arith), le-leb 0 n (omega arith))
+signs_apart (negsuc n) = refl
 
 -- ---- the loop
 

@@ -4,10 +4,10 @@
 --     too_long, by-survey         by the length, and by the pieces
 --     Whole, whole-reading        numbers that are handed on are all of the text's, at most 5,119, and the symbol among them is whole
 -- Assumes nothing.
+use Rattle.std.specs.Prelude.{Ok, Err, Some, None, Option}
 use mathlib.Core.Path.{◌≡◌, refl, sym, ap, ◌∙◌}
 use mathlib.Core.Bool.{Bool, true, false, not, ◌&&◌, ◌||◌}
 use mathlib.Core.List.{List, [], ◌∷◌}
-use mathlib.Core.Option.{Option, none, some}
 use Prim.Native.Nat.{ℕ, suc, ◌+◌, ◌-◌, ◌*◌, ◌%◌, ◌≤◌, ◌<◌}
 use native.Mathlib.Omega.{arith}
 use lib.Dec.{ltb, leb, eqb}
@@ -16,19 +16,15 @@ use lib.ListN.{length}
 use borrow.Author.Tests.{lt-ltb, le-ltb, ltb-false, leb-true}
 use Rattle.basics.specs.Choice.{pick}
 use Rattle.basics.proofs.Choice.{pick_true, pick_false, and_right}
-use Rattle.call.specs.Refusal.{bad_vertex_count, too_short, bad_text}
+use Rattle.call.specs.Refusal.{Filled}
+use Rattle.call.specs.declared.refusal.Refusal.TheVariants.{BadVertexCount, TooShort, BadText}
 use Rattle.text.specs.Piece.{Piece, pieces, first_bad, numbers}
 use Rattle.text.specs.Reading.{text_most, wanted, symbol_format, vertex_count}
-use Rattle.text.specs.Inner.Inside.{left, PieceRead, wanted_of, survey_of}
-use Rattle.text.specs.declared.Reading.{Reading}
-use Rattle.text.specs.declared.Reading.TheVariants.{Numbers, Refused}
-use Rattle.text.specs.declared.Wanted.TheVariants as wants
-use Rattle.text.specs.declared.Survey.TheVariants as survey
-use Rattle.text.proofs.Answers.{any_count, that_count, bad_at}
+use Rattle.text.specs.Inner.Inside.{left, PieceRead, survey_of}
+use Rattle.text.proofs.Answers.{bad_at}
 use Rattle.text.proofs.Clash.{clash}
 use Rattle.text.proofs.Handed.{numbers_count}
 use Rattle.text.proofs.Walks.{walked_start}
-use Rattle.text.specs.Reading.{count_in}
 use Rattle.sheets.specs.Sheet.{bad_count}
 use Rattle.query_text.specs.Printed.{by_wanted, by_numbers, by_bad, sheet_reading}
 use Rattle.query_text.specs.Inner.SheetTable.{SheetNumbers}
@@ -36,30 +32,30 @@ use Rattle.query_text.specs.Inner.SheetTable.{SheetNumbers}
 -- ---- by the count
 
 module _ (w k n : ℕ) where
-  abbrev entries : Reading
-  entries = pick (bad_count (k - w)) (Refused (too_short 2048)) (Numbers k)
+  abbrev entries : Filled
+  entries = pick (bad_count (k - w)) (Err (TooShort 2048)) (Ok k)
 
-  pub few_numbers : k < w → Refused (bad_text n) ≡ by_wanted (some w) k n
-  few_numbers h = sym (pick_true (ltb k w) (Refused (bad_text n)) entries (lt-ltb k w h))
+  pub few_numbers : k < w → Err (BadText n) ≡ by_wanted (Some w) k n
+  few_numbers h = sym (pick_true (ltb k w) (Err (BadText n)) entries (lt-ltb k w h))
 
   module _ (h : w ≤ k) where
-    enough : entries ≡ by_wanted (some w) k n
-    enough = sym (pick_false (ltb k w) (Refused (bad_text n)) entries (le-ltb k w h))
+    enough : entries ≡ by_wanted (Some w) k n
+    enough = sym (pick_false (ltb k w) (Err (BadText n)) entries (le-ltb k w h))
 
-    pub bad_entries : bad_count (k - w) ≡ true → Refused (too_short 2048) ≡ by_wanted (some w) k n
-    bad_entries e = sym (pick_true (bad_count (k - w)) (Refused (too_short 2048)) (Numbers k) e) ∙ enough
+    pub bad_entries : bad_count (k - w) ≡ true → Err (TooShort 2048) ≡ by_wanted (Some w) k n
+    bad_entries e = sym (pick_true (bad_count (k - w)) (Err (TooShort 2048)) (Ok k) e) ∙ enough
 
-    pub all_numbers : bad_count (k - w) ≡ false → Numbers k ≡ by_wanted (some w) k n
-    all_numbers e = sym (pick_false (bad_count (k - w)) (Refused (too_short 2048)) (Numbers k) e) ∙ enough
+    pub all_numbers : bad_count (k - w) ≡ false → Ok k ≡ by_wanted (Some w) k n
+    all_numbers e = sym (pick_false (bad_count (k - w)) (Err (TooShort 2048)) (Ok k) e) ∙ enough
 
 -- ---- by the first number
 
 module _ (t : List ℕ) (n : ℕ) where
-  pub by_none : left t 0 ≡ [] → Refused (bad_text n) ≡ by_numbers (numbers (pieces t)) n
+  pub by_none : left t 0 ≡ [] → Err (BadText n) ≡ by_numbers (numbers (pieces t)) n
   unfolding numbers by_numbers
   by_none e = sym (ap (λ (ps : List Piece). by_numbers (numbers ps) n) ((walked_start t).rest ∙ e))
 
-  module _ {v : ℤ} {at to : ℕ} (good : first_bad (pieces t) ≡ none) (s : PieceRead t 0 v at to) where
+  module _ {v : ℤ} {at to : ℕ} (good : first_bad (pieces t) ≡ None) (s : PieceRead t 0 v at to) where
     these : numbers (pieces t) ≡ v ∷ numbers (left t to)
     unfolding numbers
     these = ap numbers ((walked_start t).rest ∙ s.here)
@@ -72,21 +68,21 @@ module _ (t : List ℕ) (n : ℕ) where
         ∙ ap (λ (x : Option ℕ). by_wanted x (suc (length (numbers (left t to)))) n) (sym e)
         ∙ sym (ap (λ (ns : List ℤ). by_numbers ns n) these)
 
-    pub by_range : wants.Any ≡ wanted_of (wanted symbol_format v) → Refused bad_vertex_count ≡ by_numbers (numbers (pieces t)) n
-    by_range e = by_wanted_lem none (any_count (wanted symbol_format v) e)
+    pub by_range : None ≡ wanted symbol_format v → Err BadVertexCount ≡ by_numbers (numbers (pieces t)) n
+    by_range e = by_wanted_lem None (sym e)
 
-    pub by_first_lem : (k : ℕ) → wants.Exactly k ≡ wanted_of (wanted symbol_format v) → by_wanted (some k) (length (pieces t)) n ≡ by_numbers (numbers (pieces t)) n
-    by_first_lem k e = by_wanted_lem (some k) (that_count (wanted symbol_format v) k e)
+    pub by_first_lem : (k : ℕ) → Some k ≡ wanted symbol_format v → by_wanted (Some k) (length (pieces t)) n ≡ by_numbers (numbers (pieces t)) n
+    by_first_lem k e = by_wanted_lem (Some k) (sym e)
 
 -- ---- by the length and the pieces
 
 module _ (longer : Bool) (t : List ℕ) where
-  abbrev inside : Reading
+  abbrev inside : Filled
   inside = by_bad (first_bad (pieces t)) (numbers (pieces t)) (length t)
 
-  pub too_long : (longer || ltb text_most (length t)) ≡ true → Refused (bad_text text_most) ≡ sheet_reading longer t
+  pub too_long : (longer || ltb text_most (length t)) ≡ true → Err (BadText text_most) ≡ sheet_reading longer t
   unfolding sheet_reading
-  too_long e = sym (pick_true (longer || ltb text_most (length t)) (Refused (bad_text text_most)) inside e)
+  too_long e = sym (pick_true (longer || ltb text_most (length t)) (Err (BadText text_most)) inside e)
 
   module _ (e : longer ≡ false) (h : length t ≤ 65536) where
     fits_in_lem : (longer || ltb text_most (length t)) ≡ false
@@ -95,14 +91,14 @@ module _ (longer : Bool) (t : List ℕ) where
     by_bad_lem : (o : Option ℕ) → first_bad (pieces t) ≡ o → by_bad o (numbers (pieces t)) (length t) ≡ sheet_reading longer t
     unfolding sheet_reading
     by_bad_lem o f =
-        sym (pick_false (longer || ltb text_most (length t)) (Refused (bad_text text_most)) inside fits_in_lem
+        sym (pick_false (longer || ltb text_most (length t)) (Err (BadText text_most)) inside fits_in_lem
         ∙ ap (λ (x : Option ℕ). by_bad x (numbers (pieces t)) (length t)) f)
 
-    pub survey_bad : (at : ℕ) → survey.Bad at ≡ survey_of (pieces t) → Refused (bad_text at) ≡ sheet_reading longer t
-    survey_bad at f = by_bad_lem (some at) (bad_at (first_bad (pieces t)) (length (pieces t)) at f)
+    pub survey_bad : (at : ℕ) → Err at ≡ survey_of (pieces t) → Err (BadText at) ≡ sheet_reading longer t
+    survey_bad at f = by_bad_lem (Some at) (bad_at (first_bad (pieces t)) (length (pieces t)) at f)
 
-    pub survey_good : first_bad (pieces t) ≡ none → by_numbers (numbers (pieces t)) (length t) ≡ sheet_reading longer t
-    survey_good f = by_bad_lem none f
+    pub survey_good : first_bad (pieces t) ≡ None → by_numbers (numbers (pieces t)) (length t) ≡ sheet_reading longer t
+    survey_good f = by_bad_lem None f
 
 -- ---- numbers that are handed on
 
@@ -111,17 +107,17 @@ pub record Whole (ns : List ℤ) (k : ℕ) : Type 0 where
   pub symbol : SheetNumbers ns
   pub most : k ≤ 5119
 
-pub wanted_is : (v : ℤ) (w : ℕ) → wanted symbol_format v ≡ some w → (vertex_count v ≤ 1023) × (w ≡ 3 * vertex_count v + 2)
+pub wanted_is : (v : ℤ) (w : ℕ) → wanted symbol_format v ≡ Some w → (vertex_count v ≤ 1023) × (w ≡ 3 * vertex_count v + 2)
 unfolding wanted
 wanted_is (negsuc v) w e = clash cc
 wanted_is (pos v) w e = go (leb 1 v && leb v 1023) refl
   where
     go : (b : Bool) → (leb 1 v && leb v 1023) ≡ b → (v ≤ 1023) × (w ≡ 3 * v + 2)
     go true h =
-        let f : some (3 * v + 2) ≡ some w = rw (wanted, h) at e in
+        let f : Some (3 * v + 2) ≡ Some w = rw (wanted, h) at e in
         let g : 3 * v + 2 ≡ w = cc in
         (leb-true v 1023 (and_right (leb 1 v) (leb v 1023) h), sym g)
-    go false h = let f : none ≡ some w = rw (wanted, h) at e in clash cc
+    go false h = let f : None ≡ Some w = rw (wanted, h) at e in clash cc
 
 or_false : (a b : Bool) → (a || b) ≡ false → b ≡ false
 or_false true b e = clash cc
@@ -135,26 +131,26 @@ record Counted (w k j : ℕ) : Type 0 where
   pub enough : w ≤ k
   pub most : k ≤ w + 2048
 
-counted : (w k n j : ℕ) → by_wanted (some w) k n ≡ Numbers j → Counted w k j
+counted : (w k n j : ℕ) → by_wanted (Some w) k n ≡ Ok j → Counted w k j
 counted w k n j e = go (ltb k w) refl (bad_count (k - w)) refl
   where
     go : (a : Bool) → ltb k w ≡ a → (b : Bool) → bad_count (k - w) ≡ b → Counted w k j
-    go true f b g = let x : Refused (bad_text n) ≡ Numbers j = sym (pick_true (ltb k w) (Refused (bad_text n)) (entries w k n) f) ∙ e in clash cc
+    go true f b g = let x : Err (BadText n) ≡ Ok j = sym (pick_true (ltb k w) (Err (BadText n)) (entries w k n) f) ∙ e in clash cc
     go false f true g =
-        let x : Refused (too_short 2048) ≡ Numbers j = bad_entries w k n (ltb-false k w f) g ∙ e in clash cc
+        let x : Err (TooShort 2048) ≡ Ok j = bad_entries w k n (ltb-false k w f) g ∙ e in clash cc
     go false f false g =
-        let x : Numbers k ≡ Numbers j = all_numbers w k n (ltb-false k w f) g ∙ e in
+        let x : Ok k ≡ Ok j = all_numbers w k n (ltb-false k w f) g ∙ e in
         let y : k ≡ j = cc in
         record { same = sym y; enough = ltb-false k w f; most = omega (arith, ltb-false k w f, entries_most (k - w) g) }
 
-whole_numbers : (ns : List ℤ) (n k : ℕ) → by_numbers ns n ≡ Numbers k → Whole ns k
+whole_numbers : (ns : List ℤ) (n k : ℕ) → by_numbers ns n ≡ Ok k → Whole ns k
 unfolding by_numbers
 whole_numbers [] n k e = clash cc
 whole_numbers (v ∷ ns) n k e = go (wanted symbol_format v) refl
   where
     go : (o : Option ℕ) → wanted symbol_format v ≡ o → Whole (v ∷ ns) k
-    go none f = let x : Refused bad_vertex_count ≡ Numbers k = ap (λ (y : Option ℕ). by_wanted y (suc (length ns)) n) (sym f) ∙ e in clash cc
-    go (some w) f =
+    go None f = let x : Err BadVertexCount ≡ Ok k = ap (λ (y : Option ℕ). by_wanted y (suc (length ns)) n) (sym f) ∙ e in clash cc
+    go (Some w) f =
         let x = counted w (suc (length ns)) n k (ap (λ (y : Option ℕ). by_wanted y (suc (length ns)) n) (sym f) ∙ e) in
         let z = wanted_is v w f in
         record {
@@ -163,14 +159,14 @@ whole_numbers (v ∷ ns) n k e = go (wanted symbol_format v) refl
           most = omega (arith, z.0, z.1, x.same, x.most);
         }
 
-pub whole_reading : (longer : Bool) (t : List ℕ) (k : ℕ) → sheet_reading longer t ≡ Numbers k → Whole (numbers (pieces t)) k
+pub whole_reading : (longer : Bool) (t : List ℕ) (k : ℕ) → sheet_reading longer t ≡ Ok k → Whole (numbers (pieces t)) k
 unfolding sheet_reading
 whole_reading longer t k e = go (longer || ltb text_most (length t)) e
   where
-    by : (o : Option ℕ) → by_bad o (numbers (pieces t)) (length t) ≡ Numbers k → Whole (numbers (pieces t)) k
-    by (some p) f = clash cc
-    by none f = whole_numbers (numbers (pieces t)) (length t) k f
+    by : (o : Option ℕ) → by_bad o (numbers (pieces t)) (length t) ≡ Ok k → Whole (numbers (pieces t)) k
+    by (Some p) f = clash cc
+    by None f = whole_numbers (numbers (pieces t)) (length t) k f
 
-    go : (b : Bool) → pick b (Refused (bad_text text_most)) (inside longer t) ≡ Numbers k → Whole (numbers (pieces t)) k
+    go : (b : Bool) → pick b (Err (BadText text_most)) (inside longer t) ≡ Ok k → Whole (numbers (pieces t)) k
     go true f = clash cc
     go false f = by (first_bad (pieces t)) f

@@ -4,6 +4,7 @@
 --     used_next                   and they name just the letters before the place where the next word starts
 --     lines_room                  so that there is room for them
 -- Assumes nothing.
+use Rattle.std.specs.Prelude.{Ok, Err}
 use mathlib.Core.Path.{◌≡◌, refl, ◌∙◌, ap}
 use mathlib.Core.Bool.{Bool, true, false}
 use mathlib.Core.List.{List, [], ◌∷◌, ◌++◌}
@@ -13,49 +14,53 @@ use lib.Dec.{eqb}
 use lib.IntN.{ℤ}
 use lib.ListN.{length}
 use borrow.Author.Tests.{ne_eqb}
-use Rattle.basics.specs.Choice.{pick}
 use Rattle.basics.proofs.Choice.{pick_false}
 use Rattle.matrix.specs.Matrix.{of_list}
 use Rattle.call.specs.declared.refusal.Refusal.{Refusal}
 use Rattle.call.specs.Space.{work_length}
 use Rattle.decimal.specs.Ascii.{ascii}
 use Rattle.text.specs.Line.{natural, line, refusal_line}
-use Rattle.word.specs.Answer.{found_word, part_of}
-use Rattle.word.specs.declared.Queried.{Queried}
-use Rattle.word.specs.declared.Queried.TheVariants as queried
+use Rattle.word.specs.Answer.{found_word, part_of, word_at}
+use Rattle.call.specs.Refusal.{Answer, refusal_number, refusal_place}
+use Rattle.word.specs.declared.FoundWord.{FoundWord}
 use Rattle.query_text.specs.Reply.{said, word_head, letters_lent}
 use Rattle.sheets.specs.Sheet.{matrix_a, matrix_b, word_end, space_at, answer_at, line_of, lines_to, line_in}
 use Rattle.sheets.proofs.Lines.{line_there}
 use Rattle.sheets.proofs.Said.{never_zero}
 use Rattle.sheets.proofs.Spaces.{kept, word_stood, line_means}
-use Rattle.query_text.specs.Printed.{pair_line, pair_lines}
+use Rattle.query_text.specs.Printed.{pair_lines}
 use Rattle.query_text.specs.Inner.SheetTable.{printed_row, used, printed_rows, used_to, LinesRoom}
 
 -- ---- an answer
 
-module _ (r : Queried) (l letters : List ℤ) (stands : (s n : ℕ) (sign : Bool) → r ≡ queried.Word s n sign → part_of letters s n ≡ l)
-    (Some_number : (f : Refusal) → r ≡ queried.Refused f → f.number ≡ 0 → ⊥) where
-  line_by : (x : Queried) → r ≡ x → printed_row (line_of x) letters ≡ said x l
+module _ (r : Answer FoundWord) (l letters : List ℤ) (stands : (s n : ℕ) (sign : Bool) → r ≡ Ok (word_at s n sign) → part_of letters s n ≡ l)
+    (Some_number : (f : Refusal) → r ≡ Err f → refusal_number f ≡ 0 → ⊥) where
+  word_by : (s n : ℕ) (sign : Bool) → r ≡ Ok (word_at s n sign)
+      → printed_row (line_of (Ok (word_at s n sign))) letters ≡ said (Ok (word_at s n sign)) l
+  unfolding printed_row
+  word_by s n true e = ap (line (word_head true)) (stands s n true e)
+  word_by s n false e = ap (line (word_head false)) (stands s n false e)
+
+  line_by : (x : Answer FoundWord) → r ≡ x → printed_row (line_of x) letters ≡ said x l
   unfolding printed_row refusal_line
-  line_by (queried.Word s n true) e = ap (line (word_head true)) (stands s n true e)
-  line_by (queried.Word s n false) e = ap (line (word_head false)) (stands s n false e)
-  line_by (queried.Refused f) e =
-      pick_false (eqb f.number 0) (line (word_head true) (part_of letters f.place 0))
-      (line (ascii "refused") (natural f.number ∷ natural f.place ∷ []))
-      (ne_eqb f.number 0 (Some_number f e))
+  line_by (Ok u) e = word_by u.start u.letters u.plus e
+  line_by (Err f) e =
+      pick_false (eqb (refusal_number f) 0) (line (word_head true) (part_of letters (refusal_place f) 0))
+      (line (ascii "refused") (natural (refusal_number f) ∷ natural (refusal_place f) ∷ []))
+      (ne_eqb (refusal_number f) 0 (Some_number f e))
 
   pub line_said : printed_row (line_of r) letters ≡ said r l
   line_said = line_by r refl
 
-  used_by : (x : Queried) → r ≡ x → (start : ℕ) → ((s n : ℕ) (sign : Bool) → x ≡ queried.Word s n sign → (s ≡ start) × (n ≡ length l))
+  used_by : (x : Answer FoundWord) → r ≡ x → (start : ℕ) → ((s n : ℕ) (sign : Bool) → x ≡ Ok (word_at s n sign) → (s ≡ start) × (n ≡ length l))
       → start + used (line_of x) letters ≡ word_end x start
   unfolding used
-  used_by (queried.Word s n sign) e start h = let k = h s n sign refl in omega (arith, ap length (stands s n sign e), k.0, k.1)
-  used_by (queried.Refused f) e start h =
-      let z = pick_false (eqb f.number 0) (length (part_of letters f.place 0)) 0 (ne_eqb f.number 0 (Some_number f e)) in
+  used_by (Ok u) e start h = let k = h u.start u.letters u.plus refl in omega (arith, ap length (stands u.start u.letters u.plus e), k.0, k.1)
+  used_by (Err f) e start h =
+      let z = pick_false (eqb (refusal_number f) 0) (length (part_of letters (refusal_place f) 0)) 0 (ne_eqb (refusal_number f) 0 (Some_number f e)) in
       omega (arith, z)
 
-  pub used_said : (start : ℕ) → ((s n : ℕ) (sign : Bool) → r ≡ queried.Word s n sign → (s ≡ start) × (n ≡ length l))
+  pub used_said : (start : ℕ) → ((s n : ℕ) (sign : Bool) → r ≡ Ok (word_at s n sign) → (s ≡ start) × (n ≡ length l))
       → start + used (line_of r) letters ≡ word_end r start
   used_said start h = used_by r refl start h
 
@@ -68,14 +73,14 @@ module _ (v : ℕ) (t p : List ℤ) (w : List ℕ) (out : List ℤ) (n : ℕ) (r
   abbrev letters : List ℤ
   letters = (space_at v t p (length w) out n).letters
 
-  abbrev answer : ℕ → Queried
+  abbrev answer : ℕ → (Answer FoundWord)
   answer i = answer_at v t p (length w) out i
 
   abbrev word : ℕ → List ℤ
   word i = found_word v t (of_list (matrix_a p i)) (of_list (matrix_b p i))
 
   module _ (i : ℕ) (h : i < n) where
-    numbered : (f : Refusal) → answer i ≡ queried.Refused f → f.number ≡ 0 → ⊥
+    numbered : (f : Refusal) → answer i ≡ Err f → refusal_number f ≡ 0 → ⊥
     numbered f e = never_zero (answer i) f (line_means v t p w out n i h).claim e
 
     line_is : printed_row (line_in table i) letters ≡ said (answer i) (word i)

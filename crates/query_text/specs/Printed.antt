@@ -17,19 +17,17 @@
 --   SheetPrinted ns bytes        a line for each pair, and of its answer the claim holds, in all spaces of the
 --                                program's lengths
 --   SheetPrintMeans longer t bytes    that holds for every text that gives numbers
-use Rattle.std.specs.Prelude.{◌≡◌, Bool, ◌||◌, List, [], ◌∷◌, ◌++◌, ℕ, zero, suc, ◌+◌, ◌-◌, ◌*◌, ◌<◌, ltb, ℤ, pos, length, take, drop, replicate}
-use Rattle.std.proofs.Math.Option.{Option, none, some}
+use Rattle.std.specs.Prelude.{Ok, Err, Option, None, Some}
+use Rattle.std.specs.Prelude.{◌≡◌, Bool, ◌||◌, List, [], ◌∷◌, ◌++◌, ℕ, zero, suc}
+use Rattle.std.specs.Prelude.{◌+◌, ◌-◌, ◌*◌, ◌<◌, ltb, ℤ, pos, length, take, drop, replicate}
 use Rattle.basics.specs.Choice.{pick}
 use Rattle.matrix.specs.Matrix.{of_list}
-use Rattle.call.specs.Refusal.{bad_vertex_count, too_short, bad_text}
-use Rattle.call.specs.declared.refusal.Checked.{Checked}
-use Rattle.call.specs.declared.refusal.Checked.TheVariants as checked
+use Rattle.call.specs.Refusal.{Checked, Filled}
+use Rattle.call.specs.declared.refusal.Refusal.TheVariants.{BadVertexCount, TooShort, BadText}
 use Rattle.call.specs.Space.{work_length}
 use Rattle.call.specs.Call.{verdict}
 use Rattle.text.specs.Piece.{pieces, first_bad, numbers}
 use Rattle.text.specs.Reading.{text_most, wanted, symbol_format, by_reading}
-use Rattle.text.specs.declared.Reading.{Reading}
-use Rattle.text.specs.declared.Reading.TheVariants.{Numbers, Refused}
 use Rattle.text.specs.Line.{refusal_line}
 use Rattle.word.specs.Answer.{found_word}
 use Rattle.query_text.specs.Reply.{said, letters_lent}
@@ -40,22 +38,22 @@ use Rattle.sheets.specs.Meaning.{LineMeans}
 -- ---- the text
 
 -- by the count w of a symbol's numbers, where a text of n bytes has k numbers
-abbrev pub by_wanted : Option ℕ → (k n : ℕ) → Reading
-by_wanted none k n = Refused bad_vertex_count
-by_wanted (some w) k n =
-    pick (ltb k w) (Refused (bad_text n)) (pick (bad_count (k - w)) (Refused (too_short 2048)) (Numbers k))
+abbrev pub by_wanted : Option ℕ → (k n : ℕ) → Filled
+by_wanted None k n = Err BadVertexCount
+by_wanted (Some w) k n =
+    pick (ltb k w) (Err (BadText n)) (pick (bad_count (k - w)) (Err (TooShort 2048)) (Ok k))
 
-unfoldable pub by_numbers : List ℤ → (n : ℕ) → Reading
-by_numbers [] n = Refused (bad_text n)
+unfoldable pub by_numbers : List ℤ → (n : ℕ) → Filled
+by_numbers [] n = Err (BadText n)
 by_numbers (v ∷ ns) n = by_wanted (wanted symbol_format v) (suc (length ns)) n
 
-abbrev pub by_bad : Option ℕ → List ℤ → (n : ℕ) → Reading
-by_bad (some p) ns n = Refused (bad_text p)
-by_bad none ns n = by_numbers ns n
+abbrev pub by_bad : Option ℕ → List ℤ → (n : ℕ) → Filled
+by_bad (Some p) ns n = Err (BadText p)
+by_bad None ns n = by_numbers ns n
 
-unfoldable pub sheet_reading : Bool → List ℕ → Reading
+unfoldable pub sheet_reading : Bool → List ℕ → Filled
 sheet_reading longer t =
-    pick (longer || ltb text_most (length t)) (Refused (bad_text text_most))
+    pick (longer || ltb text_most (length t)) (Err (BadText text_most))
     (by_bad (first_bad (pieces t)) (numbers (pieces t)) (length t))
 
 abbrev pub table_of : List ℤ → List ℤ
@@ -84,8 +82,8 @@ abbrev pub sheet_verdict : List ℤ → Checked
 sheet_verdict ns = verdict (sheet_checks (count_in ns) (table_of ns) (pairs_of ns) work_length lines_lent)
 
 abbrev pub lines_if : Checked → List ℕ → List ℕ
-lines_if checked.Accepted ls = ls
-lines_if (checked.Refused f) ls = refusal_line f
+lines_if (Ok tt) ls = ls
+lines_if (Err f) ls = refusal_line f
 
 unfoldable pub printed : List ℤ → List ℕ
 printed ns =
@@ -100,7 +98,7 @@ pub record SheetPrinted (ns : List ℤ) (bytes : List ℕ) : Type 0 where
   pub answer : (letters : List ℤ) → length letters ≡ letters_lent
       → bytes
       ≡ lines_if (sheet_verdict ns) (pair_lines (count_in ns) (table_of ns) (pairs_of ns) letters (pairs_in (pairs_of ns)))
-  pub claims : sheet_verdict ns ≡ checked.Accepted
+  pub claims : sheet_verdict ns ≡ Ok tt
       → (w : List ℕ) (letters : List ℤ) → length w ≡ work_length → length letters ≡ letters_lent
       → (i : ℕ) → i < pairs_in (pairs_of ns)
       → LineMeans (count_in ns) (table_of ns) (pairs_of ns) w letters
@@ -108,4 +106,4 @@ pub record SheetPrinted (ns : List ℤ) (bytes : List ℕ) : Type 0 where
 
 abbrev pub SheetPrintMeans : (longer : Bool) (t bytes : List ℕ) → Type 0
 SheetPrintMeans longer t bytes =
-    (k : ℕ) → sheet_reading longer t ≡ Numbers k → SheetPrinted (take k (numbers (pieces t))) bytes
+    (k : ℕ) → sheet_reading longer t ≡ Ok k → SheetPrinted (take k (numbers (pieces t))) bytes

@@ -12,21 +12,20 @@
 --                                 spaces of the program's lengths, so that `refused 10 0` means that there is no such
 --                                 product, and the letters are one, the only reduced and the shortest, with that sign
 --   ReplyMeans longer text bytes  that holds for every text whose numbers are a symbol's and a pair's
-use Rattle.std.specs.Prelude.{◌≡◌, Bool, true, false, List, ℕ, ◌-◌, ◌≤◌, ltb, ℤ, length, take, drop}
+use Rattle.std.specs.Prelude.{◌≡◌, Bool, true, false, List, ℕ, ◌-◌, ◌≤◌, ltb, ℤ, length, take, drop, Ok, Err}
 use Rattle.matrix.specs.Matrix.{of_list}
 use Rattle.basics.specs.Choice.{pick}
-use Rattle.call.specs.Refusal.{bad_vertex_count}
+use Rattle.call.specs.Refusal.{Answer}
+use Rattle.call.specs.declared.refusal.Refusal.TheVariants.{BadVertexCount}
 use Rattle.call.specs.Space.{work_length}
 use Rattle.text.specs.Piece.{pieces, numbers}
 use Rattle.text.specs.Reading.{input_of, input_gives, count_in}
 use Rattle.text.specs.declared.Format.{Format}
-use Rattle.text.specs.declared.Reading.TheVariants.{Numbers}
 use Rattle.decimal.specs.Ascii.{ascii}
 use Rattle.text.specs.Line.{line, refusal_line}
 use Rattle.word.specs.Answer.{four, found_word, query_of, word_left}
 use Rattle.word.specs.Claim.{Claim}
-use Rattle.word.specs.declared.Queried.{Queried}
-use Rattle.word.specs.declared.Queried.TheVariants as queried
+use Rattle.word.specs.declared.FoundWord.{FoundWord}
 
 abbrev pub word_head : Bool → List ℕ
 word_head true = ascii "word +"
@@ -35,9 +34,9 @@ word_head false = ascii "word -"
 abbrev pub letters_lent : ℕ
 letters_lent = 16384
 
-abbrev pub said : Queried → List ℤ → List ℕ
-said (queried.Word start n sign) l = line (word_head sign) l
-said (queried.Refused f) l = refusal_line f
+abbrev pub said : Answer FoundWord → List ℤ → List ℕ
+said (Ok u) l = line (word_head u.plus) l
+said (Err f) l = refusal_line f
 
 -- ---- the numbers of a text
 
@@ -50,7 +49,7 @@ first_in ns = four ns (length ns - 8)
 abbrev pub second_in : List ℤ → List ℤ
 second_in ns = four ns (length ns - 4)
 
-abbrev pub query_answer : List ℤ → Queried
+abbrev pub query_answer : List ℤ → (Answer FoundWord)
 query_answer ns = query_of (count_in ns) (symbol_in ns) (first_in ns) (second_in ns) work_length letters_lent 0
 
 abbrev pub answer_word : List ℤ → List ℤ
@@ -58,7 +57,7 @@ answer_word ns = found_word (count_in ns) (symbol_in ns) (of_list (first_in ns))
 
 unfoldable pub replied_to : List ℤ → List ℕ
 replied_to ns =
-    pick (ltb (length ns) 10) (refusal_line bad_vertex_count) (said (query_answer ns) (answer_word ns))
+    pick (ltb (length ns) 10) (refusal_line BadVertexCount) (said (query_answer ns) (answer_word ns))
 
 -- ---- the text
 
@@ -78,4 +77,4 @@ pub record Replied (ns : List ℤ) (bytes : List ℕ) : Type 0 where
 
 abbrev pub ReplyMeans : (longer : Bool) (text bytes : List ℕ) → Type 0
 ReplyMeans longer text bytes =
-    (k : ℕ) → 10 ≤ k → input_of longer query_format text 3079 ≡ Numbers k → Replied (take k (numbers (pieces text))) bytes
+    (k : ℕ) → 10 ≤ k → input_of longer query_format text 3079 ≡ Ok k → Replied (take k (numbers (pieces text))) bytes

@@ -11,11 +11,11 @@ ghost use Rattle.query_text.specs.Reply.{word_head, replied_to, reply_of, ReplyM
 ghost use Rattle.query_text.specs.Inner.Spaces.{replied};
 ghost use Rattle.query_text.specs.Inner.Spaces.{ReplySpaces};
 
-use call::refusal::{BAD_VERTEX_COUNT, Refusal};
+use call::refusal::Refusal;
 use text::input::{Input, text_end};
-use text::line::{line_of_letters, refusal_line};
-use text::{Reading, read_symbol, vertex_count};
-use word::{Queried, four_at, query, query_refusal, word_part};
+use text::line::{line_of, refusal_line};
+use text::{read_symbol, vertex_count};
+use word::{FoundWord, four_at, query, word_part};
 
 pub mod sheet_text;
 
@@ -25,10 +25,15 @@ pub fn word_line(sign: bool, word: &[i16], out: &mut [u8], at: usize) -> usize
     ensures { Puts (line (word_head sign) word.now) at result out.old out.new
         × (result ≤ at + (7 * length word.now + 7)) }
 {
-    if sign {
-        return line_of_letters(b"word +", word, out, at);
-    }
-    line_of_letters(b"word -", word, out, at)
+    line_of(word_head(sign), word, out, at)
+}
+
+// What stands in front of a word with this sign.
+fn word_head(sign: bool) -> &'static [u8]
+    ensures head { result.now ≡ word_head sign }
+    ensures long { length result.now ≡ 6 }
+{
+    if sign { b"word +" } else { b"word -" }
 }
 
 // The answer for the symbol in t and the pair: the word with its sign, or its refusal.
@@ -45,12 +50,11 @@ fn reply_pair(
     ensures { Puts (replied v t.now a b) 0 result out.old out.new }
 {
     let answer = query(v, t, a, b, w, letters, 0);
-    let Queried::Word(start, n, sign) = answer else {
-        let refusal = query_refusal(answer);
-        return refusal_line(refusal, out);
+    let Ok(found) = answer else {
+        return refusal_line(answer.unwrap_err(), out);
     };
-    let word = word_part(letters, start, n);
-    word_line(sign, word, out, 0)
+    let word = word_part(letters, found.start, found.letters);
+    word_line(found.plus, word, out, 0)
 }
 
 // The answer for the numbers of a text.
@@ -60,13 +64,7 @@ fn reply_numbers(ns: &[i64], w: &mut [u16], letters: &mut [i16], out: &mut [u8])
 {
     let k = ns.len();
     if k < 10 {
-        return refusal_line(
-            Refusal {
-                number: BAD_VERTEX_COUNT,
-                place: 0,
-            },
-            out,
-        );
+        return refusal_line(Refusal::BadVertexCount, out);
     }
     let v = vertex_count(ns[0]);
     let end = k - 8;
@@ -87,10 +85,9 @@ fn reply_text(
     requires { (length numbers.old ≡ 3079) × ReplySpaces w.old letters.old out.old }
     ensures { Puts (reply_of longer text.now) 0 result out.old out.new }
 {
-    let read = read_symbol(text, longer, 10, numbers);
-    match read {
-        Reading::Refused(refusal) => refusal_line(refusal, out),
-        Reading::Numbers(k) => reply_numbers(&numbers[..k], w, letters, out),
+    match read_symbol(text, longer, 10, numbers) {
+        Err(refusal) => refusal_line(refusal, out),
+        Ok(k) => reply_numbers(&numbers[..k], w, letters, out),
     }
 }
 

@@ -4,7 +4,7 @@
 use mathlib.Core.Path.{◌≡◌, refl, sym, ap, ◌∙◌}
 use mathlib.Core.Logic.{◌≢◌, ◌⊎◌, inl, inr}
 use mathlib.Core.List.{List}
-use Prim.Native.Nat.{ℕ, zero, ◌+◌, ◌-◌, ◌≤◌, ◌<◌}
+use Prim.Native.Nat.{ℕ, ◌+◌, ◌-◌, ◌≤◌, ◌<◌}
 use native.Mathlib.Omega.{arith}
 use native.Mathlib.Decide.{ℕ_discrete}
 use lib.ListN.{length, get_or, set, length-set}
@@ -12,7 +12,6 @@ use lib.Seq.{get_or-set_other, get_or-set_same}
 use lib.IntN.{ℤ, pos}
 use Rattle.matrix.specs.Matrix.{Mat, det, ◌≈◌}
 use Rattle.matrix.specs.Action as action
-use Rattle.matrix.specs.Words.{S}
 use Rattle.matrix.proofs.Uniqueness.{word_of-≈}
 use Rattle.numbering.specs.Table.{image_at}
 use Rattle.numbering.specs.Inner.Space.{ROOM, S_TABLE, WIDTHS, NUMBER, ORDER, T_TABLE, ChangedWithin}

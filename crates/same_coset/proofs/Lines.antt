@@ -1,28 +1,24 @@
 -- The lines of many pairs, one after another: the lines of the first i pairs, with one more (`pairs_more`); the line of an answer in other words (`line_is`).
 -- And one pair of many: its answer is the single call's (`single`). Assumes nothing.
-use mathlib.Core.Path.{◌≡◌, refl, sym, ◌∙◌, ap, subst}
+use Rattle.std.specs.Prelude.{Ok, Err}
+use mathlib.Core.Path.{◌≡◌, refl, sym, ◌∙◌, ap}
 use mathlib.Core.Bool.{Bool, true, false}
-use mathlib.Core.List.{List, [], ◌∷◌, ◌++◌}
-use Prim.Native.Nat.{ℕ, zero, suc, ◌+◌, ◌-◌, ◌*◌, ◌^◌, ◌≤◌, ◌<◌}
+use mathlib.Core.List.{List, [], ◌++◌}
+use Prim.Native.Nat.{ℕ, suc, ◌+◌, ◌*◌, ◌≤◌}
 use native.Mathlib.Omega.{arith}
 use lib.ListN.{length, take, drop}
-use lib.IntN.{ℤ, pos}
+use lib.IntN.{ℤ}
 use Rattle.call.specs.Space.{work_length}
 use Rattle.call.specs.declared.refusal.Refusal.{Refusal}
-use Rattle.call.specs.Refusal.{◌or_else◌}
-use Rattle.call.specs.declared.refusal.Checked.{Checked}
-use Rattle.call.specs.declared.refusal.Checked.TheVariants.{Accepted, Refused}
+use Rattle.call.specs.Refusal.{◌or_else◌, Checked, Decision}
 use Rattle.call.proofs.Answers.{then_next}
 use Rattle.call.specs.Call.{length_check}
 use Rattle.call.specs.Inner.Fills.{decided}
-use Rattle.call.specs.declared.Decision.{Decision}
-use Rattle.call.specs.declared.Decision.TheVariants as decision
 use Rattle.call.proofs.Laws.{room_long}
 use Rattle.matrix.specs.Matrix.{of_list}
 use Rattle.symbol.specs.Check.{symbol_check}
 use Rattle.symbol.specs.Symbol.{IsSymbol}
 use Rattle.symbol.proofs.Accepted.{accepted}
-use Rattle.same_coset.specs.Inner.Places.{SymbolPlaces}
 use Rattle.word.specs.Answer.{four, matrices_check, closes}
 use Rattle.sheets.specs.Sheet.{matrix_a, matrix_b}
 use Rattle.sheets.specs.Inner.Pairs.{row_at}
@@ -31,26 +27,24 @@ use Rattle.sheets.proofs.Single as sheet
 use Rattle.sheets.proofs.Single.{SmallRefusal}
 use Rattle.same_coset.specs.Answer.{same_coset_of}
 use Rattle.same_coset.specs.Pairs.{coset_line, coset_at, coset_lines}
-use Rattle.same_coset.specs.Inner.Ready.{yes_no, pair_shared, PairShared, LineFits, PairsShared}
-use Rattle.same_coset.proofs.Single.{refused_not_yes, refused_not_no}
+use Rattle.same_coset.specs.Inner.Ready.{pair_shared, PairShared, LineFits, PairsShared}
 
 -- ---- one line
 
 length_line : (r : Decision) → length (coset_line r) ≡ 2
-length_line decision.Yes = refl
-length_line decision.No = refl
-length_line (decision.Refused f) = refl
+length_line (Ok true) = refl
+length_line (Ok false) = refl
+length_line (Err f) = refl
 
 pub line_is : (i : ℕ) (lines : List ℤ) (r s : Decision) → r ≡ s → row_at 2 i (coset_line s) lines ≡ row_at 2 i (coset_line r) lines
 line_is i lines r s e = ap (λ (x : Decision). row_at 2 i (coset_line x) lines) (sym e)
 
 -- ---- its numbers fit
 
-pub fits_yes_no : (k : Bool) → LineFits (yes_no k)
-fits_yes_no true = record { refused = λ f e. absurd (refused_not_yes f (sym e)) }
-fits_yes_no false = record { refused = λ f e. absurd (refused_not_no f (sym e)) }
+pub fits_yes_no : (k : Bool) → LineFits (Ok k)
+fits_yes_no k = record { refused = λ f e. cc }
 
-pub fits_refused : (f : Refusal) → SmallRefusal (Refused f) → LineFits (decision.Refused f)
+pub fits_refused : (f : Refusal) → SmallRefusal (Err f) → LineFits (Err f)
 fits_refused f h = record { refused = λ g e. let z : f ≡ g = cc in (rw (← z) h.0, rw (← z) h.1) }
 
 -- ---- one pair of many
@@ -59,8 +53,8 @@ pub single : {v : ℕ} {t : List ℤ} → IsSymbol v t → (work : ℕ) → work
 single {v} {t} ok work h a b =
     let space = length_check work_length work in
     ap (decided (closes v t (of_list a) (of_list b)))
-    (ap (λ (c : Checked). matrices_check a b or_else c) (then_next space Accepted (room_long work_length work h))
-    ∙ then_next (symbol_check v t) (matrices_check a b or_else space or_else Accepted) ((accepted v t).1 ok))
+    (ap (λ (c : Checked). matrices_check a b or_else c) (then_next space (Ok tt) (room_long work_length work h))
+    ∙ then_next (symbol_check v t) (matrices_check a b or_else space or_else (Ok tt)) ((accepted v t).1 ok))
 
 -- ---- one line after another
 

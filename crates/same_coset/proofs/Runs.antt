@@ -1,23 +1,18 @@
--- The invariant: the runs so far, times what remains, are the matrix up to sign, and the place so far is where these runs lead (`RemainsOf`). In order: the
--- whole matrix (`whole_sound`, `whole_remains`); one run (`run_less`, `run_sound`, `run_remains`, and all of it in `later`); the test of two; the last run
+-- The invariant: the runs so far, times what remains, are the matrix up to sign, and the place so far is where these runs lead (`RemainsOf`).
+-- In order: the whole matrix (`whole_sound`, `whole_remains`); one run (`run_less`, `run_sound`, `run_remains`, and all of it in `later`); the last run
 -- (`arrived`). Assumes nothing.
-use mathlib.Core.Path.{◌≡◌, refl, sym, ap, ◌∙◌}
+use mathlib.Core.Path.{◌≡◌, sym, ap, ◌∙◌}
 use mathlib.Core.Logic.{inl}
-use mathlib.Core.Bool.{Bool, true, false, not}
 use mathlib.Core.List.{List, [], ◌∷◌}
-use Prim.Native.Nat.{ℕ, zero, suc, ◌<◌}
+use Prim.Native.Nat.{ℕ, ◌<◌}
 use native.Mathlib.Omega.{arith}
-use lib.Dec.{ltb, eqb}
 use lib.IntN.{ℤ, pos, nat_abs}
 use lib.Signed.{non_neg}
-use borrow.Author.Tests.{lt-ltb, ne_eqb}
-use Rattle.basics.specs.Choice.{pick}
 use Rattle.matrix.specs.Matrix.{Mat, ◌⊗◌, det, mat_s, ◌≈◌}
 use Rattle.matrix.specs.Bounds.{Small}
 use Rattle.matrix.specs.Words.{S}
 use Rattle.matrix.proofs.Matrix.{⊗-assoc, ⊗-idl, det_𝟙, det_one, det_letter, det-≈, ◌∙≈◌, ≈-left}
 use Rattle.numbering.specs.Table.{image_at}
-use Rattle.numbering.proofs.Find.{true_false}
 use Rattle.numbering.proofs.Space.{entries_at}
 use Rattle.figures.specs.Inner.Scan.{held_t}
 use Rattle.cusp_record.specs.Record.{cusp_place}
@@ -116,15 +111,6 @@ module _ {n : ℕ} {w : List ℕ} (g : Prepared n w) {x y : Remaining} (s : Soun
   later l = record { sound = run_sound; remains = λ m f. run_remains (l.remains m f) }
 
 -- ---- the test of two
-
-pub second_test_lem : (c d : ℕ) → 0 < c → not (eqb d 0) ≡ pick (ltb 0 c) (ltb 0 d) false
-second_test_lem c zero h = rw (lt-ltb 0 c h) refl
-second_test_lem c (suc d) h = let k : 0 < suc d = omega arith in rw (lt-ltb 0 c h, lt-ltb 0 (suc d) k, ne_eqb (suc d) 0 (λ e. omega arith)) refl
-
-pub both_left : (c d : ℕ) {b : Bool} → b ≡ pick (ltb 0 c) (ltb 0 d) false → b ≡ true → (0 < c) × (0 < d)
-both_left zero d e t = true_false (sym (sym t ∙ e)) refl
-both_left (suc c) zero e t = let h : 0 < suc c = omega arith in true_false (sym (sym t ∙ e)) (rw (lt-ltb 0 (suc c) h) refl)
-both_left (suc c) (suc d) e t = (omega arith, omega arith)
 
 -- ---- the last run
 

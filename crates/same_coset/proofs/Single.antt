@@ -3,30 +3,25 @@
 -- Why: matrices lead to one point exactly where a product of generators takes one to the other, and points stand at places of their own.
 -- In order: answers; the walk; the places; the meaning; the numbers of an export.
 -- Assumes nothing.
-use mathlib.Core.Path.{◌≡◌, refl, sym, ◌∙◌, ap, subst}
-use mathlib.Core.Logic.{◌⊎◌, inl, inr, ◌↔◌}
+use Rattle.std.specs.Prelude.{Ok, Err}
+use mathlib.Core.Path.{◌≡◌, refl, sym, ◌∙◌, ap}
+use mathlib.Core.Logic.{inl, inr}
 use mathlib.Core.Bool.{Bool, true, false}
 use mathlib.Core.List.{List, [], ◌∷◌}
-use Prim.Native.Nat.{ℕ, ◌+◌, ◌^◌, ◌≤◌, ◌<◌}
+use Prim.Native.Nat.{ℕ, ◌<◌}
 use native.Mathlib.Omega.{arith}
 use native.Mathlib.Decide.{ℕ_discrete}
 use lib.Dec.{eqb}
 use lib.ListN.{length}
 use lib.IntN.{ℤ}
 use borrow.Author.Tests.{eqb-true, eq-eqb, ne_eqb}
-use Rattle.basics.specs.Choice.{pick}
 use Rattle.basics.proofs.Choice.{clash}
 use Rattle.matrix.specs.Matrix.{Mat, of_list}
 use Rattle.call.specs.Space.{work_length}
-use Rattle.call.specs.Refusal.{◌or_else◌, checked_refusal, no_refusal, no_word}
-use Rattle.call.specs.declared.refusal.Refusal.{Refusal}
-use Rattle.call.specs.declared.refusal.Checked.{Checked}
-use Rattle.call.specs.declared.refusal.Checked.TheVariants.{Accepted, Refused}
+use Rattle.call.specs.Refusal.{answer_number, answer_place, Checked, Decision}
 use Rattle.call.proofs.Apart.{refused_accepted}
-use Rattle.call.specs.Call.{Step, Asks, Clears, length_check, if_accepted, bit}
-use Rattle.call.specs.Inner.Fills.{decided, decision_refusal, decision_place}
-use Rattle.call.specs.declared.Decision.{Decision}
-use Rattle.call.specs.declared.Decision.TheVariants as decision
+use Rattle.call.specs.Call.{Asks, length_check, if_accepted, bit}
+use Rattle.call.specs.Inner.Fills.{decided, decision_place}
 use Rattle.call.proofs.Laws.{above_room, above_among, accepted_by}
 use Rattle.symbol.specs.Check.{symbol_check}
 use Rattle.symbol.specs.Symbol.{IsSymbol}
@@ -42,34 +37,24 @@ use Rattle.same_coset.specs.Runs.{Arrived}
 use Rattle.same_coset.specs.Inner.Places.{held_turns, SymbolPlaces}
 use Rattle.same_coset.specs.Inner.Rows.{OneMatrix}
 use Rattle.same_coset.proofs.ByPlace.{guided}
-use Rattle.word.specs.Answer.{matrices_check, closes, found_word, found_sign, found_if, found_checks, query_of, query_refusal, word_left}
-use Rattle.word.specs.Claim.{ValidQuery, SameRightCoset, Fits, Answered, Claim}
-use Rattle.word.proofs.Claim.{same_number, joined_home, home_joined, joined_same, same_joined}
+use Rattle.word.specs.Answer.{matrices_check, closes, found_word, query_of, word_left}
+use Rattle.word.specs.Claim.{ValidQuery, SameRightCoset, Claim}
+use Rattle.word.proofs.Claim.{outcome_number, joined_home, home_joined, joined_same, same_joined}
 use Rattle.word.proofs.Order.{asked, asked_passed, claim}
 use Rattle.word.proofs.Refused.{passed_by, pair_passes, pair_among, in_order, reached, reaches, checked, second}
 use Rattle.same_coset.specs.Answer.{same_coset_of, CosetMeans, SharedSays}
-use Rattle.same_coset.specs.Inner.Ready.{yes_no, Shares}
 
 -- ---- answers
 
-yes_not_no : decision.Yes ≡ decision.No → ⊥
-yes_not_no e = let z : ◌≡◌ {A = ℕ} 0 1 = cc in omega arith
+yes_by : (k : Bool) (c : Checked) → decided k c ≡ Ok true → (c ≡ Ok tt) × (k ≡ true)
+yes_by true (Ok tt) e = (refl, refl)
+yes_by false (Ok tt) e = cc
+yes_by k (Err f) e = cc
 
-pub refused_not_yes : (f : Refusal) → decision.Refused f ≡ decision.Yes → ⊥
-refused_not_yes f e = let z : ◌≡◌ {A = ℕ} 0 1 = cc in omega arith
-
-pub refused_not_no : (f : Refusal) → decision.Refused f ≡ decision.No → ⊥
-refused_not_no f e = let z : ◌≡◌ {A = ℕ} 0 1 = cc in omega arith
-
-yes_by : (k : Bool) (c : Checked) → decided k c ≡ decision.Yes → (c ≡ Accepted) × (k ≡ true)
-yes_by true Accepted e = (refl, refl)
-yes_by false Accepted e = absurd (yes_not_no (sym e))
-yes_by k (Refused f) e = absurd (refused_not_yes f e)
-
-no_by : (k : Bool) (c : Checked) → decided k c ≡ decision.No → (c ≡ Accepted) × (k ≡ false)
-no_by true Accepted e = absurd (yes_not_no e)
-no_by false Accepted e = (refl, refl)
-no_by k (Refused f) e = absurd (refused_not_no f e)
+no_by : (k : Bool) (c : Checked) → decided k c ≡ Ok false → (c ≡ Ok tt) × (k ≡ false)
+no_by true (Ok tt) e = cc
+no_by false (Ok tt) e = (refl, refl)
+no_by k (Err f) e = cc
 
 bit_one : (k : Bool) → bit k ≡ 1 → k ≡ true
 bit_one true e = refl
@@ -152,46 +137,46 @@ module _ (v : ℕ) (t a b : List ℤ) (w : List ℕ) where
   found = closes v t M N
 
   abbrev all : Checked
-  all = in_order (symbol_check v t) (matrices_check a b) Accepted w
+  all = in_order (symbol_check v t) (matrices_check a b) (Ok tt) w
 
   abbrev r : Decision
   r = same_coset_of v t a b (length w)
 
   -- all checks pass exactly where the query gets to its walk
-  pub accepted_asked : all ≡ Accepted → ValidQuery v t a b w
-  accepted_asked e = elim (reaches (symbol_check v t) (matrices_check a b) Accepted w) [
+  pub accepted_asked : all ≡ Ok tt → ValidQuery v t a b w
+  accepted_asked e = elim (reaches (symbol_check v t) (matrices_check a b) (Ok tt) w) [
     | inl g ↦ asked a b ((accepted v t).0 g.accepted) g.work (passed_by a b g.passed)
     | inr (inl s) ↦ refused_accepted (sym s.is ∙ e)
     | inr (inr (checked f g s)) ↦ refused_accepted (sym s ∙ e)
     | inr (inr (second f g s)) ↦ refused_accepted (sym s ∙ e)
   ]
 
-  asked_accepted : ValidQuery v t a b w → all ≡ Accepted
+  asked_accepted : ValidQuery v t a b w → all ≡ Ok tt
   asked_accepted q =
-      reached (symbol_check v t) (matrices_check a b) Accepted w ((accepted v t).1 q.symbol) (sym (pair_passes a b (asked_passed a b q))) q.work
+      reached (symbol_check v t) (matrices_check a b) (Ok tt) w ((accepted v t).1 q.symbol) (sym (pair_passes a b (asked_passed a b q))) q.work
 
-  is_found : ValidQuery v t a b w → r ≡ yes_no found
+  is_found : ValidQuery v t a b w → r ≡ Ok found
   is_found q = ap (decided found) (asked_accepted q)
 
-  by_found : ValidQuery v t a b w → (k : Bool) → found ≡ k → r ≡ yes_no k
-  by_found q k e = is_found q ∙ ap yes_no e
+  by_found : ValidQuery v t a b w → (k : Bool) → found ≡ k → r ≡ Ok k
+  by_found q k e = is_found q ∙ ap {B = Decision} (λ (b : Bool). Ok b) e
 
-  yes_asked : r ≡ decision.Yes → ValidQuery v t a b w
+  yes_asked : r ≡ Ok true → ValidQuery v t a b w
   yes_asked e = accepted_asked (yes_by found all e).0
 
-  no_asked : r ≡ decision.No → ValidQuery v t a b w
+  no_asked : r ≡ Ok false → ValidQuery v t a b w
   no_asked e = accepted_asked (no_by found all e).0
 
-  yes_is : r ≡ decision.Yes → SameRightCoset v t M N
+  yes_is : r ≡ Ok true → SameRightCoset v t M N
   yes_is e = home (yes_asked e) (yes_by found all e).1
 
-  is_yes : ValidQuery v t a b w → SameRightCoset v t M N → r ≡ decision.Yes
+  is_yes : ValidQuery v t a b w → SameRightCoset v t M N → r ≡ Ok true
   is_yes q j = by_found q true (joined q j)
 
-  no_is : r ≡ decision.No → SameRightCoset v t M N → ⊥
+  no_is : r ≡ Ok false → SameRightCoset v t M N → ⊥
   no_is e j = clash (joined (no_asked e) j) (no_by found all e).1
 
-  is_no : ValidQuery v t a b w → (SameRightCoset v t M N → ⊥) → r ≡ decision.No
+  is_no : ValidQuery v t a b w → (SameRightCoset v t M N → ⊥) → r ≡ Ok false
   is_no q n = by_found q false (away q n)
 
   -- the claim of the query in a word space
@@ -207,18 +192,18 @@ module _ (v : ℕ) (t a b : List ℤ) (w : List ℕ) where
     points = λ q. ((λ e. home_points q (yes_by found all e).1), (λ e. by_found q true (points_home q e)));
     word = λ out start f. (
       (λ e. ((says_all out start).answered (yes_asked e)).returned.1 (yes_is e, f)),
-      (λ z. let q = (says_all out start).asked (inl (same_number z)) in is_yes q (((says_all out start).answered q).returned.0 z).0),
+      (λ z. let q = (says_all out start).asked (inl (outcome_number (query_of v t a b (length w) (length out) start) z)) in is_yes q (((says_all out start).answered q).returned.0 z).0),
     );
     none = λ out start. (
       (λ e. ((says_all out start).answered (no_asked e)).none.1 (no_is e)),
-      (λ z. let q = (says_all out start).asked (inr (same_number z)) in is_no q (((says_all out start).answered q).none.0 z)),
+      (λ z. let q = (says_all out start).asked (inr (outcome_number (query_of v t a b (length w) (length out) start) z)) in is_no q (((says_all out start).answered q).none.0 z)),
     );
   }
 
   -- ---- the numbers of an export
 
   -- 0 says that all checks pass
-  zero_accepted : (checked_refusal all).number ≡ 0 → all ≡ Accepted
+  zero_accepted : answer_number all ≡ 0 → all ≡ Ok tt
   zero_accepted z =
       accepted_by (Asks (symbol_check v t) ∷ Asks (matrices_check a b) ∷ Asks (length_check work_length (length w)) ∷ []) (
         above_among 1 7 (symbol_check v t) (omega arith) (check_among v t),
@@ -226,21 +211,21 @@ module _ (v : ℕ) (t a b : List ℤ) (w : List ℕ) where
       ) z
 
   abbrev told : ℕ
-  told = if_accepted all (bit found) (checked_refusal all).place
+  told = if_accepted all (bit found) (answer_place all)
 
-  pub tells : ((checked_refusal all).number ≡ (decision_refusal (decided found all)).number) × (told ≡ decision_place (decided found all))
+  pub tells : (answer_number all ≡ answer_number (decided found all)) × (told ≡ decision_place (decided found all))
   tells = go found all
     where
-      go : (b : Bool) (c : Checked) → ((checked_refusal c).number ≡ (decision_refusal (decided b c)).number)
-          × (if_accepted c (bit b) (checked_refusal c).place ≡ decision_place (decided b c))
-      go true Accepted = (refl, refl)
-      go false Accepted = (refl, refl)
-      go b (Refused f) = (refl, refl)
+      go : (b : Bool) (c : Checked) → (answer_number c ≡ answer_number (decided b c))
+          × (if_accepted c (bit b) (answer_place c) ≡ decision_place (decided b c))
+      go true (Ok tt) = (refl, refl)
+      go false (Ok tt) = (refl, refl)
+      go b (Err f) = (refl, refl)
 
-  told_is : all ≡ Accepted → told ≡ bit found
-  told_is e = ap (λ (c : Checked). if_accepted c (bit found) (checked_refusal c).place) e
+  told_is : all ≡ Ok tt → told ≡ bit found
+  told_is e = ap (λ (c : Checked). if_accepted c (bit found) (answer_place c)) e
 
-  pub says : SharedSays v t a b w (checked_refusal all).number told
+  pub says : SharedSays v t a b w (answer_number all) told
   says = record {
     asked = λ z. accepted_asked (zero_accepted z);
     yes = λ z.

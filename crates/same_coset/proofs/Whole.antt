@@ -1,5 +1,6 @@
 -- The call for many pairs: the lines in their table (`no_room`, `in_room`), and what a number 0 says (`cosets_say`).
 -- Assumes nothing.
+use Rattle.std.specs.Prelude.{Ok, Err}
 use mathlib.Core.Path.{◌≡◌, refl, sym, ◌∙◌, ap}
 use mathlib.Core.List.{List, [], ◌∷◌, ◌++◌}
 use Prim.Native.Nat.{ℕ, ◌*◌, ◌/◌, ◌≤◌, ◌<◌}
@@ -7,8 +8,7 @@ use native.Mathlib.Omega.{arith}
 use lib.ListN.{length, drop}
 use lib.IntN.{ℤ}
 use Rattle.call.specs.Space.{work_length}
-use Rattle.call.specs.Refusal.{too_short}
-use Rattle.call.specs.declared.refusal.Checked.TheVariants.{Accepted, Refused}
+use Rattle.call.specs.declared.refusal.Refusal.TheVariants.{TooShort}
 use Rattle.call.specs.Call.{Step, Asks, Clears, Gives, length_check, at_front, Contract, number_of, place_of}
 use Rattle.call.proofs.Laws.{Run, run_end, run_stop, run_pass, run_put, room_short, room_long, above_room, above_among, made_says}
 use Rattle.symbol.specs.Check.{symbol_check}
@@ -28,11 +28,11 @@ module _ (v : ℕ) (t p : List ℤ) (work : ℕ) (lines : List ℤ) where
   abbrev pub table_run : List ℤ → List Step
   table_run lines' = Asks (length_check n (length lines / 2)) ∷ Gives (at_front table lines) lines lines' ∷ []
 
-  pub no_room : length lines / 2 < n → Run (table_run lines) (Refused (too_short n))
+  pub no_room : length lines / 2 < n → Run (table_run lines) (Err (TooShort n))
   no_room h =
-      run_stop (too_short n) (length_check n (length lines / 2)) (Gives (at_front table lines) lines lines ∷ []) (room_short n (length lines / 2) h) (refl, tt)
+      run_stop (TooShort n) (length_check n (length lines / 2)) (Gives (at_front table lines) lines lines ∷ []) (room_short n (length lines / 2) h) (refl, tt)
 
-  pub in_room : (lines' : List ℤ) → n ≤ length lines / 2 → lines' ≡ table ++ drop (2 * n) lines → Run (table_run lines') Accepted
+  pub in_room : (lines' : List ℤ) → n ≤ length lines / 2 → lines' ≡ table ++ drop (2 * n) lines → Run (table_run lines') (Ok tt)
   in_room lines' h e =
       run_pass (length_check n (length lines / 2)) (Gives (at_front table lines) lines lines' ∷ []) (room_long n (length lines / 2) h)
       (run_put (at_front table lines) lines lines' [] (e ∙ ap (λ (k : ℕ). table ++ drop k lines) (sym (front_length v t p work n))) run_end)
@@ -51,7 +51,7 @@ module _ (v : ℕ) (t p : List ℤ) (w w' : List ℕ) (lines lines' : List ℤ) 
   cosets_say =
       made_says whole (CosetsMean v t p w) (
         above_among 11 11 (whole_check (length p)) (omega arith)
-            (among_refuse 11 11 (ragged (length p)) (too_short (whole_pairs (length p))) (omega arith) (omega arith)),
+            (among_refuse 11 11 (ragged (length p)) (TooShort (whole_pairs (length p))) (omega arith) (omega arith)),
         (
           above_among 1 7 (symbol_check v t) (omega arith) (check_among v t),
           (above_room work_length (length w), (above_room (pairs_in p) (length lines / 2), tt)),

@@ -12,18 +12,17 @@
 --     none                  no exactly where the query gives 10, in every word space
 --   SharedSays              the same by what the exported call returns, its number n and the place
 --   same_coset_call         THE EXPORTED CALL: these steps, 1 for yes and 0 for no, and what it says
-use Rattle.std.specs.Prelude.{◌≡◌, ◌↔◌, List, ◌++◌, ℕ, length, ℤ}
+use Rattle.std.specs.Prelude.{◌≡◌, ◌↔◌, true, false, List, ◌++◌, ℕ, length, ℤ, Ok, Err}
 use Rattle.matrix.specs.Matrix.{of_list}
 use Rattle.call.specs.Space.{work_length}
-use Rattle.call.specs.Refusal.{no_refusal, no_word}
+use Rattle.call.specs.Refusal.{answer_number, Decision, outcome}
+use Rattle.call.specs.declared.refusal.Refusal.TheVariants.{NoWord}
 use Rattle.call.specs.Call.{Lent, Step, asks, work, length_check, verdict, bit, Contract}
-use Rattle.call.specs.Inner.Fills.{decided, decision_refusal, decision_place}
-use Rattle.call.specs.declared.Decision.{Decision}
-use Rattle.call.specs.declared.Decision.TheVariants as decision
+use Rattle.call.specs.Inner.Fills.{decided, decision_place}
 use Rattle.symbol.specs.Check.{symbol_check}
 use Rattle.coset.specs.Tables.{table_s, table_r}
 use Rattle.right_cosets.specs.Leads.{leads}
-use Rattle.word.specs.Answer.{matrices_check, closes, found_word, query_of, query_refusal}
+use Rattle.word.specs.Answer.{matrices_check, closes, found_word, query_of}
 use Rattle.word.specs.Claim.{ValidQuery, SameRightCoset, Fits}
 
 abbrev pub same_coset_steps : (v : ℕ) (t a b : List ℤ) → Lent (List ℕ) → List Step
@@ -35,14 +34,14 @@ same_coset_of v t a b work =
     (verdict (asks (symbol_check v t) ++ asks (matrices_check a b) ++ asks (length_check work_length work)))
 
 pub record CosetMeans (v : ℕ) (t a b : List ℤ) (w : List ℕ) (r : Decision) : Type 0 where
-  pub yes : (r ≡ decision.Yes) ↔ (ValidQuery v t a b w × SameRightCoset v t (of_list a) (of_list b))
-  pub no : (r ≡ decision.No) ↔ (ValidQuery v t a b w × (SameRightCoset v t (of_list a) (of_list b) → ⊥))
+  pub yes : (r ≡ Ok true) ↔ (ValidQuery v t a b w × SameRightCoset v t (of_list a) (of_list b))
+  pub no : (r ≡ Ok false) ↔ (ValidQuery v t a b w × (SameRightCoset v t (of_list a) (of_list b) → ⊥))
   pub points : ValidQuery v t a b w
-      → (r ≡ decision.Yes) ↔ (leads (table_s v t) (table_r v t) (of_list a) ≡ leads (table_s v t) (table_r v t) (of_list b))
+      → (r ≡ Ok true) ↔ (leads (table_s v t) (table_r v t) (of_list a) ≡ leads (table_s v t) (table_r v t) (of_list b))
   pub word : (out : List ℤ) (start : ℕ) → Fits start (length (found_word v t (of_list a) (of_list b))) (length out)
-      → (r ≡ decision.Yes) ↔ (query_refusal (query_of v t a b (length w) (length out) start) ≡ no_refusal)
+      → (r ≡ Ok true) ↔ (outcome (query_of v t a b (length w) (length out) start) ≡ Ok tt)
   pub none : (out : List ℤ) (start : ℕ)
-      → (r ≡ decision.No) ↔ (query_refusal (query_of v t a b (length w) (length out) start) ≡ no_word)
+      → (r ≡ Ok false) ↔ (outcome (query_of v t a b (length w) (length out) start) ≡ Err NoWord)
 
 pub record SharedSays (v : ℕ) (t a b : List ℤ) (w : List ℕ) (n place : ℕ) : Type 0 where
   pub asked : n ≡ 0 → ValidQuery v t a b w
@@ -55,6 +54,6 @@ same_coset_call v t a b w = record {
   count = bit (closes v t (of_list a) (of_list b));
   Says = λ number place.
       let r = same_coset_of v t a b (length w.entry.now) in
-      (number ≡ (decision_refusal r).number) × (place ≡ decision_place r) × CosetMeans v t a b w.entry.now r
+      (number ≡ answer_number r) × (place ≡ decision_place r) × CosetMeans v t a b w.entry.now r
       × SharedSays v t a b w.entry.now number place;
 }

@@ -13,12 +13,12 @@
 --   CosetsMean              the place told is the number of pairs, and each line's answer means what that of a single
 --                           call means
 --   same_cosets_call        THE EXPORTED CALL: these steps, the number of pairs, and what a number 0 says
-use Rattle.std.specs.Prelude.{◌≡◌, Bool, not, List, [], ◌∷◌, ◌++◌, ℕ, zero, suc, ◌+◌, ◌*◌, ◌/◌, ◌%◌, ◌<◌, eqb, length, ℤ, pos}
-use Rattle.call.specs.Refusal.{too_short}
-use Rattle.call.specs.declared.refusal.Checked.{Checked}
+use Rattle.std.specs.Prelude.{Ok, Err}
+use Rattle.std.specs.Prelude.{◌≡◌, Bool, true, false, not, List, [], ◌∷◌, ◌++◌, ℕ, zero, suc, ◌+◌, ◌*◌, ◌/◌, ◌%◌, ◌<◌}
+use Rattle.std.specs.Prelude.{eqb, length, ℤ, pos}
+use Rattle.call.specs.Refusal.{refusal_number, refusal_place, Checked, Decision}
+use Rattle.call.specs.declared.refusal.Refusal.TheVariants.{TooShort}
 use Rattle.call.specs.Call.{Lent, Step, asks, work, stores_rows, Contract}
-use Rattle.call.specs.declared.Decision.{Decision}
-use Rattle.call.specs.declared.Decision.TheVariants as decision
 use Rattle.symbol.specs.Check.{refuse, symbol_check}
 use Rattle.sheets.specs.Sheet.{matrix_a, matrix_b, pairs_in}
 use Rattle.same_coset.specs.Answer.{same_coset_of, CosetMeans}
@@ -30,12 +30,12 @@ abbrev pub whole_pairs : ℕ → ℕ
 whole_pairs n = 8 * (n / 8 + 1)
 
 abbrev pub whole_check : ℕ → Checked
-whole_check n = refuse (ragged n) (too_short (whole_pairs n))
+whole_check n = refuse (ragged n) (TooShort (whole_pairs n))
 
 abbrev pub coset_line : Decision → List ℤ
-coset_line decision.Yes = pos 0 ∷ pos 1 ∷ []
-coset_line decision.No = pos 0 ∷ pos 0 ∷ []
-coset_line (decision.Refused f) = pos f.number ∷ pos f.place ∷ []
+coset_line (Ok true) = pos 0 ∷ pos 1 ∷ []
+coset_line (Ok false) = pos 0 ∷ pos 0 ∷ []
+coset_line (Err f) = pos (refusal_number f) ∷ pos (refusal_place f) ∷ []
 
 abbrev pub coset_at : (v : ℕ) (t p : List ℤ) (work : ℕ) → ℕ → Decision
 coset_at v t p work i = same_coset_of v t (matrix_a p i) (matrix_b p i) work

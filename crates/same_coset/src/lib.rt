@@ -3,7 +3,7 @@
 // specs/Answer.antt says what is answered for one pair and what that means, specs/Pairs.antt the same for many.
 #![tactic(auto)]
 
-ghost use Rattle.std.specs.Prelude.{◌≡◌, length};
+ghost use Rattle.std.specs.Prelude.{◌≡◌, Ok, length};
 ghost use Rattle.matrix.specs.Matrix.{of_list};
 ghost use Rattle.call.specs.Space.{zeros};
 ghost use Rattle.call.specs.Inner.Fills.{Fills, decided};
@@ -12,11 +12,10 @@ ghost use Rattle.word.specs.Claim.{ValidQuery};
 ghost use Rattle.same_coset.specs.Inner.Places.{Prepared};
 ghost use Rattle.same_coset.specs.Inner.Rows.{OneMatrix};
 ghost use Rattle.same_coset.specs.Answer.{same_coset_steps};
-ghost use Rattle.same_coset.specs.Inner.Ready.{yes_no, Shares};
+ghost use Rattle.same_coset.specs.Inner.Ready.{Shares};
 
 use crate::t_runs::{arrive_both, prepare};
-use call::Decision;
-use call::refusal::{Checked, Refusal, TOO_SHORT};
+use call::refusal::Refusal;
 use symbol::check;
 use word::pair_check;
 
@@ -29,54 +28,35 @@ fn share(w: &[u16], n: usize, a: [i64; 4], b: [i64; 4]) -> bool
     requires { Prepared n w.now × OneMatrix a × OneMatrix b }
     ensures { Shares n w.now a b result }
 {
-    let places = arrive_both(w, n, a, b);
-    places.first == places.second
-}
-
-// Yes or no.
-fn yes_or_no(k: bool) -> Decision
-    ensures { result ≡ yes_no k }
-{
-    if k {
-        return Decision::Yes;
-    }
-    Decision::No
+    let (first, second) = arrive_both(w, n, a, b);
+    first == second
 }
 
 // The answer for an accepted symbol and pair; the work space is cleared after.
-fn answer(v: usize, t: &[i64], a: [i64; 4], b: [i64; 4], w: &mut [u16]) -> Decision
+fn answer(v: usize, t: &[i64], a: [i64; 4], b: [i64; 4], w: &mut [u16]) -> Result<bool, Refusal>
     requires { ValidQuery v t.now a b w.old }
-    ensures value { result ≡ yes_no (closes v t.now (of_list a) (of_list b)) }
+    ensures value { result ≡ Ok (closes v t.now (of_list a) (of_list b)) }
     ensures w_after { w.new ≡ zeros (length w.old) }
 {
     let n = prepare(v, t, w);
     let shared = share(w, n, a, b);
     call::workspace::clear(w);
-    yes_or_no(shared)
+    Ok(shared)
 }
 
 // Whether A and B share a right coset: checks 1 to 7, then 8 and 9, A before B under each, then the work space.
-pub fn same_coset(v: usize, t: &[i64], a: [i64; 4], b: [i64; 4], w: &mut [u16]) -> Decision
+pub fn same_coset(
+    v: usize,
+    t: &[i64],
+    a: [i64; 4],
+    b: [i64; 4],
+    w: &mut [u16],
+) -> Result<bool, Refusal>
     ensures { Fills (same_coset_steps v t.now a b w)
         (decided (closes v t.now (of_list a) (of_list b))) result }
 {
-    let checked = check(v, t);
-    match checked {
-        Checked::Refused(refusal) => Decision::Refused(refusal),
-        Checked::Accepted => {
-            let paired = pair_check(a, b);
-            match paired {
-                Checked::Refused(refusal) => Decision::Refused(refusal),
-                Checked::Accepted => {
-                    if w.len() < call::workspace::WORK {
-                        return Decision::Refused(Refusal {
-                            number: TOO_SHORT,
-                            place: call::workspace::WORK,
-                        });
-                    }
-                    answer(v, t, a, b, w)
-                }
-            }
-        }
-    }
+    check(v, t)?;
+    pair_check(a, b)?;
+    call::room(call::workspace::WORK, w.len())?;
+    answer(v, t, a, b, w)
 }

@@ -1,7 +1,7 @@
 // Where a matrix leads in coset tables, run by run of T: division to the nearest multiple on its first column finds the
 // runs, and each is one look in its cusp, by the remainder of its length by the cusp's width. specs/Runs.antt says what
 // is promised, specs/Inner has the tables by place.
-ghost use Rattle.std.specs.Prelude.{◌≡◌, ◌+◌, ◌*◌, ◌/◌, ◌%◌, ◌≤◌, ◌<◌, false, ltb, length, pos, nat_abs, ◌-ℤ◌, ◌*ℤ◌};
+ghost use Rattle.std.specs.Prelude.{◌≡◌, ◌+◌, ◌*◌, ◌/◌, ◌%◌, ◌≤◌, ◌<◌, length, pos, nat_abs, ◌-ℤ◌, ◌*ℤ◌};
 ghost use Rattle.basics.specs.Choice.{pick};
 ghost use Rattle.std.specs.Int.Signed.{non_neg};
 ghost use Rattle.call.specs.Space.{work_length};
@@ -12,7 +12,7 @@ ghost use Rattle.figures.specs.Inner.Scan.{held_t};
 ghost use Rattle.same_coset.specs.Runs.{Arrived};
 ghost use Rattle.same_coset.specs.Inner.Places.{held_turns, steps_on, run_place, InCusp, along_cusp, Prepared};
 ghost use Rattle.same_coset.specs.Inner.Places.{SymbolPlaces};
-ghost use Rattle.same_coset.specs.Inner.Rows.{signed, both_or_none, LIMIT, DividesNearest, OneMatrix};
+ghost use Rattle.same_coset.specs.Inner.Rows.{signed, LIMIT, DividesNearest, OneMatrix};
 ghost use Rattle.same_coset.specs.Inner.Rows.{SoundRemaining, Subtracts, WholeRemaining, AfterRun, RemainsLater};
 ghost use Rattle.same_coset.specs.Inner.Rows.{LeadsTo};
 
@@ -44,20 +44,6 @@ pub struct Remaining {
     pub d: i64,
     pub aligned: bool,
     pub place: usize,
-}
-
-// What remains of two matrices.
-#[derive(Clone, Copy)]
-pub struct RemainingPair {
-    pub first: Remaining,
-    pub second: Remaining,
-}
-
-// The places of two matrices.
-#[derive(Clone, Copy)]
-pub struct TwoPlaces {
-    pub first: usize,
-    pub second: usize,
 }
 
 // ---- runs in a cusp
@@ -111,13 +97,6 @@ fn slide(w: &[u16], n: usize, place: usize, onward: bool, q: u32) -> usize
 
 // ---- signs and sizes
 
-// Whether x stands without a minus.
-fn is_nonnegative(x: i64) -> bool
-    ensures { result ≡ non_neg x }
-{
-    x >= 0
-}
-
 // x or -x.
 fn with_sign(plus: bool, x: i64) -> i64
     requires { nat_abs x ≤ LIMIT }
@@ -134,17 +113,7 @@ fn size(x: i64) -> u32
     requires { nat_abs x ≤ LIMIT }
     ensures { result ≡ nat_abs x }
 {
-    with_sign(is_nonnegative(x), x) as u32
-}
-
-// Two tests that pass both or fail both.
-fn both_or_none(h: bool, k: bool) -> bool
-    ensures { result ≡ both_or_none h k }
-{
-    if h {
-        return k;
-    }
-    !k
+    x.unsigned_abs() as u32
 }
 
 // One of two numbers. It is small for the sake of the compiler, which then needs no jump: whether a division rounds up
@@ -163,7 +132,7 @@ fn subtract(b: i64, q: u32, d: i64) -> i64
     requires { Subtracts b q d }
     ensures { result ≡ b -ℤ pos q *ℤ d }
 {
-    b - (q as i64) * d
+    b - i64::from(q) * d
 }
 
 // ---- one matrix
@@ -190,18 +159,15 @@ fn all_of(m: [i64; 4]) -> Remaining
     requires { Small LIMIT (of_list m) }
     ensures { WholeRemaining (of_list m) result }
 {
-    let upper = m[0];
-    let upper_right = m[1];
-    let lower = m[2];
-    let lower_right = m[3];
-    let h = is_nonnegative(upper);
-    let k = is_nonnegative(lower);
+    let [upper, upper_right, lower, lower_right] = m;
+    let h = upper >= 0;
+    let k = lower >= 0;
     Remaining {
         a: size(upper),
         b: with_sign(h, upper_right),
         c: size(lower),
         d: with_sign(k, lower_right),
-        aligned: both_or_none(h, k),
+        aligned: h == k,
         place: 0,
     }
 }
@@ -220,7 +186,7 @@ fn turn(w: &[u16], n: usize, x: Remaining) -> Remaining
         b: x.d,
         c: e.distance,
         d: with_sign(!e.up, right),
-        aligned: both_or_none(e.up, x.aligned),
+        aligned: e.up == x.aligned,
         place: call::workspace::index(w[TURN + y]),
     }
 }
@@ -230,8 +196,7 @@ fn finish(w: &[u16], n: usize, x: Remaining) -> usize
     requires { Prepared n w.now × SoundRemaining n x }
     ensures { result ≡ run_place (held_t n w.now) (non_neg x.b) (nat_abs x.b) x.place }
 {
-    let e = x.b;
-    slide(w, n, x.place, is_nonnegative(e), size(e))
+    slide(w, n, x.place, x.b >= 0, size(x.b))
 }
 
 // The place to which all that remains leads.
@@ -240,6 +205,7 @@ fn go_on(w: &[u16], n: usize, a: Remaining) -> usize
     ensures { LeadsTo n w.now a result }
 {
     let mut x = a;
+    // It stays `while`: how many runs there are shows in the loop, as the quotients of a Euclidean algorithm.
     while x.c != 0 {
         x = turn(w, n, x);
     }
@@ -248,48 +214,31 @@ fn go_on(w: &[u16], n: usize, a: Remaining) -> usize
 
 // ---- two matrices
 
-// Whether a run and S remain of both.
-fn both_left(c: u32, d: u32) -> bool
-    ensures { result ≡ pick (ltb 0 c) (ltb 0 d) false }
-{
-    if c == 0 {
-        return false;
-    }
-    d != 0
-}
-
 // Two matrices run by run, until one of them has only its last run left. They go side by side since the divisions of
 // one need not wait for those of the other.
-fn side_by_side(w: &[u16], n: usize, a: Remaining, b: Remaining) -> RemainingPair
+fn side_by_side(w: &[u16], n: usize, a: Remaining, b: Remaining) -> (Remaining, Remaining)
     requires { Prepared n w.now × SoundRemaining n a × SoundRemaining n b }
-    ensures remains_later { RemainsLater n w.now a result.first }
-    ensures remains_later_2 { RemainsLater n w.now b result.second }
+    ensures remains_later { RemainsLater n w.now a result.0 }
+    ensures remains_later_2 { RemainsLater n w.now b result.1 }
 {
     let mut x = a;
     let mut y = b;
-    while both_left(x.c, y.c) {
+    // It stays `while`, as in `go_on`.
+    while x.c != 0 && y.c != 0 {
         x = turn(w, n, x);
         y = turn(w, n, y);
     }
-    RemainingPair {
-        first: x,
-        second: y,
-    }
+    (x, y)
 }
 
 // The places to which two matrices lead.
-pub fn arrive_both(w: &[u16], n: usize, a: [i64; 4], b: [i64; 4]) -> TwoPlaces
+pub fn arrive_both(w: &[u16], n: usize, a: [i64; 4], b: [i64; 4]) -> (usize, usize)
     requires { Prepared n w.now × OneMatrix a × OneMatrix b }
-    ensures arrived { Arrived (held_turns n w.now) (held_t n w.now) (of_list a) result.first }
-    ensures arrived_2 { Arrived (held_turns n w.now) (held_t n w.now) (of_list b) result.second }
+    ensures arrived { Arrived (held_turns n w.now) (held_t n w.now) (of_list a) result.0 }
+    ensures arrived_2 { Arrived (held_turns n w.now) (held_t n w.now) (of_list b) result.1 }
 {
-    let left = side_by_side(w, n, all_of(a), all_of(b));
-    let x = left.first;
-    let y = left.second;
-    TwoPlaces {
-        first: go_on(w, n, x),
-        second: go_on(w, n, y),
-    }
+    let (x, y) = side_by_side(w, n, all_of(a), all_of(b));
+    (go_on(w, n, x), go_on(w, n, y))
 }
 
 // ---- the tables

@@ -16,12 +16,10 @@ pub fn enter_turns(w: &mut [u16], n: usize)
     ensures turns_at { TurnsAt (held_s n w.old) (held_t n w.old) n w.new }
     ensures changed_within { ChangedWithin TURN T_TABLE w.old w.new }
 {
-    let mut y: usize = 0;
-    while y < n {
+    for y in 0..n {
         let x = call::workspace::index(w[ORDER + y]);
         let z = call::workspace::index(w[S_TABLE + x]);
         w[TURN + y] = w[NUMBER + z];
-        y += 1;
     }
 }
 
@@ -46,11 +44,9 @@ pub fn enter_ends(w: &mut [u16], n: usize)
     ensures ends_to { EndsTo (held_t n w.old) n w.new }
     ensures ends_frame { EndsFrame w.old w.new }
 {
-    let mut y: usize = 0;
-    while y < n {
+    for y in 0..n {
         let c = cusp_at(w, n, y);
         w[END + y] = (c.first + c.width) as u16;
         w[WIDTH + y] = c.width as u16;
-        y += 1;
     }
 }

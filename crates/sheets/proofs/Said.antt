@@ -1,6 +1,7 @@
 -- WHAT THE NUMBER OF A QUERY TELLS, by its claim: 0 that it is no refusal (`zero`, `never_zero`), 10 that there is no such product (`ten_none`), 11 that a
 -- word is found which doesn't fit (`eleven`); and a sign as a number (`unit_of`, `with_scaled`).
 -- Assumes nothing.
+use Rattle.std.specs.Prelude.{Ok, Err}
 use mathlib.Core.Path.{◌≡◌, refl, sym, ap, ◌∙◌}
 use mathlib.Core.Logic.{◌⊎◌, inl, inr}
 use mathlib.Core.Bool.{Bool, true, false}
@@ -16,13 +17,13 @@ use Rattle.matrix.proofs.Ring.{con, var, ◌⊙◌, ⊖◌, ring}
 use Rattle.coset.specs.Positions.{with_sign}
 use Rattle.coset.specs.Tables.{table_s, table_r}
 use Rattle.right_cosets.specs.Leads.{leads}
-use Rattle.call.specs.Refusal.{no_refusal, no_word, too_short}
+use Rattle.call.specs.Refusal.{answer_number, refusal_number, Answer, outcome}
+use Rattle.call.specs.declared.refusal.Refusal.TheVariants.{NoWord, TooShort}
 use Rattle.call.specs.declared.refusal.Refusal.{Refusal}
-use Rattle.word.specs.Answer.{query_refusal, sign_number}
+use Rattle.word.specs.Answer.{sign_number}
 use Rattle.word.specs.Claim.{Answered, SameRightCoset, Claim, scaled}
-use Rattle.word.specs.declared.Queried.{Queried}
-use Rattle.word.specs.declared.Queried.TheVariants as queried
-use Rattle.word.proofs.Claim.{same_number}
+use Rattle.word.specs.declared.FoundWord.{FoundWord}
+use Rattle.word.proofs.Claim.{outcome_number}
 
 -- a sign as a number, and in front of a matrix
 by_entries : {a b c d e f g h : ℤ} → a ≡ e → b ≡ f → c ≡ g → d ≡ h → mat a b c d ≡ mat e f g h
@@ -42,36 +43,36 @@ with_scaled false m =
     let e : (z : ℤ) → neg_ℤ z ≡ negsuc 0 *ℤ z = λ z. ring (z ∷ []) (⊖ var 0) (con (negsuc 0) ⊙ var 0) tt in
     by_entries (e m.a) (e m.b) (e m.c) (e m.d)
 
-module _ {v : ℕ} {t : List ℤ} {A B : Mat} {word : List ℤ} {sign : Bool} {out : List ℤ} {start : ℕ} {r : Queried} {out' : List ℤ}
+module _ {v : ℕ} {t : List ℤ} {A B : Mat} {word : List ℤ} {sign : Bool} {out : List ℤ} {start : ℕ} {r : Answer FoundWord} {out' : List ℤ}
     (s : Answered v t A B word sign out start r out') where
   -- a number 10 is 'none'
-  pub ten_none : (query_refusal r).number ≡ no_word.number → SameRightCoset v t A B → ⊥
-  ten_none z j = elim (s.found.1 j) [ inl y ↦ absurd (omega (arith, same_number y, z)) | inr y ↦ absurd (omega (arith, same_number y, z)) ]
+  pub ten_none : answer_number r ≡ refusal_number NoWord → SameRightCoset v t A B → ⊥
+  ten_none z j = elim (s.found.1 j) [ inl y ↦ absurd (omega (arith, outcome_number r y, z)) | inr y ↦ absurd (omega (arith, outcome_number r y, z)) ]
 
   -- a number 0 is no refusal
-  pub zero : (query_refusal r).number ≡ 0 → query_refusal r ≡ no_refusal
+  pub zero : answer_number r ≡ 0 → outcome r ≡ Ok tt
   zero z = go r refl
     where
-      go : (x : Queried) → r ≡ x → query_refusal r ≡ no_refusal
-      go (queried.Word i k q) e = ap query_refusal e
-      go (queried.Refused f) e =
+      go : (x : Answer FoundWord) → r ≡ x → outcome r ≡ Ok tt
+      go (Ok u) e = ap outcome e
+      go (Err f) e =
           let never : SameRightCoset v t A B → ⊥ = λ j. elim (s.found.1 j) [
             | inl y ↦ (let q = sym e ∙ s.names y in let u : ◌≡◌ {A = ℕ} 0 1 = cc in absurd (omega arith))
-            | inr y ↦ absurd (omega (arith, same_number y, z))
+            | inr y ↦ absurd (omega (arith, outcome_number r y, z))
           ] in
-          absurd (omega (arith, same_number (s.none.1 never), z))
+          absurd (omega (arith, outcome_number r (s.none.1 never), z))
 
   -- a number 11 is that of a word which doesn't fit
-  pub eleven : (query_refusal r).number ≡ (too_short 0).number → query_refusal r ≡ too_short (length word)
+  pub eleven : answer_number r ≡ refusal_number (TooShort 0) → outcome r ≡ Err (TooShort (length word))
   eleven z = elim (ℕ_discrete (leads (table_s v t) (table_r v t) A) (leads (table_s v t) (table_r v t) B)) [
-    | yes e ↦ elim (s.points.1 e) [ inl y ↦ absurd (omega (arith, same_number y, z)) | inr y ↦ y ]
-    | no e ↦ absurd (omega (arith, same_number (s.none.1 (λ j. e (s.points.0 (s.found.1 j)))), z))
+    | yes e ↦ elim (s.points.1 e) [ inl y ↦ absurd (omega (arith, outcome_number r y, z)) | inr y ↦ y ]
+    | no e ↦ absurd (omega (arith, outcome_number r (s.none.1 (λ j. e (s.points.0 (s.found.1 j)))), z))
   ]
 
-pub never_zero : {v : ℕ} {t a b : List ℤ} {w : List ℕ} {out : List ℤ} {start : ℕ} {out' : List ℤ} (r : Queried) (f : Refusal)
-    → Claim v t a b w out start r out' → r ≡ queried.Refused f → f.number ≡ 0 → ⊥
+pub never_zero : {v : ℕ} {t a b : List ℤ} {w : List ℕ} {out : List ℤ} {start : ℕ} {out' : List ℤ} (r : Answer FoundWord) (f : Refusal)
+    → Claim v t a b w out start r out' → r ≡ Err f → refusal_number f ≡ 0 → ⊥
 never_zero r f c e z =
-    let number : (query_refusal r).number ≡ 0 = same_number (ap query_refusal e) ∙ z in
+    let number : answer_number r ≡ 0 = outcome_number r (ap outcome e) ∙ z in
     let k = c.answered (c.asked (inl number)) in
     let x = sym e ∙ k.names (zero k number) in
     let y : ◌≡◌ {A = ℕ} 0 1 = cc in

@@ -2,9 +2,10 @@
 -- what that leaves (`pair_left`); its entries are those of its part of the slice (`part_A`, `part_B`); and its line fits (`pair_fits`), since the numbers
 -- and places of refusals are small (`SmallRefusal`, `pair_small`).
 -- Assumes nothing.
+use Rattle.std.specs.Prelude.{Ok, Err}
 use mathlib.Core.Path.{◌≡◌, refl, sym, ◌∙◌, ap, subst}
 use mathlib.Core.Bool.{Bool, true, false, not}
-use mathlib.Core.List.{List, [], ◌∷◌}
+use mathlib.Core.List.{List, ◌∷◌}
 use Prim.Native.Nat.{ℕ, ◌+◌, ◌-◌, ◌^◌, ◌≤◌, ◌<◌}
 use native.Mathlib.Omega.{arith}
 use lib.Dec.{leb, ltb}
@@ -17,22 +18,21 @@ use Rattle.basics.specs.Count.{first}
 use Rattle.basics.proofs.Choice.{and_left, and_right}
 use Rattle.basics.proofs.Count.{first_le}
 use Rattle.call.specs.Space.{work_length}
-use Rattle.call.specs.Refusal.{◌or_else◌, matrix_entry, bad_determinant, no_word, too_short}
+use Rattle.call.specs.Refusal.{◌or_else◌, refusal_number, refusal_place, Checked, Answer}
+use Rattle.call.specs.declared.refusal.Refusal.TheVariants.{MatrixEntry, BadDeterminant, NoWord, TooShort}
 use Rattle.call.specs.declared.refusal.Refusal.{Refusal}
-use Rattle.call.specs.declared.refusal.Checked.{Checked}
-use Rattle.call.specs.declared.refusal.Checked.TheVariants.{Accepted, Refused}
 use Rattle.call.proofs.Answers.{both_pass, then_next}
-use Rattle.call.specs.Call.{Step, Asks, Gives, verdict, length_check}
+use Rattle.call.specs.Call.{Step, Asks, verdict, length_check}
 use Rattle.call.specs.Inner.Fills.{Fills}
 use Rattle.call.proofs.Laws.{room_long}
 use Rattle.symbol.specs.Check.{refuse, refuse_at, symbol_check}
 use Rattle.symbol.specs.Symbol.{IsSymbol}
 use Rattle.symbol.proofs.Accepted.{accepted, passes}
-use Rattle.word.specs.Answer.{four, large, unit, matrices_check, closes, found_word, found_sign, word_fits, placed, word_if, found_if, found_checks, query_of, word_left}
-use Rattle.word.specs.declared.Queried.{Queried}
-use Rattle.word.specs.declared.Queried.TheVariants as queried
+use Rattle.word.specs.Answer.{four, large, unit, matrices_check, closes, found_word, found_sign, word_fits, word_if, found_if, found_checks, query_of}
+use Rattle.word.specs.Answer.{word_left, word_at}
+use Rattle.word.specs.declared.FoundWord.{FoundWord}
 use Rattle.word.proofs.Finding.{walk_run}
-use Rattle.word.proofs.Refused.{Passed, passed_by}
+use Rattle.word.proofs.Refused.{passed_by}
 use Rattle.word.proofs.Order.{left_if}
 use Rattle.sheets.specs.Inner.Pairs.{pair_of, Fitting}
 use Rattle.sheets.proofs.Long.{letters_most}
@@ -53,18 +53,18 @@ abbrev pub pair_run : (v : ℕ) (t a b out out' : List ℤ) (start : ℕ) → Li
 pair_run v t a b out out' start = Asks (matrices_check a b) ∷ walk_run (closes v t (of_list a) (of_list b)) (found_word v t (of_list a) (of_list b)) out out' start
 
 -- by other names of the matrices
-pub pair_as : (v : ℕ) (t : List ℤ) {a b a' b' : List ℤ} → a ≡ a' → b ≡ b' → {out out' : List ℤ} {start : ℕ} {r : Queried}
+pub pair_as : (v : ℕ) (t : List ℤ) {a b a' b' : List ℤ} → a ≡ a' → b ≡ b' → {out out' : List ℤ} {start : ℕ} {r : Answer FoundWord}
     → Fills (pair_run v t a b out out' start) (found_if v t a b start) r → Fills (pair_run v t a' b' out out' start) (found_if v t a' b' start) r
 pair_as v t {a} {b} {a'} {b'} e f {out} {out'} {start} {r} g =
     subst (λ (y : List ℤ). Fills (pair_run v t a' y out out' start) (found_if v t a' y start) r) f
     (subst (λ (x : List ℤ). Fills (pair_run v t x b out out' start) (found_if v t x b start) r) e g)
 
-pub pair_left : (v : ℕ) (t a b out out' : List ℤ) (start : ℕ) {r : Queried} → Fills (pair_run v t a b out out' start) (found_if v t a b start) r
+pub pair_left : (v : ℕ) (t a b out out' : List ℤ) (start : ℕ) {r : Answer FoundWord} → Fills (pair_run v t a b out out' start) (found_if v t a b start) r
     → out' ≡ word_left r (found_word v t (of_list a) (of_list b)) out
 pair_left v t a b out out' start g =
     let l = found_word v t (of_list a) (of_list b) in
     g.leaves.0 ∙ left_if start (length l) (found_sign v t (of_list a) (of_list b)) (verdict (pair_run v t a b out out' start)) l out
-    ∙ ap (λ (x : Queried). word_left x l out) (sym g.answer)
+    ∙ ap (λ (x : Answer FoundWord). word_left x l out) (sym g.answer)
 
 -- ---- the entries
 
@@ -93,40 +93,41 @@ part_B p k = part_four p k 4 (omega arith)
 -- ---- the line fits
 
 abbrev pub SmallRefusal : Checked → Type 0
-SmallRefusal Accepted = Unit {0}
-SmallRefusal (Refused f) = (f.number < 2 ^ 63) × (f.place < 2 ^ 63)
+SmallRefusal (Ok tt) = Unit {0}
+SmallRefusal (Err f) = (refusal_number f < 2 ^ 63) × (refusal_place f < 2 ^ 63)
 
-small_refuse : (b : Bool) (f : Refusal) → f.number < 2 ^ 63 → f.place < 2 ^ 63 → SmallRefusal (refuse b f)
+small_refuse : (b : Bool) (f : Refusal) → refusal_number f < 2 ^ 63 → refusal_place f < 2 ^ 63 → SmallRefusal (refuse b f)
 small_refuse true f h k = (h, k)
 small_refuse false f h k = tt
 
-small_first : (c d : Checked) → SmallRefusal c → (c ≡ Accepted → SmallRefusal d) → SmallRefusal (c or_else d)
-small_first Accepted d h k = k refl
-small_first (Refused f) d h k = h
+small_first : (c d : Checked) → SmallRefusal c → (c ≡ Ok tt → SmallRefusal d) → SmallRefusal (c or_else d)
+small_first (Ok tt) d h k = k refl
+small_first (Err f) d h k = h
 
 module _ (a b : List ℤ) where
   abbrev i : ℕ
   i = first (large a b) 8
 
   abbrev nine_A : Checked
-  nine_A = refuse (not (unit a)) (bad_determinant 0)
+  nine_A = refuse (not (unit a)) (BadDeterminant 0)
 
   abbrev nine_B : Checked
-  nine_B = refuse (not (unit b)) (bad_determinant 1)
+  nine_B = refuse (not (unit b)) (BadDeterminant 1)
 
   pub pair_small : SmallRefusal (matrices_check a b)
   pair_small =
-      small_first (refuse_at i 8 matrix_entry) (nine_A or_else nine_B)
-      (small_refuse (ltb i 8) (matrix_entry i) (omega arith) (omega (arith, first_le (large a b) 8)))
-      (λ e. small_first nine_A nine_B (small_refuse (not (unit a)) (bad_determinant 0) (omega arith) (omega arith))
-      (λ f. small_refuse (not (unit b)) (bad_determinant 1) (omega arith) (omega arith)))
+      small_first (refuse_at i 8 MatrixEntry) (nine_A or_else nine_B)
+      (small_refuse (ltb i 8) (MatrixEntry i) (omega arith) (omega (arith, first_le (large a b) 8)))
+      (λ e. small_first nine_A nine_B (small_refuse (not (unit a)) (BadDeterminant 0) (omega arith) (omega arith))
+      (λ f. small_refuse (not (unit b)) (BadDeterminant 1) (omega arith) (omega arith)))
 
-fitting_if : (start n : ℕ) (sign : Bool) (c : Checked) → SmallRefusal c → (c ≡ Accepted → start + n < 2 ^ 63) → Fitting (word_if start n sign c)
-fitting_if start n sign Accepted h k = record {
-  word = λ start' n' sign' e. let y : start ≡ start' = cc in let z : n ≡ n' = cc in omega (arith, k refl);
+fitting_if : (start n : ℕ) (sign : Bool) (c : Checked) → SmallRefusal c → (c ≡ Ok tt → start + n < 2 ^ 63) → Fitting (word_if start n sign c)
+fitting_if start n sign (Ok tt) h k = record {
+  word = λ start' n' sign' e. let u : word_at start' n' sign' ≡ word_at start n sign = cc in
+      omega (arith, k refl, ap (λ (x : FoundWord). x.start) u, ap (λ (x : FoundWord). x.letters) u);
   refused = λ f e. let z : ◌≡◌ {A = ℕ} 0 1 = cc in absurd (omega arith);
 }
-fitting_if start n sign (Refused f) h k = record {
+fitting_if start n sign (Err f) h k = record {
   word = λ start n sign e. let z : ◌≡◌ {A = ℕ} 0 1 = cc in absurd (omega arith);
   refused = λ g e. let z : f ≡ g = cc in (rw (← z) h.0, rw (← z) h.1);
 }
@@ -136,16 +137,16 @@ module _ {v : ℕ} {t : List ℤ} (ok : IsSymbol v t) (a b : List ℤ) (room sta
   n = length (found_word v t (of_list a) (of_list b))
 
   abbrev none : Checked
-  none = refuse (not (closes v t (of_list a) (of_list b))) no_word
+  none = refuse (not (closes v t (of_list a) (of_list b))) NoWord
 
   abbrev space : Checked
-  space = refuse (not (word_fits start n room)) (too_short n)
+  space = refuse (not (word_fits start n room)) (TooShort n)
 
-  in_room : (matrices_check a b or_else none or_else space or_else Accepted) ≡ Accepted → start + n < 2 ^ 63
+  in_room : (matrices_check a b or_else none or_else space or_else (Ok tt)) ≡ Ok tt → start + n < 2 ^ 63
   in_room e =
-      let p = both_pass (matrices_check a b) (none or_else space or_else Accepted) e in
-      let q = both_pass none (space or_else Accepted) p.1 in
-      let f = not-false (word_fits start n room) (passes (not (word_fits start n room)) (too_short n) (both_pass space Accepted q.1).0) in
+      let p = both_pass (matrices_check a b) (none or_else space or_else (Ok tt)) e in
+      let q = both_pass none (space or_else (Ok tt)) p.1 in
+      let f = not-false (word_fits start n room) (passes (not (word_fits start n room)) (TooShort n) (both_pass space (Ok tt) q.1).0) in
       omega (
         arith,
         leb-true start room (and_left (leb start room) (leb n (room - start)) f),
@@ -154,9 +155,9 @@ module _ {v : ℕ} {t : List ℤ} (ok : IsSymbol v t) (a b : List ℤ) (room sta
 
   pub pair_fits : Fitting (pair_of v t a b room start)
   pair_fits =
-      fitting_if start n (found_sign v t (of_list a) (of_list b)) (matrices_check a b or_else none or_else space or_else Accepted)
-      (small_first (matrices_check a b) (none or_else space or_else Accepted) (pair_small a b)
-      (λ e. small_first none (space or_else Accepted) (small_refuse (not (closes v t (of_list a) (of_list b))) no_word (omega arith) (omega arith))
-      (λ f. small_first space Accepted
-      (small_refuse (not (word_fits start n room)) (too_short n) (omega arith) (omega (arith, letters_most ok a b (passed_by a b e)))) (λ g. tt))))
+      fitting_if start n (found_sign v t (of_list a) (of_list b)) (matrices_check a b or_else none or_else space or_else (Ok tt))
+      (small_first (matrices_check a b) (none or_else space or_else (Ok tt)) (pair_small a b)
+      (λ e. small_first none (space or_else (Ok tt)) (small_refuse (not (closes v t (of_list a) (of_list b))) NoWord (omega arith) (omega arith))
+      (λ f. small_first space (Ok tt)
+      (small_refuse (not (word_fits start n room)) (TooShort n) (omega arith) (omega (arith, letters_most ok a b (passed_by a b e)))) (λ g. tt))))
       in_room

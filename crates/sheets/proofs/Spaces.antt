@@ -1,6 +1,7 @@
 -- The word space from pair to pair: it keeps its length (`kept`), the next word never starts earlier (`stays`), and what lies before that place stays as it
 -- is; so a word that was returned still stands when the sheet is done (`line_means`). First one query, by its claim (`word_stood`): what it leaves in
 -- the space, and where the next word starts. Assumes nothing.
+use Rattle.std.specs.Prelude.{Ok, Err}
 use mathlib.Core.Path.{◌≡◌, refl, sym, ◌∙◌, ap, subst}
 use mathlib.Core.Logic.{inl}
 use mathlib.Core.Bool.{Bool}
@@ -13,12 +14,11 @@ use lib.Seq.{sets-eq, length-sets, length-take-le, take-append-le, take-take, ta
 use lib.IntN.{ℤ}
 use Rattle.basics.specs.Choice.{pick}
 use Rattle.matrix.specs.Matrix.{of_list}
-use Rattle.call.specs.Refusal.{no_refusal}
-use Rattle.word.specs.Answer.{query_refusal, found_word, found_sign, word_fits, query_of, placed, word_left, part_of}
+use Rattle.call.specs.Refusal.{Answer, outcome}
+use Rattle.word.specs.Answer.{found_word, found_sign, word_fits, query_of, placed, word_left, part_of, word_at}
 use Rattle.word.specs.Claim.{Claim}
-use Rattle.word.specs.declared.Queried.{Queried}
-use Rattle.word.specs.declared.Queried.TheVariants as queried
-use Rattle.word.proofs.Claim.{same_number}
+use Rattle.word.specs.declared.FoundWord.{FoundWord}
+use Rattle.word.proofs.Claim.{outcome_number}
 use Rattle.word.proofs.Order.{claim}
 use Rattle.sheets.specs.Sheet.{matrix_a, matrix_b, word_end, WordSpace, space_at, answer_at}
 use Rattle.sheets.specs.Meaning.{LineMeans}
@@ -39,7 +39,7 @@ module _ (v : ℕ) (t a b : List ℤ) (w : List ℕ) (out : List ℤ) (start : �
   abbrev l : List ℤ
   l = found_word v t (of_list a) (of_list b)
 
-  abbrev r : Queried
+  abbrev r : (Answer FoundWord)
   r = query_of v t a b (length w) (length out) start
 
   pub record Stood (s n : ℕ) : Type 0 where
@@ -51,30 +51,31 @@ module _ (v : ℕ) (t a b : List ℤ) (w : List ℕ) (out : List ℤ) (start : �
   all : Claim v t a b w out start r (word_left r l out)
   all = claim refl refl
 
-  pub word_stood : (s n : ℕ) (sign : Bool) → r ≡ queried.Word s n sign → Stood s n
+  pub word_stood : (s n : ℕ) (sign : Bool) → r ≡ Ok (word_at s n sign) → Stood s n
   word_stood s n sign e =
-      let z : query_refusal r ≡ no_refusal = ap query_refusal e in
-      let k = all.answered (all.asked (inl (same_number z))) in
+      let z : outcome r ≡ (Ok tt) = ap outcome e in
+      let k = all.answered (all.asked (inl (outcome_number r z))) in
       let f = (k.returned.0 z).1 in
-      let both : queried.Word s n sign ≡ queried.Word start (length l) (found_sign v t (of_list a) (of_list b)) = sym e ∙ k.names z in
-      record { place = cc; long = cc; inside = omega (arith, f.inside, f.enough); part = (k.stands z).1 }
+      let both : Ok (word_at s n sign) ≡ Ok (word_at start (length l) (found_sign v t (of_list a) (of_list b))) = sym e ∙ k.names z in
+      let u : word_at s n sign ≡ word_at start (length l) (found_sign v t (of_list a) (of_list b)) = cc in
+      record { place = ap (λ (x : FoundWord). x.start) u; long = ap (λ (x : FoundWord). x.letters) u; inside = omega (arith, f.inside, f.enough); part = (k.stands z).1 }
 
-  length_left : (x : Queried) → r ≡ x → length (word_left x l out) ≡ length out
-  length_left (queried.Word s n sign) e = let k = word_stood s n sign e in length_placed s l out (omega (arith, k.place, k.inside))
-  length_left (queried.Refused f) e = refl
+  length_left : (x : Answer FoundWord) → r ≡ x → length (word_left x l out) ≡ length out
+  length_left (Ok u) e = let k = word_stood u.start u.letters u.plus e in length_placed u.start l out (omega (arith, k.place, k.inside))
+  length_left (Err f) e = refl
 
-  end_in : start ≤ length out → (x : Queried) → r ≡ x → word_end x start ≤ length out
-  end_in h (queried.Word s n sign) e = let k = word_stood s n sign e in omega (arith, k.place, k.long, k.inside)
-  end_in h (queried.Refused f) e = h
+  end_in : start ≤ length out → (x : Answer FoundWord) → r ≡ x → word_end x start ≤ length out
+  end_in h (Ok u) e = let k = word_stood u.start u.letters u.plus e in omega (arith, k.place, k.long, k.inside)
+  end_in h (Err f) e = h
 
-  end_grows : (x : Queried) → r ≡ x → start ≤ word_end x start
-  end_grows (queried.Word s n sign) e = let k = word_stood s n sign e in omega (arith, k.place)
-  end_grows (queried.Refused f) e = omega arith
+  end_grows : (x : Answer FoundWord) → r ≡ x → start ≤ word_end x start
+  end_grows (Ok u) e = let k = word_stood u.start u.letters u.plus e in omega (arith, k.place)
+  end_grows (Err f) e = omega arith
 
-  before_left : (e : ℕ) → e ≤ start → (x : Queried) → r ≡ x → take e (word_left x l out) ≡ take e out
-  before_left e h (queried.Word s n sign) q = let k = word_stood s n sign q in
-      take_placed e s l out (omega (arith, k.place)) (omega (arith, k.place, k.inside))
-  before_left e h (queried.Refused f) q = refl
+  before_left : (e : ℕ) → e ≤ start → (x : Answer FoundWord) → r ≡ x → take e (word_left x l out) ≡ take e out
+  before_left e h (Ok u) q = let k = word_stood u.start u.letters u.plus q in
+      take_placed e u.start l out (omega (arith, k.place)) (omega (arith, k.place, k.inside))
+  before_left e h (Err f) q = refl
 
 -- ---- the part that an answer names, by what lies before its end
 
@@ -140,7 +141,7 @@ module _ (v : ℕ) (t p : List ℤ) (w : List ℕ) (out : List ℤ) where
   stays e i (suc j) h k = elim (dec_le i j) [ yes l ↦ stays_step e i j k (stays e i j l k) | no l ↦ stays_self e i (suc j) (omega arith) ]
 
   -- a word that was returned, in the space after its pair and in that before the pair n
-  stands_at : (i n : ℕ) → i < n → (s k : ℕ) (sign : Bool) → answer_at v t p (length w) out i ≡ queried.Word s k sign
+  stands_at : (i n : ℕ) → i < n → (s k : ℕ) (sign : Bool) → answer_at v t p (length w) out i ≡ Ok (word_at s k sign)
       → part_of (at n).letters s k ≡ found_word v t (of_list (matrix_a p i)) (of_list (matrix_b p i))
   unfolding space_at
   stands_at i n h s k sign e =
@@ -148,7 +149,7 @@ module _ (v : ℕ) (t p : List ℤ) (w : List ℕ) (out : List ℤ) where
       let b = matrix_b p i in
       let o = (at i).letters in
       let m = word_stood v t a b w o (at i).next s k sign e in
-      let end : word_end (answer_at v t p (length w) out i) (at i).next ≡ s + k = ap (λ (x : Queried). word_end x (at i).next) e in
+      let end : word_end (answer_at v t p (length w) out i) (at i).next ≡ s + k = ap (λ (x : Answer FoundWord). word_end x (at i).next) e in
       let z = stays (s + k) (suc i) n (omega arith) (omega (arith, end)) in
       part_same s k (at n).letters (at (suc i)).letters (omega (arith, (kept n).long, (kept i).long, m.place, m.inside))
       ((kept n).long ∙ sym (kept (suc i)).long) z.same

@@ -1,5 +1,6 @@
 -- The whole sheet: the lines and the words in their spaces (`no_room`, `in_room`), and what a number 0 says (`sheet_says`).
 -- Assumes nothing.
+use Rattle.std.specs.Prelude.{Ok, Err}
 use mathlib.Core.Path.{◌≡◌, refl, sym, ◌∙◌, ap, subst}
 use mathlib.Core.List.{List, [], ◌∷◌, ◌++◌}
 use Prim.Native.Nat.{ℕ, ◌*◌, ◌/◌, ◌≤◌, ◌<◌}
@@ -7,9 +8,8 @@ use native.Mathlib.Omega.{arith}
 use lib.ListN.{length, drop}
 use lib.IntN.{ℤ}
 use Rattle.call.specs.Space.{work_length}
-use Rattle.call.specs.Refusal.{too_short}
-use Rattle.call.specs.declared.refusal.Checked.{Checked}
-use Rattle.call.specs.declared.refusal.Checked.TheVariants.{Accepted, Refused}
+use Rattle.call.specs.Refusal.{Checked}
+use Rattle.call.specs.declared.refusal.Refusal.TheVariants.{TooShort}
 use Rattle.call.specs.Call.{Step, Asks, Clears, Gives, length_check, at_front, Leaves, if_accepted, Contract, number_of, place_of}
 use Rattle.call.proofs.Laws.{Run, run_end, run_stop, run_pass, run_put, room_short, room_long, above_room, above_among, made_says}
 use Rattle.symbol.specs.Check.{symbol_check}
@@ -35,12 +35,12 @@ module _ (v : ℕ) (t p : List ℤ) (work : ℕ) (lines out : List ℤ) where
   abbrev pub line_run : (lines' out' : List ℤ) → List Step
   line_run lines' out' = Asks (length_check n (length lines / 4)) ∷ Gives (at_front table lines) lines lines' ∷ Gives last out out' ∷ []
 
-  pub no_room : length lines / 4 < n → Run (line_run lines out) (Refused (too_short n))
+  pub no_room : length lines / 4 < n → Run (line_run lines out) (Err (TooShort n))
   no_room h =
-      run_stop (too_short n) (length_check n (length lines / 4)) (Gives (at_front table lines) lines lines ∷ Gives last out out ∷ [])
+      run_stop (TooShort n) (length_check n (length lines / 4)) (Gives (at_front table lines) lines lines ∷ Gives last out out ∷ [])
       (room_short n (length lines / 4) h) (refl, (refl, tt))
 
-  pub in_room : (lines' out' : List ℤ) → n ≤ length lines / 4 → lines' ≡ table ++ drop (4 * n) lines → out' ≡ last → Run (line_run lines' out') Accepted
+  pub in_room : (lines' out' : List ℤ) → n ≤ length lines / 4 → lines' ≡ table ++ drop (4 * n) lines → out' ≡ last → Run (line_run lines' out') (Ok tt)
   in_room lines' out' h e f =
       run_pass (length_check n (length lines / 4)) (Gives (at_front table lines) lines lines' ∷ Gives last out out' ∷ []) (room_long n (length lines / 4) h)
       (run_put (at_front table lines) lines lines' (Gives last out out' ∷ [])
@@ -71,7 +71,7 @@ module _ (v : ℕ) (t p : List ℤ) (w w' : List ℕ) (lines lines' out out' : L
   pub sheet_says : Leaves sheet_run → number_of whole ≡ 0 → SheetMeans v t p w out lines' out' (place_of whole)
   sheet_says k =
       made_says whole (SheetMeans v t p w out lines' out') (
-        above_among 11 11 (entries_check (length p)) (omega arith) (among_refuse 11 11 (bad_count (length p)) (too_short 2048) (omega arith) (omega arith)),
+        above_among 11 11 (entries_check (length p)) (omega arith) (among_refuse 11 11 (bad_count (length p)) (TooShort 2048) (omega arith) (omega arith)),
         (
           above_among 1 7 (symbol_check v t) (omega arith) (check_among v t),
           (above_room work_length (length w), (above_room (pairs_in p) (length lines / 4), tt)),

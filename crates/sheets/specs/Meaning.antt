@@ -12,20 +12,19 @@
 --                 are the normal form. Where it is 10, there is no such product
 --   SheetMeans    the place that a sheet tells is the number of pairs, and these hold for each
 --   sheet_call    THE EXPORTED CALL: the steps of a sheet, the number of pairs, and what a number 0 says
-use Rattle.std.specs.Prelude.{◌≡◌, Bool, List, [], ◌∷◌, ℕ, suc, ◌<◌, eqb, length, ℤ, pos}
+use Rattle.std.specs.Prelude.{◌≡◌, Bool, List, [], ◌∷◌, ℕ, suc, ◌<◌, eqb, length, ℤ, pos, Ok}
 use Rattle.basics.specs.Choice.{pick}
 use Rattle.matrix.specs.Matrix.{of_list}
 use Rattle.call.specs.Call.{Lent, Contract}
-use Rattle.word.specs.Answer.{found_word, part_of}
+use Rattle.word.specs.Answer.{found_word, part_of, word_at}
 use Rattle.word.specs.Claim.{Claim, QuerySays, SignSays}
-use Rattle.word.specs.declared.Queried.TheVariants as queried
 use Rattle.sheets.specs.Sheet.{matrix_a, matrix_b, pairs_in, space_at, answer_at, line_in, sheet_steps}
 
 pub record LineMeans (v : ℕ) (t p : List ℤ) (w : List ℕ) (out out' : List ℤ) (i : ℕ) : Type 0 where
   pub claim : Claim v t (matrix_a p i) (matrix_b p i) w
       (space_at v t p (length w) out i).letters (space_at v t p (length w) out i).next
       (answer_at v t p (length w) out i) (space_at v t p (length w) out (suc i)).letters
-  pub stands : (start n : ℕ) (sign : Bool) → answer_at v t p (length w) out i ≡ queried.Word start n sign
+  pub stands : (start n : ℕ) (sign : Bool) → answer_at v t p (length w) out i ≡ Ok (word_at start n sign)
       → part_of out' start n ≡ found_word v t (of_list (matrix_a p i)) (of_list (matrix_b p i))
 
 abbrev pub place_in : (n a b : ℕ) → ℕ

@@ -21,16 +21,17 @@
 --   sheet_steps               THE STEPS OF A SHEET: the number of entries, then the checks of the symbol, then the work
 --                             space, then the line table; it leaves the lines and the words
 --   sheet_checks              what they refuse, by the lengths of the spaces
-use Rattle.std.specs.Prelude.{Bool, not, ◌||◌, List, [], ◌∷◌, ◌++◌, ℕ, zero, suc, ◌+◌, ◌*◌, ◌/◌, ◌%◌, ltb, eqb, length, take, drop, ℤ, pos}
+use Rattle.std.specs.Prelude.{Ok, Err}
+use Rattle.std.specs.Prelude.{Bool, not, ◌||◌, List, [], ◌∷◌, ◌++◌, ℕ, zero, suc, ◌+◌, ◌*◌, ◌/◌, ◌%◌, ltb, eqb}
+use Rattle.std.specs.Prelude.{length, take, drop, ℤ, pos}
 use Rattle.matrix.specs.Matrix.{of_list}
 use Rattle.call.specs.Space.{work_length}
-use Rattle.call.specs.Refusal.{too_short}
-use Rattle.call.specs.declared.refusal.Checked.{Checked}
+use Rattle.call.specs.Refusal.{refusal_number, refusal_place, Checked, Answer}
+use Rattle.call.specs.declared.refusal.Refusal.TheVariants.{TooShort}
 use Rattle.call.specs.Call.{Lent, Step, asks, work, result_in, stores_rows, length_check}
 use Rattle.symbol.specs.Check.{refuse, symbol_check}
 use Rattle.word.specs.Answer.{four, found_word, sign_number, query_of, word_left}
-use Rattle.word.specs.declared.Queried.{Queried}
-use Rattle.word.specs.declared.Queried.TheVariants as queried
+use Rattle.word.specs.declared.FoundWord.{FoundWord}
 
 -- ---- the pairs
 
@@ -52,12 +53,12 @@ pub record WordSpace : Type 0 where
   pub letters : List ℤ
   pub next : ℕ
 
-abbrev pub word_end : Queried → ℕ → ℕ
-word_end (queried.Word start n sign) next = start + n
-word_end (queried.Refused f) next = next
+abbrev pub word_end : Answer FoundWord → ℕ → ℕ
+word_end (Ok u) next = u.start + u.letters
+word_end (Err f) next = next
 
 -- the answer for a pair in a word space, and the word space after it
-abbrev pub answer_in : (v : ℕ) (t a b : List ℤ) (work : ℕ) → WordSpace → Queried
+abbrev pub answer_in : (v : ℕ) (t a b : List ℤ) (work : ℕ) → WordSpace → (Answer FoundWord)
 answer_in v t a b work s = query_of v t a b work (length s.letters) s.next
 
 abbrev pub space_after : (v : ℕ) (t a b : List ℤ) (work : ℕ) → WordSpace → WordSpace
@@ -72,14 +73,14 @@ unfoldable pub space_at : (v : ℕ) (t p : List ℤ) (work : ℕ) (out : List �
 space_at v t p work out zero = record { letters = out; next = 0 }
 space_at v t p work out (suc i) = space_after v t (matrix_a p i) (matrix_b p i) work (space_at v t p work out i)
 
-abbrev pub answer_at : (v : ℕ) (t p : List ℤ) (work : ℕ) (out : List ℤ) → ℕ → Queried
+abbrev pub answer_at : (v : ℕ) (t p : List ℤ) (work : ℕ) (out : List ℤ) → ℕ → (Answer FoundWord)
 answer_at v t p work out i = answer_in v t (matrix_a p i) (matrix_b p i) work (space_at v t p work out i)
 
 -- ---- the lines
 
-abbrev pub line_of : Queried → List ℤ
-line_of (queried.Word start n sign) = pos 0 ∷ pos start ∷ pos n ∷ sign_number sign ∷ []
-line_of (queried.Refused f) = pos f.number ∷ pos f.place ∷ pos 0 ∷ pos 0 ∷ []
+abbrev pub line_of : Answer FoundWord → List ℤ
+line_of (Ok u) = pos 0 ∷ pos u.start ∷ pos u.letters ∷ sign_number u.plus ∷ []
+line_of (Err f) = pos (refusal_number f) ∷ pos (refusal_place f) ∷ pos 0 ∷ pos 0 ∷ []
 
 unfoldable pub lines_to : (v : ℕ) (t p : List ℤ) (work : ℕ) (out : List ℤ) → ℕ → List ℤ
 lines_to v t p work out zero = []
@@ -91,7 +92,7 @@ line_in lines i = take 4 (drop (4 * i) lines)
 -- ---- the steps
 
 abbrev pub entries_check : ℕ → Checked
-entries_check n = refuse (bad_count n) (too_short 2048)
+entries_check n = refuse (bad_count n) (TooShort 2048)
 
 abbrev pub line_steps : (v : ℕ) (t p : List ℤ) (work : ℕ) → (lines out : Lent (List ℤ)) → List Step
 line_steps v t p work lines out =

@@ -5,17 +5,19 @@
 #![tactic(auto)]
 
 ghost use Rattle.std.specs.Prelude.{◌≡◌, [], ◌∷◌, ◌++◌, ◌+◌, ◌*◌, ◌^◌, ◌≤◌, ◌<◌, length, drop, pos};
+ghost use Rattle.call.specs.Refusal.{refusal_number, refusal_place};
 ghost use Rattle.call.specs.Space.{zeros};
 ghost use Rattle.call.specs.Inner.Fills.{Fills, made_if};
 ghost use Rattle.word.specs.Answer.{four, found_if};
 ghost use Rattle.coset.specs.Inner.Steps.{BuiltSteps};
 ghost use Rattle.walk_runs.specs.Inner.Rounds.{Rounds};
-ghost use Rattle.sheets.specs.Sheet.{pairs_in, bad_count, word_end, space_at, line_of, lines_to, line_steps, sheet_steps};
+ghost use Rattle.sheets.specs.Sheet.{pairs_in, bad_count, word_end, space_at, line_of, lines_to, line_steps};
+ghost use Rattle.sheets.specs.Sheet.{sheet_steps};
 ghost use Rattle.sheets.specs.Inner.Pairs.{pair_steps, SheetReady, row_at, Fitting};
 
-use call::refusal::{Checked, Filled, Refusal, TOO_SHORT};
+use call::refusal::Refusal;
 use symbol::check;
-use word::{Queried, answer_by, four_at, pair_check, sign_number};
+use word::{FoundWord, answer_by, four_at, pair_check, sign_number};
 
 // The entries of a sheet, at most.
 pub const ENTRIES: usize = 2048;
@@ -24,24 +26,27 @@ pub const ENTRIES: usize = 2048;
 pub fn is_bad_count(n: usize) -> bool
     ensures { result ≡ bad_count n }
 {
-    if n % 8 != 0 {
-        return true;
-    }
-    ENTRIES < n
+    n % 8 != 0 || ENTRIES < n
 }
 
 // Where the next word starts.
-fn word_end(answer: Queried, next: usize) -> usize
+fn word_end(answer: Result<FoundWord, Refusal>, next: usize) -> usize
     requires { Fitting answer }
     ensures { result ≡ word_end answer next }
 {
     match answer {
-        Queried::Word(start, n, _) => start + n,
-        Queried::Refused(_) => next,
+        Ok(
+            FoundWord {
+                start,
+                letters: n,
+                ..
+            },
+        ) => start + n,
+        Err(_) => next,
     }
 }
 
-// A number among the signed ones.
+// A number among the signed ones. By `as`: `i64::try_from` would have an `Err` that no number here can meet.
 fn signed(n: u64) -> i64
     requires { n < 2 ^ 63 }
     ensures { result ≡ pos n }
@@ -60,29 +65,35 @@ pub fn put_two(lines: &mut [i64], i: usize, a: i64, b: i64)
 
 // The number and the place of a refusal there.
 pub fn put_refusal(lines: &mut [i64], i: usize, refusal: Refusal)
-    requires { (2 * i + 2 ≤ length lines.old) × (refusal.number < 2 ^ 63) × (refusal.place < 2 ^ 63) }
-    ensures { lines.new ≡ row_at 2 i (pos refusal.number ∷ pos refusal.place ∷ [])
+    requires { (2 * i + 2 ≤ length lines.old) × (refusal_number refusal < 2 ^ 63) × (refusal_place refusal < 2 ^ 63) }
+    ensures { lines.new ≡ row_at 2 i (pos (refusal_number refusal) ∷ pos (refusal_place refusal) ∷ [])
         lines.old }
 {
     put_two(
         lines,
         i,
-        signed(refusal.number),
-        signed(refusal.place as u64),
+        signed(refusal.number()),
+        signed(refusal.place() as u64),
     );
 }
 
 // The line of an answer at the place i of the table.
-fn write_line(lines: &mut [i64], i: usize, answer: Queried)
+fn write_line(lines: &mut [i64], i: usize, answer: Result<FoundWord, Refusal>)
     requires { (4 * i + 4 ≤ length lines.old) × Fitting answer }
     ensures { lines.new ≡ row_at 4 i (line_of answer) lines.old }
 {
     match answer {
-        Queried::Word(start, n, sign) => {
+        Ok(
+            FoundWord {
+                start,
+                letters: n,
+                plus: sign,
+            },
+        ) => {
             put_two(lines, 2 * i, 0, signed(start as u64));
             put_two(lines, 2 * i + 1, signed(n as u64), sign_number(sign));
         }
-        Queried::Refused(refusal) => {
+        Err(refusal) => {
             put_refusal(lines, 2 * i, refusal);
             put_two(lines, 2 * i + 1, 0, 0);
         }
@@ -100,7 +111,7 @@ fn answer_pair(
     pair: &[i64],
     out: &mut [i16],
     start: usize,
-) -> Queried
+) -> Result<FoundWord, Refusal>
     requires { BuiltSteps t.now v w.now home × (length pair.now ≡ 8) × Rounds v t.now r.old }
     ensures fills { Fills
         (pair_steps v t.now (four pair.now 0) (four pair.now 4) out start)
@@ -109,11 +120,8 @@ fn answer_pair(
 {
     let a = four_at(pair, 0);
     let b = four_at(pair, 4);
-    let paired = pair_check(a, b);
-    match paired {
-        Checked::Refused(refusal) => Queried::Refused(refusal),
-        Checked::Accepted => answer_by(t, v, w, r, home, a, b, out, start),
-    }
+    pair_check(a, b)?;
+    answer_by(t, v, w, r, home, a, b, out, start)
 }
 
 // The answers for all pairs, each in its own line.
@@ -136,19 +144,23 @@ fn answer_pairs(
         ≡ (space_at v t.now p.now (length w.now) out.old
         (pairs_in p.now)).letters }
 {
-    let n = p.len() / 8;
     let mut next: usize = 0;
-    let mut i: usize = 0;
-    while i < n {
+    for i in 0..p.len() / 8 {
         let answer = answer_pair(t, v, w, r, home, &p[8 * i..8 * i + 8], out, next);
         write_line(lines, i, answer);
         next = word_end(answer, next);
-        i += 1;
     }
 }
 
 // The answer where the sheet passes its checks and the work space is long enough, which is cleared after.
-fn fill(v: usize, t: &[i64], p: &[i64], w: &mut [u16], lines: &mut [i64], out: &mut [i16]) -> Filled
+fn fill(
+    v: usize,
+    t: &[i64],
+    p: &[i64],
+    w: &mut [u16],
+    lines: &mut [i64],
+    out: &mut [i16],
+) -> Result<usize, Refusal>
     requires { SheetReady v t.now p.now w.old }
     ensures fills { Fills (line_steps v t.now p.now (length w.old) lines out)
         (made_if (pairs_in p.now)) result }
@@ -157,16 +169,13 @@ fn fill(v: usize, t: &[i64], p: &[i64], w: &mut [u16], lines: &mut [i64], out: &
     let n = p.len() / 8;
     if lines.len() / 4 < n {
         call::workspace::clear(w);
-        return Filled::Refused(Refusal {
-            number: TOO_SHORT,
-            place: n,
-        });
+        return Err(Refusal::TooShort(n));
     }
     let home = coset::steps::build(t, v, w);
     let mut rounds = [0u16; 20481];
     answer_pairs(t, v, w, &mut rounds, home, p, lines, out);
     call::workspace::clear(w);
-    Filled::Made(n)
+    Ok(n)
 }
 
 // The lines of all pairs in p, from the front of `lines`, and their words in `out`: 11 for a number of entries that is
@@ -178,27 +187,14 @@ pub fn sheet(
     w: &mut [u16],
     lines: &mut [i64],
     out: &mut [i16],
-) -> Filled
+) -> Result<usize, Refusal>
     ensures { Fills (sheet_steps v t.now p.now w lines out)
         (made_if (pairs_in p.now)) result }
 {
     if is_bad_count(p.len()) {
-        return Filled::Refused(Refusal {
-            number: TOO_SHORT,
-            place: ENTRIES,
-        });
+        return Err(Refusal::TooShort(ENTRIES));
     }
-    let checked = check(v, t);
-    match checked {
-        Checked::Refused(refusal) => Filled::Refused(refusal),
-        Checked::Accepted => {
-            if w.len() < call::workspace::WORK {
-                return Filled::Refused(Refusal {
-                    number: TOO_SHORT,
-                    place: call::workspace::WORK,
-                });
-            }
-            fill(v, t, p, w, lines, out)
-        }
-    }
+    check(v, t)?;
+    call::room(call::workspace::WORK, w.len())?;
+    fill(v, t, p, w, lines, out)
 }

@@ -4,6 +4,7 @@
 -- (`same_answer_lem`); so each instance of a list that passes holds (`holds_at`), and each of the table (`each`). Then, for a reader, two of them
 -- written out: the tables of Γ(2), and that in Γ0(2) no word leads from I to S.
 -- Assumes nothing.
+use Rattle.std.specs.Prelude.{Err}
 use mathlib.Core.Path.{◌≡◌, refl, ◌∙◌, ap, ap₂}
 use mathlib.Core.Bool.{Bool, true, ◌&&◌}
 use mathlib.Core.List.{List, [], ◌∷◌, map}
@@ -15,7 +16,9 @@ use lib.IntN.{pos}
 use borrow.Author.Tests.{eqb-true}
 use Rattle.matrix.specs.Matrix.{◌⊗◌, adj, det, mat_s, mat_q}
 use Rattle.matrix.specs.Action.{at}
-use Rattle.call.specs.Refusal.{refusal, no_word}
+use Rattle.call.specs.Refusal.{outcome}
+use Rattle.call.proofs.Told.{checks_told}
+use Rattle.call.specs.declared.refusal.Refusal.TheVariants.{NoWord}
 use Rattle.call.specs.Space.{work_length}
 use Rattle.symbol.specs.Check.{eq_z}
 use Rattle.symbol.proofs.Choice.{eq_z_true}
@@ -30,8 +33,8 @@ use Rattle.signs.specs.Sign.{matrix_sign}
 use Rattle.signs.specs.Step.{left_to_right, frame_sign, step_sign, query_sign}
 use Rattle.coset.specs.Tables.{step_r, cosets, table_s, table_r, table_t}
 use Rattle.containment.specs.Group.{same_tables}
-use Rattle.word.specs.Answer.{query_of, query_refusal, closes, found_word, found_sign}
-use Rattle.statements.specs.Instances.{Answer, refuses, gives, answer_to, tables, Γ2, Γ0_2, I, S, lent_table, Instance, instances, instance_at}
+use Rattle.word.specs.Answer.{query_of, closes, found_word, found_sign}
+use Rattle.statements.specs.Instances.{InstanceAnswer, refuses, gives, answer_to, tables, Γ2, Γ0_2, I, S, lent_table, Instance, instances, instance_at}
 use Rattle.statements.specs.Instances.{same_list, equal_answers, holds, all_hold, Holds}
 
 pub all_hold_lem : all_hold instances ≡ true
@@ -48,7 +51,7 @@ same_list_lem same sound (x ∷ l) [] e = clash e refl
 same_list_lem same sound (x ∷ l) (y ∷ m) e =
     ap₂ ◌∷◌ (sound x y (and_left (same x y) (same_list same l m) e)) (same_list_lem same sound l m (and_right (same x y) (same_list same l m) e))
 
-same_answer_lem : (a b : Answer) → equal_answers a b ≡ true → a ≡ b
+same_answer_lem : (a b : InstanceAnswer) → equal_answers a b ≡ true → a ≡ b
 same_answer_lem a b e =
     let number = eqb a.number b.number in
     let place = eqb a.place b.place in
@@ -73,5 +76,7 @@ pub Γ2_tables : answer_to (tables 3 Γ2 work_length (lent_table 6) (lent_table 
     (map pos (1 ∷ 0 ∷ 4 ∷ 5 ∷ 2 ∷ 3 ∷ []) ∷ map pos (2 ∷ 3 ∷ 5 ∷ 4 ∷ 1 ∷ 0 ∷ []) ∷ map pos (3 ∷ 2 ∷ 1 ∷ 0 ∷ 5 ∷ 4 ∷ []) ∷ [])
 Γ2_tables = each 8 (lit< tt)
 
-pub Γ0_2_none : query_refusal (query_of 2 Γ0_2 I S work_length 1 0) ≡ no_word
-Γ0_2_none = ap (λ (a : Answer). refusal a.number a.place) (each 13 (lit< tt))
+pub Γ0_2_none : outcome (query_of 2 Γ0_2 I S work_length 1 0) ≡ Err NoWord
+Γ0_2_none =
+    let e = each 13 (lit< tt) in
+    checks_told (outcome (query_of 2 Γ0_2 I S work_length 1 0)) NoWord (ap (λ (a : InstanceAnswer). a.number) e) (ap (λ (a : InstanceAnswer). a.place) e)

@@ -25,8 +25,7 @@
 --                      it is accepted (`NamedSymbol`, in `named_groups`), so that it is among the symbols
 --     intersections    `intersections`: the tables of the intersection of two accepted symbols' subgroups
 -- The library (`engine`) and the programs (the crates `.._text`) hand on what these crates make.
-use Rattle.std.specs.Prelude.{◌≡◌, List, ℕ, ◌<◌, ℤ}
-use Rattle.call.specs.declared.refusal.Checked.TheVariants.{Accepted}
+use Rattle.std.specs.Prelude.{◌≡◌, List, ℕ, ◌<◌, ℤ, Ok}
 use Rattle.symbol.specs.Check.{symbol_check}
 use Rattle.symbol.specs.Symbol.{IsSymbol}
 use Rattle.numbering.specs.Table.{◌then_table◌, renamed}
@@ -72,13 +71,13 @@ pub record CommonRecorded (v : ℕ) (t : List ℤ) (v' : ℕ) (t' : List ℤ) : 
       CosetRecord (common_s v t v' t') (common_r v t v' t') u (cusp_table u) (step_table u)
 
 pub record Builders : Type 0 where
-  pub symbols : (v : ℕ) (t : List ℤ) → symbol_check v t ≡ Accepted → SymbolRecorded v t
-  pub exchanges : (v : ℕ) (t : List ℤ) (x y : ℤ) → exchange_check v t x y ≡ Accepted
+  pub symbols : (v : ℕ) (t : List ℤ) → symbol_check v t ≡ Ok tt → SymbolRecorded v t
+  pub exchanges : (v : ℕ) (t : List ℤ) (x y : ℤ) → exchange_check v t x y ≡ Ok tt
       → SymbolRecorded v (exchanged v t x y)
-  pub pairs : (s r : List ℕ) → pair_check s r ≡ Accepted → Recorded s r
+  pub pairs : (s r : List ℕ) → pair_check s r ≡ Ok tt → Recorded s r
   pub cycles : (t : List ℕ) (q : Read) → GoodPair t q → Recorded (table_of_s q) (table_of_r q)
-  pub imports : (order : Order) (s r : List ℕ) (v : ℕ) (t : List ℤ) → pair_check s r ≡ Accepted
+  pub imports : (order : Order) (s r : List ℕ) (v : ℕ) (t : List ℤ) → pair_check s r ≡ Ok tt
       → ruled_by order s r ≡ made v t → Imported s r v t
   pub families : (f : Family) (n : ℕ) → 0 < n → FamilyRecorded f n
-  pub intersections : (v : ℕ) (t : List ℤ) (v' : ℕ) (t' : List ℤ) → symbol_check v t ≡ Accepted
-      → symbol_check v' t' ≡ Accepted → CommonRecorded v t v' t'
+  pub intersections : (v : ℕ) (t : List ℤ) (v' : ℕ) (t' : List ℤ) → symbol_check v t ≡ Ok tt
+      → symbol_check v' t' ≡ Ok tt → CommonRecorded v t v' t'

@@ -5,7 +5,7 @@
 --   Refuses q p         the answer to q has the refusal of the plan p, or none
 --   OfTheCalls          this for each kind of question but `check`, which is one check; and what is left
 use Rattle.std.specs.Prelude.{◌≡◌, List, [], ◌∷◌, map, ℕ, length, drop, ℤ, pos}
-use Rattle.call.specs.Refusal.{refusal, checked_refusal}
+use Rattle.call.specs.Refusal.{answer_number, answer_place}
 use Rattle.call.specs.Call.{Lent, Contract, verdict, Leaves}
 use Rattle.pairing.specs.Generator.{generators_call}
 use Rattle.coset.specs.Answer.{tables_call, figures_call}
@@ -17,7 +17,8 @@ use Rattle.statements.specs.Instances.{Question, answer_to, index, generators, t
 use Rattle.statements.specs.Instances.{importWide}
 
 abbrev pub Refuses : Question → Contract → Type 0
-Refuses q p = refusal (answer_to q).number (answer_to q).place ≡ checked_refusal (verdict p.steps)
+Refuses q p =
+    ((answer_to q).number ≡ answer_number (verdict p.steps)) × ((answer_to q).place ≡ answer_place (verdict p.steps))
 
 pub record OfTheCalls : Type 0 where
   pub of_figures : (v : ℕ) (t : List ℤ) (w out : Lent (List ℕ))

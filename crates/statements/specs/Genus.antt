@@ -11,8 +11,7 @@
 --     families         for the tables of Γ0(n), Γ1(n) and Γ(n)
 --     intersections    for the tables of the intersection of two accepted symbols' subgroups
 -- These are the builders of specs/Builders.antt, which says of each crate where it is.
-use Rattle.std.specs.Prelude.{◌≡◌, List, ℕ, ◌<◌, ℤ}
-use Rattle.call.specs.declared.refusal.Checked.TheVariants.{Accepted}
+use Rattle.std.specs.Prelude.{◌≡◌, List, ℕ, ◌<◌, ℤ, Ok}
 use Rattle.symbol.specs.Check.{symbol_check}
 use Rattle.figures.specs.Genus.{HasGenus, TablesGenus}
 use Rattle.coset.specs.Answer.{figures_of}
@@ -31,13 +30,13 @@ abbrev pub SymbolGenus : ℕ → List ℤ → Type 0
 SymbolGenus v t = HasGenus (figures_of v t).genus
 
 pub record Genera : Type 0 where
-  pub symbols : (v : ℕ) (t : List ℤ) → symbol_check v t ≡ Accepted → SymbolGenus v t
-  pub exchanges : (v : ℕ) (t : List ℤ) (x y : ℤ) → exchange_check v t x y ≡ Accepted
+  pub symbols : (v : ℕ) (t : List ℤ) → symbol_check v t ≡ Ok tt → SymbolGenus v t
+  pub exchanges : (v : ℕ) (t : List ℤ) (x y : ℤ) → exchange_check v t x y ≡ Ok tt
       → SymbolGenus v (exchanged v t x y)
-  pub pairs : (s r : List ℕ) → pair_check s r ≡ Accepted → TablesGenus s r
+  pub pairs : (s r : List ℕ) → pair_check s r ≡ Ok tt → TablesGenus s r
   pub cycles : (t : List ℕ) (q : Read) → GoodPair t q → TablesGenus (table_of_s q) (table_of_r q)
-  pub imports : (order : Order) (s r : List ℕ) (v : ℕ) (t : List ℤ) → pair_check s r ≡ Accepted
+  pub imports : (order : Order) (s r : List ℕ) (v : ℕ) (t : List ℤ) → pair_check s r ≡ Ok tt
       → ruled_by order s r ≡ made v t → SymbolGenus v t
   pub families : (f : Family) (n : ℕ) → 0 < n → TablesGenus (family_s f n) (family_r f n)
-  pub intersections : (v : ℕ) (t : List ℤ) (v' : ℕ) (t' : List ℤ) → symbol_check v t ≡ Accepted
-      → symbol_check v' t' ≡ Accepted → TablesGenus (common_s v t v' t') (common_r v t v' t')
+  pub intersections : (v : ℕ) (t : List ℤ) (v' : ℕ) (t' : List ℤ) → symbol_check v t ≡ Ok tt
+      → symbol_check v' t' ≡ Ok tt → TablesGenus (common_s v t v' t') (common_r v t v' t')

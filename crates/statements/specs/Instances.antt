@@ -3,7 +3,7 @@
 --
 --   Question               a public call with what it is lent: a symbol of v vertices in the table t, matrices a and b,
 --                          permutations s and r; the length of the work space; what stands in the result spaces
---   Answer                 the number and place of a refusal, both 0 where nothing is refused; and rows of numbers:
+--   InstanceAnswer         the number and place of a refusal, both 0 where nothing is refused; and rows of numbers:
 --                          what the call returns, and then what it leaves in each result space
 --   refuses n p rows       the refusal n at the place p
 --   says f rows            the refusal f, or none
@@ -23,6 +23,7 @@
 --
 -- proofs/Instances.antt: `all_hold_lem`, that `all_hold instances` computes to true; `each`, that so each answer is what
 -- docs/CONVENTIONS.md says.
+use Rattle.std.specs.Prelude.{Result, Ok, Err}
 use Rattle.std.specs.Prelude.{◌≡◌, Bool, true, false, ◌&&◌, List, [], ◌∷◌, ◌++◌, map, ℕ, eqb, length, get_or, replicate, ℤ, pos, negsuc}
 use Rattle.matrix.specs.Matrix.{of_list}
 use Rattle.call.specs.Space.{work_length}
@@ -30,18 +31,15 @@ use Rattle.symbol.specs.Check as symbol
 use Rattle.symbol.specs.Check.{eq_z}
 use Rattle.call.specs.Call.{Lent, Step, length_check, asks, stores, at_front, verdict, if_accepted}
 use Rattle.pairing.specs.Generator.{generator_table}
-use Rattle.call.specs.Refusal.{checked_refusal}
 use Rattle.call.specs.declared.refusal.Refusal.{Refusal}
 use Rattle.coset.specs.Tables.{table_s, table_r, table_t}
 use Rattle.coset.specs.Answer.{figures_of}
-use Rattle.call.specs.Inner.Fills.{decided, decision_refusal}
-use Rattle.call.specs.declared.Decision.{Decision}
-use Rattle.call.specs.declared.Decision.TheVariants as decision
+use Rattle.call.specs.Inner.Fills.{decided}
+use Rattle.call.specs.Refusal.{Checked, Decision, answer_number, answer_place, outcome}
 use Rattle.containment.specs.Group.{same_tables}
 use Rattle.signs.specs.Sign.{plus, minus}
-use Rattle.word.specs.Answer.{query_of, query_refusal, found_word, sign_number, word_left, part_of}
-use Rattle.word.specs.declared.Queried.{Queried}
-use Rattle.word.specs.declared.Queried.TheVariants as queried
+use Rattle.word.specs.Answer.{query_of, found_word, sign_number, word_left, part_of}
+use Rattle.word.specs.declared.FoundWord.{FoundWord}
 use Rattle.import_rule.specs.Order.{Order, leftmost, longest_open}
 use Rattle.import_rule.specs.Symbol.{ruled_by}
 use Rattle.import_symbol.specs.Answer.{check16, ruled_table}
@@ -68,26 +66,26 @@ pub data Question : Type 0 where
 
 -- ---- what is answered
 
-pub record Answer : Type 0 where
+pub record InstanceAnswer : Type 0 where
   pub number : ℕ
   pub place : ℕ
   pub rows : List (List ℤ)
 
-abbrev pub refuses : ℕ → ℕ → List (List ℤ) → Answer
+abbrev pub refuses : ℕ → ℕ → List (List ℤ) → InstanceAnswer
 refuses n p l = record { number = n; place = p; rows = l }
 
-abbrev pub gives : List (List ℤ) → Answer
+abbrev pub gives : List (List ℤ) → InstanceAnswer
 gives l = refuses 0 0 l
 
-abbrev pub index_is : ℕ → Answer
+abbrev pub index_is : ℕ → InstanceAnswer
 index_is n = gives ((pos n ∷ []) ∷ [])
 
-abbrev pub word : Bool → List ℤ → Answer
+abbrev pub word : Bool → List ℤ → InstanceAnswer
 word sign l = gives ((sign_number sign ∷ []) ∷ l ∷ l ∷ [])
 
--- the refusal f, or none
-abbrev pub says : Refusal → List (List ℤ) → Answer
-says f l = refuses f.number f.place l
+-- what the checks c say, and rows
+abbrev pub says : Checked → List (List ℤ) → InstanceAnswer
+says c l = refuses (answer_number c) (answer_place c) l
 
 -- a space that holds x
 abbrev pub held : {X : Type 0} → X → Lent X
@@ -101,55 +99,55 @@ abbrev pub symbol_steps : (v : ℕ) → List ℤ → (work : ℕ) → List Step
 symbol_steps v t work = asks (symbol.symbol_check v t) ++ asks (length_check work_length work)
 
 -- the word that an answer names, in the word space that the call leaves
-abbrev pub word_in : Queried → List ℤ → List ℤ
-word_in (queried.Word start n sign) out = part_of out start n
-word_in (queried.Refused f) out = []
+abbrev pub word_in : Result FoundWord Refusal → List ℤ → List ℤ
+word_in (Ok u) out = part_of out u.start u.letters
+word_in (Err f) out = []
 
 -- its sign
-abbrev pub sign_given : Queried → List ℤ
-sign_given (queried.Word start n sign) = sign_number sign ∷ []
-sign_given (queried.Refused f) = []
+abbrev pub sign_given : Result FoundWord Refusal → List ℤ
+sign_given (Ok u) = sign_number u.plus ∷ []
+sign_given (Err f) = []
 
 -- the number of vertices, and the result space that an import leaves: its checks are those of `import_steps`, in order
-abbrev pub import_says : Order → (s r : List ℕ) (work : ℕ) (out : List ℤ) → Answer
+abbrev pub import_says : Order → (s r : List ℕ) (work : ℕ) (out : List ℤ) → InstanceAnswer
 import_says order s r work out =
     let g = ruled_by order s r in
     let c = verdict (asks (pair_check s r) ++ asks (length_check work_length work)
     ++ asks (length_check (needed_length r) (length out)) ++ asks (check16 g)) in
     let vertices = pos (needed_vertices r) ∷ [] in
-    says (checked_refusal c) (if_accepted c vertices [] ∷ if_accepted c (at_front (ruled_table g) out) out ∷ [])
+    says c (if_accepted c vertices [] ∷ if_accepted c (at_front (ruled_table g) out) out ∷ [])
 
 -- 1 for yes, 0 for no
 abbrev pub yes_in : Decision → List ℤ
-yes_in decision.Yes = pos 1 ∷ []
-yes_in decision.No = pos 0 ∷ []
-yes_in (decision.Refused f) = []
+yes_in (Ok true) = pos 1 ∷ []
+yes_in (Ok false) = pos 0 ∷ []
+yes_in (Err f) = []
 
-abbrev pub answer_to : Question → Answer
-answer_to (check v t) = says (checked_refusal (symbol.symbol_check v t)) []
+abbrev pub answer_to : Question → InstanceAnswer
+answer_to (check v t) = says (symbol.symbol_check v t) []
 answer_to (index v t work) =
     let c = verdict (symbol_steps v t work) in
-    says (checked_refusal c) (if_accepted c (index_is (figures_of v t).index).rows [])
+    says c (if_accepted c (index_is (figures_of v t).index).rows [])
 answer_to (generators v t work out) =
     let l = generator_table v t in
     let c = verdict (symbol_steps v t work ++ stores l (held out)) in
-    says (checked_refusal c) (if_accepted c (at_front l out) out ∷ [])
+    says c (if_accepted c (at_front l out) out ∷ [])
 answer_to (tables v t work s r u) =
     let x = table_s v t in
     let y = table_r v t in
     let z = table_t v t in
     let c = verdict (symbol_steps v t work ++ stores x (held s) ++ stores y (held r) ++ stores z (held u)) in
-    says (checked_refusal c)
+    says c
     (map pos (if_accepted c (at_front x s) s) ∷ map pos (if_accepted c (at_front y r) r)
     ∷ map pos (if_accepted c (at_front z u) u) ∷ [])
 answer_to (query v t a b work out start) =
     let r = query_of v t a b work (length out) start in
     let left = word_left r (found_word v t (of_list a) (of_list b)) out in
-    says (query_refusal r) (sign_given r ∷ word_in r left ∷ left ∷ [])
+    says (outcome r) (sign_given r ∷ word_in r left ∷ left ∷ [])
 answer_to (same v t v' t' work) =
     let c = verdict (asks (symbol.symbol_check v t) ++ symbol_steps v' t' work) in
     let a = decided (same_tables v t v' t') c in
-    says (decision_refusal a) (yes_in a ∷ [])
+    says (outcome a) (yes_in a ∷ [])
 answer_to (import s r work out) = import_says leftmost s r work out
 answer_to (importWide s r work out) = import_says longest_open s r work out
 
@@ -216,10 +214,10 @@ lent_table n = replicate n 0
 
 pub record Instance : Type 0 where
   pub question : Question
-  pub expected : Answer
+  pub expected : InstanceAnswer
 
 infix 4 ◌answers◌
-abbrev pub ◌answers◌ : Question → Answer → Instance
+abbrev pub ◌answers◌ : Question → InstanceAnswer → Instance
 q answers a = record { question = q; expected = a }
 
 abbrev pub instances : List Instance
@@ -282,7 +280,7 @@ same_list equal [] (y ∷ m) = false
 same_list equal (x ∷ l) [] = false
 same_list equal (x ∷ l) (y ∷ m) = equal x y && same_list equal l m
 
-abbrev pub equal_answers : Answer → Answer → Bool
+abbrev pub equal_answers : InstanceAnswer → InstanceAnswer → Bool
 equal_answers a b = eqb a.number b.number &&
     (eqb a.place b.place && same_list (same_list eq_z) a.rows b.rows)
 

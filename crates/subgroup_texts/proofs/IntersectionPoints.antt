@@ -5,22 +5,20 @@
 --     made_for, stored  the answer of the call in the program's spaces, which have room for that; and the tables in them
 --     column_front      a table that was given stands at the front of its space
 -- Assumes nothing.
+use Rattle.std.specs.Prelude.{Ok, Err}
 use mathlib.Core.Path.{◌≡◌, refl, sym, ap, ◌∙◌}
 use mathlib.Core.List.{List, [], ◌∷◌, ◌++◌}
 use Prim.Native.Nat.{ℕ, ◌≤◌}
 use native.Mathlib.Omega.{arith}
 use lib.Dec.{ltb}
-use lib.IntN.{ℤ, pos}
+use lib.IntN.{ℤ}
 use lib.ListN.{length, take, drop}
 use lib.Seq.{take_at}
 use borrow.Author.Tests.{ltb-false}
 use Rattle.matrix.specs.Matrix.{𝟙, det}
 use Rattle.call.specs.Space.{work_length}
-use Rattle.call.specs.Refusal.{◌or_else◌, large_intersection}
-use Rattle.call.specs.declared.refusal.Checked.{Checked}
-use Rattle.call.specs.declared.refusal.Checked.TheVariants.{Accepted, Refused}
-use Rattle.call.specs.declared.refusal.Filled.{Filled}
-use Rattle.call.specs.declared.refusal.Filled.TheVariants as filled
+use Rattle.call.specs.Refusal.{◌or_else◌, Checked, Filled}
+use Rattle.call.specs.declared.refusal.Refusal.TheVariants.{LargeIntersection}
 use Rattle.call.proofs.Apart.{refused_made}
 use Rattle.call.proofs.Answers.{both_pass, pass_both}
 use Rattle.call.specs.Call.{Asks, Clears, Gives, length_check, if_accepted, at_front}
@@ -40,26 +38,26 @@ unit : Unit 𝟙
 unfolding 𝟙 det
 unit = refl
 
-made_accepted : (N n : ℕ) (c : Checked) → made_if N c ≡ filled.Made n → (c ≡ Accepted) × (n ≡ N)
-made_accepted N n Accepted e = (refl, cc)
-made_accepted N n (Refused f) e = refused_made e
+made_accepted : (N n : ℕ) (c : Checked) → made_if N c ≡ Ok n → (c ≡ Ok tt) × (n ≡ N)
+made_accepted N n (Ok tt) e = (refl, cc)
+made_accepted N n (Err f) e = refused_made e
 
 -- spaces that have room refuse nothing
-no_more : (c d e x : Checked) → (c ≡ Accepted → d ≡ Accepted → e ≡ Accepted → x ≡ Accepted) → (c or_else d or_else e or_else x) ≡ (c or_else d or_else e)
-no_more (Refused f) d e x h = refl
-no_more Accepted (Refused f) e x h = refl
-no_more Accepted Accepted (Refused f) x h = refl
-no_more Accepted Accepted Accepted x h = h refl refl refl
+no_more : (c d e x : Checked) → (c ≡ Ok tt → d ≡ Ok tt → e ≡ Ok tt → x ≡ Ok tt) → (c or_else d or_else e or_else x) ≡ (c or_else d or_else e)
+no_more (Err f) d e x h = refl
+no_more (Ok tt) (Err f) e x h = refl
+no_more (Ok tt) (Ok _) (Err f) x h = refl
+no_more (Ok tt) (Ok _) (Ok _) x h = h refl refl refl
 
 module _ (v : ℕ) (t : List ℤ) (v' : ℕ) (t' : List ℤ) where
   abbrev N : ℕ
   N = length (common_cosets v t v' t')
 
-  pub few : too_many N ≡ Accepted → N ≤ 3066
-  few e = ltb-false most N (passes (ltb most N) large_intersection e)
+  pub few : too_many N ≡ Ok tt → N ≤ 3066
+  few e = ltb-false most N (passes (ltb most N) LargeIntersection e)
 
-  module _ (n : ℕ) (e : intersection_for v t v' t' ≡ filled.Made n) where
-    checked : (symbol_check v t ≡ Accepted) × ((symbol_check v' t' ≡ Accepted) × (too_many N ≡ Accepted))
+  module _ (n : ℕ) (e : intersection_for v t v' t' ≡ Ok n) where
+    checked : (symbol_check v t ≡ Ok tt) × ((symbol_check v' t' ≡ Ok tt) × (too_many N ≡ Ok tt))
     checked =
         let a = both_pass (symbol_check v t) (symbol_check v' t' or_else too_many N)
         (made_accepted N n (symbol_check v t or_else symbol_check v' t' or_else too_many N) e).0 in
@@ -112,23 +110,23 @@ module _ (v : ℕ) (t : List ℤ) (v' : ℕ) (t' : List ℤ) {w w' s s' r r' u u
       let a = length_check (length (common_s v t v' t')) (length s) in
       let b = length_check (length (common_r v t v' t')) (length r) in
       let c = length_check (length (common_t v t v' t')) (length u) in
-      let spaces = a or_else b or_else c or_else Accepted in
+      let spaces = a or_else b or_else c or_else (Ok tt) in
       g.answer ∙ ap (made_if n)
       (ap (λ (x : Checked). symbol_check v t or_else symbol_check v' t' or_else x or_else too_many n or_else spaces) (room_long work_length (length w) h)
       ∙ no_more (symbol_check v t) (symbol_check v' t') (too_many n) spaces (λ p p' m.
       let both = common_subgroup v t v' t' ((accepted v t).0 p) ((accepted v' t').0 p') in
       let most = few v t v' t' m in
       let sizeT = ap length both.T_is ∙ then_length (common_s v t v' t') (common_r v t v' t') in
-      pass_both a (b or_else c or_else Accepted) (room_long (length (common_s v t v' t')) (length s) (omega (arith, both.cosets.size_S, most, i)))
-      (pass_both b (c or_else Accepted) (room_long (length (common_r v t v' t')) (length r) (omega (arith, both.cosets.size_R, most, j)))
-      (pass_both c Accepted (room_long (length (common_t v t v' t')) (length u) (omega (arith, sizeT, both.cosets.size_S, most, k))) refl))))
+      pass_both a (b or_else c or_else (Ok tt)) (room_long (length (common_s v t v' t')) (length s) (omega (arith, both.cosets.size_S, most, i)))
+      (pass_both b (c or_else (Ok tt)) (room_long (length (common_r v t v' t')) (length r) (omega (arith, both.cosets.size_R, most, j)))
+      (pass_both c (Ok tt) (room_long (length (common_t v t v' t')) (length u) (omega (arith, sizeT, both.cosets.size_S, most, k))) refl))))
 
-  pub stored : (n : ℕ) → q ≡ filled.Made n → (s' ≡ at_front (common_s v t v' t') s) × (r' ≡ at_front (common_r v t v' t') r)
+  pub stored : (n : ℕ) → q ≡ Ok n → (s' ≡ at_front (common_s v t v' t') s) × (r' ≡ at_front (common_r v t v' t') r)
   stored n e =
       let N = length (common_cosets v t v' t') in
       let all = symbol_check v t or_else symbol_check v' t' or_else length_check work_length (length w) or_else too_many N
       or_else length_check (length (common_s v t v' t')) (length s) or_else length_check (length (common_r v t v' t')) (length r)
-      or_else length_check (length (common_t v t v' t')) (length u) or_else Accepted in
+      or_else length_check (length (common_t v t v' t')) (length u) or_else (Ok tt) in
       let d = (made_accepted N n all (sym g.answer ∙ e)).0 in (
         g.leaves.1.0 ∙ ap (λ (x : Checked). if_accepted x (at_front (common_s v t v' t') s) s) d,
         g.leaves.1.1.0 ∙ ap (λ (x : Checked). if_accepted x (at_front (common_r v t v' t') r) r) d,

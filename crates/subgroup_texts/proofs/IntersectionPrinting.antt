@@ -3,7 +3,7 @@ use mathlib.Core.Path.{◌≡◌, ap, ◌∙◌}
 use mathlib.Core.Bool.{Bool, false}
 use mathlib.Core.List.{List}
 use Prim.Native.Nat.{ℕ}
-use Rattle.call.specs.declared.refusal.Filled.{Filled}
+use Rattle.call.specs.Refusal.{Filled}
 use Rattle.containment.specs.TwoSymbols.{common_s, common_r}
 use Rattle.symbol_texts.specs.ImportAnswer.{request_of}
 use Rattle.symbol_texts.specs.Pair.{pair_text, pair_lines_by}

@@ -4,8 +4,9 @@
 --     same_for_lem                        the line for two symbols
 --     print_means                         what the bytes mean
 -- Assumes nothing.
+use Rattle.std.specs.Prelude.{Ok, Err}
 use mathlib.Core.Path.{◌≡◌, sym, ap, ◌∙◌}
-use mathlib.Core.Bool.{Bool}
+use mathlib.Core.Bool.{true, false, Bool}
 use mathlib.Core.List.{List, [], ◌∷◌}
 use Prim.Native.Nat.{ℕ, ◌-◌, ◌≤◌}
 use lib.IntN.{ℤ}
@@ -15,8 +16,7 @@ use Rattle.call.specs.declared.refusal.Refusal.{Refusal}
 use Rattle.call.specs.Space.{work_length}
 use Rattle.call.specs.Call.{Asks, Clears, length_check}
 use Rattle.call.specs.Inner.Fills.{Fills, decided}
-use Rattle.call.specs.declared.Decision.{Decision}
-use Rattle.call.specs.declared.Decision.TheVariants as decision
+use Rattle.call.specs.Refusal.{Decision}
 use Rattle.text.specs.Line.{spaced, line, refusal_line}
 use Rattle.symbol.specs.Check.{symbol_check}
 use Rattle.pairing.proofs.Both.{with_space}
@@ -26,15 +26,15 @@ use Rattle.subgroup_texts.specs.SameAnswer.{same_line, table_in, two_lines, same
 use Rattle.subgroup_texts.specs.Inner.TwoTexts.{same_for}
 use Rattle.text.specs.Reading.{count_in}
 
-pub yes_line : (a : Decision) → a ≡ decision.Yes → 115 ∷ 97 ∷ 109 ∷ 101 ∷ 10 ∷ [] ≡ same_line a
+pub yes_line : (a : Decision) → a ≡ Ok true → 115 ∷ 97 ∷ 109 ∷ 101 ∷ 10 ∷ [] ≡ same_line a
 unfolding line spaced
 yes_line a e = sym (ap same_line e)
 
-pub no_line : (a : Decision) → a ≡ decision.No → 100 ∷ 105 ∷ 102 ∷ 102 ∷ 101 ∷ 114 ∷ 101 ∷ 110 ∷ 116 ∷ 10 ∷ [] ≡ same_line a
+pub no_line : (a : Decision) → a ≡ Ok false → 100 ∷ 105 ∷ 102 ∷ 102 ∷ 101 ∷ 114 ∷ 101 ∷ 110 ∷ 116 ∷ 10 ∷ [] ≡ same_line a
 unfolding line spaced
 no_line a e = sym (ap same_line e)
 
-pub refused_line : (a : Decision) (f : Refusal) → a ≡ decision.Refused f → refusal_line f ≡ same_line a
+pub refused_line : (a : Decision) (f : Refusal) → a ≡ Err f → refusal_line f ≡ same_line a
 refused_line a f e = sym (ap same_line e)
 
 pub rest_part : {A : Type 0} (k : ℕ) (l : List A) → take (length l - k) (drop k l) ≡ drop k l

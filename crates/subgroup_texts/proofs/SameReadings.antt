@@ -9,6 +9,7 @@
 --     lines_as                   the lines of what is asked, by what the reading gives
 --     refused_as, symbols_as     those for a refusal, and for two symbols
 -- Assumes nothing.
+use Rattle.std.specs.Prelude.{Ok, Err}
 use mathlib.Core.Path.{◌≡◌, refl, sym, ap, ◌∙◌}
 use mathlib.Core.Bool.{Bool, true, false, ◌||◌}
 use mathlib.Core.List.{List}
@@ -18,16 +19,14 @@ use lib.Dec.{ltb}
 use lib.IntN.{ℤ}
 use lib.ListN.{length, take, drop}
 use borrow.Author.Tests.{lt-ltb, le-ltb}
-use Rattle.basics.specs.Choice.{pick}
 use Rattle.basics.proofs.Choice.{pick_true, pick_false}
-use Rattle.call.specs.Refusal.{bad_text, bad_vertex_count}
+use Rattle.call.specs.Refusal.{Filled, Answer}
+use Rattle.call.specs.declared.refusal.Refusal.TheVariants.{BadText, BadVertexCount}
 use Rattle.call.specs.declared.refusal.Refusal.{Refusal}
 use Rattle.text.specs.Piece.{pieces, numbers}
 use Rattle.text.specs.Reading.{text_most, reading_of, symbol_format, count_in}
 use Rattle.text.specs.Line.{refusal_line}
 use Rattle.text.specs.Inner.Inside.{left_by}
-use Rattle.text.specs.declared.Reading.{Reading}
-use Rattle.text.specs.declared.Reading.TheVariants as reading
 use Rattle.text.proofs.OnceRead.{Standing, read_numbers}
 use Rattle.decimal.specs.Writing.{Puts}
 use Rattle.decimal.proofs.Placing.{puts_as}
@@ -37,30 +36,28 @@ use Rattle.subgroup_texts.specs.IntersectionAnswer.{intersection_bytes}
 use Rattle.subgroup_texts.specs.Inner.TwoTexts.{symbols_by, CountsWithin, ReadsTwo, lines_for_two, lines_of_two, bytes_of_two}
 use Rattle.subgroup_texts.specs.declared.two_texts.Asked.{Asked}
 use Rattle.subgroup_texts.specs.declared.two_texts.Asked.TheVariants as asked
-use Rattle.subgroup_texts.specs.declared.same_text.TwoReading.{TwoReading}
-use Rattle.subgroup_texts.specs.declared.same_text.TwoReading.TheVariants.{Numbers, Refused}
 use Rattle.subgroup_texts.proofs.SameLines.{rest_part}
 
 -- ---- a text that isn't too long
 
-module _ (t : List ℕ) (h : length t ≤ 65536) (r : Reading) (e : r ≡ first_reading t) where
+module _ (t : List ℕ) (h : length t ≤ 65536) (r : Filled) (e : r ≡ first_reading t) where
   given_by : by_first t r ≡ two_symbols false t
   unfolding two_symbols
   given_by =
-      ap (by_first t) e ∙ sym (pick_false (ltb text_most (length t)) (none (bad_text text_most)) (by_first t (first_reading t)) (le-ltb text_most (length t) h))
+      ap (by_first t) e ∙ sym (pick_false (ltb text_most (length t)) (none (BadText text_most)) (by_first t (first_reading t)) (le-ltb text_most (length t) h))
 
-  pub outcome : {ns ms : List ℤ} (q : TwoReading) → symbols_by q ns ms ≡ by_first t r → ((k j : ℕ) → q ≡ Numbers k j → CountsWithin k j)
+  pub outcome : {ns ms : List ℤ} (q : (Answer (ℕ × ℕ))) → symbols_by q ns ms ≡ by_first t r → ((k j : ℕ) → q ≡ Ok (k, j) → CountsWithin k j)
       → ReadsTwo false t q ns ms
   outcome q f w = record { gives = f ∙ given_by; within = w }
 
 -- ---- the readings, as the code makes them
 
 -- a text x that was read, however the code lends it
-pub record PartRead (x : List ℕ) (r : Reading) (out : List ℤ) : Type 0 where
+pub record PartRead (x : List ℕ) (r : Filled) (out : List ℤ) : Type 0 where
   pub told : r ≡ reading_of symbol_format x 3071
-  pub standing : (k : ℕ) → r ≡ reading.Numbers k → Standing (numbers (pieces x)) 3071 k out
+  pub standing : (k : ℕ) → r ≡ Ok k → Standing (numbers (pieces x)) 3071 k out
 
-module _ {x : List ℕ} {r : Reading} (before : List ℤ) {out : List ℤ} (lent : length before ≡ 3071) where
+module _ {x : List ℕ} {r : Filled} (before : List ℤ) {out : List ℤ} (lent : length before ≡ 3071) where
   part_read : (r ≡ reading_of symbol_format x (length before)) × (out ≡ left_by r (numbers (pieces x)) before) → PartRead x r out
   part_read e = record {
     told = e.0 ∙ ap (reading_of symbol_format x) lent;
@@ -77,38 +74,39 @@ second_is t at cut = rest_part at t ∙ ap (λ (n : ℕ). drop n t) cut
 -- ---- the first text's numbers
 
 module _ (t : List ℕ) (k : ℕ) where
-  abbrev given : Reading → TwoSymbols
+  abbrev given : Filled → TwoSymbols
   given s = by_second (cut_at t) (take k (numbers (pieces (first_text t)))) s (numbers (pieces (second_text t)))
 
-  pub few : k < 2 → none bad_vertex_count ≡ by_first t (reading.Numbers k)
-  few h = sym (pick_true (ltb k 2) (none bad_vertex_count) (given (second_reading t)) (lt-ltb k 2 h))
+  pub few : k < 2 → none BadVertexCount ≡ by_first t (Ok k)
+  few h = sym (pick_true (ltb k 2) (none BadVertexCount) (given (second_reading t)) (lt-ltb k 2 h))
 
-  module _ (h : 2 ≤ k) (s : Reading) (e : s ≡ second_reading t) where
-    pub enough : given s ≡ by_first t (reading.Numbers k)
-    enough = ap given e ∙ sym (pick_false (ltb k 2) (none bad_vertex_count) (given (second_reading t)) (le-ltb k 2 h))
+  module _ (h : 2 ≤ k) (s : Filled) (e : s ≡ second_reading t) where
+    pub enough : given s ≡ by_first t (Ok k)
+    enough = ap given e ∙ sym (pick_false (ltb k 2) (none BadVertexCount) (given (second_reading t)) (le-ltb k 2 h))
 
 -- ---- the counts
 
-pub counts : {k j : ℕ} → CountsWithin k j → (k' j' : ℕ) → Numbers k j ≡ Numbers k' j' → CountsWithin k' j'
+pub counts : {k j : ℕ} → CountsWithin k j → (k' j' : ℕ) → ◌≡◌ {A = Answer (ℕ × ℕ)} (Ok (k, j)) (Ok (k', j')) → CountsWithin k' j'
 counts {k} {j} w k' j' e =
-    let f : k ≡ k' = cc in
-    let g : j ≡ j' = cc in
+    let both : ◌≡◌ {A = ℕ × ℕ} (k, j) (k', j') = cc in
+    let f : k ≡ k' = ap (λ (p : ℕ × ℕ). p.0) both in
+    let g : j ≡ j' = ap (λ (p : ℕ × ℕ). p.1) both in
     record { some = omega (arith, w.some); most = omega (arith, w.most); some' = omega (arith, w.some'); most' = omega (arith, w.most') }
 
-pub no_counts : (f : Refusal) (k j : ℕ) → Refused f ≡ Numbers k j → CountsWithin k j
+pub no_counts : (f : Refusal) (k j : ℕ) → ◌≡◌ {A = Answer (ℕ × ℕ)} (Err f) (Ok (k, j)) → CountsWithin k j
 no_counts f k j e = let z : ◌≡◌ {A = ℕ} 0 1 = cc in absurd (omega arith)
 
 -- ---- any text
 
 module _ (longer : Bool) (t : List ℕ) where
-  pub too_long : (longer || ltb text_most (length t)) ≡ true → {ns ms : List ℤ} → ReadsTwo longer t (Refused (bad_text text_most)) ns ms
+  pub too_long : (longer || ltb text_most (length t)) ≡ true → {ns ms : List ℤ} → ReadsTwo longer t (Err (BadText text_most)) ns ms
   unfolding two_symbols
   too_long h = record {
-    gives = sym (pick_true (longer || ltb text_most (length t)) (none (bad_text text_most)) (by_first t (first_reading t)) h);
-    within = no_counts (bad_text text_most);
+    gives = sym (pick_true (longer || ltb text_most (length t)) (none (BadText text_most)) (by_first t (first_reading t)) h);
+    within = no_counts (BadText text_most);
   }
 
-  pub not_longer : longer ≡ false → {ns ms : List ℤ} {r : TwoReading} → ReadsTwo false t r ns ms → ReadsTwo longer t r ns ms
+  pub not_longer : longer ≡ false → {ns ms : List ℤ} {r : (Answer (ℕ × ℕ))} → ReadsTwo false t r ns ms → ReadsTwo longer t r ns ms
   not_longer e p = rw e p
 
 -- ---- what is then written
@@ -118,10 +116,10 @@ unfolding same_bytes intersection_bytes
 asked_of asked.Same longer t = refl
 asked_of asked.Intersection longer t = refl
 
-pub lines_as : (a : Asked) {longer : Bool} {t : List ℕ} {ns ms : List ℤ} {r : TwoReading} → ReadsTwo longer t r ns ms → {q : TwoReading} → r ≡ q
+pub lines_as : (a : Asked) {longer : Bool} {t : List ℕ} {ns ms : List ℤ} {r : (Answer (ℕ × ℕ))} → ReadsTwo longer t r ns ms → {q : (Answer (ℕ × ℕ))} → r ≡ q
     → {bytes out out' : List ℕ} {end : ℕ} → bytes ≡ lines_of_two a (symbols_by q ns ms) → Puts bytes 0 end out out' → Puts (bytes_of_two a longer t) 0 end out out'
 lines_as a {longer} {t} {ns} {ms} m e b p =
-    puts_as (b ∙ ap (lines_of_two a) (sym (ap (λ (x : TwoReading). symbols_by x ns ms) e) ∙ m.gives) ∙ asked_of a longer t) p
+    puts_as (b ∙ ap (lines_of_two a) (sym (ap (λ (x : (Answer (ℕ × ℕ))). symbols_by x ns ms) e) ∙ m.gives) ∙ asked_of a longer t) p
 
 pub refused_as : (a : Asked) (f : Refusal) → refusal_line f ≡ lines_of_two a (none f)
 refused_as asked.Same f = refl

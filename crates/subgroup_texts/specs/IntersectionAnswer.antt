@@ -11,10 +11,8 @@
 --                             those of the right cosets of the matrices that belong to both subgroups, and the job
 --                             `import` reads the bytes as this pair of tables
 --   IntersectionPrintMeans    that holds for every text whose numbers give tables
-use Rattle.std.specs.Prelude.{◌≡◌, Bool, List, ℕ, ℤ, length}
-use Rattle.call.specs.Refusal.{◌or_else◌}
-use Rattle.call.specs.declared.refusal.Filled.{Filled}
-use Rattle.call.specs.declared.refusal.Filled.TheVariants as filled
+use Rattle.std.specs.Prelude.{◌≡◌, Bool, List, ℕ, ℤ, length, Ok}
+use Rattle.call.specs.Refusal.{◌or_else◌, Filled}
 use Rattle.call.specs.Inner.Fills.{made_if}
 use Rattle.symbol.specs.Check.{symbol_check}
 use Rattle.text.specs.Line.{refusal_line}
@@ -50,5 +48,5 @@ pub record IntersectionPrinted (ns ms : List ℤ) (n : ℕ) (bytes : List ℕ) :
 
 abbrev pub IntersectionPrintMeans : Bool → List ℕ → (bytes : List ℕ) → Type 0
 IntersectionPrintMeans longer t bytes =
-    (ns ms : List ℤ) (n : ℕ) → two_symbols longer t ≡ two ns ms → intersection_made ns ms ≡ filled.Made n
+    (ns ms : List ℤ) (n : ℕ) → two_symbols longer t ≡ two ns ms → intersection_made ns ms ≡ Ok n
     → IntersectionPrinted ns ms n bytes

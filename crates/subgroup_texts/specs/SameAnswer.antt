@@ -16,17 +16,14 @@
 --   two_lines, same_bytes longer t the bytes for what a text gives, and for a text
 --   SamePrinted, SamePrintMeans  where there are two symbols' numbers, the bytes are the line of the answer, yes means
 --                                that they are the same, and no that they are different
-use Rattle.std.specs.Prelude.{◌≡◌, Bool, ◌||◌, List, [], ℕ, ◌+◌, ltb, ℤ, length, take, drop}
+use Rattle.std.specs.Prelude.{◌≡◌, Bool, true, false, ◌||◌, List, [], ℕ, ◌+◌, ltb, ℤ, length, take, drop, Ok, Err}
 use Rattle.basics.specs.Choice.{pick}
-use Rattle.call.specs.Refusal.{◌or_else◌, bad_text, bad_vertex_count}
+use Rattle.call.specs.Refusal.{◌or_else◌, Decision, Filled, refusal_place}
+use Rattle.call.specs.declared.refusal.Refusal.TheVariants.{BadText, BadVertexCount}
 use Rattle.call.specs.declared.refusal.Refusal.{Refusal}
 use Rattle.call.specs.Inner.Fills.{decided}
-use Rattle.call.specs.declared.Decision.{Decision}
-use Rattle.call.specs.declared.Decision.TheVariants as decision
 use Rattle.text.specs.Piece.{pieces, numbers}
 use Rattle.text.specs.Reading.{text_most, reading_of, symbol_format, count_in}
-use Rattle.text.specs.declared.Reading.{Reading}
-use Rattle.text.specs.declared.Reading.TheVariants as reading
 use Rattle.decimal.specs.Ascii.{ascii}
 use Rattle.text.specs.Line.{line, refusal_line}
 use Rattle.text.specs.Part.{part_end}
@@ -35,9 +32,9 @@ use Rattle.containment.specs.Group.{same_tables}
 use Rattle.containment.specs.Same.{Same, Different}
 
 abbrev pub same_line : Decision → List ℕ
-same_line decision.Yes = line (ascii "same") []
-same_line decision.No = line (ascii "different") []
-same_line (decision.Refused f) = refusal_line f
+same_line (Ok true) = line (ascii "same") []
+same_line (Ok false) = line (ascii "different") []
+same_line (Err f) = refusal_line f
 
 -- ---- the two texts
 
@@ -50,10 +47,10 @@ first_text t = take (cut_at t) t
 abbrev pub second_text : List ℕ → List ℕ
 second_text t = drop (cut_at t) t
 
-abbrev pub first_reading : List ℕ → Reading
+abbrev pub first_reading : List ℕ → Filled
 first_reading t = reading_of symbol_format (first_text t) 3071
 
-abbrev pub second_reading : List ℕ → Reading
+abbrev pub second_reading : List ℕ → Filled
 second_reading t = reading_of symbol_format (second_text t) 3071
 
 abbrev pub table_in : List ℤ → List ℤ
@@ -67,21 +64,21 @@ pub data TwoSymbols : Type 0 where
 
 -- the second text holds no more than 3,071 numbers, so that 19 is its only refusal
 abbrev pub in_whole : ℕ → Refusal → Refusal
-in_whole at f = bad_text (at + f.place)
+in_whole at f = BadText (at + (refusal_place f))
 
-abbrev pub by_second : (at : ℕ) → List ℤ → Reading → List ℤ → TwoSymbols
-by_second at ns (reading.Refused f) ms = none (in_whole at f)
-by_second at ns (reading.Numbers j) ms = two ns (take j ms)
+abbrev pub by_second : (at : ℕ) → List ℤ → Filled → List ℤ → TwoSymbols
+by_second at ns (Err f) ms = none (in_whole at f)
+by_second at ns (Ok j) ms = two ns (take j ms)
 
-abbrev pub by_first : (t : List ℕ) → Reading → TwoSymbols
-by_first t (reading.Refused f) = none f
-by_first t (reading.Numbers k) =
-    pick (ltb k 2) (none bad_vertex_count)
+abbrev pub by_first : (t : List ℕ) → Filled → TwoSymbols
+by_first t (Err f) = none f
+by_first t (Ok k) =
+    pick (ltb k 2) (none BadVertexCount)
     (by_second (cut_at t) (take k (numbers (pieces (first_text t)))) (second_reading t) (numbers (pieces (second_text t))))
 
 unfoldable pub two_symbols : Bool → List ℕ → TwoSymbols
 two_symbols longer t =
-    pick (longer || ltb text_most (length t)) (none (bad_text text_most)) (by_first t (first_reading t))
+    pick (longer || ltb text_most (length t)) (none (BadText text_most)) (by_first t (first_reading t))
 
 abbrev pub same_answer : (ns ms : List ℤ) → Decision
 same_answer ns ms =
@@ -99,8 +96,8 @@ same_bytes longer t = two_lines (two_symbols longer t)
 
 pub record SamePrinted (ns ms : List ℤ) (bytes : List ℕ) : Type 0 where
   pub line : bytes ≡ same_line (same_answer ns ms)
-  pub same : same_answer ns ms ≡ decision.Yes → Same (count_in ns) (table_in ns) (count_in ms) (table_in ms)
-  pub different : same_answer ns ms ≡ decision.No → Different (count_in ns) (table_in ns) (count_in ms) (table_in ms)
+  pub same : same_answer ns ms ≡ Ok true → Same (count_in ns) (table_in ns) (count_in ms) (table_in ms)
+  pub different : same_answer ns ms ≡ Ok false → Different (count_in ns) (table_in ns) (count_in ms) (table_in ms)
 
 abbrev pub SamePrintMeans : Bool → List ℕ → (bytes : List ℕ) → Type 0
 SamePrintMeans longer t bytes = (ns ms : List ℤ) → two_symbols longer t ≡ two ns ms → SamePrinted ns ms bytes

@@ -10,46 +10,43 @@
 --   tower_bytes longer t         the bytes for a text
 --   TowerPrinted, TowerPrintMeans    where a text gives numbers, the bytes are the line of the answer, and of its
 --                                number and place holds what they say
+use Rattle.std.specs.Prelude.{Ok, Err, Option, None, Some}
 use Rattle.std.specs.Prelude.{◌≡◌, Bool, ◌||◌, List, [], ◌∷◌, ℕ, suc, ltb, ℤ, pos, negsuc, nat_abs, length, take, drop}
-use Rattle.std.proofs.Math.Option.{Option, none, some}
 use Rattle.matrix.specs.Matrix.{nth}
 use Rattle.basics.specs.Choice.{pick}
-use Rattle.call.specs.Refusal.{checked_refusal, bad_text}
-use Rattle.call.specs.declared.refusal.Checked.{Checked}
-use Rattle.call.specs.declared.refusal.Checked.TheVariants as checked
+use Rattle.call.specs.Refusal.{answer_number, answer_place, Checked, Filled}
+use Rattle.call.specs.declared.refusal.Refusal.TheVariants.{BadText}
 use Rattle.call.specs.Space.{work_length}
 use Rattle.text.specs.Piece.{pieces, first_bad, numbers, place_at}
 use Rattle.text.specs.Reading.{text_most, by_reading}
-use Rattle.text.specs.declared.Reading.{Reading}
-use Rattle.text.specs.declared.Reading.TheVariants.{Numbers, Refused}
 use Rattle.decimal.specs.Ascii.{ascii}
 use Rattle.text.specs.Line.{line, refusal_line}
 use Rattle.towers.specs.Meaning.{TowerSays}
 use Rattle.towers.specs.Answer.{tower_checks}
 
 abbrev pub tower_line : Checked → List ℕ
-tower_line checked.Accepted = line (ascii "passes") []
-tower_line (checked.Refused f) = refusal_line f
+tower_line (Ok tt) = line (ascii "passes") []
+tower_line (Err f) = refusal_line f
 
 -- ---- the text
 
 -- by the first number, which begins at `at`, where there are k
-abbrev pub counted_from : ℤ → (at k : ℕ) → Reading
-counted_from (pos c) at k = Numbers k
-counted_from (negsuc c) at k = Refused (bad_text at)
+abbrev pub counted_from : ℤ → (at k : ℕ) → Filled
+counted_from (pos c) at k = Ok k
+counted_from (negsuc c) at k = Err (BadText at)
 
 -- by all numbers of a text of n bytes
-unfoldable pub entries_from : List ℤ → (at n : ℕ) → Reading
-entries_from [] at n = Refused (bad_text n)
+unfoldable pub entries_from : List ℤ → (at n : ℕ) → Filled
+entries_from [] at n = Err (BadText n)
 entries_from (c ∷ ns) at n = counted_from c at (suc (length ns))
 
-abbrev pub numbers_unless : Option ℕ → List ℤ → (at n : ℕ) → Reading
-numbers_unless (some p) ns at n = Refused (bad_text p)
-numbers_unless none ns at n = entries_from ns at n
+abbrev pub numbers_unless : Option ℕ → List ℤ → (at n : ℕ) → Filled
+numbers_unless (Some p) ns at n = Err (BadText p)
+numbers_unless None ns at n = entries_from ns at n
 
-unfoldable pub tower_reading : Bool → List ℕ → Reading
+unfoldable pub tower_reading : Bool → List ℕ → Filled
 tower_reading longer t =
-    pick (longer || ltb text_most (length t)) (Refused (bad_text text_most))
+    pick (longer || ltb text_most (length t)) (Err (BadText text_most))
     (numbers_unless (first_bad (pieces t)) (numbers (pieces t)) (place_at (pieces t) 0) (length t))
 
 -- ---- the bytes
@@ -71,9 +68,9 @@ tower_bytes longer t =
 
 pub record TowerPrinted (ns : List ℤ) (bytes : List ℕ) : Type 0 where
   pub line : bytes ≡ tower_line (tower_answer ns)
-  pub says : let f = checked_refusal (tower_answer ns) in
-      TowerSays (entries_in ns) (behind_count ns) work_length f.number f.place
+  pub says : let a = tower_answer ns in
+      TowerSays (entries_in ns) (behind_count ns) work_length (answer_number a) (answer_place a)
 
 abbrev pub TowerPrintMeans : Bool → List ℕ → (bytes : List ℕ) → Type 0
 TowerPrintMeans longer t bytes =
-    (k : ℕ) → tower_reading longer t ≡ Numbers k → TowerPrinted (take k (numbers (pieces t))) bytes
+    (k : ℕ) → tower_reading longer t ≡ Ok k → TowerPrinted (take k (numbers (pieces t))) bytes

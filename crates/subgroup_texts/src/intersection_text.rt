@@ -5,7 +5,6 @@ ghost use Rattle.containment.specs.TwoSymbols.{common_s, common_r};
 ghost use Rattle.symbol_texts.specs.Pair.{pair_lines_by};
 ghost use Rattle.subgroup_texts.specs.IntersectionAnswer.{intersection_for};
 
-use call::refusal::Filled;
 use intersections::intersection;
 use symbol_texts::pair_text::pair_lines;
 use text::line::refusal_line;
@@ -23,7 +22,7 @@ pub fn intersection_lines(v: usize, t: &[i64], n: usize, u: &[i64], out: &mut [u
     let mut c = [0u32; 3066];
     let made = intersection(v, t, n, u, &mut w, &mut a, &mut b, &mut c);
     match made {
-        Filled::Made(points) => pair_lines(&a[..points], &b[..points], out),
-        Filled::Refused(refusal) => refusal_line(refusal, out),
+        Ok(points) => pair_lines(&a[..points], &b[..points], out),
+        Err(refusal) => refusal_line(refusal, out),
     }
 }

@@ -1,35 +1,26 @@
 // How two symbols' texts are read, and the line that the job `same` writes for two symbols (specs/SameAnswer.antt).
 ghost use Rattle.std.specs.Prelude.{◌≡◌, false, ◌+◌, ◌≤◌, length};
+ghost use Rattle.call.specs.Refusal.{refusal_place};
 ghost use Rattle.decimal.specs.Writing.{Puts};
 ghost use Rattle.subgroup_texts.specs.SameAnswer.{same_line, in_whole};
 ghost use Rattle.subgroup_texts.specs.Inner.TwoTexts.{same_for, ReadsTwo};
 
-use call::Decision;
-use call::refusal::{BAD_TEXT, BAD_VERTEX_COUNT, Refusal};
+use call::refusal::Refusal;
 use containment::sameness::same;
 use decimal::put;
 use text::line::refusal_line;
 use text::part::part_end;
-use text::{Format, Reading, TEXT_MOST, read};
-
-// What reading two symbols' texts gives.
-#[derive(Clone, Copy)]
-pub enum TwoReading {
-    // So many numbers of the first stand at the front of its slice, and so many of the second at the front of the
-    // other.
-    Numbers(usize, usize),
-    Refused(Refusal),
-}
+use text::{Format, TEXT_MOST, read};
 
 // The line for an answer.
-fn same_line(answer: Decision, out: &mut [u8]) -> usize
+fn same_line(answer: Result<bool, Refusal>, out: &mut [u8]) -> usize
     requires { 50 ≤ length out.old }
     ensures { Puts (same_line answer) 0 result out.old out.new }
 {
     match answer {
-        Decision::Yes => put(b"same\n", out, 0),
-        Decision::No => put(b"different\n", out, 0),
-        Decision::Refused(refusal) => refusal_line(refusal, out),
+        Ok(true) => put(b"same\n", out, 0),
+        Ok(false) => put(b"different\n", out, 0),
+        Err(refusal) => refusal_line(refusal, out),
     }
 }
 
@@ -46,17 +37,15 @@ pub fn same_lines(v: usize, t: &[i64], n: usize, u: &[i64], out: &mut [u8]) -> u
 
 // A refusal of the second text, which begins at the byte `at`.
 fn moved(refusal: Refusal, at: usize) -> Refusal
-    requires { at + refusal.place ≤ 131072 }
+    requires { at + refusal_place refusal ≤ 131072 }
     ensures { result ≡ in_whole at refusal }
 {
-    Refusal {
-        number: BAD_TEXT,
-        place: at + refusal.place,
-    }
+    Refusal::BadText(at + refusal.place())
 }
 
-// What a text that isn't too long gives.
-fn read_texts(text: &[u8], one: &mut [i64], other: &mut [i64]) -> TwoReading
+// What a text that isn't too long gives: how many numbers of the first symbol stand at the front of its slice, and how
+// many of the second at the front of the other.
+fn read_texts(text: &[u8], one: &mut [i64], other: &mut [i64]) -> Result<(usize, usize), Refusal>
     requires { (length text.now ≤ 65536) × (length one.old ≡ 3071) × (length other.old ≡ 3071) }
     ensures { ReadsTwo false text.now result one.new other.new }
 {
@@ -67,40 +56,29 @@ fn read_texts(text: &[u8], one: &mut [i64], other: &mut [i64]) -> TwoReading
         more: 2,
     };
     let at = part_end(text, format);
-    let first = read(&text[..at], format, one);
-    match first {
-        Reading::Refused(refusal) => TwoReading::Refused(refusal),
-        Reading::Numbers(k) => {
-            if k < 2 {
-                return TwoReading::Refused(Refusal {
-                    number: BAD_VERTEX_COUNT,
-                    place: 0,
-                });
-            }
-            let second = read(&text[at..], format, other);
-            match second {
-                Reading::Refused(refusal) => TwoReading::Refused(moved(refusal, at)),
-                Reading::Numbers(j) => TwoReading::Numbers(k, j),
-            }
-        }
+    let k = read(&text[..at], format, one)?;
+    if k < 2 {
+        return Err(Refusal::BadVertexCount);
+    }
+    match read(&text[at..], format, other) {
+        Err(refusal) => Err(moved(refusal, at)),
+        Ok(j) => Ok((k, j)),
     }
 }
 
 // What any text gives, where `longer` says that more was sent than the program's buffer holds. For every program that
 // reads two symbols.
-pub fn read_two(text: &[u8], longer: bool, one: &mut [i64], other: &mut [i64]) -> TwoReading
+pub fn read_two(
+    text: &[u8],
+    longer: bool,
+    one: &mut [i64],
+    other: &mut [i64],
+) -> Result<(usize, usize), Refusal>
     requires { (length one.old ≡ 3071) × (length other.old ≡ 3071) }
     ensures { ReadsTwo longer text.now result one.new other.new }
 {
-    let refused = Refusal {
-        number: BAD_TEXT,
-        place: TEXT_MOST,
-    };
-    if longer {
-        return TwoReading::Refused(refused);
-    }
-    if TEXT_MOST < text.len() {
-        return TwoReading::Refused(refused);
+    if longer || TEXT_MOST < text.len() {
+        return Err(Refusal::BadText(TEXT_MOST));
     }
     read_texts(text, one, other)
 }

@@ -1,81 +1,56 @@
 // What the job `tower` writes for a text: all of it, byte for byte, as specs/TowerAnswer.antt says.
-ghost use Rattle.std.specs.Prelude.{◌≡◌, ◌≤◌, length};
-ghost use Rattle.std.proofs.Math.Option.{none};
+ghost use Rattle.std.specs.Prelude.{◌≡◌, ◌≤◌, length, None};
 ghost use Rattle.text.specs.Piece.{pieces, first_bad, numbers, place_at};
 ghost use Rattle.text.specs.Inner.Inside.{left_by};
 ghost use Rattle.decimal.specs.Writing.{Puts};
 ghost use Rattle.subgroup_texts.specs.TowerAnswer.{tower_line, entries_from, tower_reading, tower_answer, tower_bytes};
 
-use call::refusal::{BAD_TEXT, Checked, Refusal};
-use decimal::{put, size};
+use call::refusal::Refusal;
+use decimal::put;
 use text::line::refusal_line;
-use text::{Reading, Step, Survey, TEXT_MOST, fill, next, survey_of};
+use text::{TEXT_MOST, fill, next_number, survey_of};
 use towers::tower;
 
 // The numbers of a text whose pieces are all numbers, `count` of them.
-fn read_entries(text: &[u8], count: usize, ns: &mut [i64]) -> Reading
-    requires { (first_bad (pieces text.now) ≡ none) × (length (pieces text.now) ≡ count)
+fn read_entries(text: &[u8], count: usize, ns: &mut [i64]) -> Result<usize, Refusal>
+    requires { (first_bad (pieces text.now) ≡ None) × (length (pieces text.now) ≡ count)
         × (count ≤ length ns.old) }
     ensures { (result ≡ entries_from (numbers (pieces text.now)) (place_at (pieces text.now) 0)
         (length text.now))
         × (ns.new ≡ left_by result (numbers (pieces text.now)) ns.old) }
 {
-    match next(text, 0) {
-        Step::End => Reading::Refused(Refusal {
-            number: BAD_TEXT,
-            place: text.len(),
-        }),
-        Step::Bad(at) => Reading::Refused(Refusal {
-            number: BAD_TEXT,
-            place: at,
-        }),
-        Step::Number(entries, at, _) => {
-            if entries < 0 {
-                return Reading::Refused(Refusal {
-                    number: BAD_TEXT,
-                    place: at,
-                });
-            }
-            fill(text, count, ns);
-            Reading::Numbers(count)
-        }
+    let Some(entries) = next_number(text, 0) else {
+        return Err(Refusal::BadText(text.len()));
+    };
+    if entries.value < 0 {
+        return Err(Refusal::BadText(entries.at));
     }
+    fill(text, count, ns);
+    Ok(count)
 }
 
 // Reads the numbers of a text, where `longer` says that more was sent than the program's buffer holds. A text of 65,536
 // bytes has at most 32,768 pieces.
-fn read_tower(text: &[u8], longer: bool, ns: &mut [i64]) -> Reading
+fn read_tower(text: &[u8], longer: bool, ns: &mut [i64]) -> Result<usize, Refusal>
     requires { length ns.old ≡ 32768 }
     ensures { (result ≡ tower_reading longer text.now)
         × (ns.new ≡ left_by result (numbers (pieces text.now)) ns.old) }
 {
-    let refused = Reading::Refused(Refusal {
-        number: BAD_TEXT,
-        place: TEXT_MOST,
-    });
-    if longer {
-        return refused;
+    if longer || TEXT_MOST < text.len() {
+        return Err(Refusal::BadText(TEXT_MOST));
     }
-    if TEXT_MOST < text.len() {
-        return refused;
-    }
-    match survey_of(text) {
-        Survey::Bad(at) => Reading::Refused(Refusal {
-            number: BAD_TEXT,
-            place: at,
-        }),
-        Survey::Count(count) => read_entries(text, count, ns),
-    }
+    let count = survey_of(text).map_err(|at| Refusal::BadText(at))?;
+    read_entries(text, count, ns)
 }
 
 // The line for an answer.
-fn tower_line(answer: Checked, out: &mut [u8]) -> usize
+fn tower_line(answer: Result<(), Refusal>, out: &mut [u8]) -> usize
     requires { 50 ≤ length out.old }
     ensures { Puts (tower_line answer) 0 result out.old out.new }
 {
     match answer {
-        Checked::Accepted => put(b"passes\n", out, 0),
-        Checked::Refused(refusal) => refusal_line(refusal, out),
+        Ok(()) => put(b"passes\n", out, 0),
+        Err(refusal) => refusal_line(refusal, out),
     }
 }
 
@@ -85,7 +60,7 @@ fn tower_numbers(ns: &[i64], out: &mut [u8]) -> usize
     ensures { Puts (tower_line (tower_answer ns.now)) 0 result out.old out.new }
 {
     let mut w = [0u16; 32768];
-    let entries = size(ns[0]);
+    let entries = ns[0].unsigned_abs();
     let answer = tower(entries as usize, &ns[1..], &mut w);
     tower_line(answer, out)
 }
@@ -99,7 +74,7 @@ pub fn answer(text: &[u8], longer: bool, out: &mut [u8]) -> usize
     let mut ns = [0i64; 32768];
     let read = read_tower(text, longer, &mut ns);
     match read {
-        Reading::Refused(refusal) => refusal_line(refusal, out),
-        Reading::Numbers(k) => tower_numbers(&ns[..k], out),
+        Err(refusal) => refusal_line(refusal, out),
+        Ok(k) => tower_numbers(&ns[..k], out),
     }
 }

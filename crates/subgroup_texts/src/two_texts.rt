@@ -6,7 +6,7 @@ ghost use Rattle.subgroup_texts.specs.SameAnswer.{two};
 ghost use Rattle.subgroup_texts.specs.Inner.TwoTexts.{lines_of_two, bytes_of_two};
 
 use crate::intersection_text::intersection_lines;
-use crate::same_text::{TwoReading, read_two, same_lines};
+use crate::same_text::{read_two, same_lines};
 use text::line::refusal_line;
 use text::vertex_count;
 
@@ -43,7 +43,7 @@ pub fn answer(text: &[u8], longer: bool, asked: Asked, out: &mut [u8]) -> usize
     let mut other = [0i64; 3071];
     let reading = read_two(text, longer, &mut one, &mut other);
     match reading {
-        TwoReading::Refused(refusal) => refusal_line(refusal, out),
-        TwoReading::Numbers(k, j) => two_lines(asked, &one[..k], &other[..j], out),
+        Err(refusal) => refusal_line(refusal, out),
+        Ok((k, j)) => two_lines(asked, &one[..k], &other[..j], out),
     }
 }

@@ -2,6 +2,7 @@
 --
 -- In order: what it is to pass a check; what each check says; the theorem; the numbers of refusals (`check_among`).
 -- Assumes nothing.
+use Rattle.std.specs.Prelude.{Ok, Err}
 use mathlib.Core.Path.{◌≡◌, refl, sym, ◌∙◌, ap}
 use mathlib.Core.Logic.{◌⊎◌, inl, inr, ◌↔◌}
 use mathlib.Core.Bool.{Bool, true, false, not, ◌&&◌, ◌||◌}
@@ -27,9 +28,8 @@ use Rattle.symbol.specs.declared.Side.{Side}
 use Rattle.symbol.specs.declared.Pairing.{Pairing}
 use Rattle.symbol.specs.declared.Pairing.TheVariants.{Even, Odd, Free, Bad}
 use Rattle.call.specs.declared.refusal.Refusal.{Refusal}
-use Rattle.call.specs.Refusal.{◌or_else◌, bad_vertex_count, table_length, vertex_entry, not_neighbours, no_zero, bad_pairing, no_odd_side}
-use Rattle.call.specs.declared.refusal.Checked.{Checked}
-use Rattle.call.specs.declared.refusal.Checked.TheVariants.{Accepted, Refused}
+use Rattle.call.specs.Refusal.{◌or_else◌, refusal_number, Checked}
+use Rattle.call.specs.declared.refusal.Refusal.TheVariants.{BadVertexCount, TableLength, VertexEntry, NotNeighbours, NoZero, BadPairing, NoOddSide}
 use Rattle.symbol.proofs.Choice.{eq_z_true, eq_eq_z, positive_true, true_positive}
 use Rattle.basics.proofs.Choice.{pick_false, either, clash, and_left, and_right}
 use Rattle.basics.proofs.Count.{Clear, Found, first_clear, found, search_first}
@@ -37,21 +37,21 @@ use Rattle.symbol.proofs.Pairings.{PairingView, even, odd, free, bad, pairing_vi
 
 -- ---- passing
 
-pub passes : (b : Bool) (f : Refusal) → refuse b f ≡ Accepted → b ≡ false
+pub passes : (b : Bool) (f : Refusal) → refuse b f ≡ Ok tt → b ≡ false
 passes true f e = refused_accepted e
 passes false f e = refl
 
-pub pass : (b : Bool) (f : Refusal) → b ≡ false → refuse b f ≡ Accepted
-pass b f e = pick_false b (Refused f) Accepted e
+pub pass : (b : Bool) (f : Refusal) → b ≡ false → refuse b f ≡ Ok tt
+pass b f e = pick_false b (Err f) (Ok tt) e
 
-pub passes_at : (test : ℕ → Bool) (n : ℕ) (f : ℕ → Refusal) → refuse_at (first test n) n f ≡ Accepted → Clear test n
+pub passes_at : (test : ℕ → Bool) (n : ℕ) (f : ℕ → Refusal) → refuse_at (first test n) n f ≡ Ok tt → Clear test n
 passes_at test n f e = go (search_first test n)
   where
     go : Clear test n ⊎ Found test n → Clear test n
     go (inl c) = c
     go (inr k) = clash (lt-ltb (first test n) n k.below) (passes (ltb (first test n) n) (f (first test n)) e)
 
-pub pass_at : (test : ℕ → Bool) (n : ℕ) (f : ℕ → Refusal) → Clear test n → refuse_at (first test n) n f ≡ Accepted
+pub pass_at : (test : ℕ → Bool) (n : ℕ) (f : ℕ → Refusal) → Clear test n → refuse_at (first test n) n f ≡ Ok tt
 pass_at test n f c = pass (ltb (first test n) n) (f (first test n)) (le-ltb (first test n) n (let e = first_clear test n c in omega arith))
 
 false_not : (b : Bool) → b ≡ true → not b ≡ false
@@ -175,15 +175,15 @@ module _ (v : ℕ) (t : List ℤ) where
 
   -- all seven passed
   pub record Passed : Type 0 where
-    pub one : check1 v ≡ Accepted
-    pub two : check2 v t ≡ Accepted
-    pub three : check3 v t ≡ Accepted
-    pub four : check4 v t ≡ Accepted
-    pub five : check5 v t ≡ Accepted
-    pub six : check6 v (pairing_entries v t) ≡ Accepted
-    pub seven : check7 v (pairing_entries v t) ≡ Accepted
+    pub one : check1 v ≡ Ok tt
+    pub two : check2 v t ≡ Ok tt
+    pub three : check3 v t ≡ Ok tt
+    pub four : check4 v t ≡ Ok tt
+    pub five : check5 v t ≡ Ok tt
+    pub six : check6 v (pairing_entries v t) ≡ Ok tt
+    pub seven : check7 v (pairing_entries v t) ≡ Ok tt
 
-  pub passed_all : symbol_check v t ≡ Accepted → Passed
+  pub passed_all : symbol_check v t ≡ Ok tt → Passed
   passed_all e =
       let c6 = check6 v (pairing_entries v t) or_else check7 v (pairing_entries v t) in
       let c5 = check5 v t or_else c6 in
@@ -198,20 +198,20 @@ module _ (v : ℕ) (t : List ℤ) where
       let g = both_pass (check6 v (pairing_entries v t)) (check7 v (pairing_entries v t)) f.1 in
       record { one = a.0; two = b.0; three = c.0; four = d.0; five = f.0; six = g.0; seven = g.1 }
 
-  pub all_passed : Passed → symbol_check v t ≡ Accepted
+  pub all_passed : Passed → symbol_check v t ≡ Ok tt
   all_passed p = rw (p.one, p.two, p.three, p.four, p.five, p.six) p.seven
 
   meaning : Passed → IsSymbol v t
   meaning p =
-      let one = not-false (leb 1 v && leb v 1023) (passes (not (leb 1 v && leb v 1023)) bad_vertex_count p.one) in
-      let three = passes_at (out_of_range t) (2 * v) vertex_entry p.three in
-      let four = passes_at (apart v t) (v + 1) not_neighbours p.four in
-      let six = passes_at (unpaired_in v (pairing_entries v t)) (v + 1) bad_pairing p.six in
+      let one = not-false (leb 1 v && leb v 1023) (passes (not (leb 1 v && leb v 1023)) BadVertexCount p.one) in
+      let three = passes_at (out_of_range t) (2 * v) VertexEntry p.three in
+      let four = passes_at (apart v t) (v + 1) NotNeighbours p.four in
+      let six = passes_at (unpaired_in v (pairing_entries v t)) (v + 1) BadPairing p.six in
       record {
         some = leb-true 1 v (and_left (leb 1 v) (leb v 1023) one);
         most = leb-true v 1023 (and_right (leb 1 v) (leb v 1023) one);
         long = eqb-true (length t) (3 * v + 1)
-            (not-false (eqb (length t) (3 * v + 1)) (passes (not (eqb (length t) (3 * v + 1))) (table_length (length t)) p.two));
+            (not-false (eqb (length t) (3 * v + 1)) (passes (not (eqb (length t) (3 * v + 1))) (TableLength (length t)) p.two));
         numers = λ i h. (in_range (2 * i) (three.none (2 * i) (omega arith))).0;
         denoms = λ i h.
             let k = in_range (2 * i + 1) (three.none (2 * i + 1) (omega arith)) in
@@ -219,9 +219,9 @@ module _ (v : ℕ) (t : List ℤ) where
             (q.0, k.0, q.1);
         neighbours = λ i h. sym (neighbour (side_at v t i))
             ∙ eq_z_true (gap (side_at v t i)) (pos 1) (not-false (eq_z (gap (side_at v t i)) (pos 1)) (four.none i (omega arith)));
-        zero = zero_found (passes (not (ltb (first (is_zero t) v) v)) no_zero p.five);
+        zero = zero_found (passes (not (ltb (first (is_zero t) v) v)) NoZero p.five);
         pairings = λ i h. paired (pairing_entry v t i) (six.none i (omega arith));
-        odd = odd_one (passes (eqb v 1 && not (is_odd (pairing_entries v t) 0 || is_odd (pairing_entries v t) 1)) no_odd_side p.seven);
+        odd = odd_one (passes (eqb v 1 && not (is_odd (pairing_entries v t) 0 || is_odd (pairing_entries v t) 1)) NoOddSide p.seven);
       }
 
   -- an entry's place is 2 i or 2 i + 1
@@ -243,23 +243,23 @@ module _ (v : ℕ) (t : List ℤ) where
       let a = s.some in
       let b = s.most in
       record {
-        one = pass (not (leb 1 v && leb v 1023)) bad_vertex_count
+        one = pass (not (leb 1 v && leb v 1023)) BadVertexCount
             (false_not (leb 1 v && leb v 1023) (and_true (leb 1 v) (leb v 1023) (le-leb 1 v a) (le-leb v 1023 b)));
-        two = pass (not (eqb (length t) (3 * v + 1))) (table_length (length t))
+        two = pass (not (eqb (length t) (3 * v + 1))) (TableLength (length t))
             (false_not (eqb (length t) (3 * v + 1)) (eq-eqb (length t) (3 * v + 1) s.long));
-        three = pass_at (out_of_range t) (2 * v) vertex_entry (record { none = range_of s });
-        four = pass_at (apart v t) (v + 1) not_neighbours
+        three = pass_at (out_of_range t) (2 * v) VertexEntry (record { none = range_of s });
+        four = pass_at (apart v t) (v + 1) NotNeighbours
             (record {
               none = λ i h. false_not (eq_z (gap (side_at v t i)) (pos 1))
                   (eq_eq_z (gap (side_at v t i)) (pos 1) (neighbour (side_at v t i) ∙ s.neighbours i (omega arith)));
             });
-        five = pass (not (ltb (first (is_zero t) v) v)) no_zero (found_zero s.zero);
-        six = pass_at (unpaired_in v (pairing_entries v t)) (v + 1) bad_pairing
+        five = pass (not (ltb (first (is_zero t) v) v)) NoZero (found_zero s.zero);
+        six = pass_at (unpaired_in v (pairing_entries v t)) (v + 1) BadPairing
             (record { none = λ i h. not_lonely (pairing_entry v t i) (s.pairings i (omega arith)) });
-        seven = pass (eqb v 1 && not (is_odd (pairing_entries v t) 0 || is_odd (pairing_entries v t) 1)) no_odd_side (one_odd s.odd);
+        seven = pass (eqb v 1 && not (is_odd (pairing_entries v t) 0 || is_odd (pairing_entries v t) 1)) NoOddSide (one_odd s.odd);
       }
 
-pub accepted : (v : ℕ) (t : List ℤ) → (symbol_check v t ≡ Accepted) ↔ IsSymbol v t
+pub accepted : (v : ℕ) (t : List ℤ) → (symbol_check v t ≡ Ok tt) ↔ IsSymbol v t
 accepted v t = (λ e. meaning v t (passed_all v t e), λ s. all_passed v t (passing v t s))
 
 -- an answer that is the checks' says what it means
@@ -268,7 +268,7 @@ verdict v t r e = record { returned = e; means = (λ a. (accepted v t).0 (sym e 
 
 -- ---- the numbers
 
-pub among_refuse : (low high : ℕ) (b : Bool) (f : Refusal) → low ≤ f.number → f.number ≤ high → Among low high (refuse b f)
+pub among_refuse : (low high : ℕ) (b : Bool) (f : Refusal) → low ≤ refusal_number f → refusal_number f ≤ high → Among low high (refuse b f)
 among_refuse low high true f h k = (h, k)
 among_refuse low high false f h k = tt
 
@@ -284,10 +284,10 @@ check_among v t =
     let i3 = first (out_of_range t) (2 * v) in
     let i4 = first (apart v t) (v + 1) in
     let i6 = first (unpaired_in v p) (v + 1) in
-    among_first 1 7 (check1 v) c2 (among_refuse 1 7 (not (leb 1 v && leb v 1023)) bad_vertex_count (omega arith) (omega arith))
-    (among_first 1 7 (check2 v t) c3 (among_refuse 1 7 (not (eqb (length t) (3 * v + 1))) (table_length (length t)) (omega arith) (omega arith))
-    (among_first 1 7 (check3 v t) c4 (among_refuse 1 7 (ltb i3 (2 * v)) (vertex_entry i3) (omega arith) (omega arith))
-    (among_first 1 7 (check4 v t) c5 (among_refuse 1 7 (ltb i4 (v + 1)) (not_neighbours i4) (omega arith) (omega arith))
-    (among_first 1 7 (check5 v t) c6 (among_refuse 1 7 (not (ltb (first (is_zero t) v) v)) no_zero (omega arith) (omega arith))
-    (among_first 1 7 (check6 v p) (check7 v p) (among_refuse 1 7 (ltb i6 (v + 1)) (bad_pairing i6) (omega arith) (omega arith))
-    (among_refuse 1 7 (lacks_odd v p) no_odd_side (omega arith) (omega arith)))))))
+    among_first 1 7 (check1 v) c2 (among_refuse 1 7 (not (leb 1 v && leb v 1023)) BadVertexCount (omega arith) (omega arith))
+    (among_first 1 7 (check2 v t) c3 (among_refuse 1 7 (not (eqb (length t) (3 * v + 1))) (TableLength (length t)) (omega arith) (omega arith))
+    (among_first 1 7 (check3 v t) c4 (among_refuse 1 7 (ltb i3 (2 * v)) (VertexEntry i3) (omega arith) (omega arith))
+    (among_first 1 7 (check4 v t) c5 (among_refuse 1 7 (ltb i4 (v + 1)) (NotNeighbours i4) (omega arith) (omega arith))
+    (among_first 1 7 (check5 v t) c6 (among_refuse 1 7 (not (ltb (first (is_zero t) v) v)) NoZero (omega arith) (omega arith))
+    (among_first 1 7 (check6 v p) (check7 v p) (among_refuse 1 7 (ltb i6 (v + 1)) (BadPairing i6) (omega arith) (omega arith))
+    (among_refuse 1 7 (lacks_odd v p) NoOddSide (omega arith) (omega arith)))))))

@@ -5,13 +5,11 @@
 -- Below it what each arm of `read_pairing` shows.
 -- Assumes nothing.
 use mathlib.Core.Path.{◌≡◌, refl}
-use mathlib.Core.Bool.{true}
-use Prim.Native.Nat.{ℕ, zero, suc, ◌+◌, ◌<◌, ◌≤◌}
+use Prim.Native.Nat.{ℕ, zero, suc, ◌+◌, ◌≤◌}
 use native.Mathlib.Omega.{arith}
 use native.Mathlib.Decide.{dec_lt}
 use lib.Dec.{ltb}
-use borrow.Author.Tests.{lt-ltb, le-ltb, ltb-true}
-use lib.Signed.{lt_z}
+use borrow.Author.Tests.{lt-ltb, le-ltb}
 use lib.IntN.{ℤ, pos, negsuc}
 use Rattle.symbol.specs.Table.{pairing_of}
 use Rattle.symbol.specs.declared.Pairing.TheVariants.{Even, Odd, Free, Bad}
@@ -38,17 +36,3 @@ pairing_view v (negsuc (suc (suc (suc n)))) = bad refl
 pub pairing_free : (v l : ℕ) → 1 ≤ l → l ≤ v + 1 → pairing_of v (pos l) ≡ Free l
 pairing_free v zero h k = absurd (omega arith)
 pairing_free v (suc l) h k = pick_true (ltb l (v + 1)) (Free (suc l)) Bad (lt-ltb l (v + 1) (omega arith))
-
--- below 1 only -2 and -3 are pairings
-pub pairing_below : (v : ℕ) (x : ℤ) → lt_z x (pos 1) ≡ true → (x ≡ negsuc 1 → ⊥) → (x ≡ negsuc 2 → ⊥) → pairing_of v x ≡ Bad
-pairing_below v (pos zero) e p q = refl
-pairing_below v (pos (suc n)) e p q = let h = ltb-true (suc n) 1 e in absurd (omega arith)
-pairing_below v (negsuc zero) e p q = refl
-pairing_below v (negsuc (suc zero)) e p q = absurd (p refl)
-pairing_below v (negsuc (suc (suc zero))) e p q = absurd (q refl)
-pairing_below v (negsuc (suc (suc (suc n)))) e p q = refl
-
--- above v + 1 there is no label
-pub pairing_above : (v l : ℕ) → v + 1 < l → pairing_of v (pos l) ≡ Bad
-pairing_above v zero h = refl
-pairing_above v (suc l) h = pick_false (ltb l (v + 1)) (Free (suc l)) Bad (le-ltb l (v + 1) (omega arith))

@@ -9,7 +9,8 @@
 --   is_odd, lacks_odd     a side is odd; one vertex and no odd side
 --   check1 .. check7      the seven checks; the last two are on the pairings alone
 --   symbol_check v t      all of them, in order: the first fault counts
-use Rattle.std.specs.Prelude.{Bool, true, false, not, ◌&&◌, ◌||◌, List, ℕ, ◌+◌, ◌*◌, ◌%◌, leb, ltb, eqb, length, ℤ, pos, negsuc, nat_abs}
+use Rattle.std.specs.Prelude.{Bool, true, false, not, ◌&&◌, ◌||◌, List, ℕ, ◌+◌, ◌*◌, ◌%◌, leb, ltb, eqb, length}
+use Rattle.std.specs.Prelude.{ℤ, pos, negsuc, nat_abs, Ok, Err}
 use Rattle.matrix.specs.Matrix.{nth}
 use Rattle.matrix.specs.Euclid.{positive}
 use Rattle.basics.specs.Choice.{pick}
@@ -18,14 +19,13 @@ use Rattle.symbol.specs.Table.{numer, denom, pairing_entries, side_at, gap, pair
 use Rattle.symbol.specs.declared.Pairing.{Pairing}
 use Rattle.symbol.specs.declared.Pairing.TheVariants.{Even, Odd, Free, Bad}
 use Rattle.call.specs.declared.refusal.Refusal.{Refusal}
-use Rattle.call.specs.Refusal.{◌or_else◌, bad_vertex_count, table_length, vertex_entry, not_neighbours, no_zero, bad_pairing}
-use Rattle.call.specs.Refusal.{no_odd_side}
-use Rattle.call.specs.declared.refusal.Checked.{Checked}
-use Rattle.call.specs.declared.refusal.Checked.TheVariants.{Accepted, Refused}
+use Rattle.call.specs.Refusal.{◌or_else◌, Checked}
+use Rattle.call.specs.declared.refusal.Refusal.TheVariants.{BadVertexCount, TableLength, VertexEntry, NotNeighbours}
+use Rattle.call.specs.declared.refusal.Refusal.TheVariants.{NoZero, BadPairing, NoOddSide}
 
 -- refused where b holds
 abbrev pub refuse : Bool → Refusal → Checked
-refuse b f = pick b (Refused f) Accepted
+refuse b f = pick b (Err f) (Ok tt)
 
 -- refused at the first i < n that fails
 abbrev pub refuse_at : ℕ → ℕ → (ℕ → Refusal) → Checked
@@ -39,32 +39,32 @@ eq_z (negsuc m) (negsuc n) = eqb m n
 
 -- 1: v is from 1 to 1,023
 abbrev pub check1 : ℕ → Checked
-check1 v = refuse (not (leb 1 v && leb v 1023)) bad_vertex_count
+check1 v = refuse (not (leb 1 v && leb v 1023)) BadVertexCount
 
 -- 2: the table has 3v + 1 entries
 abbrev pub check2 : ℕ → List ℤ → Checked
-check2 v t = refuse (not (eqb (length t) (3 * v + 1))) (table_length (length t))
+check2 v t = refuse (not (eqb (length t) (3 * v + 1))) (TableLength (length t))
 
 -- 3: numerators, at even places, from -10⁹ to 10⁹; denominators, at odd places, from 1 to 10⁹
 abbrev pub out_of_range : List ℤ → ℕ → Bool
 out_of_range t i = not (leb (nat_abs (nth t i)) 1000000000 && (eqb (i % 2) 0 || positive (nth t i)))
 
 abbrev pub check3 : ℕ → List ℤ → Checked
-check3 v t = refuse_at (first (out_of_range t) (2 * v)) (2 * v) vertex_entry
+check3 v t = refuse_at (first (out_of_range t) (2 * v)) (2 * v) VertexEntry
 
 -- 4: the ends of each side are neighbours
 abbrev pub apart : ℕ → List ℤ → ℕ → Bool
 apart v t i = not (eq_z (gap (side_at v t i)) (pos 1))
 
 abbrev pub check4 : ℕ → List ℤ → Checked
-check4 v t = refuse_at (first (apart v t) (v + 1)) (v + 1) not_neighbours
+check4 v t = refuse_at (first (apart v t) (v + 1)) (v + 1) NotNeighbours
 
 -- 5: some vertex is 0/1
 abbrev pub is_zero : List ℤ → ℕ → Bool
 is_zero t i = eq_z (numer t i) (pos 0) && eq_z (denom t i) (pos 1)
 
 abbrev pub check5 : ℕ → List ℤ → Checked
-check5 v t = refuse (not (ltb (first (is_zero t) v) v)) no_zero
+check5 v t = refuse (not (ltb (first (is_zero t) v) v)) NoZero
 
 -- 6: each pairing is even, odd, or a free label that two sides have
 abbrev pub sides_in : ℕ → List ℤ → ℤ → ℕ
@@ -83,7 +83,7 @@ abbrev pub unpaired_in : ℕ → List ℤ → ℕ → Bool
 unpaired_in v p i = unpaired_by (pairing_of v (nth p i)) (sides_in v p (nth p i))
 
 abbrev pub check6 : ℕ → List ℤ → Checked
-check6 v p = refuse_at (first (unpaired_in v p) (v + 1)) (v + 1) bad_pairing
+check6 v p = refuse_at (first (unpaired_in v p) (v + 1)) (v + 1) BadPairing
 
 -- 7: with one vertex some side is odd
 abbrev pub is_odd : List ℤ → ℕ → Bool
@@ -93,7 +93,7 @@ abbrev pub lacks_odd : ℕ → List ℤ → Bool
 lacks_odd v p = eqb v 1 && not (is_odd p 0 || is_odd p 1)
 
 abbrev pub check7 : ℕ → List ℤ → Checked
-check7 v p = refuse (lacks_odd v p) no_odd_side
+check7 v p = refuse (lacks_odd v p) NoOddSide
 
 abbrev pub symbol_check : ℕ → List ℤ → Checked
 symbol_check v t =

@@ -5,12 +5,11 @@
 --   SymbolVerdict v t r  r is the answer of the checks, and it is that the symbol is accepted exactly when it is one
 --
 -- proofs/Accepted.antt, `accepted`: the checks accept exactly the symbols.
-use Rattle.std.specs.Prelude.{◌≡◌, ◌⊎◌, ◌↔◌, List, ℕ, ◌+◌, ◌*◌, ◌≤◌, ◌<◌, length, ℤ, pos, negsuc, nat_abs}
+use Rattle.std.specs.Prelude.{◌≡◌, ◌⊎◌, ◌↔◌, List, ℕ, ◌+◌, ◌*◌, ◌≤◌, ◌<◌, length, ℤ, pos, negsuc, nat_abs, Ok}
 use Rattle.matrix.specs.Matrix.{det}
 use Rattle.symbol.specs.Table.{numer, denom, pairing_entry, side_at, frame}
 use Rattle.symbol.specs.Check.{sides, symbol_check}
-use Rattle.call.specs.declared.refusal.Checked.{Checked}
-use Rattle.call.specs.declared.refusal.Checked.TheVariants.{Accepted}
+use Rattle.call.specs.Refusal.{Checked}
 
 -- a vertex that is 0/1
 pub record ZeroAt (v : ℕ) (t : List ℤ) : Type 0 where
@@ -42,4 +41,4 @@ pub record IsSymbol (v : ℕ) (t : List ℤ) : Type 0 where
 
 pub record SymbolVerdict (v : ℕ) (t : List ℤ) (r : Checked) : Type 0 where
   pub returned : r ≡ symbol_check v t
-  pub means : (r ≡ Accepted) ↔ IsSymbol v t
+  pub means : (r ≡ Ok tt) ↔ IsSymbol v t

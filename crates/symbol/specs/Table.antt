@@ -4,7 +4,8 @@
 --   pairing_entries v t      the part of the table behind the vertex entries
 --   pairing_entry v t i      what stands for the pairing of side i, counted from 0 to v
 --   Side, side a b c d       a side from a/b on the left to c/d on the right
---   left_num, left_den, right_num, right_den  the ends of side i: -1/0 stands before the first vertex, 1/0 after the last
+--   left_num, left_den, right_num, right_den  the ends of side i: -1/0 stands before the first vertex, 1/0 after the
+--                            last
 --   side_at v t i            side i with these ends
 --   frame s                  the side's frame, (c a; d b)
 --   gap s                    c b - a d, which is 1 where the two ends are neighbours

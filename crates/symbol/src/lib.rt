@@ -6,24 +6,18 @@
 
 mod counting;
 
-ghost use Rattle.std.specs.Prelude.{◌≡◌, ℕ, ◌+◌, ◌*◌, ◌%◌, ◌≤◌, ◌<◌, leb, pos, nat_abs, length};
-ghost use Rattle.matrix.specs.Euclid.{positive};
+ghost use Rattle.std.specs.Prelude.{◌≡◌, ◌+◌, ◌*◌, ◌≤◌, ◌<◌, pos, length, Ok};
 ghost use Rattle.matrix.specs.Matrix.{nth, of_list, to_list, mat_s, mat_q};
 ghost use Rattle.matrix.specs.Bounds.{Small};
-ghost use Rattle.call.specs.Refusal.{◌or_else◌};
-ghost use Rattle.basics.specs.Count.{first};
 ghost use Rattle.symbol.specs.Table.{left_num, left_den, right_num, right_den, side_at, frame, gap, carried};
 ghost use Rattle.symbol.specs.Table.{pairing_of};
-ghost use Rattle.symbol.specs.Check.{eq_z, out_of_range, apart, is_zero, unpaired_in, check3, check4, check5};
+ghost use Rattle.symbol.specs.Check.{eq_z, out_of_range, is_zero, unpaired_in, check3, check4, check5};
 ghost use Rattle.symbol.specs.Check.{lacks_odd, check6, check7};
 ghost use Rattle.symbol.specs.Inner.Marks.{Noted, Tallied};
 ghost use Rattle.symbol.specs.Symbol.{SymbolVerdict};
-ghost use Rattle.symbol.specs.Inner.Ready.{SmallSide, fails_of, places_of, MayCheck};
+ghost use Rattle.symbol.specs.Inner.Ready.{SmallSide};
 
-use call::refusal::{
-    BAD_PAIRING, BAD_VERTEX_COUNT, Checked, NO_ODD_SIDE, NO_ZERO, NOT_NEIGHBOURS, Refusal,
-    TABLE_LENGTH, VERTEX_ENTRY,
-};
+use call::refusal::Refusal;
 
 // A side of the polygon, from a/b on the left to c/d on the right.
 #[derive(Clone, Copy)]
@@ -48,23 +42,6 @@ pub enum Pairing {
     Odd,
     Free(usize),
     Bad,
-}
-
-// Whether x is at most 10^9 in size.
-fn small(x: i64) -> bool
-    ensures { result ≡ leb (nat_abs x) 1000000000 }
-{
-    if x < -1000000000 {
-        return false;
-    }
-    x <= 1000000000
-}
-
-// Whether x is above 0.
-fn above_zero(x: i64) -> bool
-    ensures { result ≡ positive x }
-{
-    0 < x
 }
 
 // The pairing that x stands for in a symbol of v vertices.
@@ -189,13 +166,7 @@ fn out_of_range(t: &[i64], i: usize) -> bool
     ensures { result ≡ out_of_range t.now i }
 {
     let x = t[i];
-    if small(x) {
-        if i % 2 == 0 {
-            return false;
-        }
-        return !above_zero(x);
-    }
-    true
+    x.unsigned_abs() > 1000000000 || (i % 2 == 1 && x < 1)
 }
 
 // Whether vertex i is 0/1.
@@ -203,10 +174,7 @@ pub fn is_zero(t: &[i64], i: usize) -> bool
     requires { (i ≤ 1023) × (2 * i + 1 < length t.now) }
     ensures { result ≡ is_zero t.now i }
 {
-    if t[2 * i] == 0 {
-        return t[2 * i + 1] == 1;
-    }
-    false
+    t[2 * i] == 0 && t[2 * i + 1] == 1
 }
 
 // Counts one more at the label that x is, if it is one.
@@ -214,25 +182,21 @@ fn note(v: usize, x: i64, marks: &mut [u8; 512])
     requires { (v ≤ 1023) × (length marks.old ≡ 512) }
     ensures { Noted v x marks.old marks.new }
 {
-    let pairing = read_pairing(v, x);
-    match pairing {
-        Pairing::Even => {}
-        Pairing::Odd => {}
-        Pairing::Free(l) => counting::mark(marks, l - 1),
-        Pairing::Bad => {}
+    if let Pairing::Free(l) = read_pairing(v, x) {
+        counting::mark(marks, l - 1);
     }
 }
 
-// Counts the labels of all sides.
-fn tally(v: usize, p: &[i64], marks: &mut [u8; 512])
-    requires { (v ≤ 1023) × (v + 1 ≤ length p.now) × Tallied v p.now 0 marks.old }
-    ensures { Tallied v p.now (v + 1) marks.new }
+// How often each label stands among the sides.
+fn tally(v: usize, p: &[i64]) -> [u8; 512]
+    requires { (v ≤ 1023) × (v + 1 ≤ length p.now) }
+    ensures { Tallied v p.now (v + 1) result }
 {
-    let mut i = 0;
-    while i <= v {
-        note(v, p[i], marks);
-        i += 1;
+    let mut marks = [0u8; 512];
+    for i in 0..v + 1 {
+        note(v, p[i], &mut marks);
     }
+    marks
 }
 
 // Whether side i is neither even nor odd nor one of the two sides of a label.
@@ -240,76 +204,64 @@ fn is_unpaired(v: usize, p: &[i64], marks: &[u8; 512], i: usize) -> bool
     requires { (v ≤ 1023) × (i ≤ v) × (v + 1 ≤ length p.now) × Tallied v p.now (v + 1) marks.now }
     ensures { result ≡ unpaired_in v p.now i }
 {
-    let pairing = read_pairing(v, p[i]);
-    match pairing {
-        Pairing::Even => false,
-        Pairing::Odd => false,
+    match read_pairing(v, p[i]) {
+        Pairing::Even | Pairing::Odd => false,
         Pairing::Free(l) => counting::counted(marks, l - 1) != 2,
         Pairing::Bad => true,
     }
 }
 
-// Whether check 3, 4, 5 or 6 finds what it looks for at i.
-fn finds(check: u8, v: usize, t: &[i64], marks: &[u8; 512], i: usize) -> bool
-    requires { MayCheck check v t.now marks.now × (i < places_of check v) }
-    ensures { result ≡ fails_of check v t.now i }
+// Check 3: each vertex entry is in range.
+fn check_entries(v: usize, t: &[i64]) -> Result<(), Refusal>
+    requires { (v ≤ 1023) × (2 * v ≤ length t.now) }
+    ensures { result ≡ check3 v t.now }
 {
-    if check == 3 {
-        return out_of_range(t, i);
-    }
-    if check == 4 {
-        let side = Side::at(v, t, i);
-        return !side.neighbours();
-    }
-    if check == 5 {
-        return is_zero(t, i);
-    }
-    is_unpaired(v, t, marks, i)
-}
-
-// The first place at which check 3, 4, 5 or 6 finds what it looks for, or the number of places n.
-fn first_place(check: u8, v: usize, t: &[i64], marks: &[u8; 512], n: usize) -> usize
-    requires { MayCheck check v t.now marks.now × (n ≡ places_of check v) }
-    ensures { result ≡ first (fails_of check v t.now) n }
-{
-    let mut i = 0;
-    while i < n {
-        if finds(check, v, t, marks, i) {
-            return i;
+    for i in 0..2 * v {
+        if out_of_range(t, i) {
+            return Err(Refusal::VertexEntry(i));
         }
-        i += 1;
     }
-    n
+    Ok(())
 }
 
-// Checks 3 to 5, on a table of the right length.
-fn check_vertices(v: usize, t: &[i64], marks: &[u8; 512]) -> Checked
-    requires { (v ≤ 1023) × (length t.now ≡ 3 * v + 1) }
-    ensures { result ≡ (check3 v t.now or_else check4 v t.now or_else check5 v
-        t.now) }
+// Check 4: the ends of each side are neighbours.
+fn check_neighbours(v: usize, t: &[i64]) -> Result<(), Refusal>
+    requires { (v ≤ 1023) × (2 * v ≤ length t.now) × (check3 v t.now ≡ Ok tt) }
+    ensures { result ≡ check4 v t.now }
 {
-    let entry = first_place(3, v, t, marks, 2 * v);
-    if entry < 2 * v {
-        return Checked::Refused(Refusal {
-            number: VERTEX_ENTRY,
-            place: entry,
-        });
+    for i in 0..v + 1 {
+        if !Side::at(v, t, i).neighbours() {
+            return Err(Refusal::NotNeighbours(i));
+        }
     }
-    let side = first_place(4, v, t, marks, v + 1);
-    if side < v + 1 {
-        return Checked::Refused(Refusal {
-            number: NOT_NEIGHBOURS,
-            place: side,
-        });
+    Ok(())
+}
+
+// Check 5: some vertex is 0/1.
+fn check_zero(v: usize, t: &[i64]) -> Result<(), Refusal>
+    requires { (v ≤ 1023) × (2 * v ≤ length t.now) }
+    ensures { result ≡ check5 v t.now }
+{
+    for i in 0..v {
+        if is_zero(t, i) {
+            return Ok(());
+        }
     }
-    let zero = first_place(5, v, t, marks, v);
-    if zero < v {
-        return Checked::Accepted;
+    Err(Refusal::NoZero)
+}
+
+// Check 6: each side is even, odd, or one of the two of its label.
+fn check_paired(v: usize, p: &[i64]) -> Result<(), Refusal>
+    requires { (v ≤ 1023) × (v + 1 ≤ length p.now) }
+    ensures { result ≡ check6 v p.now }
+{
+    let marks = tally(v, p);
+    for i in 0..v + 1 {
+        if is_unpaired(v, p, &marks, i) {
+            return Err(Refusal::BadPairing(i));
+        }
     }
-    Checked::Refused(Refusal {
-        number: NO_ZERO,
-        place: 0,
-    })
+    Ok(())
 }
 
 // Whether there is just one vertex and no odd side.
@@ -317,65 +269,39 @@ fn lacks_odd(v: usize, p: &[i64]) -> bool
     requires { (1 ≤ v) × (v + 1 ≤ length p.now) }
     ensures { result ≡ lacks_odd v p.now }
 {
-    if v == 1 {
-        if p[0] == -3 {
-            return false;
-        }
-        return p[1] != -3;
-    }
-    false
+    v == 1 && p[0] != -3 && p[1] != -3
 }
 
-// Checks 6 and 7, on the pairings; the marks count nothing yet.
-fn check_pairings(v: usize, p: &[i64], marks: &mut [u8; 512]) -> Checked
-    requires { (1 ≤ v) × (v ≤ 1023) × (v + 1 ≤ length p.now) × Tallied v p.now 0 marks.old }
-    ensures { result ≡ (check6 v p.now or_else check7 v p.now) }
+// Check 7: a symbol of one vertex has an odd side.
+fn check_odd(v: usize, p: &[i64]) -> Result<(), Refusal>
+    requires { (1 ≤ v) × (v + 1 ≤ length p.now) }
+    ensures { result ≡ check7 v p.now }
 {
-    tally(v, p, marks);
-    let side = first_place(6, v, p, marks, v + 1);
-    if side < v + 1 {
-        return Checked::Refused(Refusal {
-            number: BAD_PAIRING,
-            place: side,
-        });
-    }
     if lacks_odd(v, p) {
-        return Checked::Refused(Refusal {
-            number: NO_ODD_SIDE,
-            place: 0,
-        });
+        return Err(Refusal::NoOddSide);
     }
-    Checked::Accepted
+    Ok(())
 }
 
 // Checks 1 to 7 on a table and a number of vertices, whatever they are: the first fault, or that the symbol is
 // accepted.
-pub fn check(v: usize, t: &[i64]) -> Checked
+pub fn check(v: usize, t: &[i64]) -> Result<(), Refusal>
     ensures { SymbolVerdict v t.now result }
 {
     if v < 1 {
-        return Checked::Refused(Refusal {
-            number: BAD_VERTEX_COUNT,
-            place: 0,
-        });
+        return Err(Refusal::BadVertexCount);
     }
     if 1023 < v {
-        return Checked::Refused(Refusal {
-            number: BAD_VERTEX_COUNT,
-            place: 0,
-        });
+        return Err(Refusal::BadVertexCount);
     }
     let n = t.len();
     if n != 3 * v + 1 {
-        return Checked::Refused(Refusal {
-            number: TABLE_LENGTH,
-            place: n,
-        });
+        return Err(Refusal::TableLength(n));
     }
-    let mut marks = [0u8; 512];
-    let vertices = check_vertices(v, t, &marks);
-    match vertices {
-        Checked::Refused(refusal) => Checked::Refused(refusal),
-        Checked::Accepted => check_pairings(v, &t[2 * v..], &mut marks),
-    }
+    check_entries(v, t)?;
+    check_neighbours(v, t)?;
+    check_zero(v, t)?;
+    let pairings = &t[2 * v..];
+    check_paired(v, pairings)?;
+    check_odd(v, pairings)
 }

@@ -4,6 +4,7 @@
 --     few_lines, enough_lines        the lines for the numbers of a text, by the test that the code makes
 --     print_means                    what the bytes mean
 -- Assumes nothing.
+use Rattle.std.specs.Prelude.{Ok, Err}
 use mathlib.Core.Path.{◌≡◌, refl, sym, ap, ◌∙◌}
 use mathlib.Core.Bool.{Bool}
 use mathlib.Core.List.{List, [], ◌∷◌, ◌++◌}
@@ -15,23 +16,19 @@ use lib.ListN.{length, take, drop}
 use lib.Seq.{length-take-le, take_at}
 use borrow.Author.Tests.{lt-ltb, le-ltb}
 use Rattle.basics.proofs.Choice.{pick_true, pick_false}
-use Rattle.call.specs.Refusal.{bad_vertex_count, checked_refusal, ◌or_else◌}
+use Rattle.call.specs.Refusal.{◌or_else◌, Checked, Filled}
+use Rattle.call.specs.declared.refusal.Refusal.TheVariants.{BadVertexCount}
 use Rattle.call.specs.declared.refusal.Refusal.{Refusal}
-use Rattle.call.specs.declared.refusal.Checked.{Checked}
-use Rattle.call.specs.declared.refusal.Checked.TheVariants as checked
-use Rattle.call.specs.declared.refusal.Filled.{Filled}
-use Rattle.call.specs.declared.refusal.Filled.TheVariants as filled
 use Rattle.call.proofs.Apart.{refused_accepted}
 use Rattle.call.proofs.Answers.{both_pass, pass_both}
-use Rattle.call.specs.Call.{Step, Asks, Gives, length_check, if_accepted}
+use Rattle.call.specs.Call.{Step, Asks, Gives, length_check}
 use Rattle.call.specs.Inner.Fills.{Fills, made_if}
 use Rattle.call.proofs.Laws.{room_long}
 use Rattle.call.proofs.Answered.{run_made, run_refused, made_count}
 use Rattle.text.specs.Piece.{pieces, numbers}
-use Rattle.text.specs.Reading.{input_of, by_reading, count_in}
-use Rattle.text.specs.declared.Reading.{Reading}
+use Rattle.text.specs.Reading.{by_reading, count_in}
 use Rattle.text.proofs.Handed.{input_on}
-use Rattle.text.specs.Line.{refusal_line}
+use Rattle.text.specs.Line.{refusal_line, answer_lines}
 use Rattle.symbol_texts.specs.ImportAnswer.{symbol_lines}
 use Rattle.symbol_texts.proofs.ImportReadBack.{symbol_read_back}
 use Rattle.symbol.specs.Symbol.{IsSymbol}
@@ -46,9 +43,9 @@ use Rattle.symbol_texts.specs.ExchangeAnswer.{exchanged_text, ExchangePrintMeans
 
 module _ (v : ℕ) (t : List ℤ) (x y : ℤ) where
   lines_if_lem : (c : Checked) → exchange_check v t x y ≡ c
-      → if_accepted c (symbol_lines v (exchanged v t x y)) (refusal_line (checked_refusal c)) ≡ exchange_lines v t x y
+      → answer_lines c (symbol_lines v (exchanged v t x y)) ≡ exchange_lines v t x y
   unfolding exchange_lines
-  lines_if_lem c e = ap (λ (d : Checked). if_accepted d (symbol_lines v (exchanged v t x y)) (refusal_line (checked_refusal d))) (sym e)
+  lines_if_lem c e = ap (λ (d : Checked). answer_lines d (symbol_lines v (exchanged v t x y))) (sym e)
 
   -- it made a symbol of v vertices at the front of the table
   pub record MadeSymbol (n : ℕ) (front : List ℤ) : Type 0 where
@@ -64,11 +61,11 @@ module _ (v : ℕ) (t : List ℤ) (x y : ℤ) where
     abbrev steps : List ℤ → List Step
     steps out' = Asks (exchange_check v t x y) ∷ Asks room ∷ Gives (exchanged v t x y ++ drop (length (exchanged v t x y)) out) out out' ∷ []
 
-    pub made_symbol : {out' : List ℤ} {r : Filled} → Fills (steps out') (made_if v) r → (n : ℕ) → r ≡ filled.Made n → MadeSymbol n (take (3 * n + 1) out')
+    pub made_symbol : {out' : List ℤ} {r : Filled} → Fills (steps out') (made_if v) r → (n : ℕ) → r ≡ Ok n → MadeSymbol n (take (3 * n + 1) out')
     made_symbol {out'} g n e =
         let run = run_made g n e in
         let same : n ≡ v = made_count g n e in
-        let passed = (both_pass (exchange_check v t x y) (room or_else checked.Accepted) run.is).0 in
+        let passed = (both_pass (exchange_check v t x y) (room or_else (Ok tt)) run.is).0 in
         let ok = (trades (exchangeable v t x y passed)).accepted in
         let u = exchanged v t x y in
         let front : take (3 * n + 1) out' ≡ u =
@@ -77,19 +74,19 @@ module _ (v : ℕ) (t : List ℤ) (x y : ℤ) where
           vertices = same;
           symbol = rw same ok;
           front_is = front;
-          lines = ap (symbol_lines n) front ∙ ap (λ (k : ℕ). symbol_lines k u) same ∙ lines_if_lem checked.Accepted passed;
+          lines = ap (symbol_lines n) front ∙ ap (λ (k : ℕ). symbol_lines k u) same ∙ lines_if_lem (Ok tt) passed;
         }
 
-    pub refused_lines : {out' : List ℤ} {r : Filled} → 3070 ≤ length out → Fills (steps out') (made_if v) r → (f : Refusal) → r ≡ filled.Refused f
+    pub refused_lines : {out' : List ℤ} {r : Filled} → 3070 ≤ length out → Fills (steps out') (made_if v) r → (f : Refusal) → r ≡ Err f
         → refusal_line f ≡ exchange_lines v t x y
-    refused_lines h g f e = lines_if_lem (checked.Refused f) (go (exchange_check v t x y) refl (run_refused g f e).is)
+    refused_lines h g f e = lines_if_lem (Err f) (go (exchange_check v t x y) refl (run_refused g f e).is)
       where
-        go : (c : Checked) → exchange_check v t x y ≡ c → (c or_else room or_else checked.Accepted) ≡ checked.Refused f → c ≡ checked.Refused f
-        go (checked.Refused q) i j = j
-        go checked.Accepted i j =
+        go : (c : Checked) → exchange_check v t x y ≡ c → (c or_else room or_else (Ok tt)) ≡ Err f → c ≡ Err f
+        go (Err q) i j = j
+        go (Ok tt) i j =
             let ok = (trades (exchangeable v t x y i)).accepted in
             let fits = room_long (length (exchanged v t x y)) (length out) (omega (arith, ok.long, ok.most, h)) in
-            refused_accepted (sym j ∙ pass_both room checked.Accepted fits refl)
+            refused_accepted (sym j ∙ pass_both room (Ok tt) fits refl)
 
 -- what is asked, by equals
 pub asked_as : {v v' : ℕ} {t t' : List ℤ} {x x' y y' : ℤ} → v ≡ v' → t ≡ t' → x ≡ x' → y ≡ y' → exchange_lines v t x y ≡ exchange_lines v' t' x' y'
@@ -98,7 +95,7 @@ asked_as e g h k = cc
 -- ---- the numbers of a text
 
 module _ (ns : List ℤ) where
-  pub few_lines : length ns < 4 → refusal_line bad_vertex_count ≡ exchange_lines_of ns
+  pub few_lines : length ns < 4 → refusal_line BadVertexCount ≡ exchange_lines_of ns
   unfolding exchange_lines_of
   few_lines h = sym (pick_true (ltb (length ns) 4) _ _ (lt-ltb (length ns) 4 h))
 
@@ -117,7 +114,7 @@ print_means longer text bytes b k four e passed =
     let y = second_label read in
     let trade = trades (exchangeable v t x y passed) in
     let lines : bytes ≡ symbol_lines v (exchanged v t x y) =
-    b ∙ ap (λ (r : Reading). by_reading exchange_lines_of refusal_line r all) e ∙ sym (enough_lines read long) ∙ sym (lines_if_lem v t x y checked.Accepted passed) in
+    b ∙ ap (λ (r : Filled). by_reading exchange_lines_of refusal_line r all) e ∙ sym (enough_lines read long) ∙ sym (lines_if_lem v t x y (Ok tt) passed) in
     record { trade = trade; read_back = rw lines (symbol_read_back v (exchanged v t x y) trade.accepted) }
   where
     all : List ℤ

@@ -8,22 +8,19 @@
 --     tables_none, tables_some, tables_as    no tables are read; two tables; the same in other words
 --     lines_as                          the lines for what is asked, in other words
 -- Assumes nothing.
+use Rattle.std.specs.Prelude.{Ok, Err}
 use mathlib.Core.Path.{◌≡◌, refl, sym, ap, subst, ◌∙◌}
 use mathlib.Core.Bool.{Bool}
 use mathlib.Core.List.{List, ◌++◌}
 use Prim.Native.Nat.{ℕ, ◌+◌, ◌-◌, ◌*◌, ◌/◌, ◌≤◌, ◌<◌}
 use native.Mathlib.Omega.{arith}
-use lib.Dec.{ltb}
 use lib.IntN.{ℤ}
 use lib.ListN.{length, take, drop, length-append, length-drop}
 use lib.Seq.{take_at}
 use borrow.Author.Tests.{lt-ltb, le-ltb}
-use Rattle.call.specs.Refusal.{◌or_else◌, point_count}
+use Rattle.call.specs.Refusal.{◌or_else◌, Checked, Filled}
+use Rattle.call.specs.declared.refusal.Refusal.TheVariants.{PointCount}
 use Rattle.call.specs.declared.refusal.Refusal.{Refusal}
-use Rattle.call.specs.declared.refusal.Checked.{Checked}
-use Rattle.call.specs.declared.refusal.Checked.TheVariants as checked
-use Rattle.call.specs.declared.refusal.Filled.{Filled}
-use Rattle.call.specs.declared.refusal.Filled.TheVariants.{Made, Refused}
 use Rattle.call.proofs.Apart.{refused_made}
 use Rattle.call.specs.Space.{work_length}
 use Rattle.call.specs.Call.{length_check, at_front, if_accepted}
@@ -32,8 +29,6 @@ use Rattle.call.proofs.Laws.{room_long}
 use Rattle.text.specs.Piece.{pieces, numbers}
 use Rattle.text.specs.Reading.{input_of}
 use Rattle.text.specs.Inner.Inside.{left_by}
-use Rattle.text.specs.declared.Reading.{Reading}
-use Rattle.decimal.specs.Writing.{Puts}
 use Rattle.import_symbol.specs.Answer.{check16, ruled_table}
 use Rattle.permutations.specs.Check.{pair_check}
 use Rattle.import_rule.specs.Order.{Order}
@@ -53,16 +48,16 @@ front_is k t out out' e l h =
     ap (take k) e ∙ take_at t (drop k out) k (omega (arith, n, length-drop k out))
 
 -- where no space is too short, the check and 16 alone can refuse
-pub own_spaces : (c g : Checked) (work needed room : ℕ) → work ≡ work_length → (c ≡ checked.Accepted → needed ≤ room)
-    → (c or_else length_check work_length work or_else length_check needed room or_else g or_else checked.Accepted) ≡ (c or_else g)
-own_spaces (checked.Refused f) g work needed room h k = refl
-own_spaces checked.Accepted g work needed room h k =
-    ap (λ (x : Checked). x or_else length_check needed room or_else g or_else checked.Accepted) (room_long work_length work (omega (arith, h)))
-    ∙ ap (λ (x : Checked). x or_else g or_else checked.Accepted) (room_long needed room (k refl)) ∙ same g
+pub own_spaces : (c g : Checked) (work needed room : ℕ) → work ≡ work_length → (c ≡ Ok tt → needed ≤ room)
+    → (c or_else length_check work_length work or_else length_check needed room or_else g or_else (Ok tt)) ≡ (c or_else g)
+own_spaces (Err f) g work needed room h k = refl
+own_spaces (Ok tt) g work needed room h k =
+    ap (λ (x : Checked). x or_else length_check needed room or_else g or_else (Ok tt)) (room_long work_length work (omega (arith, h)))
+    ∙ ap (λ (x : Checked). x or_else g or_else (Ok tt)) (room_long needed room (k refl)) ∙ same g
   where
-    same : (x : Checked) → (x or_else checked.Accepted) ≡ x
-    same checked.Accepted = refl
-    same (checked.Refused f) = refl
+    same : (x : Checked) → (x or_else (Ok tt)) ≡ x
+    same (Ok tt) = refl
+    same (Err f) = refl
 
 -- an import in the program's own spaces
 module _ (order : Order) (s r w w' : List ℕ) (o o' : List ℤ) (work : length w ≡ work_length) (room : length o ≡ 3070) {a : Filled}
@@ -79,8 +74,8 @@ module _ (order : Order) (s r w w' : List ℕ) (o o' : List ℤ) (work : length 
   unfolding import_lines
   lines_are = ap (λ (x : Filled). lines_by x (ruled_table G)) (g.answer ∙ ap (made_if (needed_vertices r)) verdict_is)
 
-  module _ {v : ℕ} (d : a ≡ Made v) where
-    told : (import_verdict order s r w o ≡ checked.Accepted) × (v ≡ needed_vertices r)
+  module _ {v : ℕ} (d : a ≡ Ok v) where
+    told : (import_verdict order s r w o ≡ Ok tt) × (v ≡ needed_vertices r)
     told = told_made (import_verdict order s r w o) g.answer d
 
     pub symbol_is : SymbolOfPair s r v (ruled_table G)
@@ -91,7 +86,7 @@ module _ (order : Order) (s r w w' : List ℕ) (o o' : List ℤ) (work : length 
         ap (take (3 * v + 1)) (g.leaves.1.0 ∙ ap (λ (x : Checked). if_accepted x (at_front (ruled_table G) o) o) told.0)
         ∙ take_at (ruled_table G) (drop (length (ruled_table G)) o) (3 * v + 1) symbol_is.precisely.symbol.long
 
-pub few_numbers : (ns : List ℤ) → length ns < 3 → refused point_count ≡ tables_in ns
+pub few_numbers : (ns : List ℤ) → length ns < 3 → refused PointCount ≡ tables_in ns
 unfolding tables_in
 few_numbers ns h = rw (lt-ltb (length ns) 3 h)
 
@@ -101,9 +96,9 @@ unfolding tables_in
 enough_numbers ns h = rw (le-ltb (length ns) 3 h) refl
 
 module _ (longer : Bool) (text : List ℕ) where
-  pub numbers_by : (r : Reading) → r ≡ input_of longer import_format text 6133 → (ns : List ℤ) → left_by r (numbers (pieces text)) ns ≡ numbers_left longer text ns
+  pub numbers_by : (r : Filled) → r ≡ input_of longer import_format text 6133 → (ns : List ℤ) → left_by r (numbers (pieces text)) ns ≡ numbers_left longer text ns
   unfolding numbers_left
-  numbers_by r e ns = ap (λ (x : Reading). left_by x (numbers (pieces text)) ns) e
+  numbers_by r e ns = ap (λ (x : Filled). left_by x (numbers (pieces text)) ns) e
 
   pub lines_as : (order : Order) {a : Request} → a ≡ request_of longer text → lines_for order a ≡ imported_by order longer text
   unfolding imported_by
@@ -111,23 +106,23 @@ module _ (longer : Bool) (text : List ℕ) where
 
 -- ---- the tables that are read
 
-made_same : {m n : ℕ} → Made m ≡ Made n → m ≡ n
+made_same : {m n : ℕ} → ◌≡◌ {A = Filled} (Ok m) (Ok n) → m ≡ n
 made_same e = cc
 
-pub read_refused : (a : Request) (f : Refusal) → Refused f ≡ tables_read a → refused f ≡ a
+pub read_refused : (a : Request) (f : Refusal) → Err f ≡ tables_read a → refused f ≡ a
 read_refused (tables s r) f e = refused_made e
 read_refused (refused g) f e = ap refused (same e)
   where
-    same : Refused f ≡ Refused g → f ≡ g
+    same : ◌≡◌ {A = Filled} (Err f) (Err g) → f ≡ g
     same q = cc
 
-pub tables_none : (f : Refusal) (s r : List ℕ) → TablesRead (refused f) s r (Refused f) s r
+pub tables_none : (f : Refusal) (s r : List ℕ) → TablesRead (refused f) s r (Err f) s r
 tables_none f s r = record { answered = refl; for_S = refl; for_R = refl; most = λ n e. refused_made e; fronts = λ n e. refused_made e }
 
 pub tables_some : (n : ℕ) (S R s r s' r' : List ℕ) → length S ≡ n → n ≤ 3066 → s' ≡ filled S s → r' ≡ filled R r → take n s' ≡ S → take n r' ≡ R
-    → TablesRead (tables S R) s r (Made n) s' r'
+    → TablesRead (tables S R) s r (Ok n) s' r'
 tables_some n S R s r s' r' l h p q u v = record {
-  answered = ap Made (sym l);
+  answered = ap Ok (sym l);
   for_S = p;
   for_R = q;
   most = λ m e. omega (arith, made_same e);

@@ -1,48 +1,35 @@
 -- Numbers of a text as entries of a table.
---     negative_point, small_point, large_point     the entry, by the tests that the code makes
---     small_natural, small_fits                    a number that becomes an entry as it is
+--     point_is                                     the entry, by the conversion that the code makes
 --     filled_none                                  no table at the front of a slice
 --     points_more                                  one entry more
 --     part_length, table_length_lem, part_filled, filled_take    a part of the numbers, and a table that is filled from it
 -- Assumes nothing.
+use Rattle.std.specs.Prelude.{Result, Ok, Err}
+use Rattle.std.specs.Int.{FitsUnsignedBits}
+use Rattle.std.specs.Result.{OkIff, result_unwrap_or}
+use native.Mathlib.Decide.{dec_lt}
 use mathlib.Core.Path.{◌≡◌, refl, sym, ap, ◌∙◌}
-use mathlib.Core.Bool.{Bool, true, false}
 use mathlib.Core.List.{List, [], ◌∷◌, ◌++◌, map, append_assoc}
-use Prim.Native.Nat.{ℕ, suc, ◌+◌, ◌-◌, ◌^◌, ◌≤◌, ◌<◌}
+use Prim.Native.Nat.{ℕ, suc, ◌+◌, ◌^◌, ◌≤◌, ◌<◌}
 use native.Mathlib.Numerals.{add-one}
 use native.Mathlib.Omega.{arith}
-use lib.Dec.{T, ltb}
 use lib.IntN.{ℤ, pos, negsuc, nat_abs}
 use lib.ListN.{length, get_or, take, drop, set, length-append, length-drop, length-map}
 use lib.Seq.{take-suc, drop-cons, set-append_seam, take_at, length-take-le}
-use lib.Signed.{lt_z, non_neg}
-use borrow.Author.Tests.{ltb-true, ltb-false, lt-ltb, le-ltb}
-use Rattle.text.proofs.Clash.{clash}
+use borrow.Author.Tests.{lt-ltb, le-ltb}
 use Rattle.symbol_texts.specs.ImportAnswer.{table_point, points_from}
 use Rattle.symbol_texts.specs.Inner.ImportSpaces.{filled}
 
-pub negative_point : (x : ℤ) → lt_z x (pos 0) ≡ true → 4294967295 ≡ table_point x
+pub point_is : {E : Type 0} (x : ℤ) (r : Result ℕ E) → OkIff r (FitsUnsignedBits 32 x) (nat_abs x)
+    → result_unwrap_or r 4294967295 ≡ table_point x
 unfolding table_point
-negative_point (pos n) h = absurd (omega (arith, ltb-true n 0 h))
-negative_point (negsuc n) h = refl
-
-pub small_point : (x : ℤ) → lt_z x (pos 0) ≡ false → lt_z x (pos 4294967295) ≡ true → nat_abs x ≡ table_point x
-unfolding table_point
-small_point (pos n) h k = rw (k) refl
-small_point (negsuc n) h k = let e : true ≡ false = h in clash cc
-
-pub large_point : (x : ℤ) → lt_z x (pos 0) ≡ false → lt_z x (pos 4294967295) ≡ false → 4294967295 ≡ table_point x
-unfolding table_point
-large_point (pos n) h k = rw (k) refl
-large_point (negsuc n) h k = refl
-
-pub small_natural : (x : ℤ) → lt_z x (pos 0) ≡ false → T (non_neg x)
-small_natural (pos n) h = tt
-small_natural (negsuc n) h = let e : true ≡ false = h in clash cc
-
-pub small_fits : (x : ℤ) → lt_z x (pos 0) ≡ false → lt_z x (pos 4294967295) ≡ true → nat_abs x < 2 ^ 32
-small_fits (pos n) h k = omega (arith, ltb-true n 4294967295 k)
-small_fits (negsuc n) h k = let e : true ≡ false = h in clash cc
+point_is (pos n) (Ok x) h = elim (dec_lt n 4294967295) [
+  | yes l ↦ h.1 ∙ rw (lt-ltb n 4294967295 l)
+  | no l ↦ rw (le-ltb n 4294967295 (omega arith)) (omega (arith, h.0, h.1))
+]
+point_is (pos n) (Err e) h = rw (le-ltb n 4294967295 (elim (dec_lt n (2 ^ 32)) [ yes l ↦ absurd (h l) | no l ↦ omega arith ]))
+point_is (negsuc n) (Ok x) h = absurd h.0
+point_is (negsuc n) (Err e) h = refl
 
 map_last : (zs : List ℤ) (z : ℤ) → map table_point (zs ++ (z ∷ [])) ≡ map table_point zs ++ (table_point z ∷ [])
 map_last [] z = refl

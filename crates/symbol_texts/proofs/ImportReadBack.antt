@@ -4,21 +4,18 @@
 -- `lines_say`). A symbol's entries are at most 10⁹ in size and its pairings at most 1,024 (`entry_size`): 12 bytes hold each with its blank, and
 -- 3·1,023 + 2 numbers take less than 65,536 (`lines_short`). The theorems: `lines_read_back`, `symbol_read_back`, `print_means`.
 -- Assumes nothing.
+use Rattle.std.specs.Prelude.{Ok, Some}
 use mathlib.Core.Path.{◌≡◌, refl, sym, ap, ◌∙◌}
 use mathlib.Core.Logic.{◌⊎◌, inl, inr}
-use mathlib.Core.Bool.{Bool, true, false, ◌&&◌}
-use mathlib.Core.Option.{Option, none, some}
 use mathlib.Core.List.{List, [], ◌∷◌, ◌++◌, append_assoc, append-nil}
-use Prim.Native.Nat.{ℕ, zero, suc, ◌+◌, ◌-◌, ◌*◌, ◌/◌, ◌%◌, ◌^◌, ◌≤◌, ◌<◌}
+use Prim.Native.Nat.{ℕ, suc, ◌+◌, ◌-◌, ◌*◌, ◌/◌, ◌%◌, ◌≤◌, ◌<◌}
 use native.Mathlib.Decide.{dec_lt, ℕ_discrete}
 use native.Mathlib.Omega.{arith}
 use lib.IntN.{ℤ, pos, negsuc, nat_abs}
-use lib.ListN.{length, get_or, take, drop, length-append, length-drop, take-append-drop}
+use lib.ListN.{length, take, drop, length-append, length-drop, take-append-drop}
 use lib.Seq.{length-take-le, get_or-take, get_or-drop}
 use borrow.Author.Tests.{le-leb}
-use Rattle.call.specs.Refusal.{◌or_else◌}
-use Rattle.call.specs.declared.refusal.Checked.{Checked}
-use Rattle.call.specs.declared.refusal.Checked.TheVariants.{Accepted}
+use Rattle.call.specs.Refusal.{◌or_else◌, Checked}
 use Rattle.call.proofs.Answers.{pass_both}
 use Rattle.call.specs.Inner.Fills.{made_if}
 use Rattle.matrix.specs.Matrix.{nth}
@@ -29,7 +26,7 @@ use Rattle.text.specs.Reading.{symbol_format, text_most, wanted}
 use Rattle.text.proofs.Says.{Says, says_none, says_number, says_numbers, says_reading}
 use Rattle.text.specs.Line.{natural, spaced}
 use Rattle.decimal.proofs.Decimals.{decimal_most}
-use Rattle.symbol.specs.Table.{numer, denom, pairing_entry}
+use Rattle.symbol.specs.Table.{pairing_entry}
 use Rattle.symbol.specs.Symbol.{FreeLabel, IsSymbol}
 use Rattle.import_symbol.specs.Answer.{check16, ruled_table}
 use Rattle.import_rule.specs.Order.{Order}
@@ -38,8 +35,8 @@ use Rattle.permutations.specs.Check.{pair_check}
 use Rattle.import_call.specs.Import.{needed_vertices}
 use Rattle.permutations.proofs.Accepted.{accepted}
 use Rattle.import_call.proofs.Means.{made_means}
-use Rattle.symbol_texts.specs.ImportAnswer.{number_line, symbol_lines, Request, tables, request_of, lines_by, import_lines, lines_for}
-use Rattle.symbol_texts.specs.ReadBack.{ReadBack, SymbolReadBack, Printed, PrintMeans}
+use Rattle.symbol_texts.specs.ImportAnswer.{number_line, symbol_lines, Request, lines_by, import_lines, lines_for}
+use Rattle.symbol_texts.specs.ReadBack.{ReadBack, SymbolReadBack, PrintMeans}
 
 -- ---- what the lines say
 
@@ -87,7 +84,7 @@ module _ (v : ℕ) (t : List ℤ) (low : 1 ≤ v) (high : v ≤ 1023) (long : le
       says_as (three (number_line (natural v ∷ [])) (number_line (take (2 * v) t)) (number_line (drop (2 * v) t)))
       (ap (λ (l : List ℤ). natural v ∷ l) (ap (λ (l : List ℤ). take (2 * v) t ++ l) (append-nil (drop (2 * v) t)) ∙ take-append-drop (2 * v) t)) first
 
-  in_range : wanted symbol_format (natural v) ≡ some (3 * v + 2)
+  in_range : wanted symbol_format (natural v) ≡ Some (3 * v + 2)
   unfolding wanted
   in_range = rw (le-leb 1 v low, le-leb v 1023 high)
 
@@ -183,6 +180,6 @@ print_means order a bytes e s r f c o =
     let g = made_means order s r ((accepted s r).0 c) o in
     let v = needed_vertices r in
     let t = ruled_table (ruled_by order s r) in
-    let made : (pair_check s r or_else check16 (ruled_by order s r)) ≡ Accepted = pass_both (pair_check s r) (check16 (ruled_by order s r)) c o in
+    let made : (pair_check s r or_else check16 (ruled_by order s r)) ≡ (Ok tt) = pass_both (pair_check s r) (check16 (ruled_by order s r)) c o in
     let b : bytes ≡ symbol_lines v t = e ∙ ap (lines_for order) f ∙ ap (λ (x : Checked). lines_by (made_if v x) t) made in
     record { symbol = g; read_back = rw b (symbol_read_back v t g.precisely.symbol) }

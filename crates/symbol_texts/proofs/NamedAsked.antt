@@ -3,6 +3,7 @@
 --     few_numbers, enough_numbers       what the numbers of a text ask for
 --     lines_as                          the lines for what is asked, in other words
 -- Assumes nothing.
+use Rattle.std.specs.Prelude.{Ok}
 use mathlib.Core.Path.{◌≡◌, refl, sym, ap, subst, ◌∙◌}
 use mathlib.Core.Bool.{Bool}
 use mathlib.Core.List.{List}
@@ -11,9 +12,8 @@ use lib.IntN.{ℤ}
 use lib.ListN.{length}
 use borrow.Author.Tests.{lt-ltb, le-ltb}
 use Rattle.matrix.specs.Matrix.{nth}
-use Rattle.call.specs.Refusal.{◌or_else◌, bad_level}
-use Rattle.call.specs.declared.refusal.Filled.{Filled}
-use Rattle.call.specs.declared.refusal.Filled.TheVariants as filled
+use Rattle.call.specs.Refusal.{◌or_else◌, Filled}
+use Rattle.call.specs.declared.refusal.Refusal.TheVariants.{BadLevel}
 use Rattle.call.proofs.Answers.{both_pass}
 use Rattle.text.specs.Reading.{vertex_count}
 use Rattle.import_rule.specs.Order.{Order}
@@ -34,7 +34,7 @@ use Rattle.symbol_texts.specs.NamedAnswer.{request_lines, named_bytes, NamedPrin
 
 -- ---- the numbers of a text
 
-pub few_numbers : (ns : List ℤ) → length ns < 2 → refused bad_level ≡ group_in ns
+pub few_numbers : (ns : List ℤ) → length ns < 2 → refused BadLevel ≡ group_in ns
 unfolding group_in
 few_numbers ns h = rw (lt-ltb (length ns) 2 h)
 
@@ -51,7 +51,7 @@ module _ (longer : Bool) (text : List ℕ) where
 
 -- ---- what is printed
 
-symbol_made : (order : Order) (k n v : ℕ) → made_by order k n ≡ filled.Made v → NamedSymbol (family_of k) n v (ruled_table (named_rule order k n))
+symbol_made : (order : Order) (k n v : ℕ) → made_by order k n ≡ Ok v → NamedSymbol (family_of k) n v (ruled_table (named_rule order k n))
 symbol_made order k n v m =
     let c = group_check k n or_else check16 (named_rule order k n) in
     let t = told_made c refl m in

@@ -3,6 +3,7 @@
 --     symbol_first, symbol_wide   the two ways out
 --     lines_are                   the lines of the answer
 -- Assumes nothing.
+use Rattle.std.specs.Prelude.{Ok}
 use mathlib.Core.Path.{◌≡◌, sym, ap, subst, ◌∙◌}
 use mathlib.Core.Bool.{Bool, true, false}
 use mathlib.Core.List.{List}
@@ -12,11 +13,7 @@ use lib.IntN.{ℤ}
 use lib.ListN.{length, take, drop}
 use lib.Seq.{take_at}
 use Rattle.basics.specs.Choice.{pick}
-use Rattle.call.specs.Refusal.{◌or_else◌}
-use Rattle.call.specs.declared.refusal.Checked.{Checked}
-use Rattle.call.specs.declared.refusal.Checked.TheVariants as checked
-use Rattle.call.specs.declared.refusal.Filled.{Filled}
-use Rattle.call.specs.declared.refusal.Filled.TheVariants.{Made}
+use Rattle.call.specs.Refusal.{◌or_else◌, Checked, Filled}
 use Rattle.call.specs.Space.{work_length}
 use Rattle.call.specs.Call.{at_front, if_accepted}
 use Rattle.call.specs.Inner.Fills.{Fills, made_if}
@@ -55,8 +52,8 @@ module _ (k n : ℕ) where
     made_in : a ≡ made_by order k n
     made_in = g.answer ∙ ap (made_if vertices) verdict_is
 
-    module _ (v : ℕ) (d : a ≡ Made v) where
-      told : (symbol_verdict order k n w t ≡ checked.Accepted) × (v ≡ vertices)
+    module _ (v : ℕ) (d : a ≡ Ok v) where
+      told : (symbol_verdict order k n w t ≡ Ok tt) × (v ≡ vertices)
       told = told_made (symbol_verdict order k n w t) g.answer d
 
       symbol_is : NamedSymbol (family_of k) n v table

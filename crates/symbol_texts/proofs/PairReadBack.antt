@@ -4,8 +4,8 @@
 -- are at most 6,133 and take 5 bytes each, which is less than 65,536 (`pair_short`). The first of them is the index n, in range, and asks for 2n + 1
 -- numbers; the next n are the entries of S as they stand, and the last n those of R (`tables_are`). The theorem: `pair_read_back`.
 -- Assumes nothing.
+use Rattle.std.specs.Prelude.{Some}
 use mathlib.Core.Path.{◌≡◌, refl, ap, ◌∙◌}
-use mathlib.Core.Option.{some}
 use mathlib.Core.List.{List, [], ◌∷◌, ◌++◌, map, append-nil}
 use Prim.Native.Nat.{ℕ, suc, ◌+◌, ◌-◌, ◌*◌, ◌/◌, ◌≤◌, ◌<◌}
 use native.Mathlib.Numerals.{add-one}
@@ -19,7 +19,7 @@ use Rattle.basics.proofs.Choice.{pick_true, pick_false}
 use Rattle.decimal.specs.Decimal.{decimal_of}
 use Rattle.text.specs.Piece.{pieces, numbers}
 use Rattle.text.specs.Reading.{text_most, wanted, input_of, by_reading}
-use Rattle.text.specs.declared.Reading.{Reading}
+use Rattle.call.specs.Refusal.{Filled}
 use Rattle.text.proofs.Says.{Says, says_none, says_numbers, says_reading}
 use Rattle.text.specs.Line.{natural, spaced}
 use Rattle.text.proofs.Spacing.{natural_at}
@@ -138,7 +138,7 @@ module _ (s r : List ℕ) (fits : PairFits s r) where
       ∙ ap (λ (n : ℕ). tables (points_from 1 n all) (points_from (n + 1) n all)) half
       ∙ both S_is R_is
 
-  in_range : wanted import_format (natural (length s)) ≡ some (2 * length s + 1)
+  in_range : wanted import_format (natural (length s)) ≡ Some (2 * length s + 1)
   unfolding wanted
   in_range = rw (le-leb 1 (length s) fits.some, le-leb (length s) 3066 fits.most)
 
@@ -152,7 +152,7 @@ pair_read_back s r fits =
     let many : suc (length (map natural s ++ map natural r)) ≡ k = all_long s r fits in
     let read = says_reading import_format t (natural (length s)) (map natural s ++ map natural r) k says w many 6133 (pair_short s r fits)
     (omega (arith, fits.most)) in
-    ap (λ (x : Reading). by_reading tables_in refused x (numbers (pieces t))) read
+    ap (λ (x : Filled). by_reading tables_in refused x (numbers (pieces t))) read
     ∙ ap (λ (l : List ℤ). tables_in (take k l)) (says_numbers import_format t (natural (length s)) (map natural s ++ map natural r) k says w many)
     ∙ ap tables_in (take_all k (all s r fits) (omega (arith, all_long s r fits)))
     ∙ tables_are s r fits

@@ -11,17 +11,14 @@
 --   ExchangePrinted ns bytes        where the exchange is made, it is the trade of its labels, and the bytes are read
 --                                   as the exchanged symbol
 --   ExchangePrintMeans ..           that holds for every text whose numbers pass the checks
-use Rattle.std.specs.Prelude.{◌≡◌, Bool, List, ℕ, ◌-◌, ◌+◌, ◌≤◌, ltb, ℤ, length, take, drop}
+use Rattle.std.specs.Prelude.{◌≡◌, Bool, List, ℕ, ◌-◌, ◌+◌, ◌≤◌, ltb, ℤ, length, take, drop, Ok}
 use Rattle.matrix.specs.Matrix.{nth}
 use Rattle.basics.specs.Choice.{pick}
-use Rattle.call.specs.Refusal.{bad_vertex_count, checked_refusal}
-use Rattle.call.specs.declared.refusal.Checked.TheVariants.{Accepted}
-use Rattle.call.specs.Call.{if_accepted}
+use Rattle.call.specs.declared.refusal.Refusal.TheVariants.{BadVertexCount}
 use Rattle.text.specs.Piece.{pieces, numbers}
 use Rattle.text.specs.Reading.{input_of, input_gives, count_in}
 use Rattle.text.specs.declared.Format.{Format}
-use Rattle.text.specs.declared.Reading.TheVariants.{Numbers}
-use Rattle.text.specs.Line.{refusal_line}
+use Rattle.text.specs.Line.{refusal_line, answer_lines}
 use Rattle.symbol_texts.specs.ImportAnswer.{symbol_lines}
 use Rattle.symbol_texts.specs.ReadBack.{ReadBack}
 use Rattle.partner_exchange.specs.Exchange.{exchanged}
@@ -31,7 +28,7 @@ use Rattle.partner_exchange.specs.Answer.{exchange_check}
 unfoldable pub exchange_lines : (v : ℕ) → List ℤ → (x y : ℤ) → List ℕ
 exchange_lines v t x y =
     let c = exchange_check v t x y in
-    if_accepted c (symbol_lines v (exchanged v t x y)) (refusal_line (checked_refusal c))
+    answer_lines c (symbol_lines v (exchanged v t x y))
 
 -- ---- the numbers of a text
 
@@ -46,7 +43,7 @@ second_label ns = nth ns (length ns - 2 + 1)
 
 unfoldable pub exchange_lines_of : List ℤ → List ℕ
 exchange_lines_of ns =
-    pick (ltb (length ns) 4) (refusal_line bad_vertex_count)
+    pick (ltb (length ns) 4) (refusal_line BadVertexCount)
     (exchange_lines (count_in ns) (exchange_symbol ns) (first_label ns) (second_label ns))
 
 -- ---- the text
@@ -69,6 +66,6 @@ abbrev pub ExchangePrintMeans : (longer : Bool) (text bytes : List ℕ) → Type
 ExchangePrintMeans longer text bytes =
     (k : ℕ) →
     let ns = take k (numbers (pieces text)) in
-    4 ≤ k → input_of longer exchange_format text 3073 ≡ Numbers k
-    → exchange_check (count_in ns) (exchange_symbol ns) (first_label ns) (second_label ns) ≡ Accepted
+    4 ≤ k → input_of longer exchange_format text 3073 ≡ Ok k
+    → exchange_check (count_in ns) (exchange_symbol ns) (first_label ns) (second_label ns) ≡ Ok tt
     → ExchangePrinted ns bytes

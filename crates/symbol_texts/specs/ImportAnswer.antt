@@ -15,11 +15,12 @@
 --   import_lines order s r   the lines for two tables: 12 to 15, then 16, or the symbol; every symbol has room
 --   lines_for order a        the lines for what is asked
 --   imported_by order longer text   the bytes for a text
-use Rattle.std.specs.Prelude.{Bool, List, [], ◌∷◌, ◌++◌, map, ℕ, ◌+◌, ◌-◌, ◌*◌, ◌/◌, ltb, ℤ, pos, negsuc, length, take, drop}
-use Rattle.call.specs.Refusal.{◌or_else◌, point_count}
+use Rattle.std.specs.Prelude.{Ok, Err}
+use Rattle.std.specs.Prelude.{Bool, List, [], ◌∷◌, ◌++◌, map, ℕ, ◌+◌, ◌-◌}
+use Rattle.std.specs.Prelude.{◌*◌, ◌/◌, ltb, ℤ, pos, negsuc, length, take, drop}
+use Rattle.call.specs.Refusal.{◌or_else◌, Filled}
+use Rattle.call.specs.declared.refusal.Refusal.TheVariants.{PointCount}
 use Rattle.call.specs.declared.refusal.Refusal.{Refusal}
-use Rattle.call.specs.declared.refusal.Filled.{Filled}
-use Rattle.call.specs.declared.refusal.Filled.TheVariants as filled
 use Rattle.basics.specs.Choice.{pick}
 use Rattle.call.specs.Inner.Fills.{made_if}
 use Rattle.decimal.specs.Decimal.{decimal_of}
@@ -53,7 +54,7 @@ pub data Request : Type 0 where
 unfoldable pub tables_in : List ℤ → Request
 tables_in ns =
     let n = (length ns - 1) / 2 in
-    pick (ltb (length ns) 3) (refused point_count) (tables (points_from 1 n ns) (points_from (n + 1) n ns))
+    pick (ltb (length ns) 3) (refused PointCount) (tables (points_from 1 n ns) (points_from (n + 1) n ns))
 
 abbrev pub import_format : Format
 import_format = record { least = 1; most = 3066; each = 2; more = 1 }
@@ -62,8 +63,8 @@ unfoldable pub request_of : Bool → List ℕ → Request
 request_of longer text = input_gives import_format 6133 tables_in refused longer text
 
 abbrev pub lines_by : Filled → List ℤ → List ℕ
-lines_by (filled.Made v) t = symbol_lines v t
-lines_by (filled.Refused f) t = refusal_line f
+lines_by (Ok v) t = symbol_lines v t
+lines_by (Err f) t = refusal_line f
 
 unfoldable pub import_lines : Order → (s r : List ℕ) → List ℕ
 import_lines order s r =

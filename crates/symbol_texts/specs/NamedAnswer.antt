@@ -14,13 +14,12 @@
 --   named_bytes longer t    the bytes for a text
 --   NamedPrinted, NamedPrintMeans     what is printed for a group is read, by the rule of 19, as a symbol of it,
 --                           wherever one is made
-use Rattle.std.specs.Prelude.{◌≡◌, Bool, List, ℕ, ltb, eqb, ℤ, length}
+use Rattle.std.specs.Prelude.{◌≡◌, Bool, List, ℕ, ltb, eqb, ℤ, length, Ok}
 use Rattle.basics.specs.Choice.{pick}
 use Rattle.matrix.specs.Matrix.{nth}
-use Rattle.call.specs.Refusal.{◌or_else◌, bad_level, entry_too_large, filled_refusal}
+use Rattle.call.specs.Refusal.{◌or_else◌, answer_number, refusal_number, Filled}
+use Rattle.call.specs.declared.refusal.Refusal.TheVariants.{BadLevel, EntryTooLarge}
 use Rattle.call.specs.declared.refusal.Refusal.{Refusal}
-use Rattle.call.specs.declared.refusal.Filled.{Filled}
-use Rattle.call.specs.declared.refusal.Filled.TheVariants as filled
 use Rattle.call.specs.Inner.Fills.{made_if}
 use Rattle.text.specs.Reading.{input_gives, vertex_count}
 use Rattle.text.specs.declared.Format.{Format}
@@ -44,7 +43,7 @@ pub data GroupRequest : Type 0 where
 -- a negative N is out of range as 0 is
 unfoldable pub group_in : List ℤ → GroupRequest
 group_in ns =
-    pick (ltb (length ns) 2) (refused bad_level) (group (vertex_count (nth ns 0)) (vertex_count (nth ns 1)))
+    pick (ltb (length ns) 2) (refused BadLevel) (group (vertex_count (nth ns 0)) (vertex_count (nth ns 1)))
 
 unfoldable pub group_request : Bool → List ℕ → GroupRequest
 group_request longer text = input_gives named_format 2 group_in refused longer text
@@ -54,7 +53,7 @@ made_by order k n =
     made_if (needed_vertices (family_r (family_of k) n)) (group_check k n or_else check16 (named_rule order k n))
 
 abbrev pub is_over : Filled → Bool
-is_over a = eqb (filled_refusal a).number (entry_too_large 0).number
+is_over a = eqb (answer_number a) (refusal_number (EntryTooLarge 0))
 
 abbrev pub order_for : (k n : ℕ) → Order
 order_for k n = pick (is_over (made_by leftmost k n)) longest_open leftmost
@@ -75,4 +74,4 @@ pub record NamedPrinted (k n v : ℕ) (bytes : List ℕ) : Type 0 where
 
 abbrev pub NamedPrintMeans : GroupRequest → (bytes : List ℕ) → Type 0
 NamedPrintMeans a bytes =
-    (k n v : ℕ) → a ≡ group k n → made_by (order_for k n) k n ≡ filled.Made v → NamedPrinted k n v bytes
+    (k n v : ℕ) → a ≡ group k n → made_by (order_for k n) k n ≡ Ok v → NamedPrinted k n v bytes

@@ -8,11 +8,9 @@
 --                          `bytes` is read back as it
 --   PrintMeans order a bytes     that holds of `bytes` wherever what is asked makes a symbol: where the tables pass 12
 --                          to 15 and the rule gives one
-use Rattle.std.specs.Prelude.{◌≡◌, List, ◌∷◌, ℕ, ◌+◌, ◌*◌, ◌≤◌, ℤ, length}
-use Rattle.call.specs.declared.refusal.Checked.TheVariants.{Accepted}
+use Rattle.std.specs.Prelude.{◌≡◌, List, ◌∷◌, ℕ, ◌+◌, ◌*◌, ◌≤◌, ℤ, length, Ok}
 use Rattle.text.specs.Piece.{pieces, numbers}
 use Rattle.text.specs.Reading.{text_most, symbol_format, reading_of}
-use Rattle.text.specs.declared.Reading.TheVariants as reading
 use Rattle.text.specs.Line.{natural}
 use Rattle.symbol.specs.Symbol.{IsSymbol}
 use Rattle.import_symbol.specs.Answer.{check16, ruled_table}
@@ -26,7 +24,7 @@ pub record ReadBack (v : ℕ) (t : List ℤ) (bytes : List ℕ) : Type 0 where
   pub short : length bytes ≤ text_most
   pub says : numbers (pieces bytes) ≡ natural v ∷ t
   pub handed : (room : ℕ) → 3 * v + 2 ≤ room
-      → reading_of symbol_format bytes room ≡ reading.Numbers (3 * v + 2)
+      → reading_of symbol_format bytes room ≡ Ok (3 * v + 2)
 
 abbrev pub SymbolReadBack : Type 0
 SymbolReadBack = (v : ℕ) (t : List ℤ) → IsSymbol v t → ReadBack v t (symbol_lines v t)
@@ -36,5 +34,5 @@ pub record Printed (order : Order) (s r : List ℕ) (v : ℕ) (bytes : List ℕ)
   pub read_back : ReadBack v (ruled_table (ruled_by order s r)) bytes
 
 abbrev pub PrintMeans : Order → Request → (bytes : List ℕ) → Type 0
-PrintMeans order a bytes = (s r : List ℕ) → a ≡ tables s r → pair_check s r ≡ Accepted
-    → check16 (ruled_by order s r) ≡ Accepted → Printed order s r (needed_vertices r) bytes
+PrintMeans order a bytes = (s r : List ℕ) → a ≡ tables s r → pair_check s r ≡ Ok tt
+    → check16 (ruled_by order s r) ≡ Ok tt → Printed order s r (needed_vertices r) bytes

@@ -4,10 +4,10 @@ ghost use Rattle.decimal.specs.Writing.{Puts};
 ghost use Rattle.symbol_texts.specs.ExchangeAnswer.{exchange_lines, exchange_lines_of, exchanged_text};
 
 use crate::import_text::symbol_lines;
-use call::refusal::{BAD_VERTEX_COUNT, Filled, Refusal};
+use call::refusal::Refusal;
 use partner_exchange::exchange;
 use text::line::refusal_line;
-use text::{Reading, read_symbol, vertex_count};
+use text::{read_symbol, vertex_count};
 
 // The lines for a symbol and two labels: the exchanged symbol, or the refusal.
 fn exchange_lines(v: usize, t: &[i64], x: i64, y: i64, table: &mut [i64], out: &mut [u8]) -> usize
@@ -16,11 +16,11 @@ fn exchange_lines(v: usize, t: &[i64], x: i64, y: i64, table: &mut [i64], out: &
 {
     let made = exchange(v, t, x, y, table);
     match made {
-        Filled::Made(n) => {
+        Ok(n) => {
             let end = 3 * n + 1;
             symbol_lines(n, &table[..end], out)
         }
-        Filled::Refused(refusal) => refusal_line(refusal, out),
+        Err(refusal) => refusal_line(refusal, out),
     }
 }
 
@@ -31,13 +31,7 @@ fn exchange_numbers(ns: &[i64], table: &mut [i64], out: &mut [u8]) -> usize
 {
     let k = ns.len();
     if k < 4 {
-        return refusal_line(
-            Refusal {
-                number: BAD_VERTEX_COUNT,
-                place: 0,
-            },
-            out,
-        );
+        return refusal_line(Refusal::BadVertexCount, out);
     }
     let v = vertex_count(ns[0]);
     let end = k - 2;
@@ -58,8 +52,8 @@ fn exchange_text(
 {
     let read = read_symbol(text, longer, 4, numbers);
     match read {
-        Reading::Refused(refusal) => refusal_line(refusal, out),
-        Reading::Numbers(k) => exchange_numbers(&numbers[..k], table, out),
+        Err(refusal) => refusal_line(refusal, out),
+        Ok(k) => exchange_numbers(&numbers[..k], table, out),
     }
 }
 

@@ -1,18 +1,18 @@
 // What the programs `import` and `import_wide` write for a text: all of it, byte for byte, as specs/ImportAnswer.antt
 // says. The one follows the rule, the other the wide rule (`wide`).
-ghost use Rattle.std.specs.Prelude.{◌≡◌, [], ◌∷◌, map, ◌+◌, ◌*◌, ◌≤◌, length};
-ghost use Rattle.text.specs.Line.{natural};
+ghost use Rattle.std.specs.Prelude.{◌≡◌, map, ◌+◌, ◌*◌, ◌≤◌, length};
 ghost use Rattle.decimal.specs.Writing.{Puts};
 ghost use Rattle.import_symbol.specs.Answer.{order_by};
 ghost use Rattle.symbol_texts.specs.ImportAnswer.{number_line, symbol_lines, table_point, tables_in};
 ghost use Rattle.symbol_texts.specs.ImportAnswer.{request_of, import_lines, imported_by};
 ghost use Rattle.symbol_texts.specs.Inner.ImportSpaces.{filled, numbers_left, TablesRead};
 
-use call::refusal::{Filled, POINT_COUNT, Refusal};
+use crate::pair_text::count_line;
+use call::refusal::Refusal;
 use decimal::put;
 use import_call::import_by;
-use text::line::{put_decimal, put_integers, refusal_line};
-use text::{Format, Reading, read_input};
+use text::line::{Decimal, put_each, refusal_line};
+use text::{Format, read_input};
 
 // A line of numbers.
 fn number_line(xs: &[i64], out: &mut [u8], at: usize) -> usize
@@ -23,18 +23,9 @@ fn number_line(xs: &[i64], out: &mut [u8], at: usize) -> usize
     if xs.len() == 0 {
         return put(b"\n", out, at);
     }
-    let first = put_decimal(xs[0], out, at);
-    let second = put_integers(&xs[1..], out, first);
+    let first = xs[0].put(out, at);
+    let second = put_each(&xs[1..], out, first);
     put(b"\n", out, second)
-}
-
-// A line of one number.
-fn count_line(n: usize, out: &mut [u8]) -> usize
-    requires { (n ≤ 4096) × (22 ≤ length out.old) }
-    ensures { Puts (number_line (natural n ∷ [])) 0 result out.old out.new × (result ≤ 22) }
-{
-    let number = [n as i64];
-    number_line(&number, out, 0)
 }
 
 // A symbol of v vertices.
@@ -52,13 +43,7 @@ pub fn symbol_lines(v: usize, table: &[i64], out: &mut [u8]) -> usize
 fn point_of(x: i64) -> u32
     ensures { result ≡ table_point x }
 {
-    if x < 0 {
-        return 4294967295;
-    }
-    if x < 4294967295 {
-        return x as u32;
-    }
-    4294967295
+    u32::try_from(x).unwrap_or(u32::MAX)
 }
 
 // The numbers as the entries of a table, from its front.
@@ -66,10 +51,8 @@ fn fill_points(numbers: &[i64], out: &mut [u32])
     requires { length numbers.now ≤ length out.old }
     ensures { out.new ≡ filled (map table_point numbers.now) out.old }
 {
-    let mut i = 0;
-    while i < numbers.len() {
-        out[i] = point_of(numbers[i]);
-        i += 1;
+    for (i, number) in numbers.iter().enumerate() {
+        out[i] = point_of(*number);
     }
 }
 
@@ -83,17 +66,17 @@ fn import_lines(s: &[u32], r: &[u32], wide: bool, out: &mut [u8]) -> usize
     let mut table = [0i64; 3070];
     let made = import_by(s, r, &mut w, &mut table, wide);
     match made {
-        Filled::Made(v) => {
+        Ok(v) => {
             let end = 3 * v + 1;
             symbol_lines(v, &table[..end], out)
         }
-        Filled::Refused(refusal) => refusal_line(refusal, out),
+        Err(refusal) => refusal_line(refusal, out),
     }
 }
 
 // The tables of S and R in the numbers of a text, which are the index and then the entries of S and of R: how many
 // points they have; or 12 where the index stands alone.
-fn fill_tables(numbers: &[i64], s: &mut [u32], r: &mut [u32]) -> Filled
+fn fill_tables(numbers: &[i64], s: &mut [u32], r: &mut [u32]) -> Result<usize, Refusal>
     requires { (1 ≤ length numbers.now) × (length numbers.now ≤ 6133)
         × (3066 ≤ length s.old) × (3066 ≤ length r.old) }
     ensures { TablesRead (tables_in numbers.now) s.old r.old result
@@ -101,17 +84,14 @@ fn fill_tables(numbers: &[i64], s: &mut [u32], r: &mut [u32]) -> Filled
 {
     let k = numbers.len();
     if k < 3 {
-        return Filled::Refused(Refusal {
-            number: POINT_COUNT,
-            place: 0,
-        });
+        return Err(Refusal::PointCount);
     }
     let n = (k - 1) / 2;
     let middle = n + 1;
     let end = middle + n;
     fill_points(&numbers[1..middle], s);
     fill_points(&numbers[middle..end], r);
-    Filled::Made(n)
+    Ok(n)
 }
 
 // The same for a text, or for one that is longer than the buffer.
@@ -121,27 +101,20 @@ pub fn read_tables(
     numbers: &mut [i64],
     s: &mut [u32],
     r: &mut [u32],
-) -> Filled
+) -> Result<usize, Refusal>
     requires { (length numbers.old ≡ 6133) × (3066 ≤ length s.old) × (3066 ≤ length r.old) }
     ensures numbers_after { numbers.new ≡ numbers_left longer text.now numbers.old }
     ensures tables_read { TablesRead (request_of longer text.now) s.old r.old result
         s.new r.new }
 {
-    let read = read_input(
-        text,
-        longer,
-        Format {
-            least: 1,
-            most: 3066,
-            each: 2,
-            more: 1,
-        },
-        numbers,
-    );
-    match read {
-        Reading::Refused(refusal) => Filled::Refused(refusal),
-        Reading::Numbers(k) => fill_tables(&numbers[..k], s, r),
-    }
+    let format = Format {
+        least: 1,
+        most: 3066,
+        each: 2,
+        more: 1,
+    };
+    let k = read_input(text, longer, format, numbers)?;
+    fill_tables(&numbers[..k], s, r)
 }
 
 // What the program writes for a text, by the leftmost rule or by the wide one, from the front of `out`, where `longer`
@@ -156,7 +129,7 @@ pub fn answer(text: &[u8], longer: bool, wide: bool, out: &mut [u8]) -> usize
     let mut r = [0u32; 3066];
     let read = read_tables(text, longer, &mut numbers, &mut s, &mut r);
     match read {
-        Filled::Refused(refusal) => refusal_line(refusal, out),
-        Filled::Made(n) => import_lines(&s[..n], &r[..n], wide, out),
+        Err(refusal) => refusal_line(refusal, out),
+        Ok(n) => import_lines(&s[..n], &r[..n], wide, out),
     }
 }

@@ -6,23 +6,20 @@ ghost use Rattle.symbol_texts.specs.NamedAnswer.{group_lines, request_lines, nam
 ghost use Rattle.symbol_texts.specs.Inner.Front.{SymbolFront};
 
 use crate::import_text::symbol_lines;
-use call::refusal::{BAD_LEVEL, ENTRY_TOO_LARGE, Filled, Refusal};
+use call::refusal::Refusal;
 use named_groups::named_symbol_by;
 use text::line::refusal_line;
-use text::{Format, Reading, read_input, vertex_count};
+use text::{Format, read_input, vertex_count};
 
 // Whether an answer is refusal 16.
-fn is_over(made: Filled) -> bool
+fn is_over(made: Result<usize, Refusal>) -> bool
     ensures { result ≡ is_over made }
 {
-    match made {
-        Filled::Made(_) => false,
-        Filled::Refused(refusal) => refusal.number == ENTRY_TOO_LARGE,
-    }
+    matches!(made, Err(Refusal::EntryTooLarge(_)))
 }
 
 // The symbol of a group by the rule; where that is refused with 16, by the wide rule.
-fn group_symbol(k: u64, n: u64, w: &mut [u16], table: &mut [i64]) -> Filled
+fn group_symbol(k: u64, n: u64, w: &mut [u16], table: &mut [i64]) -> Result<usize, Refusal>
     requires { (length w.old ≡ 32768) × (length table.old ≡ 3070) }
     ensures value { result ≡ made_by (order_for k n) k n }
     ensures symbol_front { SymbolFront k n result table.new }
@@ -43,11 +40,11 @@ fn group_lines(k: u64, n: u64, out: &mut [u8]) -> usize
     let mut table = [0i64; 3070];
     let made = group_symbol(k, n, &mut w, &mut table);
     match made {
-        Filled::Made(v) => {
+        Ok(v) => {
             let end = 3 * v + 1;
             symbol_lines(v, &table[..end], out)
         }
-        Filled::Refused(refusal) => refusal_line(refusal, out),
+        Err(refusal) => refusal_line(refusal, out),
     }
 }
 
@@ -57,13 +54,7 @@ fn group_numbers(numbers: &[i64], out: &mut [u8]) -> usize
     ensures { Puts (request_lines (group_in numbers.now)) 0 result out.old out.new }
 {
     if numbers.len() < 2 {
-        return refusal_line(
-            Refusal {
-                number: BAD_LEVEL,
-                place: 0,
-            },
-            out,
-        );
+        return refusal_line(Refusal::BadLevel, out);
     }
     let k = vertex_count(numbers[0]) as u64;
     let n = vertex_count(numbers[1]) as u64;
@@ -89,7 +80,7 @@ pub fn answer(text: &[u8], longer: bool, out: &mut [u8]) -> usize
         &mut numbers,
     );
     match read {
-        Reading::Refused(refusal) => refusal_line(refusal, out),
-        Reading::Numbers(j) => group_numbers(&numbers[..j], out),
+        Err(refusal) => refusal_line(refusal, out),
+        Ok(j) => group_numbers(&numbers[..j], out),
     }
 }

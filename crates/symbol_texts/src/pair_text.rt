@@ -1,7 +1,6 @@
 // A pair of permutations as text, as the job `import` reads one: the number of points, the table of S and the table
 // of R, each in a line (specs/Pair.antt). For every program that prints a pair.
 ghost use Rattle.std.specs.Prelude.{◌≡◌, [], ◌∷◌, map, ◌+◌, ◌*◌, ◌≤◌, length};
-ghost use Rattle.decimal.specs.Decimal.{decimal_of};
 ghost use Rattle.text.specs.Line.{natural, spaced};
 ghost use Rattle.decimal.specs.Writing.{Puts};
 ghost use Rattle.symbol_texts.specs.ImportAnswer.{number_line};
@@ -9,23 +8,7 @@ ghost use Rattle.symbol_texts.specs.Pair.{pair_text};
 ghost use Rattle.symbol_texts.specs.Inner.PairFits.{EachBelow, PairFits};
 
 use decimal::put;
-use text::line::put_digits;
-
-// An entry of a table as a wider number.
-fn wide(x: u32) -> u64
-    ensures { result ≡ x }
-{
-    x as u64
-}
-
-// A space and the point x.
-fn put_point(x: u32, out: &mut [u8], at: usize) -> usize
-    requires { at + 21 ≤ length out.old }
-    ensures { Puts (32 ∷ decimal_of (natural x)) at result out.old out.new × (result ≤ at + 21) }
-{
-    let from = put(b" ", out, at);
-    put_digits(wide(x), out, from)
-}
+use text::line::{Decimal, put_spaced};
 
 // The points xs, each behind a space: a point has four digits at most.
 fn put_points(xs: &[u32], out: &mut [u8], at: usize) -> usize
@@ -34,32 +17,30 @@ fn put_points(xs: &[u32], out: &mut [u8], at: usize) -> usize
         × (result ≤ at + 5 * length xs.now) }
 {
     let mut end = at;
-    let mut i = 0;
-    while i < xs.len() {
-        end = put_point(xs[i], out, end);
-        i += 1;
+    for x in xs {
+        end = put_spaced(*x, out, end);
     }
     end
 }
 
-// A table, which has a point, in a line.
+// A table, which has a point, in a line. It asks for less room than `number_line`, for a point is below 3,066.
 fn table_line(xs: &[u32], out: &mut [u8], at: usize) -> usize
     requires { (1 ≤ length xs.now) × EachBelow 3066 xs.now
         × (at + (5 * length xs.now + 41) ≤ length out.old) }
     ensures { Puts (number_line (map natural xs.now)) at result out.old out.new
         × (result ≤ at + (5 * length xs.now + 20)) }
 {
-    let first = put_digits(wide(xs[0]), out, at);
+    let first = xs[0].put(out, at);
     let second = put_points(&xs[1..], out, first);
     put(b"\n", out, second)
 }
 
-// The number of points in a line, at the front.
-fn count_line(n: usize, out: &mut [u8]) -> usize
+// A number in a line, at the front.
+pub(crate) fn count_line(n: usize, out: &mut [u8]) -> usize
     requires { 21 ≤ length out.old }
     ensures { Puts (number_line (natural n ∷ [])) 0 result out.old out.new × (result ≤ 21) }
 {
-    let first = put_digits(n as u64, out, 0);
+    let first = n.put(out, 0);
     put(b"\n", out, first)
 }
 

@@ -1,4 +1,5 @@
 -- Stretches of bytes that are all blank, or all not blank: a turn of the loop that looks for the end of one.
+--     test_fails, test_passes                   a test turned round
 --     as_kind                                   the test of a byte's kind
 --     stretch-yes, stretch-no                   one byte: it belongs to the stretch, or not
 --     stretch-more, stretch-here, stretch-end   the same at offset i of a text, and at its end
@@ -6,8 +7,8 @@
 --     after_stretch                             what follows the blanks in front is not blank
 --     take_stretch                              a run is the text's front of that length
 -- Assumes nothing.
-use mathlib.Core.Path.{◌≡◌, refl, ap}
-use mathlib.Core.Bool.{Bool, true, false, beq}
+use mathlib.Core.Path.{◌≡◌, refl, sym, ap}
+use mathlib.Core.Bool.{Bool, true, false, not, beq}
 use mathlib.Core.List.{List, [], ◌∷◌}
 use Prim.Native.Nat.{ℕ, suc, ◌+◌, ◌≤◌, ◌<◌}
 use native.Mathlib.Numerals.{add-one}
@@ -16,6 +17,15 @@ use lib.ListN.{length, get_or, drop, take}
 use lib.Seq.{drop-cons, drop-length}
 use Rattle.text.specs.Blank.{is_blank, until_blank}
 use Rattle.text.specs.Inner.Inside.{stretch}
+
+-- a test turned round
+pub test_fails : (x : Bool) → not x ≡ true → x ≡ false
+test_fails true e = sym e
+test_fails false e = refl
+
+pub test_passes : (x : Bool) → not x ≡ false → x ≡ true
+test_passes true e = refl
+test_passes false e = sym e
 
 -- the test of a byte's kind, where it is known whether it is blank
 pub as_kind : (kind : Bool) {x y : Bool} → x ≡ y → beq x kind ≡ beq y kind

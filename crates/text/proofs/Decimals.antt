@@ -4,10 +4,10 @@
 --     one_piece               so that it is a text of one piece, which says the number
 --     number_first            and with a blank byte behind it, it is the first piece of a text
 -- Assumes nothing.
+use Rattle.std.specs.Prelude.{Some}
 use mathlib.Core.Path.{◌≡◌, refl, ap, ◌∙◌}
 use mathlib.Core.Bool.{true, false}
 use mathlib.Core.List.{List, [], ◌∷◌}
-use mathlib.Core.Option.{some}
 use Prim.Native.Nat.{ℕ, zero, suc, ◌+◌, ◌-◌, ◌*◌, ◌/◌, ◌%◌, ◌≤◌, ◌<◌, ◌^◌}
 use native.Mathlib.Decide.{dec_lt}
 use native.Mathlib.Omega.{arith}
@@ -71,21 +71,21 @@ onto_unbroken (suc fuel) n t h = go (dec_lt n 10) (onto_unbroken fuel (n / 10) (
     go (no l) ih = rw (onto_more fuel n t (omega arith)) ih
 
 -- the digits of n are read as n
-digits_natural : (n : ℕ) → natural_from (digits n) ≡ some n
+digits_natural : (n : ℕ) → natural_from (digits n) ≡ Some n
 unfolding digits onward
 digits_natural n = natural_onward (digits n) (onto_first n n []).0 ∙ onto_onward n n [] (omega arith)
 
-digits_within : (most n : ℕ) → n ≤ most → within most (natural_from (digits n)) ≡ some n
+digits_within : (most n : ℕ) → n ≤ most → within most (natural_from (digits n)) ≡ Some n
 unfolding within
 digits_within most n h = rw (digits_natural n, le-leb n most h)
 
-digits_number : (n : ℕ) → n < 2 ^ 63 → integer_from (digits n) ≡ some (pos n)
+digits_number : (n : ℕ) → n < 2 ^ 63 → integer_from (digits n) ≡ Some (pos n)
 unfolding digits
 digits_number n h =
     number_plain (digits n) (onto_first n n []).0 (λ e. omega (arith, (onto_first n n []).1))
     ∙ ap (mapped pos) (digits_within 9223372036854775807 n (omega arith))
 
-minus_number : (n : ℕ) → n ≤ 2 ^ 63 → integer_from (45 ∷ digits n) ≡ some (neg_ℤ (pos n))
+minus_number : (n : ℕ) → n ≤ 2 ^ 63 → integer_from (45 ∷ digits n) ≡ Some (neg_ℤ (pos n))
 unfolding integer_from
 minus_number n h = ap (mapped (λ k. neg_ℤ (pos k))) (digits_within (2 ^ 63) n h)
 

@@ -6,10 +6,10 @@
 --     part-bad, part_sound            a piece that is no number; pieces that are all numbers
 --     end-inside, part-inside         the end lies in the text
 -- Assumes nothing.
+use Rattle.std.specs.Prelude.{Err, Some, None, Option}
 use mathlib.Core.Path.{◌≡◌, refl, sym, ap, ◌∙◌}
 use mathlib.Core.Bool.{Bool, true, false, not}
 use mathlib.Core.List.{List, [], ◌∷◌}
-use mathlib.Core.Option.{Option, none, some}
 use Prim.Native.Nat.{ℕ, zero, suc, ◌+◌, ◌≤◌, ◌<◌}
 use native.Mathlib.Omega.{arith}
 use lib.Dec.{ltb}
@@ -20,10 +20,8 @@ use Rattle.basics.specs.Choice.{pick}
 use Rattle.text.specs.Blank.{is_blank}
 use Rattle.text.specs.Piece.{Piece, begins, piece_at, pieces_from, pieces, first_bad, numbers, place_at}
 use Rattle.text.specs.Reading.{wanted}
-use Rattle.text.specs.Inner.Inside.{left, PieceRead, wanted_of, survey_of, bad_or_count}
+use Rattle.text.specs.Inner.Inside.{left, PieceRead, survey_of, bad_or_count}
 use Rattle.text.specs.declared.Format.{Format}
-use Rattle.text.specs.declared.Wanted.TheVariants as wants
-use Rattle.text.specs.declared.Survey.TheVariants as survey
 use Rattle.text.proofs.Answers.{any_count, that_count}
 use Rattle.text.proofs.Clash.{clash}
 use Rattle.text.proofs.Walks.{walked_start}
@@ -53,12 +51,12 @@ place_inside t k = place_from t 0 false (length t) (omega arith) k
 
 -- the first that is no number
 abbrev pub Within : ℕ → Option ℕ → Type 0
-Within n o = (p : ℕ) → o ≡ some p → p ≤ n
+Within n o = (p : ℕ) → o ≡ Some p → p ≤ n
 
 bad_front : (at : ℕ) (says : Option ℤ) (ps : List Piece) (n : ℕ) → at ≤ n → Within n (first_bad ps) → Within n (first_bad (record { at = at; says = says } ∷ ps))
 unfolding first_bad
-bad_front at none ps n h l p e = let f : at ≡ p = cc in omega arith
-bad_front at (some v) ps n h l p e = l p e
+bad_front at None ps n h l p e = let f : at ≡ p = cc in omega arith
+bad_front at (Some v) ps n h l p e = l p e
 
 bad_chosen : (b : Bool) (at : ℕ) (says : Option ℤ) (ps : List Piece) (n : ℕ) → at ≤ n → Within n (first_bad ps)
     → Within n (first_bad (pick b (record { at = at; says = says } ∷ ps) ps))
@@ -72,7 +70,7 @@ bad_from (b ∷ t) at inside n h p e =
     bad_chosen (begins inside b) at (piece_at at (b ∷ t)).says (pieces_from (suc at) (not (is_blank b)) t) n (omega arith)
     (bad_from t (suc at) (not (is_blank b)) n (omega arith)) p e
 
-pub bad_inside : (t : List ℕ) (p : ℕ) → first_bad (pieces t) ≡ some p → p ≤ length t
+pub bad_inside : (t : List ℕ) (p : ℕ) → first_bad (pieces t) ≡ Some p → p ≤ length t
 unfolding pieces
 bad_inside t p e = bad_from t 0 false (length t) (omega arith) p e
 
@@ -94,12 +92,12 @@ module _ (f : Format) (t : List ℕ) where
         ap (λ (ns : List ℤ). first_end f ns (length t) (pieces t)) (ap numbers ((walked_start t).rest ∙ s.here))
         ∙ ap (λ (o : Option ℕ). cut_behind o (length t) (pieces t)) e
 
-    pub end_any : wants.Any ≡ wanted_of (wanted f v) → length t ≡ end_of
-    end_any e = sym (by_first_lem none (any_count (wanted f v) e))
+    pub end_any : None ≡ (wanted f v) → length t ≡ end_of
+    end_any e = sym (by_first_lem None (any_count (wanted f v) e))
 
-    module _ (k : ℕ) (e : wants.Exactly k ≡ wanted_of (wanted f v)) where
-      these : end_of ≡ cut_behind (some k) (length t) (pieces t)
-      these = by_first_lem (some k) (that_count (wanted f v) k e)
+    module _ (k : ℕ) (e : Some k ≡ (wanted f v)) where
+      these : end_of ≡ cut_behind (Some k) (length t) (pieces t)
+      these = by_first_lem (Some k) (that_count (wanted f v) k e)
 
       pub end_behind : k < length (pieces t) → place_at (pieces t) k ≡ end_of
       end_behind h = sym (these ∙ ap (λ (b : Bool). pick b (place_at (pieces t) k) (length t)) (lt-ltb k (length (pieces t)) h))
@@ -109,24 +107,24 @@ module _ (f : Format) (t : List ℕ) where
 
 -- ---- the whole text
 
-bad_at : (o : Option ℕ) (c at n e : ℕ) → survey.Bad at ≡ bad_or_count o c → n ≡ unless_bad o n e
-bad_at none c at n e h = clash (cc)
-bad_at (some p) c at n e h = refl
+bad_at : (o : Option ℕ) (c at n e : ℕ) → Err at ≡ bad_or_count o c → n ≡ unless_bad o n e
+bad_at None c at n e h = clash (cc)
+bad_at (Some p) c at n e h = refl
 
 module _ (f : Format) (t : List ℕ) where
-  pub part_bad : (at : ℕ) → survey.Bad at ≡ survey_of (pieces t) → length t ≡ part_end f t
+  pub part_bad : (at : ℕ) → Err at ≡ survey_of (pieces t) → length t ≡ part_end f t
   unfolding part_end
   part_bad at h = bad_at (first_bad (pieces t)) (length (pieces t)) at (length t) (end_of f t) h
 
-  pub part_sound : first_bad (pieces t) ≡ none → end_of f t ≡ part_end f t
+  pub part_sound : first_bad (pieces t) ≡ None → end_of f t ≡ part_end f t
   unfolding part_end
   part_sound h = sym (ap (λ (o : Option ℕ). unless_bad o (length t) (end_of f t)) h)
 
 -- ---- the end lies in the text
 
 behind_inside : (t : List ℕ) (o : Option ℕ) → cut_behind o (length t) (pieces t) ≤ length t
-behind_inside t none = omega arith
-behind_inside t (some w) = go (ltb w (length (pieces t)))
+behind_inside t None = omega arith
+behind_inside t (Some w) = go (ltb w (length (pieces t)))
   where
     go : (b : Bool) → pick b (place_at (pieces t) w) (length t) ≤ length t
     go true = place_inside t w
@@ -141,5 +139,5 @@ unfolding part_end
 part_inside f t = go (first_bad (pieces t))
   where
     go : (o : Option ℕ) → unless_bad o (length t) (end_of f t) ≤ length t
-    go (some p) = omega arith
-    go none = end_inside f t (numbers (pieces t))
+    go (Some p) = omega arith
+    go None = end_inside f t (numbers (pieces t))

@@ -19,3 +19,5 @@ pub mod Ends
 -- The laws of an input's text, and of what is answered once it is read.
 pub mod InputText
 pub mod OnceRead
+-- The exit of a `?`.
+pub mod Exits

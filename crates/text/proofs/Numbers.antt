@@ -10,10 +10,10 @@
 --     number-empty, number-plain          a number by its first byte: none, and no minus
 --     minus-bad, minus_is, plain-bad, plain-is    the code's answer behind a minus, and without one
 -- Assumes nothing.
+use Rattle.std.specs.Prelude.{Some, None, Option}
 use mathlib.Core.Path.{◌≡◌, refl, sym, ap, ◌∙◌}
 use mathlib.Core.Bool.{Bool, true, false}
 use mathlib.Core.List.{List, [], ◌∷◌}
-use mathlib.Core.Option.{Option, none, some}
 use Prim.Native.Nat.{ℕ, suc, ◌+◌, ◌-◌, ◌*◌, ◌≤◌, ◌<◌}
 use native.Mathlib.Omega.{arith}
 use native.Mathlib.Numerals.{add-one}
@@ -23,9 +23,7 @@ use lib.ListN.{length, get_or, drop, take}
 use lib.Seq.{drop-cons, drop-length, take_all}
 use borrow.Author.Tests.{le-leb, lt-leb, leb-true, leb-false, eq-eqb, ne_eqb}
 use Rattle.text.specs.Number.{is_digit, onward, natural_from, within, mapped, integer_from}
-use Rattle.text.specs.Inner.Inside.{natural_of, integer_of, digit_pushed}
-use Rattle.text.specs.declared.numeral.Natural.TheVariants as natural
-use Rattle.text.specs.declared.numeral.Integer.TheVariants as integer
+use Rattle.text.specs.Inner.Inside.{digit_pushed}
 use Rattle.text.proofs.Clash.{clash}
 
 module _ (b : ℕ) where
@@ -47,66 +45,64 @@ module _ (m b : ℕ) (t : List ℕ) where
   unfolding onward
   onward_yes e = rw (onward, e)
 
-  pub onward_no : is_digit b ≡ false → onward m (b ∷ t) ≡ none
+  pub onward_no : is_digit b ≡ false → onward m (b ∷ t) ≡ None
   unfolding onward
   onward_no e = rw (onward, e)
 
-pub over_onward : (most : ℕ) (t : List ℕ) (m : ℕ) → most < m → within most (onward m t) ≡ none
+pub over_onward : (most : ℕ) (t : List ℕ) (m : ℕ) → most < m → within most (onward m t) ≡ None
 unfolding within onward
 over_onward most [] m h = rw (lt-leb m most h)
 over_onward most (b ∷ t) m h = go (is_digit b) refl (over_onward most t (m * 10 + (b - 48)))
   where
-    go : (x : Bool) → is_digit b ≡ x → (most < m * 10 + (b - 48) → within most (onward (m * 10 + (b - 48)) t) ≡ none)
-        → within most (onward m (b ∷ t)) ≡ none
+    go : (x : Bool) → is_digit b ≡ x → (most < m * 10 + (b - 48) → within most (onward (m * 10 + (b - 48)) t) ≡ None)
+        → within most (onward m (b ∷ t)) ≡ None
     go true e ih = rw (onward_yes m b t e) (ih (omega arith))
     go false e ih = rw (onward_no m b t e)
 
 module _ (most m b : ℕ) where
-  pub push_none : (t : List ℕ) → digit_pushed most m b ≡ none → within most (onward m (b ∷ t)) ≡ none
+  pub push_none : (t : List ℕ) → digit_pushed most m b ≡ None → within most (onward m (b ∷ t)) ≡ None
   unfolding within
   push_none t p = go (is_digit b) refl (leb (m * 10 + (b - 48)) most) refl
     where
-      go : (x : Bool) → is_digit b ≡ x → (y : Bool) → leb (m * 10 + (b - 48)) most ≡ y → within most (onward m (b ∷ t)) ≡ none
+      go : (x : Bool) → is_digit b ≡ x → (y : Bool) → leb (m * 10 + (b - 48)) most ≡ y → within most (onward m (b ∷ t)) ≡ None
       go false e y f = rw (onward_no m b t e)
       go true e false f = rw (onward_yes m b t e) (over_onward most t (m * 10 + (b - 48)) (leb-false (m * 10 + (b - 48)) most f))
-      go true e true f = let q : some (m * 10 + (b - 48)) ≡ none = rw (e, f) at p in clash (cc)
+      go true e true f = let q : Some (m * 10 + (b - 48)) ≡ None = rw (e, f) at p in clash (cc)
 
-  pushed_is : (n : ℕ) → digit_pushed most m b ≡ some n → (is_digit b ≡ true) × (m * 10 + (b - 48) ≡ n) × (n ≤ most)
+  pushed_is : (n : ℕ) → digit_pushed most m b ≡ Some n → (is_digit b ≡ true) × (m * 10 + (b - 48) ≡ n) × (n ≤ most)
   pushed_is n p = go (is_digit b) refl (leb (m * 10 + (b - 48)) most) refl
     where
       go : (x : Bool) → is_digit b ≡ x → (y : Bool) → leb (m * 10 + (b - 48)) most ≡ y → (is_digit b ≡ true) × (m * 10 + (b - 48) ≡ n) × (n ≤ most)
-      go false e y f = let q : none ≡ some n = rw e at p in clash (cc)
-      go true e false f = let q : none ≡ some n = rw (e, f) at p in clash (cc)
+      go false e y f = let q : None ≡ Some n = rw e at p in clash (cc)
+      go true e false f = let q : None ≡ Some n = rw (e, f) at p in clash (cc)
       go true e true f =
-          let q : some (m * 10 + (b - 48)) ≡ some n = rw (e, f) at p in
+          let q : Some (m * 10 + (b - 48)) ≡ Some n = rw (e, f) at p in
           let same : m * 10 + (b - 48) ≡ n = cc in
           (e, same, omega (arith, leb-true (m * 10 + (b - 48)) most f))
 
-  module _ (n : ℕ) (p : digit_pushed most m b ≡ some n) where
+  module _ (n : ℕ) (p : digit_pushed most m b ≡ Some n) where
     pub push_some : (t : List ℕ) → within most (onward m (b ∷ t)) ≡ within most (onward n t)
     push_some t = let q = pushed_is n p in ap (within most) (onward_yes m b t q.0 ∙ ap (λ (k : ℕ). onward k t) q.1)
 
     pub push_within : n ≤ most
     push_within = (pushed_is n p).2
 
-pub as_none : (o : Option ℕ) → natural.Bad ≡ natural_of o → o ≡ none
-as_none none e = refl
-as_none (some n) e = clash (cc)
+pub as_none : (o : Option ℕ) → None ≡ o → o ≡ None
+as_none o e = sym e
 
-pub as_some : (o : Option ℕ) (n : ℕ) → natural.Is n ≡ natural_of o → o ≡ some n
-as_some none n e = clash (cc)
-as_some (some k) n e = cc
+pub as_some : (o : Option ℕ) (n : ℕ) → Some n ≡ o → o ≡ Some n
+as_some o n e = sym e
 
 -- the loop over the digits, at index i of t, with the number m read so far
 module _ (most m : ℕ) (t : List ℕ) (i : ℕ) (h : i < length t) where
-  pub digits_bad : natural.Bad ≡ natural_of (digit_pushed most m (get_or t i 0)) → within most (onward m (drop i t)) ≡ none
+  pub digits_bad : None ≡ (digit_pushed most m (get_or t i 0)) → within most (onward m (drop i t)) ≡ None
   digits_bad e = rw (drop-cons t i 0 h) (push_none most m (get_or t i 0) (drop (suc i) t) (as_none _ e))
 
-  pub digits_more : (n : ℕ) → natural.Is n ≡ natural_of (digit_pushed most m (get_or t i 0))
+  pub digits_more : (n : ℕ) → Some n ≡ (digit_pushed most m (get_or t i 0))
       → within most (onward m (drop i t)) ≡ within most (onward n (drop (i + 1) t))
   digits_more n e = rw (drop-cons t i 0 h, add-one) (push_some most m (get_or t i 0) n (as_some _ n e) (drop (suc i) t))
 
-pub digits_end : (most m : ℕ) (t : List ℕ) → m ≤ most → within most (onward m (drop (length t) t)) ≡ some m
+pub digits_end : (most m : ℕ) (t : List ℕ) → m ≤ most → within most (onward m (drop (length t) t)) ≡ Some m
 unfolding within onward
 digits_end most m t h = rw (drop-length, le-leb m most h)
 
@@ -115,29 +111,29 @@ unfolding natural_from
 natural_onward [] h = absurd (omega arith)
 natural_onward (b ∷ t) h = refl
 
-pub natural_empty : (most : ℕ) (t : List ℕ) → length t ≡ 0 → within most (natural_from t) ≡ none
+pub natural_empty : (most : ℕ) (t : List ℕ) → length t ≡ 0 → within most (natural_from t) ≡ None
 unfolding natural_from within
 natural_empty most [] h = refl
 natural_empty most (b ∷ t) h = absurd (omega arith)
 
 -- a bounded number is within its bound
-pub within_le : (most : ℕ) (o : Option ℕ) (m : ℕ) → natural.Is m ≡ natural_of (within most o) → m ≤ most
+pub within_le : (most : ℕ) (o : Option ℕ) (m : ℕ) → Some m ≡ (within most o) → m ≤ most
 unfolding within
-within_le most none m e = clash (cc)
-within_le most (some n) m e = go (leb n most) refl
+within_le most None m e = clash (cc)
+within_le most (Some n) m e = go (leb n most) refl
   where
     go : (x : Bool) → leb n most ≡ x → m ≤ most
-    go true f = let q : natural.Is m ≡ natural.Is n = rw f at e in let same : m ≡ n = cc in omega (arith, leb-true n most f)
-    go false f = let q : natural.Is m ≡ natural.Bad = rw f at e in clash (cc)
+    go true f = let q : Some m ≡ Some n = rw f at e in let same : m ≡ n = cc in omega (arith, leb-true n most f)
+    go false f = let q : Some m ≡ None = rw f at e in clash (cc)
 
 -- a sign goes in front of a natural number, or of none
-sign_bad : (f : ℕ → ℤ) (o : Option ℕ) → natural.Bad ≡ natural_of o → integer.Bad ≡ integer_of (mapped f o)
+sign_bad : (f : ℕ → ℤ) (o : Option ℕ) → None ≡ o → None ≡ (mapped f o)
 sign_bad f o e = rw (as_none o e)
 
-sign_is : (f : ℕ → ℤ) (o : Option ℕ) (m : ℕ) → natural.Is m ≡ natural_of o → integer.Is (f m) ≡ integer_of (mapped f o)
+sign_is : (f : ℕ → ℤ) (o : Option ℕ) (m : ℕ) → Some m ≡ o → Some (f m) ≡ (mapped f o)
 sign_is f o m e = rw (as_some o m e)
 
-pub number_empty : (t : List ℕ) → length t ≡ 0 → integer_from t ≡ none
+pub number_empty : (t : List ℕ) → length t ≡ 0 → integer_from t ≡ None
 unfolding integer_from
 number_empty [] h = refl
 number_empty (b ∷ t) h = absurd (omega arith)
@@ -160,16 +156,16 @@ number_plain (b ∷ t) h e = rw (ne_eqb b 45 e)
 
 -- the two forms of a number, by its first byte
 module _ (t : List ℕ) (h : 0 < length t) where
-  pub minus_bad : get_or t 0 0 ≡ 45 → natural.Bad ≡ natural_of (within 9223372036854775808 (natural_from (behind t))) → integer.Bad ≡ integer_of (integer_from t)
-  minus_bad e a = sign_bad (λ n. neg_ℤ (pos n)) (within 9223372036854775808 (natural_from (behind t))) a ∙ ap integer_of (sym (number_minus t h e))
+  pub minus_bad : get_or t 0 0 ≡ 45 → None ≡ (within 9223372036854775808 (natural_from (behind t))) → None ≡ (integer_from t)
+  minus_bad e a = sign_bad (λ n. neg_ℤ (pos n)) (within 9223372036854775808 (natural_from (behind t))) a ∙ sym (number_minus t h e)
 
-  pub minus_is : get_or t 0 0 ≡ 45 → (m : ℕ) → natural.Is m ≡ natural_of (within 9223372036854775808 (natural_from (behind t)))
-      → integer.Is (neg_ℤ (pos m)) ≡ integer_of (integer_from t)
-  minus_is e m a = sign_is (λ n. neg_ℤ (pos n)) (within 9223372036854775808 (natural_from (behind t))) m a ∙ ap integer_of (sym (number_minus t h e))
+  pub minus_is : get_or t 0 0 ≡ 45 → (m : ℕ) → Some m ≡ (within 9223372036854775808 (natural_from (behind t)))
+      → Some (neg_ℤ (pos m)) ≡ (integer_from t)
+  minus_is e m a = sign_is (λ n. neg_ℤ (pos n)) (within 9223372036854775808 (natural_from (behind t))) m a ∙ sym (number_minus t h e)
 
-  pub plain_bad : (get_or t 0 0 ≡ 45 → ⊥) → natural.Bad ≡ natural_of (within 9223372036854775807 (natural_from t)) → integer.Bad ≡ integer_of (integer_from t)
-  plain_bad e a = sign_bad pos (within 9223372036854775807 (natural_from t)) a ∙ ap integer_of (sym (number_plain t h e))
+  pub plain_bad : (get_or t 0 0 ≡ 45 → ⊥) → None ≡ (within 9223372036854775807 (natural_from t)) → None ≡ (integer_from t)
+  plain_bad e a = sign_bad pos (within 9223372036854775807 (natural_from t)) a ∙ sym (number_plain t h e)
 
-  pub plain_is : (get_or t 0 0 ≡ 45 → ⊥) → (m : ℕ) → natural.Is m ≡ natural_of (within 9223372036854775807 (natural_from t))
-      → integer.Is (pos m) ≡ integer_of (integer_from t)
-  plain_is e m a = sign_is pos (within 9223372036854775807 (natural_from t)) m a ∙ ap integer_of (sym (number_plain t h e))
+  pub plain_is : (get_or t 0 0 ≡ 45 → ⊥) → (m : ℕ) → Some m ≡ (within 9223372036854775807 (natural_from t))
+      → Some (pos m) ≡ (integer_from t)
+  plain_is e m a = sign_is pos (within 9223372036854775807 (natural_from t)) m a ∙ sym (number_plain t h e)

@@ -6,6 +6,7 @@
 --     read_numbers               the same of `read`
 --     by-input, by-standing      what a program's text gives, by the answer of `read_input`, and by the numbers that stand at the front
 -- Assumes nothing.
+use Rattle.std.specs.Prelude.{Ok}
 use mathlib.Core.Path.{◌≡◌, refl, sym, ap, ◌∙◌}
 use mathlib.Core.Bool.{Bool, false}
 use mathlib.Core.List.{List, [], ◌∷◌, ◌++◌}
@@ -19,8 +20,7 @@ use Rattle.text.specs.Piece.{pieces, numbers}
 use Rattle.text.specs.Reading.{reading_of, input_of, by_reading, input_gives}
 use Rattle.text.specs.Inner.Inside.{left_by}
 use Rattle.text.specs.declared.Format.{Format}
-use Rattle.text.specs.declared.Reading.{Reading}
-use Rattle.text.specs.declared.Reading.TheVariants.{Numbers}
+use Rattle.call.specs.Refusal.{Filled}
 use Rattle.text.proofs.Handed.{input_on, front_entries}
 
 pub record Standing (ns : List ℤ) (room k : ℕ) (out : List ℤ) : Type 0 where
@@ -51,11 +51,11 @@ module _ {ns : List ℤ} {room k : ℕ} {out : List ℤ} (h : Standing ns room k
       others (z ∷ l) (suc k) = let e : suc k - 1 ≡ k = omega arith in ap (λ (n : ℕ). take n l) e
 
 -- numbers that were handed on stand there
-pub stands : {ns : List ℤ} {room k : ℕ} (before : List ℤ) {out : List ℤ} {r : Reading} → 1 ≤ k → k ≤ room → k ≤ length ns → out ≡ left_by r ns before
-    → r ≡ Numbers k → Standing ns room k out
+pub stands : {ns : List ℤ} {room k : ℕ} (before : List ℤ) {out : List ℤ} {r : Filled} → 1 ≤ k → k ≤ room → k ≤ length ns → out ≡ left_by r ns before
+    → r ≡ Ok k → Standing ns room k out
 unfolding left_by
 stands {ns} {room} {k} before {out} some_one fitting there left e =
-    let is : out ≡ take k ns ++ drop k before = left ∙ ap (λ (x : Reading). left_by x ns before) e in
+    let is : out ≡ take k ns ++ drop k before = left ∙ ap (λ (x : Filled). left_by x ns before) e in
     let inside : k ≤ length out = omega (arith, ap length is, length-append (take k ns) (drop k before), length-take-le k ns there) in
     record {
       some_one = some_one;
@@ -65,28 +65,28 @@ stands {ns} {room} {k} before {out} some_one fitting there left e =
       front = ap (take k) is ∙ front_entries ns before k there;
     }
 
-module _ (longer : Bool) (f : Format) (t : List ℕ) (before : List ℤ) {room : ℕ} {out : List ℤ} (lent : length before ≡ room) {r : Reading}
+module _ (longer : Bool) (f : Format) (t : List ℕ) (before : List ℤ) {room : ℕ} {out : List ℤ} (lent : length before ≡ room) {r : Filled}
     (read : (r ≡ input_of longer f t (length before)) × (out ≡ left_by r (numbers (pieces t)) before)) where
   pub told : r ≡ input_of longer f t room
   told = read.0 ∙ ap (input_of longer f t) lent
 
-  pub input_numbers : 1 ≤ f.more → (k : ℕ) → r ≡ Numbers k → Standing (numbers (pieces t)) room k out
+  pub input_numbers : 1 ≤ f.more → (k : ℕ) → r ≡ Ok k → Standing (numbers (pieces t)) room k out
   input_numbers more k e =
       let h = input_on longer f t room k more (sym e ∙ told) in
       stands before h.some_one h.fitting h.there read.1 e
 
   -- what is asked for, or what is written
   module _ {X : Type 0} (g : List ℤ → X) (h : Refusal → X) where
-    pub by_input : (x : Reading) → r ≡ x → by_reading g h x (numbers (pieces t)) ≡ input_gives f room g h longer t
-    by_input x e = ap (λ (y : Reading). by_reading g h y (numbers (pieces t))) (sym e ∙ told)
+    pub by_input : (x : Filled) → r ≡ x → by_reading g h x (numbers (pieces t)) ≡ input_gives f room g h longer t
+    by_input x e = ap (λ (y : Filled). by_reading g h y (numbers (pieces t))) (sym e ∙ told)
 
-    pub by_standing : 1 ≤ f.more → (k : ℕ) → r ≡ Numbers k → g (take k out) ≡ input_gives f room g h longer t
-    by_standing more k e = ap g (input_numbers more k e).front ∙ by_input (Numbers k) e
+    pub by_standing : 1 ≤ f.more → (k : ℕ) → r ≡ Ok k → g (take k out) ≡ input_gives f room g h longer t
+    by_standing more k e = ap g (input_numbers more k e).front ∙ by_input (Ok k) e
 
 -- ---- the same of a text that isn't a program's input
 
-pub read_numbers : (f : Format) (t : List ℕ) (before : List ℤ) {room : ℕ} {out : List ℤ} → length before ≡ room → {r : Reading}
-    → (r ≡ reading_of f t (length before)) × (out ≡ left_by r (numbers (pieces t)) before) → 1 ≤ f.more → (k : ℕ) → r ≡ Numbers k
+pub read_numbers : (f : Format) (t : List ℕ) (before : List ℤ) {room : ℕ} {out : List ℤ} → length before ≡ room → {r : Filled}
+    → (r ≡ reading_of f t (length before)) × (out ≡ left_by r (numbers (pieces t)) before) → 1 ≤ f.more → (k : ℕ) → r ≡ Ok k
     → Standing (numbers (pieces t)) room k out
 unfolding input_of
 read_numbers f t before lent read more k e = input_numbers false f t before lent read more k e

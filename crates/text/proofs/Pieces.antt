@@ -8,10 +8,10 @@
 --     run_first      a run of bytes that aren't blank and a blank byte in front: a piece, and then the others
 --     piece-bad, piece_is    the first piece is no number, or a number, and the next ones are those after its run
 -- Assumes nothing.
+use Rattle.std.specs.Prelude.{Some, None, Option}
 use mathlib.Core.Path.{◌≡◌, refl, sym, ap, ◌∙◌}
 use mathlib.Core.Bool.{Bool, true, false}
 use mathlib.Core.List.{List, [], ◌∷◌, ◌++◌}
-use mathlib.Core.Option.{Option, none, some}
 use lib.IntN.{ℤ}
 use Prim.Native.Nat.{ℕ, suc, ◌+◌, ◌-◌, ◌≤◌, ◌<◌}
 use native.Mathlib.Nat.{add-zero, add-suc, suc-add}
@@ -20,19 +20,16 @@ use lib.ListN.{length, get_or, drop, take, length-drop, drop_of_length-le}
 use lib.Seq.{drop-cons, drop-drop, get_or-drop}
 use Rattle.text.specs.Blank.{is_blank, until_blank, unbroken}
 use Rattle.text.specs.Piece.{piece_at, pieces_from, pieces}
-use Rattle.text.specs.Inner.Inside.{integer_of, stretch, left, Stuck, PieceRead}
-use Rattle.text.specs.declared.numeral.Integer.TheVariants as integer
+use Rattle.text.specs.Inner.Inside.{stretch, left, Stuck, PieceRead}
 use Rattle.text.specs.Number.{integer_from}
 use Rattle.text.proofs.Blanks.{as_kind, stretch_yes, stretch_no, stretch_le, after_stretch, take_stretch}
 use Rattle.text.proofs.Clash.{clash}
 
-none_of : (o : Option ℤ) → integer.Bad ≡ integer_of o → o ≡ none
-none_of none e = refl
-none_of (some n) e = clash (cc)
+none_of : (o : Option ℤ) → None ≡ o → o ≡ None
+none_of o e = sym e
 
-some_of : (o : Option ℤ) (n : ℤ) → integer.Is n ≡ integer_of o → o ≡ some n
-some_of none n e = clash (cc)
-some_of (some k) n e = cc
+some_of : (o : Option ℤ) (n : ℤ) → Some n ≡ o → o ≡ Some n
+some_of o n e = sym e
 
 -- one byte
 module _ (b : ℕ) (t : List ℕ) (at : ℕ) where
@@ -159,10 +156,10 @@ module _ (t : List ℕ) (from at : ℕ) (le : from ≤ length t) (is : at ≡ fr
     step_inside = omega (arith, stretch_le false (drop at t), length-drop at t)
 
     -- the code's two answers at a piece
-    pub piece_bad : integer.Bad ≡ integer_of (integer_from (take (to - at) (drop at t))) → Stuck t from at
+    pub piece_bad : None ≡ (integer_from (take (to - at) (drop at t))) → Stuck t from at
     piece_bad e = record { after = left t to; here = left_step ∙ rw (none_of (integer_from (take (to - at) (drop at t))) e) }
 
-    pub piece_is : (n : ℤ) → integer.Is n ≡ integer_of (integer_from (take (to - at) (drop at t))) → PieceRead t from n at to
+    pub piece_is : (n : ℤ) → Some n ≡ (integer_from (take (to - at) (drop at t))) → PieceRead t from n at to
     piece_is n e = record {
       here = left_step ∙ rw (some_of (integer_from (take (to - at) (drop at t))) n e);
       onward = omega (arith, longer);

@@ -1,15 +1,20 @@
 -- Numbers behind spaces, and lines.
 --     wider                          a number of 16 signed bits is one of 64
---     letter_most                    and takes 6 bytes at most
+--     put_whole                      the end that a write tells
+--     natural_most, letter_most      how many bytes a number takes
 --     spaced-one, spaced-two         one number, two numbers
 --     spaced-last, spaced-next       one number more, and the first i + 1 of a list
 --     Spaced                         the state of a loop that puts numbers: `spaced_none`, `spaced_more` and `spaced_all` are its start, a turn, its end
+--     room_left                      and there is room for a turn
 --     natural_at                     a natural number of a list
+--     value_at                       the value of a number of a list
+--     themselves                     integers are their own values
 --     line_put                       a whole line
 -- Assumes nothing.
 use mathlib.Core.Path.{◌≡◌, refl, sym, ap, ◌∙◌}
 use mathlib.Core.List.{List, [], ◌∷◌, ◌++◌, map, append_assoc, append-nil}
-use Prim.Native.Nat.{ℕ, zero, suc, ◌+◌, ◌*◌, ◌≤◌, ◌<◌}
+use Prim.Native.Nat.{ℕ, zero, suc, ◌+◌, ◌*◌, ◌^◌, ◌≤◌, ◌<◌, ◌-◌}
+use native.Mathlib.Nat.{mul-le-mul_left}
 use native.Mathlib.Numerals.{add-one}
 use native.Mathlib.Omega.{arith}
 use lib.IntN.{ℤ, pos, negsuc}
@@ -18,10 +23,24 @@ use lib.Seq.{take-suc, take_all}
 use mir.Syntax.{w16, w64}
 use mir.Val.{SFits}
 use Rattle.decimal.specs.Decimal.{decimal_of}
-use Rattle.decimal.specs.Writing.{Puts}
-use Rattle.decimal.proofs.Decimals.{decimal_most}
-use Rattle.decimal.proofs.Placing.{puts_as, puts_none, puts_then, puts_same}
+use Rattle.std.specs.Prelude.{Ok, Err}
+use Rattle.std.specs.Result.{result_unwrap_or}
+use Rattle.call.specs.Refusal.{Filled}
+use Rattle.decimal.specs.Writing.{written_of, standing, Puts}
+use Rattle.decimal.proofs.Decimals.{digits_most, decimal_most}
+use Rattle.decimal.proofs.Placing.{by_writing, no_refusal_lem, puts_as, puts_none, puts_then, puts_same}
 use Rattle.text.specs.Line.{natural, spaced, line}
+
+-- the end that a write tells, where the bytes fit
+pub put_whole : (bs out out' : List ℕ) (at : ℕ) (w : Filled) → w ≡ written_of (length bs) (length out) at
+    → out' ≡ standing w bs at out → at + length bs ≤ length out → Puts bs at (result_unwrap_or w at) out out'
+put_whole bs out out' at (Ok end) e l h = by_writing bs out out' at (Ok end) e l h end refl
+put_whole bs out out' at (Err f) e l h = no_refusal_lem bs out out' at (Err f) e l h f refl
+
+-- how many bytes a natural number takes
+pub natural_most : (k n : ℕ) → 1 ≤ k → n < 10 ^ k → length (decimal_of (pos n)) ≤ k
+unfolding decimal_of
+natural_most k n h l = digits_most k n h l
 
 pub wider : {z : ℤ} → SFits w16 z → SFits w64 z
 wider f = record { sfits = omega (arith, f.sfits) }
@@ -57,6 +76,11 @@ pub spaced_none : (width : ℕ) (zs : List ℤ) (at : ℕ) (out : List ℕ) → 
 unfolding spaced
 spaced_none width zs at out = record { puts = puts_none at out; most = omega arith; few = omega arith; same = refl }
 
+-- the room that the next number finds, where one takes `most` bytes at most
+pub room_left : {most i n end room : ℕ} (at : ℕ) → most ≤ 20 → i < n → end ≤ at + (most + 1) * i → at + ((most + 1) * n + (20 - most)) ≤ room
+    → end + 21 ≤ room
+room_left {most} {i} {n} at few l e h = let k : i + 1 ≤ n = omega arith in omega (arith, mul-le-mul_left (most + 1) k)
+
 module _ {width : ℕ} {zs : List ℤ} {at i end : ℕ} {out₀ out : List ℕ} (s : Spaced width zs at i end out₀ out) where
   pub spaced_more : {z : ℤ} {end' : ℕ} {out' : List ℕ} → i < length zs → z ≡ get_or zs i (pos 0) → Puts (32 ∷ decimal_of z) end end' out out' → end' ≤ length out
       → end' ≤ end + width → Spaced width zs at (i + 1) end' out₀ out'
@@ -74,6 +98,16 @@ pub natural_at : (ns : List ℕ) (i : ℕ) → natural (get_or ns i 0) ≡ get_o
 natural_at [] i = refl
 natural_at (n ∷ ns) zero = refl
 natural_at (n ∷ ns) (suc i) = natural_at ns i
+
+pub value_at : {A : Type 0} (value : A → ℤ) (xs : List A) (i : ℕ) {x : A} → i < length xs → x ≡ get_or xs i x
+    → value x ≡ get_or (map value xs) i (pos 0)
+value_at value [] i h e = absurd (omega arith)
+value_at value (y ∷ xs) zero h e = ap value e
+value_at value (y ∷ xs) (suc i) h e = value_at value xs i (omega arith) e
+
+pub themselves : (zs : List ℤ) → map (λ (z : ℤ). z) zs ≡ zs
+themselves [] = refl
+themselves (z ∷ zs) = ap (λ (l : List ℤ). z ∷ l) (themselves zs)
 
 pub line_put : (name : List ℕ) (zs : List ℤ) {at m n e : ℕ} {out out1 out2 out3 : List ℕ} → Puts name at m out out1 → Puts (spaced zs) m n out1 out2
     → Puts (10 ∷ []) n e out2 out3

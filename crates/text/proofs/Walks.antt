@@ -8,9 +8,10 @@
 --     place_none, place-number, place-stuck    where piece i begins
 --     store_next                         where all pieces are numbers, the next one is number i, and goes to entry i
 -- Assumes nothing.
-use mathlib.Core.Path.{◌≡◌, refl, sym, ap, ◌∙◌, subst}
+use Rattle.std.specs.Result.{result_unwrap_or}
+use Rattle.std.specs.Prelude.{Result, Ok, Err, Option, None, Some}
+use mathlib.Core.Path.{◌≡◌, refl, sym, ap, ◌∙◌}
 use mathlib.Core.List.{List, [], ◌∷◌, ◌++◌}
-use mathlib.Core.Option.{Option, none, some}
 use Prim.Native.Nat.{ℕ, zero, suc, ◌+◌, ◌≤◌, ◌<◌}
 use native.Mathlib.Numerals.{add-one}
 use native.Mathlib.Omega.{arith}
@@ -18,10 +19,8 @@ use lib.IntN.{ℤ}
 use lib.ListN.{length, drop, take, set, length-drop, drop_of_length-le}
 use lib.Seq.{drop-drop}
 use Rattle.text.specs.Piece.{Piece, pieces_from, pieces, first_bad, numbers, place_at}
-use Rattle.text.specs.Inner.Inside.{left, Steps, PieceRead, Stuck, survey_of}
-use Rattle.text.specs.declared.Step.{Step}
-use Rattle.text.specs.declared.Step.TheVariants as step
-use Rattle.text.specs.declared.Survey.TheVariants as survey
+use Rattle.text.specs.Inner.Inside.{left, NextNumber, Steps, PieceRead, Stuck, survey_of}
+use Rattle.text.specs.declared.Number.{Number}
 use Rattle.text.proofs.Clash.{clash}
 
 pub record Walked (t : List ℕ) (i from : ℕ) : Type 0 where
@@ -34,25 +33,24 @@ pub walked_start : (t : List ℕ) → Walked t 0 0
 unfolding pieces left
 walked_start t = record { rest = refl; inside = omega arith; count = omega arith; sound = refl }
 
--- the answer of `next`, by its case
-module _ (t : List ℕ) (from : ℕ) {s : Step} (h : Steps t from s) where
-  pub at_end : s ≡ step.End → left t from ≡ []
-  at_end e = subst (Steps t from) e h
-
-  pub at_bad : {at : ℕ} → s ≡ step.Bad at → Stuck t from at
-  at_bad e = subst (Steps t from) e h
-
-  pub at_number : {n : ℤ} {at to : ℕ} → s ≡ step.Number n at to → PieceRead t from n at to
-  at_number e = subst (Steps t from) e h
-
 -- a number is not bad, a piece that is none is
-bad_past : (at : ℕ) (n : ℤ) (ps : List Piece) → first_bad (record { at = at; says = some n } ∷ ps) ≡ first_bad ps
+bad_past : (at : ℕ) (n : ℤ) (ps : List Piece) → first_bad (record { at = at; says = Some n } ∷ ps) ≡ first_bad ps
 unfolding first_bad
 bad_past at n ps = refl
 
-bad_here : (at : ℕ) (ps : List Piece) → first_bad (record { at = at; says = none } ∷ ps) ≡ some at
+bad_here : (at : ℕ) (ps : List Piece) → first_bad (record { at = at; says = None } ∷ ps) ≡ Some at
 unfolding first_bad
 bad_here at ps = refl
+
+-- what is left has no bad piece, where the whole has none
+pub walked_sound : {t : List ℕ} {i from : ℕ} → Walked t i from → first_bad (pieces t) ≡ None → first_bad (left t from) ≡ None
+walked_sound w h = sym w.sound ∙ h
+
+-- the answer of `next`, where no piece is bad
+pub sound_next : (t : List ℕ) (from : ℕ) (s : Result (Option Number) ℕ) → first_bad (left t from) ≡ None → Steps t from s
+    → NextNumber t from (result_unwrap_or s None)
+sound_next t from (Ok n) h s = s
+sound_next t from (Err at) h s = let e : Some at ≡ None = sym (ap first_bad s.here ∙ bad_here at s.after) ∙ h in clash (cc)
 
 module _ {t : List ℕ} {i from : ℕ} (w : Walked t i from) where
   rest_length : length (pieces t) ≡ i + length (left t from)
@@ -70,26 +68,26 @@ module _ {t : List ℕ} {i from : ℕ} (w : Walked t i from) where
     pub walked_end : length (pieces t) ≡ i
     walked_end = omega (arith, rest_length, ap length e)
 
-    pub walked_all : first_bad (pieces t) ≡ none
+    pub walked_all : first_bad (pieces t) ≡ None
     unfolding first_bad
     walked_all = w.sound ∙ ap first_bad e
 
-    pub walked_count : survey.Count i ≡ survey_of (pieces t)
+    pub walked_count : Ok i ≡ survey_of (pieces t)
     walked_count = rw (walked_all, walked_end)
 
   pub walked_past : length t ≤ from → left t from ≡ []
   unfolding left pieces_from
   walked_past h = rw (drop_of_length-le t h)
 
-  pub walked_stuck : {at : ℕ} → Stuck t from at → first_bad (pieces t) ≡ some at
+  pub walked_stuck : {at : ℕ} → Stuck t from at → first_bad (pieces t) ≡ Some at
   walked_stuck {at} s = w.sound ∙ ap first_bad s.here ∙ bad_here at s.after
 
-  pub walked_bad : {at : ℕ} → Stuck t from at → survey.Bad at ≡ survey_of (pieces t)
+  pub walked_bad : {at : ℕ} → Stuck t from at → Err at ≡ survey_of (pieces t)
   walked_bad s = rw (walked_stuck s)
 
   -- where all pieces are numbers, none is bad
-  pub sound_clash : {at : ℕ} → first_bad (pieces t) ≡ none → Stuck t from at → ⊥
-  sound_clash {at} h s = let e : some at ≡ none = sym (walked_stuck s) ∙ h in clash (cc)
+  pub sound_clash : {at : ℕ} → first_bad (pieces t) ≡ None → Stuck t from at → ⊥
+  sound_clash {at} h s = let e : Some at ≡ None = sym (walked_stuck s) ∙ h in clash (cc)
 
 -- where a piece begins
 place_drop : (ps : List Piece) (k : ℕ) → place_at ps k ≡ place_at (drop k ps) 0
@@ -114,24 +112,24 @@ module _ {t : List ℕ} {i from : ℕ} (w : Walked t i from) where
   place_stuck s = sym (place_drop (pieces t) i ∙ ap (λ (ps : List Piece). place_at ps 0) (w.rest ∙ s.here))
 
 -- the numbers of pieces that are all numbers
-module _ (p : Piece) (ps : List Piece) (h : first_bad (p ∷ ps) ≡ none) where
-  sound_tail : first_bad ps ≡ none
+module _ (p : Piece) (ps : List Piece) (h : first_bad (p ∷ ps) ≡ None) where
+  sound_tail : first_bad ps ≡ None
   unfolding first_bad
   sound_tail = go p.says refl
     where
-      go : (o : Option ℤ) → p.says ≡ o → first_bad ps ≡ none
-      go none e = let q : some p.at ≡ none = rw (first_bad, e) at h in clash (cc)
-      go (some n) e = rw (first_bad, e) at h
+      go : (o : Option ℤ) → p.says ≡ o → first_bad ps ≡ None
+      go None e = let q : Some p.at ≡ None = rw (first_bad, e) at h in clash (cc)
+      go (Some n) e = rw (first_bad, e) at h
 
   sound_head : (i : ℕ) → drop (suc i) (numbers (p ∷ ps)) ≡ drop i (numbers ps)
   unfolding first_bad numbers
   sound_head i = go p.says refl
     where
       go : (o : Option ℤ) → p.says ≡ o → drop (suc i) (numbers (p ∷ ps)) ≡ drop i (numbers ps)
-      go none e = let q : some p.at ≡ none = rw (first_bad, e) at h in clash (cc)
-      go (some n) e = rw (numbers, e)
+      go None e = let q : Some p.at ≡ None = rw (first_bad, e) at h in clash (cc)
+      go (Some n) e = rw (numbers, e)
 
-drop_numbers : (ps : List Piece) (i : ℕ) → first_bad ps ≡ none → drop i (numbers ps) ≡ numbers (drop i ps)
+drop_numbers : (ps : List Piece) (i : ℕ) → first_bad ps ≡ None → drop i (numbers ps) ≡ numbers (drop i ps)
 unfolding numbers
 drop_numbers ps zero h = refl
 drop_numbers [] (suc i) h = refl
@@ -146,7 +144,7 @@ store zero (y ∷ s) (z ∷ d) r x e h = cc
 store (suc i) [] (z ∷ d) r x e h = clash (cc)
 store (suc i) (y ∷ s) (z ∷ d) r x e h = ap (λ (l : List ℤ). y ∷ l) (store i s d r x e (omega arith))
 
-module _ {t : List ℕ} {i from : ℕ} (w : Walked t i from) (h : first_bad (pieces t) ≡ none) {n : ℤ} {at to : ℕ} (s : PieceRead t from n at to) where
+module _ {t : List ℕ} {i from : ℕ} (w : Walked t i from) (h : first_bad (pieces t) ≡ None) {n : ℤ} {at to : ℕ} (s : PieceRead t from n at to) where
   numbers_next : drop i (numbers (pieces t)) ≡ n ∷ numbers (left t to)
   unfolding numbers
   numbers_next = drop_numbers (pieces t) i h ∙ ap numbers (w.rest ∙ s.here)

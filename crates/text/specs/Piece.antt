@@ -9,8 +9,7 @@
 --     first_bad ps              where the first of the pieces ps that is no number begins; none where each is one
 --     numbers ps                the numbers that the pieces ps say
 --     place_at ps k             where the piece k of ps begins, counted from 0; 0 where there are not so many
-use Rattle.std.specs.Prelude.{ℕ, zero, suc, Bool, false, not, ◌||◌, List, [], ◌∷◌, ℤ}
-use Rattle.std.proofs.Math.Option.{Option, none, some}
+use Rattle.std.specs.Prelude.{ℕ, zero, suc, Bool, false, not, ◌||◌, List, [], ◌∷◌, ℤ, Option, None, Some}
 use Rattle.basics.specs.Choice.{pick}
 use Rattle.text.specs.Blank.{is_blank, until_blank}
 use Rattle.text.specs.Number.{integer_from}
@@ -35,12 +34,12 @@ unfoldable pub pieces : List ℕ → List Piece
 pieces t = pieces_from 0 false t
 
 unfoldable pub first_bad : List Piece → Option ℕ
-first_bad [] = none
-first_bad (p ∷ ps) = elim p.says [ none ↦ some p.at | some n ↦ first_bad ps ]
+first_bad [] = None
+first_bad (p ∷ ps) = elim p.says [ None ↦ Some p.at | Some n ↦ first_bad ps ]
 
 unfoldable pub numbers : List Piece → List ℤ
 numbers [] = []
-numbers (p ∷ ps) = elim p.says [ none ↦ numbers ps | some n ↦ n ∷ numbers ps ]
+numbers (p ∷ ps) = elim p.says [ None ↦ numbers ps | Some n ↦ n ∷ numbers ps ]
 
 unfoldable pub place_at : List Piece → ℕ → ℕ
 place_at [] k = 0

@@ -20,68 +20,67 @@
 --     input_gives f room g h longer t  the same for a program's text
 --     vertex_count z        the first number as a number of vertices; a negative one is out of range as 0 is
 --     count_in ns           that of the numbers ns
+use Rattle.std.specs.Prelude.{Ok, Err, Option, None, Some}
 use Rattle.std.specs.Prelude.{ℕ, ◌+◌, ◌*◌, Bool, ◌&&◌, List, [], ◌∷◌, ltb, leb, ℤ, pos, negsuc, length, take, get_or}
-use Rattle.std.proofs.Math.Option.{Option, none, some}
-use Rattle.call.specs.Refusal.{too_short, bad_text}
+use Rattle.call.specs.Refusal.{Filled}
+use Rattle.call.specs.declared.refusal.Refusal.TheVariants.{TooShort, BadText}
 use Rattle.call.specs.declared.refusal.Refusal.{Refusal}
 use Rattle.basics.specs.Choice.{pick}
 use Rattle.text.specs.Piece.{Piece, pieces, first_bad, numbers, place_at}
 use Rattle.text.specs.declared.Format.{Format}
-use Rattle.text.specs.declared.Reading.{Reading}
-use Rattle.text.specs.declared.Reading.TheVariants.{Numbers, Refused}
 
 abbrev pub text_most : ℕ
 text_most = 65536
 
 unfoldable pub wanted : Format → ℤ → Option ℕ
-wanted f (pos v) = pick (leb f.least v && leb v f.most) (some (f.each * v + f.more)) none
-wanted f (negsuc v) = none
+wanted f (pos v) = pick (leb f.least v && leb v f.most) (Some (f.each * v + f.more)) None
+wanted f (negsuc v) = None
 
 abbrev pub wanted_or1 : Option ℕ → ℕ
-wanted_or1 none = 1
-wanted_or1 (some w) = w
+wanted_or1 None = 1
+wanted_or1 (Some w) = w
 
 unfoldable pub handed : Format → List ℤ → ℕ
 handed f [] = 0
 handed f (v ∷ ns) = wanted_or1 (wanted f v)
 
 unfoldable pub count_place : Option ℕ → ℕ → List Piece → Option ℕ
-count_place none n ps = none
-count_place (some w) n ps =
-    pick (ltb (length ps) w) (some n)
-    (pick (ltb w (length ps)) (some (place_at ps w))
-    none)
+count_place None n ps = None
+count_place (Some w) n ps =
+    pick (ltb (length ps) w) (Some n)
+    (pick (ltb w (length ps)) (Some (place_at ps w))
+    None)
 
 unfoldable pub first_place : Format → List ℤ → ℕ → List Piece → Option ℕ
-first_place f [] n ps = some n
+first_place f [] n ps = Some n
 first_place f (v ∷ ns) n ps = count_place (wanted f v) n ps
 
 abbrev pub or_else : Option ℕ → Option ℕ → Option ℕ
-or_else none q = q
-or_else (some p) q = some p
+or_else None q = q
+or_else (Some p) q = Some p
 
 unfoldable pub place19 : Format → List ℕ → Option ℕ
 place19 f t =
-    pick (ltb text_most (length t)) (some text_most)
+    pick (ltb text_most (length t)) (Some text_most)
     (or_else (first_bad (pieces t))
     (first_place f (numbers (pieces t)) (length t) (pieces t)))
 
-unfoldable pub answer : Option ℕ → ℕ → ℕ → Reading
-answer (some p) k room = Refused (bad_text p)
-answer none k room = pick (ltb room k) (Refused (too_short k)) (Numbers k)
+unfoldable pub answer : Option ℕ → ℕ → ℕ → Filled
+answer (Some p) k room = Err (BadText p)
+answer None k room = pick (ltb room k) (Err (TooShort k)) (Ok k)
 
-unfoldable pub reading_of : Format → List ℕ → ℕ → Reading
+unfoldable pub reading_of : Format → List ℕ → ℕ → Filled
 reading_of f t room = answer (place19 f t) (handed f (numbers (pieces t))) room
 
 abbrev pub symbol_format : Format
 symbol_format = record { least = 1; most = 1023; each = 3; more = 2 }
 
-unfoldable pub input_of : Bool → Format → List ℕ → ℕ → Reading
-input_of longer f t room = pick longer (Refused (bad_text text_most)) (reading_of f t room)
+unfoldable pub input_of : Bool → Format → List ℕ → ℕ → Filled
+input_of longer f t room = pick longer (Err (BadText text_most)) (reading_of f t room)
 
-abbrev pub by_reading : {X : Type 0} → (List ℤ → X) → (Refusal → X) → Reading → List ℤ → X
-by_reading g h (Numbers k) ns = g (take k ns)
-by_reading g h (Refused f) ns = h f
+abbrev pub by_reading : {X : Type 0} → (List ℤ → X) → (Refusal → X) → Filled → List ℤ → X
+by_reading g h (Ok k) ns = g (take k ns)
+by_reading g h (Err f) ns = h f
 
 abbrev pub input_gives : {X : Type 0} → Format → (room : ℕ) → (List ℤ → X) → (Refusal → X) → Bool → List ℕ → X
 input_gives f room g h longer t = by_reading g h (input_of longer f t room) (numbers (pieces t))

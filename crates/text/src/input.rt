@@ -16,8 +16,5 @@ pub enum Input {
 pub fn text_end(buffer: &[u8], n: usize) -> usize
     ensures { TextEnds n buffer.now result }
 {
-    if n < buffer.len() {
-        return n;
-    }
-    buffer.len()
+    n.min(buffer.len())
 }

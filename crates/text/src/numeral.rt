@@ -1,76 +1,48 @@
 // The number that a piece of a text is written as.
 ghost use Rattle.std.specs.Prelude.{◌≡◌, ◌≤◌, pos, neg_ℤ};
 ghost use Rattle.text.specs.Number.{natural_from, within, integer_from};
-ghost use Rattle.text.specs.Inner.Inside.{natural_of, integer_of, digit_pushed};
+ghost use Rattle.text.specs.Inner.Inside.{digit_pushed};
 
 // The greatest number of 64 signed bits, and the magnitude of the least.
 const GREATEST: u64 = 9223372036854775807;
 
 const LEAST: u64 = 9223372036854775808;
 
-// A natural number, or bytes that are none.
-#[derive(Clone, Copy)]
-pub enum Natural {
-    Is(u64),
-    Bad,
-}
-
-// A signed number, or bytes that are none.
-#[derive(Clone, Copy)]
-pub enum Integer {
-    Is(i64),
-    Bad,
-}
-
 // m with one more decimal digit b behind, where b is a digit and the number at most `most`.
-fn push(m: u64, b: u8, most: u64) -> Natural
+fn push(m: u64, b: u8, most: u64) -> Option<u64>
     requires { (m ≤ most) × (most ≤ 9223372036854775808) }
-    ensures { result ≡ natural_of (digit_pushed most m b) }
+    ensures { result ≡ (digit_pushed most m b) }
 {
     if b < b'0' {
-        return Natural::Bad;
+        return None;
     }
     if b'9' < b {
-        return Natural::Bad;
+        return None;
     }
     if most / 10 < m {
-        return Natural::Bad;
+        return None;
     }
-    let n = m * 10 + wide(b - b'0');
+    let n = m * 10 + u64::from(b - b'0');
     if most < n {
-        return Natural::Bad;
+        return None;
     }
-    Natural::Is(n)
-}
-
-// A byte as a wider number.
-fn wide(b: u8) -> u64
-    ensures { result ≡ b }
-{
-    b as u64
+    Some(n)
 }
 
 // The number that the digits are, where it is at most `most`. A number past `most` stays past it, so the first digit
 // that takes it there ends the loop.
-fn magnitude(digits: &[u8], most: u64) -> Natural
+fn magnitude(digits: &[u8], most: u64) -> Option<u64>
     requires { most ≤ 9223372036854775808 }
-    ensures { result ≡ natural_of (within most (natural_from digits.now)) }
+    ensures { result ≡ (within most (natural_from digits.now)) }
 {
     if digits.len() == 0 {
-        return Natural::Bad;
+        return None;
     }
     let mut m: u64 = 0;
-    let mut i = 0;
-    while i < digits.len() {
-        match push(m, digits[i], most) {
-            Natural::Bad => return Natural::Bad,
-            Natural::Is(n) => {
-                m = n;
-                i += 1;
-            }
-        }
+    for digit in digits {
+        m = push(m, *digit, most)?;
     }
-    Natural::Is(m)
+    Some(m)
 }
 
 // -m. The way over m - 1 keeps each step within 64 bits.
@@ -86,21 +58,16 @@ fn negative(m: u64) -> i64
 }
 
 // The number that a piece is.
-pub fn signed(piece: &[u8]) -> Integer
-    ensures { result ≡ integer_of (integer_from piece.now) }
+pub fn signed(piece: &[u8]) -> Option<i64>
+    ensures { result ≡ (integer_from piece.now) }
 {
     if piece.len() == 0 {
-        return Integer::Bad;
+        return None;
     }
     if piece[0] == b'-' {
-        match magnitude(&piece[1..], LEAST) {
-            Natural::Bad => Integer::Bad,
-            Natural::Is(m) => Integer::Is(negative(m)),
-        }
-    } else {
-        match magnitude(piece, GREATEST) {
-            Natural::Bad => Integer::Bad,
-            Natural::Is(m) => Integer::Is(m as i64),
-        }
+        let m = magnitude(&piece[1..], LEAST)?;
+        return Some(negative(m));
     }
+    let m = magnitude(piece, GREATEST)?;
+    Some(m as i64)
 }

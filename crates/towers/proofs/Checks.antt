@@ -4,6 +4,7 @@
 -- (`symbols_more`, `check_stops`); a name is listed before (`names_listed`, `listed_names`); and all that as the code reads it (`entry_read`,
 -- `negative_unlisted`, `natural_listed`, `negative_holds`, `natural_holds`, `named_below`).
 -- Assumes nothing.
+use Rattle.std.specs.Prelude.{Ok, Err}
 use mathlib.Core.Path.{◌≡◌, refl, sym, ◌∙◌, ap}
 use mathlib.Core.Logic.{inl, inr, ◌↔◌}
 use mathlib.Core.Bool.{Bool, true, false}
@@ -19,10 +20,9 @@ use lib.IntN.{ℤ, pos, negsuc}
 use lib.Signed.{lt_z}
 use Rattle.basics.specs.Choice.{pick}
 use Rattle.basics.proofs.Choice.{pick_false, clash}
-use Rattle.call.specs.Refusal.{◌or_else◌, table_length}
+use Rattle.call.specs.Refusal.{◌or_else◌, refusal_number, Checked}
+use Rattle.call.specs.declared.refusal.Refusal.TheVariants.{TableLength}
 use Rattle.call.specs.declared.refusal.Refusal.{Refusal}
-use Rattle.call.specs.declared.refusal.Checked.{Checked}
-use Rattle.call.specs.declared.refusal.Checked.TheVariants.{Accepted, Refused}
 use Rattle.call.proofs.Apart.{refused_accepted}
 use Rattle.call.proofs.Answers.{both_pass, pass_both, first_refuses, then_next}
 use Rattle.call.proofs.Numbered.{Among, among_first}
@@ -38,26 +38,26 @@ use Rattle.towers.proofs.Entries.{symbol_fits}
 
 -- ---- an entry
 
-picked : (b : Bool) (f : Refusal) (c : Checked) → pick b (Refused f) c ≡ Accepted → c ≡ Accepted
+picked : (b : Bool) (f : Refusal) (c : Checked) → pick b (Err f) c ≡ Ok tt → c ≡ Ok tt
 picked true f c e = refused_accepted e
 picked false f c e = e
 
-pub entry_accepted : (last : Bool) (l : List ℤ) → (entry_check last l ≡ Accepted) ↔ IsSymbol (entry_vertices l) (entry_table last l)
+pub entry_accepted : (last : Bool) (l : List ℤ) → (entry_check last l ≡ Ok tt) ↔ IsSymbol (entry_vertices l) (entry_table last l)
 entry_accepted last l = (
-  λ e. (accepted (entry_vertices l) (entry_table last l)).0 (picked (ltb (length l) 2) (table_length 0) (symbol_check (entry_vertices l) (entry_table last l)) e),
-  λ s. pick_false (ltb (length l) 2) (Refused (table_length 0)) (symbol_check (entry_vertices l) (entry_table last l))
+  λ e. (accepted (entry_vertices l) (entry_table last l)).0 (picked (ltb (length l) 2) (TableLength 0) (symbol_check (entry_vertices l) (entry_table last l)) e),
+  λ s. pick_false (ltb (length l) 2) (Err (TableLength 0)) (symbol_check (entry_vertices l) (entry_table last l))
       (le-ltb (length l) 2 (let h = symbol_fits last l s in omega arith))
       ∙ (accepted (entry_vertices l) (entry_table last l)).1 s,
 )
 
-among_pick : (low high : ℕ) (b : Bool) (f : Refusal) (c : Checked) → low ≤ f.number → f.number ≤ high → Among low high c
-    → Among low high (pick b (Refused f) c)
+among_pick : (low high : ℕ) (b : Bool) (f : Refusal) (c : Checked) → low ≤ refusal_number f → refusal_number f ≤ high → Among low high c
+    → Among low high (pick b (Err f) c)
 among_pick low high true f c h k a = (h, k)
 among_pick low high false f c h k a = a
 
 entry_among : (last : Bool) (l : List ℤ) → Among 1 7 (entry_check last l)
 entry_among last l =
-    among_pick 1 7 (ltb (length l) 2) (table_length 0) (symbol_check (entry_vertices l) (entry_table last l)) (omega arith) (omega arith)
+    among_pick 1 7 (ltb (length l) 2) (TableLength 0) (symbol_check (entry_vertices l) (entry_table last l)) (omega arith) (omega arith)
     (check_among (entry_vertices l) (entry_table last l))
 
 -- ---- all entries
@@ -66,7 +66,7 @@ module _ (n : ℕ) (t : List ℤ) where
   abbrev entry_at : ℕ → Checked
   entry_at e = entry_check (eqb (suc e) n) (from_entry t e)
 
-  pub symbols_none : symbols_check n t 0 ≡ Accepted
+  pub symbols_none : symbols_check n t 0 ≡ Ok tt
   unfolding symbols_check
   symbols_none = refl
 
@@ -74,20 +74,20 @@ module _ (n : ℕ) (t : List ℤ) where
   unfolding symbols_check
   symbols_step e = refl
 
-  pub symbols_more : (e : ℕ) → symbols_check n t e ≡ Accepted → entry_at e ≡ Accepted → symbols_check n t (suc e) ≡ Accepted
+  pub symbols_more : (e : ℕ) → symbols_check n t e ≡ Ok tt → entry_at e ≡ Ok tt → symbols_check n t (suc e) ≡ Ok tt
   symbols_more e p q = symbols_step e ∙ pass_both (symbols_check n t e) (entry_at e) p q
 
-  each_passed : (e : ℕ) → symbols_check n t e ≡ Accepted → (i : ℕ) → i < e → entry_at i ≡ Accepted
+  each_passed : (e : ℕ) → symbols_check n t e ≡ Ok tt → (i : ℕ) → i < e → entry_at i ≡ Ok tt
   each_passed zero p i h = absurd (omega arith)
   each_passed (suc e) p i h =
       let b = both_pass (symbols_check n t e) (entry_at e) (sym (symbols_step e) ∙ p) in
       elim (dec_lt i e) [ yes l ↦ each_passed e b.0 i l | no l ↦ let z : i ≡ e = omega arith in ap entry_at z ∙ b.1 ]
 
-  all_pass : (e : ℕ) → ((i : ℕ) → i < e → entry_at i ≡ Accepted) → symbols_check n t e ≡ Accepted
+  all_pass : (e : ℕ) → ((i : ℕ) → i < e → entry_at i ≡ Ok tt) → symbols_check n t e ≡ Ok tt
   all_pass zero p = symbols_none
   all_pass (suc e) p = symbols_more e (all_pass e (λ i h. p i (omega arith))) (p e (omega arith))
 
-  pub symbols_accepted : (symbols_check n t n ≡ Accepted) ↔ AreSymbols n t
+  pub symbols_accepted : (symbols_check n t n ≡ Ok tt) ↔ AreSymbols n t
   symbols_accepted = (
     λ p e h. (entry_accepted (eqb (suc e) n) (from_entry t e)).0 (each_passed n p e h),
     λ s. all_pass n (λ i h. (entry_accepted (eqb (suc i) n) (from_entry t i)).1 (s i h)),
@@ -99,13 +99,13 @@ module _ (n : ℕ) (t : List ℤ) where
   symbols_among (suc e) = among_first 1 7 (symbols_check n t e) (entry_at e) (symbols_among e) (entry_among (eqb (suc e) n) (from_entry t e))
 
   -- entries that passed are whole
-  pub whole_passed : (e : ℕ) → symbols_check n t e ≡ Accepted → EntriesWhole t e
+  pub whole_passed : (e : ℕ) → symbols_check n t e ≡ Ok tt → EntriesWhole t e
   whole_passed e p = record {
     fits = λ i h. symbol_fits (eqb (suc i) n) (from_entry t i) ((entry_accepted (eqb (suc i) n) (from_entry t i)).0 (each_passed e p i h));
   }
 
   -- the first entry at fault decides
-  pub check_stops : (m e : ℕ) (f : Refusal) → e < m → symbols_check n t e ≡ Accepted → entry_at e ≡ Refused f → Refused f ≡ symbols_check n t m
+  pub check_stops : (m e : ℕ) (f : Refusal) → e < m → symbols_check n t e ≡ Ok tt → entry_at e ≡ Err f → Err f ≡ symbols_check n t m
   check_stops zero e f h p q = absurd (omega arith)
   check_stops (suc m) e f h p q = elim (dec_lt e m) [
     | yes l ↦ first_refuses (symbols_check n t m) (entry_at m) f (sym (check_stops m e f l p q)) ∙ sym (symbols_step m)

@@ -1,6 +1,7 @@
 -- What the refusal of a tower means, or that there is none (`tower_of`, `TowerMeans`): `tower_means`.
 -- Why: the checks before 26 pass exactly where all entries have symbols and no name is at fault; then a claim holds exactly where `contained` says so.
 -- Assumes nothing.
+use Rattle.std.specs.Prelude.{Ok, Err}
 use mathlib.Core.Path.{◌≡◌, refl, sym, ◌∙◌, ap}
 use mathlib.Core.Logic.{◌⊎◌, inl, inr}
 use mathlib.Core.Bool.{Bool, true, false, not}
@@ -14,10 +15,9 @@ use Rattle.basics.specs.Choice.{pick}
 use Rattle.basics.specs.Count.{first}
 use Rattle.basics.proofs.Choice.{pick_true, clash}
 use Rattle.basics.proofs.Count.{Clear, Found, found}
-use Rattle.call.specs.Refusal.{◌or_else◌, checked_refusal, refusal, too_short, not_listed_before, false_claim}
+use Rattle.call.specs.Refusal.{◌or_else◌, answer_number, answer_place, refusal_number, Checked, refusal_place}
+use Rattle.call.specs.declared.refusal.Refusal.TheVariants.{TooShort, NotListedBefore, FalseClaim}
 use Rattle.call.specs.declared.refusal.Refusal.{Refusal}
-use Rattle.call.specs.declared.refusal.Checked.{Checked}
-use Rattle.call.specs.declared.refusal.Checked.TheVariants.{Accepted, Refused}
 use Rattle.call.proofs.Apart.{refused_accepted}
 use Rattle.call.proofs.Answers.{both_pass, pass_both}
 use Rattle.call.proofs.Numbered.{Among, among_first}
@@ -38,37 +38,34 @@ abbrev pub entries_check : ℕ → List ℤ → Checked
 entries_check n t = count_check n or_else symbols_check n t n or_else named_check n t
 
 abbrev pub tower_of : ℕ → List ℤ → (work : ℕ) → Checked
-tower_of n t work = entries_check n t or_else pick (eqb n 0) Accepted (work_check work or_else claims_check n t)
+tower_of n t work = entries_check n t or_else pick (eqb n 0) (Ok tt) (work_check work or_else claims_check n t)
 
 pub record TowerMeans (n : ℕ) (t : List ℤ) (work : ℕ) (r : Checked) : Type 0 where
-  pub few : r ≡ Accepted → n ≤ 64
-  pub passes : r ≡ Accepted → TrueTower n t
-  pub true_passes : n ≤ 64 → TrueTower n t → (n ≡ 0) ⊎ (work_length ≤ work) → r ≡ Accepted
-  pub not_listed : (e : ℕ) → r ≡ Refused (not_listed_before e) → FirstUnlisted n t e
-  pub false_claim_is : (e : ℕ) → r ≡ Refused (false_claim e) → FirstFalse n t e
+  pub few : r ≡ Ok tt → n ≤ 64
+  pub passes : r ≡ Ok tt → TrueTower n t
+  pub true_passes : n ≤ 64 → TrueTower n t → (n ≡ 0) ⊎ (work_length ≤ work) → r ≡ Ok tt
+  pub not_listed : (e : ℕ) → r ≡ Err (NotListedBefore e) → FirstUnlisted n t e
+  pub false_claim_is : (e : ℕ) → r ≡ Err (FalseClaim e) → FirstFalse n t e
 
 -- ---- which check refused
 
 -- a refusal with a number that the first check doesn't give is the second's
-passed_on : (low high : ℕ) (c d : Checked) (f : Refusal) → Among low high c → high < f.number → (c or_else d) ≡ Refused f → (c ≡ Accepted) × (d ≡ Refused f)
-passed_on low high Accepted d f a h e = (refl, e)
-passed_on low high (Refused g) d f a h e =
-    let z : g.number ≡ f.number = ap (λ (x : Checked). (checked_refusal x).number) e in
+passed_on : (low high : ℕ) (c d : Checked) (f : Refusal) → Among low high c → high < refusal_number f → (c or_else d) ≡ Err f → (c ≡ Ok tt) × (d ≡ Err f)
+passed_on low high (Ok tt) d f a h e = (refl, e)
+passed_on low high (Err g) d f a h e =
+    let z : refusal_number g ≡ (refusal_number f) = ap (λ (x : Checked). answer_number x) e in
     absurd (omega (arith, a.1))
 
-same_place : (number i e : ℕ) → Refused (refusal number i) ≡ Refused (refusal number e) → i ≡ e
-same_place number i e p = ap (λ (x : Checked). (checked_refusal x).place) p
-
-refused_by : (b : Bool) (f g : Refusal) → refuse b f ≡ Refused g → (b ≡ true) × (Refused f ≡ Refused g)
+refused_by : (b : Bool) (f g : Refusal) → refuse b f ≡ Err g → (b ≡ true) × ◌≡◌ {A = Checked} (Err f) (Err g)
 refused_by true f g e = (refl, e)
 refused_by false f g e = refused_accepted (sym e)
 
 -- it is given at the first that passes the test
-refused_first : (number : ℕ) (test : ℕ → Bool) (n e : ℕ) → refuse_at (first test n) n (refusal number) ≡ Refused (refusal number e)
-    → (first test n ≡ e) × Found test n
-refused_first number test n e p =
-    let k = refused_by (ltb (first test n) n) (refusal number (first test n)) (refusal number e) p in
-    (same_place number (first test n) e k.1, found test n (ltb-true (first test n) n k.0))
+refused_first : (name : ℕ → Refusal) → ((i : ℕ) → refusal_place (name i) ≡ i) → (test : ℕ → Bool) (n e : ℕ)
+    → refuse_at (first test n) n name ≡ Err (name e) → (first test n ≡ e) × Found test n
+refused_first name at test n e p =
+    let k = refused_by (ltb (first test n) n) (name (first test n)) (name e) p in
+    (sym (at (first test n)) ∙ ap (λ (x : Checked). answer_place x) k.1 ∙ at e, found test n (ltb-true (first test n) n k.0))
 
 module _ (n : ℕ) (t : List ℤ) where
   -- ---- 25
@@ -80,7 +77,7 @@ module _ (n : ℕ) (t : List ℤ) where
   listed_clear l = record { none = λ e h. ap not (listed_names t e (l e h)) }
 
   pub names_passed : (k : ℕ) → k ≡ first (unlisted t) n → n ≤ k → (e : ℕ) → e < n → NameListed t e
-  names_passed k is l = all_listed (passes_at (unlisted t) n not_listed_before (accept_at (unlisted t) n k not_listed_before is l))
+  names_passed k is l = all_listed (passes_at (unlisted t) n NotListedBefore (accept_at (unlisted t) n k NotListedBefore is l))
 
   -- ---- 26
 
@@ -134,77 +131,77 @@ module _ (n : ℕ) (t : List ℤ) where
   abbrev behind : Checked
   behind = symbols_check n t n or_else named_check n t
 
-  pub entries_passed : entries_check n t ≡ Accepted → (n ≤ 64) × AreSymbols n t × ((e : ℕ) → e < n → NameListed t e)
+  pub entries_passed : entries_check n t ≡ Ok tt → (n ≤ 64) × AreSymbols n t × ((e : ℕ) → e < n → NameListed t e)
   entries_passed e =
-      let a = both_pass (refuse (ltb 64 n) (too_short 64)) behind e in
+      let a = both_pass (refuse (ltb 64 n) (TooShort 64)) behind e in
       let b = both_pass (symbols_check n t n) (named_check n t) a.1 in (
-        ltb-false 64 n (passes (ltb 64 n) (too_short 64) a.0),
+        ltb-false 64 n (passes (ltb 64 n) (TooShort 64) a.0),
         (symbols_accepted n t).0 b.0,
-        all_listed (passes_at (unlisted t) n not_listed_before b.1),
+        all_listed (passes_at (unlisted t) n NotListedBefore b.1),
       )
 
-  entries_pass : n ≤ 64 → AreSymbols n t → ((e : ℕ) → e < n → NameListed t e) → entries_check n t ≡ Accepted
+  entries_pass : n ≤ 64 → AreSymbols n t → ((e : ℕ) → e < n → NameListed t e) → entries_check n t ≡ Ok tt
   entries_pass h s l =
-      pass_both (refuse (ltb 64 n) (too_short 64)) behind (pass (ltb 64 n) (too_short 64) (le-ltb 64 n h))
-      (pass_both (symbols_check n t n) (named_check n t) ((symbols_accepted n t).1 s) (pass_at (unlisted t) n not_listed_before (listed_clear l)))
+      pass_both (refuse (ltb 64 n) (TooShort 64)) behind (pass (ltb 64 n) (TooShort 64) (le-ltb 64 n h))
+      (pass_both (symbols_check n t n) (named_check n t) ((symbols_accepted n t).1 s) (pass_at (unlisted t) n NotListedBefore (listed_clear l)))
 
   pub entries_among : Among 1 25 (entries_check n t)
   entries_among =
-      among_first 1 25 (refuse (ltb 64 n) (too_short 64)) behind (among_refuse 1 25 (ltb 64 n) (too_short 64) (omega arith) (omega arith))
+      among_first 1 25 (refuse (ltb 64 n) (TooShort 64)) behind (among_refuse 1 25 (ltb 64 n) (TooShort 64) (omega arith) (omega arith))
       (among_first 1 25 (symbols_check n t n) (named_check n t) (wider (symbols_check n t n) (symbols_among n t n))
-      (among_refuse 1 25 (ltb (first (unlisted t) n) n) (not_listed_before (first (unlisted t) n)) (omega arith) (omega arith)))
+      (among_refuse 1 25 (ltb (first (unlisted t) n) n) (NotListedBefore (first (unlisted t) n)) (omega arith) (omega arith)))
     where
       wider : (c : Checked) → Among 1 7 c → Among 1 25 c
-      wider Accepted a = tt
-      wider (Refused f) a = (a.0, omega (arith, a.1))
+      wider (Ok tt) a = tt
+      wider (Err f) a = (a.0, omega (arith, a.1))
 
 module _ (n : ℕ) (t : List ℤ) (work : ℕ) where
   abbrev later : Checked
   later = work_check work or_else claims_check n t
 
   -- past the checks before the work space
-  later_passed : AreSymbols n t → ((e : ℕ) → e < n → NameListed t e) → (b : Bool) → eqb n 0 ≡ b → pick b Accepted later ≡ Accepted
+  later_passed : AreSymbols n t → ((e : ℕ) → e < n → NameListed t e) → (b : Bool) → eqb n 0 ≡ b → pick b (Ok tt) later ≡ Ok tt
       → (e : ℕ) → e < n → ClaimTrue n t e
   later_passed s l true z p e h = let w = eqb-true n 0 z in absurd (omega arith)
   later_passed s l false z p e h =
       let a = both_pass (work_check work) (claims_check n t) p in
-      claims_true n t s l n (omega arith) (passes_at (claim_fails n t) n false_claim a.1) e h
+      claims_true n t s l n (omega arith) (passes_at (claim_fails n t) n FalseClaim a.1) e h
 
-  later_pass : AreSymbols n t → ((e : ℕ) → e < n → ClaimTrue n t e) → (n ≡ 0) ⊎ (work_length ≤ work) → pick (eqb n 0) Accepted later ≡ Accepted
-  later_pass s c (inl z) = pick_true (eqb n 0) Accepted later (eq-eqb n 0 z)
+  later_pass : AreSymbols n t → ((e : ℕ) → e < n → ClaimTrue n t e) → (n ≡ 0) ⊎ (work_length ≤ work) → pick (eqb n 0) (Ok tt) later ≡ Ok tt
+  later_pass s c (inl z) = pick_true (eqb n 0) (Ok tt) later (eq-eqb n 0 z)
   later_pass s c (inr h) = go (eqb n 0)
     where
-      passing : later ≡ Accepted
-      passing = pass_both (work_check work) (claims_check n t) (pass (ltb work work_length) (too_short work_length) (le-ltb work work_length h))
-          (pass_at (claim_fails n t) n false_claim (record { none = λ e l. ap not (true_claim n t e s (c e l)) }))
+      passing : later ≡ Ok tt
+      passing = pass_both (work_check work) (claims_check n t) (pass (ltb work work_length) (TooShort work_length) (le-ltb work work_length h))
+          (pass_at (claim_fails n t) n FalseClaim (record { none = λ e l. ap not (true_claim n t e s (c e l)) }))
 
-      go : (b : Bool) → pick b Accepted later ≡ Accepted
+      go : (b : Bool) → pick b (Ok tt) later ≡ Ok tt
       go true = refl
       go false = passing
 
-  no_other : (b : Bool) (f : Refusal) → pick b Accepted later ≡ Refused f → later ≡ Refused f
+  no_other : (b : Bool) (f : Refusal) → pick b (Ok tt) later ≡ Err f → later ≡ Err f
   no_other true f e = refused_accepted (sym e)
   no_other false f e = e
 
-  later_among : (b : Bool) (f : Refusal) → f.number ≡ 25 → pick b Accepted later ≡ Refused f → ⊥
+  later_among : (b : Bool) (f : Refusal) → refusal_number f ≡ 25 → pick b (Ok tt) later ≡ Err f → ⊥
   later_among b f z e =
-      let k = passed_on 1 11 (work_check work) (claims_check n t) f (among_refuse 1 11 (ltb work work_length) (too_short work_length) (omega arith) (omega arith))
+      let k = passed_on 1 11 (work_check work) (claims_check n t) f (among_refuse 1 11 (ltb work work_length) (TooShort work_length) (omega arith) (omega arith))
       (omega arith) (no_other b f e) in
       let i = first (claim_fails n t) n in
-      let g = refused_by (ltb i n) (false_claim i) f k.1 in
-      let y : 26 ≡ f.number = ap (λ (x : Checked). (checked_refusal x).number) g.1 in
+      let g = refused_by (ltb i n) (FalseClaim i) f k.1 in
+      let y : 26 ≡ (refusal_number f) = ap (λ (x : Checked). answer_number x) g.1 in
       omega arith
 
-  unlisted_first : (e : ℕ) → tower_of n t work ≡ Refused (not_listed_before e) → FirstUnlisted n t e
+  unlisted_first : (e : ℕ) → tower_of n t work ≡ Err (NotListedBefore e) → FirstUnlisted n t e
   unlisted_first e p = go (entries_check n t) refl p
     where
-      at : entries_check n t ≡ Refused (not_listed_before e) → FirstUnlisted n t e
+      at : entries_check n t ≡ Err (NotListedBefore e) → FirstUnlisted n t e
       at q =
-          let a = passed_on 1 11 (refuse (ltb 64 n) (too_short 64)) (behind n t) (not_listed_before e)
-          (among_refuse 1 11 (ltb 64 n) (too_short 64) (omega arith) (omega arith))
+          let a = passed_on 1 11 (refuse (ltb 64 n) (TooShort 64)) (behind n t) (NotListedBefore e)
+          (among_refuse 1 11 (ltb 64 n) (TooShort 64) (omega arith) (omega arith))
           (omega arith) q in
-          let b = passed_on 1 7 (symbols_check n t n) (named_check n t) (not_listed_before e) (symbols_among n t n) (omega arith) a.1 in
-          let f = refused_first 25 (unlisted t) n e b.1 in
+          let b = passed_on 1 7 (symbols_check n t n) (named_check n t) (NotListedBefore e) (symbols_among n t n) (omega arith) a.1 in
+          let f = refused_first NotListedBefore (λ i. refl) (unlisted t) n e b.1 in
           let z = f.0 in
           let c : Clear (unlisted t) e = rw z at f.1.clear in
           let y : unlisted t e ≡ true = ap (unlisted t) (sym z) ∙ f.1.passes in
@@ -215,16 +212,16 @@ module _ (n : ℕ) (t : List ℤ) (work : ℕ) where
             itself = λ l. clash (listed_names t e l) (not-true (listed_before (named_at t e) e) y);
           }
 
-      go : (c : Checked) → entries_check n t ≡ c → (c or_else pick (eqb n 0) Accepted later) ≡ Refused (not_listed_before e) → FirstUnlisted n t e
-      go Accepted q r = absurd (later_among (eqb n 0) (not_listed_before e) refl r)
-      go (Refused f) q r = at (q ∙ r)
+      go : (c : Checked) → entries_check n t ≡ c → (c or_else pick (eqb n 0) (Ok tt) later) ≡ Err (NotListedBefore e) → FirstUnlisted n t e
+      go (Ok tt) q r = absurd (later_among (eqb n 0) (NotListedBefore e) refl r)
+      go (Err f) q r = at (q ∙ r)
 
-  false_first : (e : ℕ) → tower_of n t work ≡ Refused (false_claim e) → FirstFalse n t e
+  false_first : (e : ℕ) → tower_of n t work ≡ Err (FalseClaim e) → FirstFalse n t e
   false_first e p =
-      let a = passed_on 1 25 (entries_check n t) (pick (eqb n 0) Accepted later) (false_claim e) (entries_among n t) (omega arith) p in
-      let b = passed_on 1 11 (work_check work) (claims_check n t) (false_claim e)
-      (among_refuse 1 11 (ltb work work_length) (too_short work_length) (omega arith) (omega arith)) (omega arith) (no_other (eqb n 0) (false_claim e) a.1) in
-      let f = refused_first 26 (claim_fails n t) n e b.1 in
+      let a = passed_on 1 25 (entries_check n t) (pick (eqb n 0) (Ok tt) later) (FalseClaim e) (entries_among n t) (omega arith) p in
+      let b = passed_on 1 11 (work_check work) (claims_check n t) (FalseClaim e)
+      (among_refuse 1 11 (ltb work work_length) (TooShort work_length) (omega arith) (omega arith)) (omega arith) (no_other (eqb n 0) (FalseClaim e) a.1) in
+      let f = refused_first FalseClaim (λ i. refl) (claim_fails n t) n e b.1 in
       let z = f.0 in
       let k = entries_passed n t a.0 in
       let c : Clear (claim_fails n t) e = rw z at f.1.clear in
@@ -234,13 +231,13 @@ module _ (n : ℕ) (t : List ℤ) (work : ℕ) where
 
   pub tower_means : TowerMeans n t work (tower_of n t work)
   tower_means = record {
-    few = λ p. (entries_passed n t (both_pass (entries_check n t) (pick (eqb n 0) Accepted later) p).0).0;
+    few = λ p. (entries_passed n t (both_pass (entries_check n t) (pick (eqb n 0) (Ok tt) later) p).0).0;
     passes = λ p.
-        let a = both_pass (entries_check n t) (pick (eqb n 0) Accepted later) p in
+        let a = both_pass (entries_check n t) (pick (eqb n 0) (Ok tt) later) p in
         let k = entries_passed n t a.0 in
         record { symbols = k.1; listed = k.2; claims = later_passed k.1 k.2 (eqb n 0) refl a.1 };
     true_passes = λ h s w.
-        pass_both (entries_check n t) (pick (eqb n 0) Accepted later) (entries_pass n t h s.symbols s.listed) (later_pass s.symbols s.claims w);
+        pass_both (entries_check n t) (pick (eqb n 0) (Ok tt) later) (entries_pass n t h s.symbols s.listed) (later_pass s.symbols s.claims w);
     not_listed = unlisted_first;
     false_claim_is = false_first;
   }

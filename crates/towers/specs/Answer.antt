@@ -7,8 +7,8 @@
 --   tower_call n t w      THE CALL: a 65th entry, ahead of everything; the symbols in listing order; 25; and then these
 --   tower_checks n t      the refusals of a tower in a work space that is long enough
 use Rattle.std.specs.Prelude.{List, [], ◌∷◌, ◌++◌, ℕ, zero, suc, ltb, length, ℤ}
-use Rattle.call.specs.Refusal.{◌or_else◌, too_short}
-use Rattle.call.specs.declared.refusal.Checked.{Checked}
+use Rattle.call.specs.Refusal.{◌or_else◌, Checked}
+use Rattle.call.specs.declared.refusal.Refusal.TheVariants.{TooShort}
 use Rattle.call.specs.Space.{work_length}
 use Rattle.call.specs.Call.{Lent, Step, Clears, Gives, asks, length_check, Contract}
 use Rattle.symbol.specs.Check.{refuse}
@@ -16,7 +16,7 @@ use Rattle.towers.specs.Tower.{symbols_check, named_check, claims_check}
 use Rattle.towers.specs.Meaning.{TowerSays}
 
 abbrev pub count_check : ℕ → Checked
-count_check n = refuse (ltb 64 n) (too_short 64)
+count_check n = refuse (ltb 64 n) (TooShort 64)
 
 abbrev pub claim_steps : (n : ℕ) → List ℤ → (w w' : List ℕ) → List Step
 claim_steps zero t w w' = Gives w w w' ∷ []

@@ -15,13 +15,13 @@
 --   named_check n t       25 with the first entry that names one not listed before it (`unlisted`)
 --   claim_holds n t e x   x is no entry, or the subgroup of the entry x contains that of the entry e
 --   claims_check n t      26 with the first entry whose claim is false (`claim_fails`)
+use Rattle.std.specs.Prelude.{Ok, Err}
 use Rattle.std.specs.Prelude.{Bool, true, not, List, ℕ, zero, suc, ◌+◌, ◌*◌, ltb, eqb, length, take, drop, ℤ, pos, negsuc}
 use Rattle.matrix.specs.Matrix.{nth}
 use Rattle.basics.specs.Choice.{pick}
 use Rattle.basics.specs.Count.{first}
-use Rattle.call.specs.Refusal.{◌or_else◌, table_length, not_listed_before, false_claim}
-use Rattle.call.specs.declared.refusal.Checked.{Checked}
-use Rattle.call.specs.declared.refusal.Checked.TheVariants.{Accepted, Refused}
+use Rattle.call.specs.Refusal.{◌or_else◌, Checked}
+use Rattle.call.specs.declared.refusal.Refusal.TheVariants.{TableLength, NotListedBefore, FalseClaim}
 use Rattle.symbol.specs.Check.{refuse_at, symbol_check}
 use Rattle.containment.specs.TwoSymbols.{contained}
 
@@ -42,7 +42,7 @@ entry_table last l = pick last (drop 2 l) (take (3 * entry_vertices l + 1) (drop
 
 abbrev pub entry_check : (last : Bool) → List ℤ → Checked
 entry_check last l =
-    pick (ltb (length l) 2) (Refused (table_length 0)) (symbol_check (entry_vertices l) (entry_table last l))
+    pick (ltb (length l) 2) (Err (TableLength 0)) (symbol_check (entry_vertices l) (entry_table last l))
 
 -- ---- all entries: each but the last takes two numbers and the 3v + 1 of its table
 
@@ -60,7 +60,7 @@ abbrev pub table_at : ℕ → List ℤ → ℕ → List ℤ
 table_at n t e = entry_table (eqb (suc e) n) (from_entry t e)
 
 unfoldable pub symbols_check : (n : ℕ) → List ℤ → (e : ℕ) → Checked
-symbols_check n t zero = Accepted
+symbols_check n t zero = Ok tt
 symbols_check n t (suc e) = symbols_check n t e or_else entry_check (eqb (suc e) n) (from_entry t e)
 
 -- ---- 25
@@ -73,7 +73,7 @@ abbrev pub unlisted : List ℤ → ℕ → Bool
 unlisted t e = not (listed_before (named_at t e) e)
 
 abbrev pub named_check : ℕ → List ℤ → Checked
-named_check n t = refuse_at (first (unlisted t) n) n not_listed_before
+named_check n t = refuse_at (first (unlisted t) n) n NotListedBefore
 
 -- ---- 26
 
@@ -85,4 +85,4 @@ abbrev pub claim_fails : ℕ → List ℤ → ℕ → Bool
 claim_fails n t e = not (claim_holds n t e (named_at t e))
 
 abbrev pub claims_check : ℕ → List ℤ → Checked
-claims_check n t = refuse_at (first (claim_fails n t) n) n false_claim
+claims_check n t = refuse_at (first (claim_fails n t) n) n FalseClaim

@@ -6,6 +6,7 @@ ghost use Rattle.std.specs.Prelude.{◌≡◌, ◌≤◌, ◌<◌, length};
 ghost use Rattle.basics.specs.Count.{first};
 ghost use Rattle.call.specs.Space.{zeros};
 ghost use Rattle.containment.specs.TwoSymbols.{contained};
+ghost use Rattle.call.specs.Refusal.{Checked};
 ghost use Rattle.call.specs.Inner.Fills.{Fills};
 ghost use Rattle.towers.specs.Tower.{or_zero, entry_check, vertices_at, table_at, symbols_check, listed_before};
 ghost use Rattle.towers.specs.Tower.{unlisted, named_at, claim_holds, claim_fails, claims_check};
@@ -13,7 +14,7 @@ ghost use Rattle.towers.specs.Meaning.{AreSymbols};
 ghost use Rattle.towers.specs.Answer.{tower_call};
 ghost use Rattle.towers.specs.Inner.Entries.{EntriesWhole, StartsAt, EndsAt, ClaimReady};
 
-use call::refusal::{Checked, FALSE_CLAIM, NOT_LISTED_BEFORE, Refusal, TABLE_LENGTH, TOO_SHORT};
+use call::refusal::Refusal;
 use containment::inclusion::contains_accepted;
 use symbol::check;
 
@@ -47,14 +48,11 @@ fn table_end(l: &[i64], last: bool) -> usize
 }
 
 // The checks of the entry with which l begins.
-fn check_entry(l: &[i64], last: bool) -> Checked
+fn check_entry(l: &[i64], last: bool) -> Result<(), Refusal>
     ensures { result ≡ entry_check last l.now }
 {
     if l.len() < 2 {
-        return Checked::Refused(Refusal {
-            number: TABLE_LENGTH,
-            place: 0,
-        });
+        return Err(Refusal::TableLength(0));
     }
     let v = or_zero(l[1]);
     let end = table_end(l, last);
@@ -67,28 +65,21 @@ fn start_of(t: &[i64], e: usize) -> usize
     ensures { StartsAt t.now e result }
 {
     let mut p: usize = 0;
-    let mut i: usize = 0;
-    while i < e {
+    for i in 0..e {
         p += 3 * or_zero(t[p + 1]) + 3;
-        i += 1;
     }
     p
 }
 
 // The checks of all entries, in listing order.
-fn check_symbols(n: usize, t: &[i64]) -> Checked
+fn check_symbols(n: usize, t: &[i64]) -> Result<(), Refusal>
     ensures { result ≡ symbols_check n t.now n }
 {
-    let mut i: usize = 0;
-    while i < n {
+    for i in 0..n {
         let p = start_of(t, i);
-        let checked = check_entry(&t[p..], i + 1 == n);
-        let Checked::Accepted = checked else {
-            return checked;
-        };
-        i += 1;
+        check_entry(&t[p..], i + 1 == n)?;
     }
-    Checked::Accepted
+    Ok(())
 }
 
 // Whether x is -1, or an entry before e.
@@ -109,13 +100,11 @@ fn first_unlisted(n: usize, t: &[i64]) -> usize
     requires { AreSymbols n t.now }
     ensures { result ≡ first (unlisted t.now) n }
 {
-    let mut i: usize = 0;
-    while i < n {
+    for i in 0..n {
         let p = start_of(t, i);
         if !is_listed(t[p], i) {
             return i;
         }
-        i += 1;
     }
     n
 }
@@ -151,18 +140,16 @@ fn first_false(n: usize, t: &[i64], w: &mut [u16]) -> usize
     requires { ClaimReady n t.now w.old }
     ensures { result ≡ first (claim_fails n t.now) n }
 {
-    let mut i: usize = 0;
-    while i < n {
+    for i in 0..n {
         if !claim_holds(n, t, i, w) {
             return i;
         }
-        i += 1;
     }
     n
 }
 
 // 26 for the first claim that is false; the work space is cleared after.
-fn check_claims(n: usize, t: &[i64], w: &mut [u16]) -> Checked
+fn check_claims(n: usize, t: &[i64], w: &mut [u16]) -> Result<(), Refusal>
     requires { ClaimReady n t.now w.old }
     ensures value { result ≡ claims_check n t.now }
     ensures w_after { w.new ≡ zeros (length w.old) }
@@ -170,44 +157,27 @@ fn check_claims(n: usize, t: &[i64], w: &mut [u16]) -> Checked
     let e = first_false(n, t, w);
     call::workspace::clear(w);
     if e < n {
-        return Checked::Refused(Refusal {
-            number: FALSE_CLAIM,
-            place: e,
-        });
+        return Err(Refusal::FalseClaim(e));
     }
-    Checked::Accepted
+    Ok(())
 }
 
 // Whether each of the count entries in t lies in the one that it names: 11 for a 65th entry, the symbols' checks in
 // listing order, 25, the work space, 26.
-pub fn tower(count: usize, t: &[i64], w: &mut [u16]) -> Checked
+pub fn tower(count: usize, t: &[i64], w: &mut [u16]) -> Result<(), Refusal>
     ensures { Fills (tower_call count t.now w).steps (λ (c : Checked). c) result }
 {
     if ENTRIES < count {
-        return Checked::Refused(Refusal {
-            number: TOO_SHORT,
-            place: ENTRIES,
-        });
+        return Err(Refusal::TooShort(ENTRIES));
     }
-    let symbols = check_symbols(count, t);
-    let Checked::Accepted = symbols else {
-        return symbols;
-    };
+    check_symbols(count, t)?;
     let e = first_unlisted(count, t);
     if e < count {
-        return Checked::Refused(Refusal {
-            number: NOT_LISTED_BEFORE,
-            place: e,
-        });
+        return Err(Refusal::NotListedBefore(e));
     }
     if count == 0 {
-        return Checked::Accepted;
+        return Ok(());
     }
-    if w.len() < call::workspace::WORK {
-        return Checked::Refused(Refusal {
-            number: TOO_SHORT,
-            place: call::workspace::WORK,
-        });
-    }
+    call::room(call::workspace::WORK, w.len())?;
     check_claims(count, t, w)
 }

@@ -15,7 +15,7 @@ use lib.IntN.{ℤ, pos, negsuc}
 use Rattle.basics.specs.Choice.{pick}
 use Rattle.matrix.specs.Words.{Letter, S, Q, P}
 use Rattle.matrix.specs.Euclid.{total, swap}
-use Rattle.coset.specs.Positions.{Real, step_s, turn_q, written, goes, letters_of, ◌·◌, step_sign, Polygon, Positions}
+use Rattle.coset.specs.Positions.{Real, step_s, written, goes, letters_of, ◌·◌, step_sign, Polygon, Positions}
 use Rattle.coset.specs.Inner.Steps.{turn_by}
 use Rattle.walk.specs.Inner.Way.{sign_added, form_of, proper_of, turn_letter, turn_form, stored, row_taken, Taken, LetterPut, WayStepped, Sound, Going}
 use Rattle.walk.specs.declared.Way.{Way}

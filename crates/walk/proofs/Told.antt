@@ -1,7 +1,7 @@
 -- The sign, step by step: what is told so far times what is left stays the same.
 --
--- In order: one step (`sign_step`), and the signs of the letters with those of the steps (`sign_merged`); the sign of an entry and of a column, as the code
--- finds them (`entry_above`, `entry_below`, `entry_zero`, `column_is`); one letter's sign (`sign_S`, `sign_turn`), and that of
+-- In order: one step (`sign_step`), and the signs of the letters with those of the steps (`sign_merged`); the sign of a column, as the code
+-- finds it (`column_is`); one letter's sign (`sign_S`, `sign_turn`), and that of
 -- two (`sign_block`).
 -- Assumes nothing.
 use mathlib.Core.Path.{◌≡◌, refl, sym, ◌∙◌, ap}
@@ -16,7 +16,6 @@ use Rattle.matrix.specs.Matrix.{Mat}
 use Rattle.matrix.specs.Words.{Letter, S, Q, P}
 use Rattle.matrix.specs.Euclid.{positive, agree, word_of}
 use Rattle.basics.specs.Choice.{pick}
-use Rattle.basics.proofs.Choice.{clash}
 use Rattle.coset.specs.Positions.{goes, ◌·◌, letter_sign, word_sign, entry_sign, column_sign, matrix_sign, step_sign, walk_sign}
 use Rattle.walk.specs.Inner.Way.{sign_added, sign_left, WayStepped}
 use Rattle.walk.specs.declared.Way.{Way}
@@ -94,21 +93,7 @@ sign_block v t s p q r x inverse e f =
     both false true = refl
     both false false = refl
 
--- ---- the sign of an entry and of the first column
-
-pub entry_above : (x : ℤ) (s : Bool) → lt_z (pos 0) x ≡ true → true ≡ entry_sign x s
-entry_above (pos zero) s e = clash e (le-ltb 0 0 (omega arith))
-entry_above (pos (suc n)) s e = refl
-entry_above (negsuc n) s e = clash e refl
-
-pub entry_below : (x : ℤ) (s : Bool) → lt_z x (pos 0) ≡ true → false ≡ entry_sign x s
-entry_below (pos n) s e = clash e (le-ltb n 0 (omega arith))
-entry_below (negsuc n) s e = refl
-
-pub entry_zero : (x : ℤ) (s : Bool) → lt_z (pos 0) x ≡ false → lt_z x (pos 0) ≡ false → s ≡ entry_sign x s
-entry_zero (pos zero) s e f = refl
-entry_zero (pos (suc n)) s e f = clash (lt-ltb 0 (suc n) (omega arith)) e
-entry_zero (negsuc n) s e f = clash refl f
+-- ---- the sign of the first column
 
 above_is : (x : ℤ) → lt_z (pos 0) x ≡ positive x
 above_is (pos zero) = le-ltb 0 0 (omega arith)

@@ -91,23 +91,15 @@ pub fn take(way: Way, k: u64, inverse: bool) -> Way
 {
     if inverse {
         return Way {
-            p: way.p,
-            q: way.q,
             r: way.r - k * way.p,
             s: way.s - k * way.q,
-            at: way.at,
-            count: way.count,
-            sign: way.sign,
+            ..way
         };
     }
     Way {
         p: way.p - k * way.r,
         q: way.q - k * way.s,
-        r: way.r,
-        s: way.s,
-        at: way.at,
-        count: way.count,
-        sign: way.sign,
+        ..way
     }
 }
 
@@ -178,10 +170,7 @@ pub fn is_proper(way: Way) -> bool
     requires { total (form_of way) ≤ 2 ^ 62 }
     ensures { result ≡ proper_of (form_of way) }
 {
-    if way.q + way.r == 0 {
-        return false;
-    }
-    way.p + way.s != 0
+    way.q + way.r != 0 && way.p + way.s != 0
 }
 
 // S and a power of Q: the rows change places and the smaller one is taken from the larger, so each row stays where it
@@ -209,13 +198,10 @@ fn block(
     let crossed = times(way.sign, sign_of_s(t, v, w, at));
     let sign = times(crossed, inverse);
     let ahead = Way {
-        p: way.p,
-        q: way.q,
-        r: way.r,
-        s: way.s,
         at: to,
         count: more,
         sign,
+        ..way
     };
     take(ahead, 1, inverse)
 }
@@ -240,51 +226,25 @@ pub fn finish(
     cross(t, v, w, way, out, start, limit)
 }
 
-// The size of x.
-pub fn magnitude(x: i64) -> u64
-    requires { nat_abs x < 2 ^ 63 }
-    ensures { result ≡ nat_abs x }
-{
-    if x < 0 {
-        return (-x) as u64;
-    }
-    x as u64
-}
-
 // Whether x and y are both above 0 or both below.
 fn same_sign(x: i64, y: i64) -> bool
     ensures { result ≡ positive (x *ℤ y) }
 {
-    if 0 < x {
-        return 0 < y;
-    }
-    if x < 0 {
-        return y < 0;
-    }
-    false
+    (0 < x && 0 < y) || (x < 0 && y < 0)
 }
 
 // Whether the word of m begins with a power of Q.
 fn rows_agree(m: [i64; 4]) -> bool
     ensures { result ≡ agree (of_list m) }
 {
-    if same_sign(m[0], m[2]) {
-        return true;
-    }
-    same_sign(m[1], m[3])
+    same_sign(m[0], m[2]) || same_sign(m[1], m[3])
 }
 
 // The sign of x, and s where x is 0.
 fn sign_of_entry(x: i64, s: bool) -> bool
     ensures { result ≡ entry_sign x s }
 {
-    if 0 < x {
-        return true;
-    }
-    if x < 0 {
-        return false;
-    }
-    s
+    0 < x || (x == 0 && s)
 }
 
 // The sign of the first column of m.
@@ -302,10 +262,10 @@ fn whole(m: [i64; 4], home: usize) -> Way
         × (result.sign ≡ column_sign (of_list m)) }
 {
     Way {
-        p: magnitude(m[0]),
-        q: magnitude(m[1]),
-        r: magnitude(m[2]),
-        s: magnitude(m[3]),
+        p: m[0].unsigned_abs(),
+        q: m[1].unsigned_abs(),
+        r: m[2].unsigned_abs(),
+        s: m[3].unsigned_abs(),
         at: home,
         count: 0,
         sign: sign_of_column(m),
@@ -352,6 +312,7 @@ pub fn walk(
     ensures { Walked v t.now start limit (of_list m) home out.old result out.new }
 {
     let mut way = begin(t, v, w, m, home, out, start, limit);
+    // It stays `while`: how many blocks there are shows in the walk, as the steps of a Euclidean algorithm.
     while is_proper(way) {
         way = block(t, v, w, way, out, start, limit);
     }

@@ -2,13 +2,13 @@
 -- In order: a run by its last step (`last_step`, `last_count`); runs of S P (`lower_run`); S Q leads no two positions to one (`forth_injective`).
 -- Why: P after Q is nothing, and both ways the same number of letters is written.
 -- Assumes nothing.
-use mathlib.Core.Path.{◌≡◌, refl, sym, ap, ◌∙◌}
+use mathlib.Core.Path.{◌≡◌, sym, ap, ◌∙◌}
 use mathlib.Core.List.{List}
 use Prim.Native.Nat.{ℕ, zero, suc, ◌+◌}
 use native.Mathlib.Omega.{arith}
 use lib.ListN.{length}
 use lib.IntN.{ℤ}
-use Rattle.matrix.specs.Words.{S, Q, P}
+use Rattle.matrix.specs.Words.{S, P}
 use Rattle.symbol.specs.Symbol.{IsSymbol}
 use Rattle.coset.specs.Positions.{step_s, turn_q, written}
 use Rattle.coset.proofs.Positions.{positions}

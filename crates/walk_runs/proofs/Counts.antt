@@ -1,36 +1,27 @@
 -- How many letters a step writes, as the code counts them; and what its stores leave.
--- In order: letters (`letter_none`, `letter_one`, `turn_none`, `turn_one`); a block (`block_is`, `block_count_lem`); a position entered (`entered_by`); the ends
+-- In order: letters (`turn_none`, `turn_one`); a block (`block_is`, `block_count_lem`); a position entered (`entered_by`); the ends
 -- of a round (`filled_none`, `filled_more`, `filled_end`).
 -- Assumes nothing.
 use mathlib.Core.Path.{◌≡◌, refl, sym, ap, ◌∙◌, subst}
 use mathlib.Core.Logic.{◌⊎◌, inl, inr}
 use mathlib.Core.Bool.{Bool, true, false}
-use mathlib.Core.List.{List, [], ◌∷◌}
-use Prim.Native.Nat.{ℕ, suc, ◌+◌, ◌-◌, ◌≤◌, ◌<◌}
+use mathlib.Core.List.{List}
+use Prim.Native.Nat.{ℕ, suc, ◌+◌, ◌≤◌, ◌<◌}
 use native.Mathlib.Omega.{arith}
 use native.Mathlib.Decide.{dec_lt}
-use mir.Val.{of_z, SFits}
-use mir.Syntax.{w16}
 use lib.ListN.{length, get_or, set, length-set}
 use lib.Seq.{get_or-set_same, get_or-set_other}
-use lib.IntN.{ℤ, pos}
+use lib.IntN.{ℤ}
 use borrow.Author.Tests.{lt-ltb, le-ltb}
 use Rattle.basics.specs.Choice.{pick}
 use Rattle.matrix.specs.Words.{Letter, S, Q, P}
 use Rattle.symbol.specs.Symbol.{IsSymbol}
 use Rattle.polygon.specs.Cut.{corners}
-use Rattle.coset.specs.Positions.{step_s, turn_q, written, goes, letters_of}
+use Rattle.coset.specs.Positions.{step_s, turn_q, written, goes}
 use Rattle.coset.proofs.Positions.{positions}
-use Rattle.walk.proofs.Letters.{letter_zero, letter_some}
 use Rattle.walk_runs.specs.Runs.{block_to, block_count}
 use Rattle.walk_runs.specs.Inner.Rounds.{POSITION, BEGINNING, ENDING, SUM, rounds_length, end_in, RoundEntered, EndsFilled}
 use Rattle.walk_runs.proofs.Symmetry.{same_turn}
-
-pub letter_none : (z : ℤ) → SFits w16 z → of_z w16 z ≡ 0 → 0 ≡ length (letters_of z)
-letter_none z fit e = sym (ap (λ (y : ℤ). length (letters_of y)) (letter_zero z fit e))
-
-pub letter_one : (z : ℤ) → (of_z w16 z ≡ 0 → ⊥) → 1 ≡ length (letters_of z)
-letter_one z h = sym (ap length (letter_some z h))
 
 module _ (v : ℕ) (t : List ℤ) (p : ℕ) where
   pub turn_none : p < corners v → 0 ≡ length (written v t Q p)

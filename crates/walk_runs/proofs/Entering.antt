@@ -6,13 +6,12 @@
 -- Assumes nothing.
 use mathlib.Core.Path.{◌≡◌, refl, sym, ap, ◌∙◌, subst}
 use mathlib.Core.Logic.{◌⊎◌, inl, inr}
-use mathlib.Core.Bool.{Bool, true, false}
 use mathlib.Core.List.{List}
-use Prim.Native.Nat.{ℕ, zero, suc, ◌+◌, ◌-◌, ◌*◌, ◌≤◌, ◌<◌}
+use Prim.Native.Nat.{ℕ, zero, suc, ◌+◌, ◌-◌, ◌≤◌, ◌<◌}
 use native.Mathlib.Omega.{arith}
 use native.Mathlib.Decide.{dec_lt, ℕ_discrete}
 use lib.Dec.{eqb}
-use lib.ListN.{length, get_or, set, length-set, replicate}
+use lib.ListN.{get_or, set, length-set}
 use lib.Seq.{get_or-set_same, get_or-set_other}
 use lib.IntN.{ℤ}
 use borrow.Author.Tests.{eq-eqb, ne_eqb}
@@ -23,9 +22,9 @@ use Rattle.symbol.specs.Symbol.{IsSymbol}
 use Rattle.polygon.specs.Cut.{places}
 use Rattle.coset.specs.Positions.{Real}
 use Rattle.coset.proofs.Positions.{positions}
-use Rattle.walk_runs.specs.Inner.Rounds.{POSITION, ENDING, ENTERED, rounds_length, round_place, position_in, beginning_in, end_in, sum_in, entered_in, forth_to}
+use Rattle.walk_runs.specs.Inner.Rounds.{POSITION, ENDING, ENTERED, round_place, position_in, beginning_in, end_in, sum_in, entered_in, forth_to}
 use Rattle.walk_runs.specs.Inner.Rounds.{forth_count}
-use Rattle.walk_runs.specs.Inner.Rounds.{is_placeless, RoundsListed, Looped, Closed, Rounds, Opening, RoundOpened, RoundEntered, EndsFilled, HasPlace}
+use Rattle.walk_runs.specs.Inner.Rounds.{is_placeless, RoundsListed, Looped, Closed, Opening, RoundOpened, RoundEntered, EndsFilled, HasPlace}
 use Rattle.walk_runs.proofs.Blocks.{block_real, block_low}
 use Rattle.walk_runs.proofs.Backward.{forth_injective}
 

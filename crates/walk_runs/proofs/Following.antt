@@ -2,7 +2,7 @@
 -- In order: the sums grow (`sums_grow`); a position in its round (`in_round`); the run (`rest_low`, `times_low`, `onward_low`, `followed`) and the run that
 -- leads to it (`led`).
 -- Assumes nothing.
-use mathlib.Core.Path.{◌≡◌, refl, sym, ap, ◌∙◌, subst}
+use mathlib.Core.Path.{◌≡◌, sym, ap, ◌∙◌, subst}
 use mathlib.Core.List.{List}
 use Prim.Native.Nat.{ℕ, zero, suc, ◌+◌, ◌-◌, ◌*◌, ◌/◌, ◌%◌, ◌≤◌, ◌<◌}
 use native.Mathlib.Nat.{mod-lt}
@@ -14,9 +14,9 @@ use Rattle.matrix.specs.Words.{Q}
 use Rattle.symbol.specs.Symbol.{IsSymbol}
 use Rattle.coset.specs.Positions.{Real}
 use Rattle.coset.proofs.Positions.{positions}
-use Rattle.walk_runs.specs.Runs.{stepped, counted, round_onward, backward, between, place_after, place_before, count_after}
-use Rattle.walk_runs.specs.Inner.Rounds.{round_place, position_in, beginning_in, end_in, sum_in, entered_in, forth_to, forth_count, RoundsListed, Rounds}
-use Rattle.walk_runs.specs.Inner.Rounds.{HasPlace, Located, Sums}
+use Rattle.walk_runs.specs.Runs.{stepped, counted, round_onward, backward, between, count_after}
+use Rattle.walk_runs.specs.Inner.Rounds.{round_place, position_in, sum_in, entered_in, forth_to, forth_count, RoundsListed}
+use Rattle.walk_runs.specs.Inner.Rounds.{HasPlace, Located}
 use Rattle.walk_runs.specs.Inner.Rounds.{InRound}
 use Rattle.walk_runs.specs.Inner.Tally.{Ran, Led}
 use Rattle.walk_runs.specs.declared.Stop.{Stop}

@@ -2,7 +2,7 @@
 -- In order: steps added (`stepped_add`, `counted_add`), and a bound (`counted_low`); rounds (`rounds`, `rounds_count`, `by_rest`, `count_rest`); by places
 -- (`place_is`, `count_is`), and back (`onward_in`, `before_after`).
 -- Assumes nothing.
-use mathlib.Core.Path.{◌≡◌, refl, sym, ap, ◌∙◌}
+use mathlib.Core.Path.{◌≡◌, sym, ap, ◌∙◌}
 use Prim.Native.Nat.{ℕ, zero, suc, ◌+◌, ◌-◌, ◌*◌, ◌/◌, ◌%◌, ◌≤◌, ◌<◌}
 use native.Mathlib.Nat.{mod-lt, div-add-mod'}
 use native.Mathlib.Omega.{arith}

@@ -5,7 +5,7 @@
 -- Assumes nothing.
 use mathlib.Core.Path.{◌≡◌, refl, sym, ap, ◌∙◌, subst}
 use mathlib.Core.Bool.{Bool, true, false, not}
-use mathlib.Core.List.{List, []}
+use mathlib.Core.List.{List}
 use Prim.Native.Nat.{ℕ, zero, suc, ◌+◌, ◌-◌, ◌*◌, ◌/◌, ◌^◌, ◌≤◌, ◌<◌}
 use native.Mathlib.Omega.{arith}
 use native.Mathlib.Decide.{dec_lt}
@@ -18,7 +18,7 @@ use Rattle.basics.specs.Count.{count}
 use Rattle.basics.proofs.Count.{count_eq}
 use Rattle.matrix.specs.Matrix.{Mat}
 use Rattle.matrix.specs.Words.{Letter, S, Q, P}
-use Rattle.matrix.specs.Euclid.{Form, total, word_of}
+use Rattle.matrix.specs.Euclid.{Form, total}
 use Rattle.matrix.proofs.Form.{Unimodular}
 use Rattle.symbol.specs.Symbol.{IsSymbol}
 use Rattle.polygon.specs.Cut.{places}
@@ -29,7 +29,7 @@ use Rattle.walk.specs.declared.Way.{Way}
 use Rattle.walk.proofs.Forms.{properly}
 use Rattle.walk.proofs.Stored.{stored_none}
 use Rattle.walk_runs.specs.Runs.{stepped, counted, run_length, block_to, block_count}
-use Rattle.walk_runs.specs.Inner.Rounds.{round_place, entered_in, rounds_length, is_placeless, Rounds}
+use Rattle.walk_runs.specs.Inner.Rounds.{round_place, rounds_length, is_placeless, Rounds}
 use Rattle.walk_runs.specs.Inner.Tally.{Ran, Stepping, Led, OneProper, row_sum, RunTakes, NextRun, Entrance, Ahead, WalkTallied}
 use Rattle.walk_runs.specs.declared.Stop.{Stop}
 use Rattle.walk_runs.proofs.Repeated.{counted_low}

@@ -43,12 +43,10 @@ fn step_by(t: &[i64], v: usize, w: &[u16], p: usize, k: usize, inverse: bool) ->
 {
     let mut at = p;
     let mut count: usize = 0;
-    let mut i: usize = 0;
-    while i < k {
+    for _block in 0..k {
         let to = block_end(t, v, w, at, inverse);
         count += letters(t, v, w, at, to);
         at = to;
-        i += 1;
     }
     Stop { at, count }
 }
@@ -68,13 +66,7 @@ fn step(t: &[i64], v: usize, w: &[u16], p: usize, k: usize, inverse: bool) -> St
 fn is_short(r: &[u16], v: usize, p: usize, k: usize) -> bool
     requires { (p < length r.now) × (v ≤ 1023) × (p < 4096) }
 {
-    if k <= 8 {
-        return true;
-    }
-    if r[p] == 0 {
-        return k < 16 * v;
-    }
-    false
+    k <= 8 || (r[p] == 0 && k < 16 * v)
 }
 
 // Where the round is entered that k blocks from p go along: at p, or at S p where they are blocks of S Q⁻¹.
@@ -142,13 +134,9 @@ fn arrive(t: &[i64], v: usize, way: Way, k: u64, s: Stop, inverse: bool) -> Way
 {
     let count = way.count + s.count;
     let behind = Way {
-        p: way.p,
-        q: way.q,
-        r: way.r,
-        s: way.s,
         at: s.at,
         count,
-        sign: way.sign,
+        ..way
     };
     take(behind, k, inverse)
 }
@@ -183,6 +171,7 @@ fn walk_near(t: &[i64], v: usize, w: &[u16], way: Way) -> Way
     ensures { Ahead v t.now way result }
 {
     let mut now = way;
+    // It stays `while`: how many runs there are shows in the walk, as the quotients of a Euclidean algorithm.
     while is_proper(now) {
         let k = next_run(now);
         if 16 * (v as u64) <= k {
@@ -200,6 +189,7 @@ fn walk_far(t: &[i64], v: usize, w: &[u16], r: &mut [u16], way: Way) -> Way
         × Rounds v t.now r.new }
 {
     let mut now = way;
+    // It stays `while`, as in `walk_near`.
     while is_proper(now) {
         let k = next_run(now);
         now = leap(t, v, w, r, now, k);

@@ -31,10 +31,7 @@ pub const ENTERED: usize = 20480;
 fn letters_in(letter: i16) -> usize
     ensures { result ≡ length (letters_of letter) }
 {
-    if letter == 0 {
-        return 0;
-    }
-    1
+    usize::from(letter != 0)
 }
 
 // How many letters Q writes at p: one at an outer face.
@@ -42,10 +39,7 @@ fn letters_of_turn(t: &[i64], v: usize, p: usize) -> usize
     requires { IsSymbol v t.now }
     ensures { result ≡ length (written v t.now Q p) }
 {
-    if p < 3 * (v - 1) {
-        return 0;
-    }
-    1
+    usize::from(p >= 3 * (v - 1))
 }
 
 // How many letters S writes at the real position p.
@@ -89,6 +83,7 @@ fn open_round(t: &[i64], v: usize, w: &[u16], r: &mut [u16], p: usize, a: usize)
 {
     let mut n = a;
     let mut x = p;
+    // It stays `while`: the round ends where it comes back to a position that has a place.
     while r[x] == 0 {
         let to = block_end(t, v, w, x, false);
         let more = letters(t, v, w, x, to);
@@ -105,10 +100,8 @@ fn fill_ends(r: &mut [u16], a: usize, n: usize)
     requires { (length r.old ≡ rounds_length) × (a ≤ n) × (n ≤ 4090) }
     ensures { EndsFilled a n n r.old r.new }
 {
-    let mut y = a;
-    while y < n {
+    for y in a..n {
         r[ENDING + y] = n as u16;
-        y += 1;
     }
 }
 
@@ -131,7 +124,6 @@ pub fn place(t: &[i64], v: usize, w: &[u16], r: &mut [u16], p: usize)
 {
     if r[p] == 0 {
         enter_round(t, v, w, r, p);
-        return;
     }
 }
 
@@ -157,29 +149,6 @@ fn locate(r: &[u16], p: usize) -> Arc
     Arc { at, first, end }
 }
 
-// The place j steps after y in the round from a to b.
-fn onward_place(a: usize, b: usize, y: usize, j: usize) -> usize
-    requires { (a ≤ y) × (y < b) × (b ≤ 4090) × (j < b - a) }
-    ensures { result ≡ round_onward a b y j }
-{
-    let next = y + j;
-    if next < b {
-        return next;
-    }
-    next - (b - a)
-}
-
-// The place j steps before y.
-fn backward_place(a: usize, b: usize, y: usize, j: usize) -> usize
-    requires { (a ≤ y) × (y < b) × (b ≤ 4090) × (j < b - a) }
-    ensures { result ≡ backward a b y j }
-{
-    if a + j <= y {
-        return y - j;
-    }
-    y + (b - a) - j
-}
-
 // How many letters are written from the place i to the place j.
 fn sum_from(r: &[u16], i: usize, j: usize, b: usize) -> usize
     requires { Sums r.now b × (i ≤ j) × (j ≤ b) }
@@ -190,31 +159,56 @@ fn sum_from(r: &[u16], i: usize, j: usize, b: usize) -> usize
     y - x
 }
 
-// How many letters are written from the place y to the one j steps after it.
-fn count_between(r: &[u16], a: usize, b: usize, y: usize, j: usize) -> usize
-    requires { Sums r.now b × (a ≤ y) × (y < b) × (j < b - a) }
-    ensures { (result ≡ between (sum_in r.now) a b y j) × (result ≤ 16360) }
-{
-    let next = y + j;
-    if next < b {
-        return sum_from(r, y, next, b);
+impl Arc {
+    // The place j steps onward in its round.
+    fn onward(self, j: usize) -> usize
+        requires { (self.first ≤ self.at) × (self.at < self.end) × (self.end ≤ 4090) × (j < self.end - self.first) }
+        ensures { result ≡ round_onward self.first self.end self.at j }
+    {
+        let next = self.at + j;
+        if next < self.end {
+            return next;
+        }
+        next - (self.end - self.first)
     }
-    let back = next - (b - a);
-    let more = sum_from(r, a, back, b);
-    let first = sum_from(r, y, b, b);
-    first + more
-}
 
-// How many letters are written in so many times round and j steps more, from the place y on.
-fn count_after(r: &[u16], a: usize, b: usize, y: usize, times: usize, j: usize) -> usize
-    requires { Sums r.now b × (a ≤ y) × (y < b) × (j < b - a)
-        × (times * (sum_in r.now b - sum_in r.now a) ≤ 2 ^ 63) }
-    ensures { result ≡ times * (sum_in r.now b - sum_in r.now a)
-        + between (sum_in r.now) a b y j }
-{
-    let round = sum_from(r, a, b, b);
-    let more = count_between(r, a, b, y, j);
-    times * round + more
+    // The place j steps backward.
+    fn backward(self, j: usize) -> usize
+        requires { (self.first ≤ self.at) × (self.at < self.end) × (self.end ≤ 4090) × (j < self.end - self.first) }
+        ensures { result ≡ backward self.first self.end self.at j }
+    {
+        if self.first + j <= self.at {
+            return self.at - j;
+        }
+        self.at + (self.end - self.first) - j
+    }
+
+    // How many letters are written from it to the place j steps onward.
+    fn count_between(self, r: &[u16], j: usize) -> usize
+        requires { Sums r.now self.end × (self.first ≤ self.at) × (self.at < self.end) × (j < self.end - self.first) }
+        ensures { (result ≡ between (sum_in r.now) self.first self.end self.at j) × (result ≤ 16360) }
+    {
+        let next = self.at + j;
+        if next < self.end {
+            return sum_from(r, self.at, next, self.end);
+        }
+        let back = next - (self.end - self.first);
+        let more = sum_from(r, self.first, back, self.end);
+        let first = sum_from(r, self.at, self.end, self.end);
+        first + more
+    }
+
+    // How many letters are written in so many times round and j steps more.
+    fn count_after(self, r: &[u16], times: usize, j: usize) -> usize
+        requires { Sums r.now self.end × (self.first ≤ self.at) × (self.at < self.end) × (j < self.end - self.first)
+            × (times * (sum_in r.now self.end - sum_in r.now self.first) ≤ 2 ^ 63) }
+        ensures { result ≡ times * (sum_in r.now self.end - sum_in r.now self.first)
+            + between (sum_in r.now) self.first self.end self.at j }
+    {
+        let round = sum_from(r, self.first, self.end, self.end);
+        let more = self.count_between(r, j);
+        times * round + more
+    }
 }
 
 // Where k blocks of S Q lead from p.
@@ -226,8 +220,8 @@ pub fn follow(t: &[i64], v: usize, r: &[u16], p: usize, k: usize) -> Stop
     let d = arc.end - arc.first;
     let j = k % d;
     let times = k / d;
-    let count = count_after(r, arc.first, arc.end, arc.at, times, j);
-    let z = onward_place(arc.first, arc.end, arc.at, j);
+    let count = arc.count_after(r, times, j);
+    let z = arc.onward(j);
     Stop {
         at: index(r[POSITION + z]),
         count,
@@ -243,8 +237,9 @@ pub fn follow_back(t: &[i64], v: usize, r: &[u16], p: usize, k: usize) -> Stop
     let d = arc.end - arc.first;
     let j = k % d;
     let times = k / d;
-    let z = backward_place(arc.first, arc.end, arc.at, j);
-    let count = count_after(r, arc.first, arc.end, z, times, j);
+    let z = arc.backward(j);
+    let from = Arc { at: z, ..arc };
+    let count = from.count_after(r, times, j);
     Stop {
         at: index(r[POSITION + z]),
         count,

@@ -8,8 +8,9 @@
 -- Why: a product W of generators has W A ≈ B exactly where W ≈ B A⁻¹, so such a product exists exactly where B A⁻¹ is in H, and H is the
 -- stabiliser of the start.
 -- Assumes nothing.
-use mathlib.Core.Path.{◌≡◌, refl, sym, ◌∙◌, ap, subst}
-use mathlib.Core.Logic.{◌⊎◌, inl, inr}
+use Rattle.std.specs.Prelude.{Ok, Err}
+use mathlib.Core.Path.{◌≡◌, refl, sym, ◌∙◌, ap}
+use mathlib.Core.Logic.{inl, inr}
 use mathlib.Core.Bool.{Bool, true, false, not, ◌&&◌}
 use mathlib.Core.List.{List, [], ◌∷◌, ◌++◌, append_assoc}
 use Prim.Native.Nat.{ℕ, zero, suc, ◌+◌, ◌-◌, ◌≤◌, ◌<◌}
@@ -27,25 +28,27 @@ use Rattle.symbol.specs.Symbol.{IsSymbol}
 use Rattle.pairing.specs.Generator.{generators}
 use Rattle.pairing.specs.Subgroup.{IsWord, value_of}
 use Rattle.basics.proofs.Choice.{clash, pick_true, and_left, and_right}
-use Rattle.coset.specs.Positions.{start_of, followed, walk_ends, Polygon, with_sign, query_sign, Signs, FrameEquation, Positions}
+use Rattle.coset.specs.Positions.{start_of, followed, walk_ends, Polygon, with_sign, query_sign, FrameEquation, Positions}
 use Rattle.coset.specs.Tables.{table_s, table_r}
 use Rattle.right_cosets.specs.Leads.{leads}
 use Rattle.coset.proofs.InWords.{coset_value, from_coset, in_words}
 use Rattle.coset.proofs.Answer.{meaning}
-use Rattle.call.specs.Refusal.{◌or_else◌, no_word, too_short}
-use Rattle.call.specs.declared.refusal.Refusal.{Refusal}
-use Rattle.call.specs.declared.refusal.Checked.TheVariants.{Accepted}
+use Rattle.call.specs.Refusal.{◌or_else◌, Answer, answer_number, Checked, outcome}
+use Rattle.call.specs.declared.refusal.Refusal.TheVariants.{NoWord, TooShort}
 use Rattle.call.specs.Call.{verdict}
 use Rattle.symbol.specs.Check.{refuse}
-use Rattle.word.specs.Answer.{placed, closes, found_word, found_sign, word_fits, word_if, found_if, found_checks, word_left, part_of}
+use Rattle.word.specs.Answer.{placed, closes, found_word, found_sign, word_fits, word_if, found_if, found_checks, word_left, part_of, word_at}
 use Rattle.word.specs.Claim.{SameRightCoset, Fits, NormalWord, Answered}
-use Rattle.word.specs.declared.Queried.{Queried}
-use Rattle.word.specs.declared.Queried.TheVariants as queried
+use Rattle.word.specs.declared.FoundWord.{FoundWord}
 use Rattle.word.proofs.Turned.{followed_length}
 
--- the numbers of equal refusals are equal
-pub same_number : {f g : Refusal} → f ≡ g → f.number ≡ g.number
-same_number e = ap (λ (h : Refusal). h.number) e
+-- what equal answers of checks tell has one number, and an answer has that of what it says of refusals
+pub same_number : {c d : Checked} → c ≡ d → answer_number c ≡ answer_number d
+same_number e = ap (λ (c : Checked). answer_number c) e
+
+pub outcome_number : (r : Answer FoundWord) {c : Checked} → outcome r ≡ c → answer_number r ≡ answer_number c
+outcome_number (Ok u) e = same_number e
+outcome_number (Err f) e = same_number e
 
 -- ---- a word in its place
 
@@ -151,7 +154,7 @@ module _ {v : ℕ} {t : List ℤ} (ok : IsSymbol v t) (A B : Mat) (d : det A ≡
   -- ---- the three answers
 
   module _ (out : List ℤ) (start : ℕ) where
-    abbrev Here : Queried → List ℤ → Type 0
+    abbrev Here : Answer FoundWord → List ℤ → Type 0
     Here r out' = Answered v t A B word sign out start r out'
 
     fits_yes : word_fits start (length word) (length out) ≡ true → Fits start (length word) (length out)
@@ -164,7 +167,7 @@ module _ {v : ℕ} {t : List ℤ} (ok : IsSymbol v t) (A B : Mat) (d : det A ≡
     yes_fits f = ap (λ (b : Bool). b && leb (length word) (length out - start)) (le-leb start (length out) f.inside)
         ∙ le-leb (length word) (length out - start) f.enough
 
-    absent : closes v t A B ≡ false → Here (queried.Refused no_word) out
+    absent : closes v t A B ≡ false → Here (Err NoWord) out
     absent h =
         let no : SameRightCoset v t A B → ⊥ = λ j. clash (joined_home j) h in
         record {
@@ -189,7 +192,7 @@ module _ {v : ℕ} {t : List ℤ} (ok : IsSymbol v t) (A B : Mat) (d : det A ≡
           sixteen = sixteen_of;
         }
 
-    fitting : closes v t A B ≡ true → word_fits start (length word) (length out) ≡ true → Here (queried.Word start (length word) sign) (placed start word out)
+    fitting : closes v t A B ≡ true → word_fits start (length word) (length out) ≡ true → Here (Ok (word_at start (length word) sign)) (placed start word out)
     fitting h k =
         let j = home_joined h in
         let f = fits_yes k in
@@ -212,7 +215,7 @@ module _ {v : ℕ} {t : List ℤ} (ok : IsSymbol v t) (A B : Mat) (d : det A ≡
           sixteen = sixteen_of;
         }
 
-    too_short_lem : closes v t A B ≡ true → word_fits start (length word) (length out) ≡ false → Here (queried.Refused (too_short (length word))) out
+    too_short_lem : closes v t A B ≡ true → word_fits start (length word) (length out) ≡ false → Here (Err (TooShort (length word))) out
     too_short_lem h k =
         let j = home_joined h in
         record {
@@ -242,11 +245,11 @@ module _ {v : ℕ} {t : List ℤ} (ok : IsSymbol v t) (a b : List ℤ) (d : det 
   abbrev q : Bool
   q = found_sign v t (of_list a) (of_list b)
 
-  abbrev Left : Queried → Type 0
+  abbrev Left : Answer FoundWord → Type 0
   Left r = Answered v t (of_list a) (of_list b) l q out start r (word_left r l out)
 
   answered_by : (home room : Bool) → closes v t (of_list a) (of_list b) ≡ home → word_fits start (length l) (length out) ≡ room
-      → Left (word_if start (length l) q (refuse (not home) no_word or_else refuse (not room) (too_short (length l)) or_else Accepted))
+      → Left (word_if start (length l) q (refuse (not home) NoWord or_else refuse (not room) (TooShort (length l)) or_else (Ok tt)))
   answered_by false room h k = absent ok (of_list a) (of_list b) d e out start h
   answered_by true true h k = fitting ok (of_list a) (of_list b) d e out start h k
   answered_by true false h k = too_short_lem ok (of_list a) (of_list b) d e out start h k

@@ -2,12 +2,13 @@
 -- of its walk (`as_found`); what a walk finds (`Result`, `setting`, `result`, `told`) and leaves (`placed_out`); the answers by it (`not_home`, `too_far`,
 -- `too_long`, `fitting`), by whether it came home (`away`, `at_home`).
 -- Assumes nothing.
+use Rattle.std.specs.Prelude.{Ok, Err}
 use mathlib.Core.Path.{◌≡◌, refl, sym, ◌∙◌, ap, subst}
 use mathlib.Core.Bool.{Bool, true, false, not, ◌&&◌}
 use mathlib.Core.List.{List, [], ◌∷◌, ◌++◌}
 use Prim.Native.Nat.{ℕ, ◌*◌, ◌-◌, ◌^◌, ◌≤◌, ◌<◌}
 use native.Mathlib.Omega.{arith}
-use lib.Dec.{leb, eqb, lit<}
+use lib.Dec.{leb, lit<}
 use lib.ListN.{length}
 use lib.IntN.{ℤ, pos}
 use borrow.Author.Tests.{eq-eqb, ne_eqb, le-leb, lt-leb}
@@ -25,17 +26,16 @@ use Rattle.walk.specs.declared.Way.{Way}
 use Rattle.walk.proofs.Stored.{stored_all}
 use Rattle.walk_runs.specs.Inner.Tally.{WalkTallied}
 use Rattle.walk_runs.specs.declared.Stop.{Stop}
-use Rattle.call.specs.Refusal.{no_word, too_short}
-use Rattle.call.specs.declared.refusal.Checked.{Checked}
+use Rattle.call.specs.Refusal.{Checked, Answer}
+use Rattle.call.specs.declared.refusal.Refusal.TheVariants.{NoWord, TooShort}
 use Rattle.call.specs.Call.{Step, Asks, Gives}
 use Rattle.call.specs.Inner.Fills.{Fills}
 use Rattle.call.proofs.Laws.{Run, run_end, run_stop, run_pass, run_put, fills_as}
 use Rattle.symbol.specs.Check.{refuse}
-use Rattle.word.specs.Answer.{placed, closes, found_word, found_sign, word_fits, walk_checks, word_if, found_if}
+use Rattle.word.specs.Answer.{placed, closes, found_word, found_sign, word_fits, walk_checks, word_if, found_if, word_at}
 use Rattle.word.specs.Claim.{ValidQuery}
 use Rattle.word.specs.Inner.Ready.{letters_along, sign_along_walk, home_along, WalkReady, PairReady}
-use Rattle.word.specs.declared.Queried.{Queried}
-use Rattle.word.specs.declared.Queried.TheVariants as queried
+use Rattle.word.specs.declared.FoundWord.{FoundWord}
 use Rattle.word.proofs.Turned.{followed_small}
 
 -- ---- the matrix that is followed
@@ -72,7 +72,7 @@ abbrev pub walk_run : (home : Bool) (l out out' : List ℤ) (start : ℕ) → Li
 walk_run home l out out' start = walk_checks home l start (length out) ++ Gives (placed start l out) out out' ∷ []
 
 -- those of the walk along the matrix that is followed are those of the walk from A to B
-pub as_found : (v : ℕ) (t a b : List ℤ) {m : List ℤ} → m ≡ to_list (followed v t (of_list b ⊗ adj (of_list a))) → (out out' : List ℤ) (start : ℕ) (r : Queried)
+pub as_found : (v : ℕ) (t a b : List ℤ) {m : List ℤ} → m ≡ to_list (followed v t (of_list b ⊗ adj (of_list a))) → (out out' : List ℤ) (start : ℕ) (r : Answer FoundWord)
     → Fills (walk_run (home_along v t (of_list m)) (letters_along v t (of_list m)) out out' start)
     (word_if start (length (letters_along v t (of_list m))) (sign_along_walk v t (of_list m))) r
     → Fills (walk_run (closes v t (of_list a) (of_list b)) (found_word v t (of_list a) (of_list b)) out out' start) (found_if v t a b start) r
@@ -83,7 +83,7 @@ as_found v t a b m_is out out' start r g =
 
 -- the same where the space was left as it was first
 pub as_found_after : (v : ℕ) (t a b : List ℤ) {m : List ℤ} → m ≡ to_list (followed v t (of_list b ⊗ adj (of_list a))) → (out out1 out' : List ℤ) (start : ℕ)
-    (r : Queried) → out1 ≡ out → Fills (walk_run (home_along v t (of_list m)) (letters_along v t (of_list m)) out1 out' start)
+    (r : Answer FoundWord) → out1 ≡ out → Fills (walk_run (home_along v t (of_list m)) (letters_along v t (of_list m)) out1 out' start)
     (word_if start (length (letters_along v t (of_list m))) (sign_along_walk v t (of_list m))) r
     → Fills (walk_run (closes v t (of_list a) (of_list b)) (found_word v t (of_list a) (of_list b)) out out' start) (found_if v t a b start) r
 as_found_after v t a b m_is out out1 out' start r e g =
@@ -135,42 +135,42 @@ module _ (home : Bool) (l out out' : List ℤ) (start : ℕ) (q : Bool) where
   abbrev n : ℕ
   n = length l
 
-  abbrev Answers : Queried → Type 0
+  abbrev Answers : Answer FoundWord → Type 0
   Answers r = Fills (walk_run home l out out' start) (word_if start n q) r
 
   abbrev space : Checked
-  space = refuse (not (word_fits start n (length out))) (too_short n)
+  space = refuse (not (word_fits start n (length out))) (TooShort n)
 
   abbrev put : List Step
   put = Gives (placed start l out) out out' ∷ []
 
-  pub not_home : home ≡ false → out' ≡ out → Answers (queried.Refused no_word)
-  not_home h e = fills_as (run_stop no_word (refuse (not home) no_word) (Asks space ∷ put) (ap (λ (b : Bool). refuse (not b) no_word) h) (e, tt)) refl
+  pub not_home : home ≡ false → out' ≡ out → Answers (Err NoWord)
+  not_home h e = fills_as (run_stop NoWord (refuse (not home) NoWord) (Asks space ∷ put) (ap (λ (b : Bool). refuse (not b) NoWord) h) (e, tt)) refl
 
   module _ (h : home ≡ true) (k : ℕ) (long : k ≡ n) where
     came : {c : Checked} → Run (Asks space ∷ put) c → Run (walk_run home l out out' start) c
-    came r = run_pass (refuse (not home) no_word) (Asks space ∷ put) (ap (λ (b : Bool). refuse (not b) no_word) h) r
+    came r = run_pass (refuse (not home) NoWord) (Asks space ∷ put) (ap (λ (b : Bool). refuse (not b) NoWord) h) r
 
-    no_room : word_fits start n (length out) ≡ false → out' ≡ out → Answers (queried.Refused (too_short k))
+    no_room : word_fits start n (length out) ≡ false → out' ≡ out → Answers (Err (TooShort k))
     no_room f e =
-        fills_as (came (run_stop (too_short n) space put (ap (λ (b : Bool). refuse (not b) (too_short n)) f) (e, tt)))
-        (ap (λ (i : ℕ). queried.Refused (too_short i)) long)
+        fills_as (came (run_stop (TooShort n) space put (ap (λ (b : Bool). refuse (not b) (TooShort n)) f) (e, tt)))
+        (ap (λ (i : ℕ). Err (TooShort i)) long)
 
-    pub too_far : length out < start → out' ≡ out → Answers (queried.Refused (too_short k))
+    pub too_far : length out < start → out' ≡ out → Answers (Err (TooShort k))
     too_far f = no_room (ap (λ (c : Bool). c && leb n (length out - start)) (lt-leb start (length out) f))
 
     fits_by : start ≤ length out → word_fits start n (length out) ≡ leb n (length out - start)
     fits_by f = ap (λ (c : Bool). c && leb n (length out - start)) (le-leb start (length out) f)
 
-    pub too_long : start ≤ length out → length out - start < k → out' ≡ out → Answers (queried.Refused (too_short k))
+    pub too_long : start ≤ length out → length out - start < k → out' ≡ out → Answers (Err (TooShort k))
     too_long f g = no_room (fits_by f ∙ lt-leb n (length out - start) (omega (arith, g, long)))
 
-    pub fitting : (s : Bool) → s ≡ q → start ≤ length out → k ≤ length out - start → out' ≡ placed start l out → Answers (queried.Word start k s)
+    pub fitting : (s : Bool) → s ≡ q → start ≤ length out → k ≤ length out - start → out' ≡ placed start l out → Answers (Ok (word_at start k s))
     fitting s is f g e =
         fills_as
-        (came (run_pass space put (ap (λ (b : Bool). refuse (not b) (too_short n)) (fits_by f ∙ le-leb n (length out - start) (omega (arith, g, long))))
+        (came (run_pass space put (ap (λ (b : Bool). refuse (not b) (TooShort n)) (fits_by f ∙ le-leb n (length out - start) (omega (arith, g, long))))
         (run_put (placed start l out) out out' [] e run_end)))
-        (ap (λ (i : ℕ). queried.Word start i s) long ∙ ap (queried.Word start n) is)
+        (ap (λ (i : ℕ). Ok (word_at start i s)) long ∙ ap (λ (q : Bool). Ok (word_at start n q)) is)
 
 -- the walk came home, or it didn't
 module _ (v : ℕ) (t : List ℤ) (m : Mat) {x : ℕ} (e : x ≡ ends v t (start_of v t) (word_of m)) where

@@ -1,11 +1,11 @@
 -- The claim for whatever a query answers (`claim`), what it leaves in the word space (`query_left`), and
 -- what it leaves where it gets to its walk (`asked_fills`). The order of its refusals is in proofs/Refused.antt.
 -- Assumes nothing.
+use Rattle.std.specs.Prelude.{Ok, Err}
 use mathlib.Core.Path.{◌≡◌, refl, sym, ◌∙◌, ap, subst}
-use mathlib.Core.Logic.{◌⊎◌, inl, inr}
 use mathlib.Core.Bool.{Bool}
-use mathlib.Core.List.{List, [], ◌∷◌}
-use Prim.Native.Nat.{ℕ, ◌≤◌, ◌<◌}
+use mathlib.Core.List.{List, ◌∷◌}
+use Prim.Native.Nat.{ℕ, ◌≤◌}
 use native.Mathlib.Omega.{arith}
 use lib.ListN.{length}
 use lib.IntN.{ℤ}
@@ -20,16 +20,13 @@ use Rattle.symbol.specs.Check.{symbol_check}
 use Rattle.symbol.specs.Symbol.{IsSymbol}
 use Rattle.symbol.proofs.Accepted.{accepted, check_among}
 use Rattle.basics.proofs.Count.{first_clear, clear_first, first_le}
-use Rattle.call.specs.Refusal.{◌or_else◌, no_word, too_short, checked_refusal}
+use Rattle.call.specs.Refusal.{◌or_else◌, Checked, Answer, outcome}
 use Rattle.call.specs.declared.refusal.Refusal.{Refusal}
-use Rattle.call.specs.declared.refusal.Checked.{Checked}
-use Rattle.call.specs.declared.refusal.Checked.TheVariants.{Accepted, Refused}
-use Rattle.call.proofs.Numbered.{Among}
-use Rattle.word.specs.Answer.{query_refusal, large, matrices_check, closes, placed, found_word, found_sign, word_if, found_if, found_checks, query_of, word_left}
-use Rattle.word.specs.Claim.{ValidQuery, ShortWork, Answered, Claim}
-use Rattle.word.specs.declared.Queried.{Queried}
+use Rattle.word.specs.Answer.{large, matrices_check, closes, placed, found_word, found_sign, word_if, found_if, found_checks, query_of, word_left}
+use Rattle.word.specs.Claim.{ValidQuery, Answered, Claim}
+use Rattle.word.specs.declared.FoundWord.{FoundWord}
 use Rattle.word.proofs.Pair.{small_clear, clear_small, unit_is, is_unit}
-use Rattle.word.proofs.Claim.{same_number, answered}
+use Rattle.word.proofs.Claim.{answered}
 use Rattle.word.proofs.Finding.{walk_run}
 use Rattle.word.proofs.Refused.{Passed, passed_by, pair_passes, pair_among, reached, Before, before_ten, gets_asked, gets_short}
 
@@ -53,13 +50,13 @@ asked_passed a b q =
 -- ---- an answer from a verdict: its refusal, and what it leaves
 
 module _ (start n : ℕ) (sign : Bool) where
-  pub refusal_if : (c : Checked) → query_refusal (word_if start n sign c) ≡ checked_refusal c
-  refusal_if Accepted = refl
-  refusal_if (Refused f) = refl
+  pub refusal_if : (c : Checked) → outcome (word_if start n sign c) ≡ c
+  refusal_if (Ok tt) = refl
+  refusal_if (Err f) = refl
 
   pub left_if : (c : Checked) (l out : List ℤ) → if_accepted c (placed start l out) out ≡ word_left (word_if start n sign c) l out
-  left_if Accepted l out = refl
-  left_if (Refused f) l out = refl
+  left_if (Ok tt) l out = refl
+  left_if (Err f) l out = refl
 
 -- the steps of a query, from the spaces w and out to w' and out'
 abbrev pub query_run : (v : ℕ) (t a b : List ℤ) (w w' : List ℕ) (out out' : List ℤ) (start : ℕ) → List Step
@@ -67,13 +64,13 @@ query_run v t a b w w' out out' start =
     Asks (symbol_check v t) ∷ Asks (matrices_check a b) ∷ Asks (length_check work_length (length w)) ∷ Clears w w'
     ∷ walk_run (closes v t (of_list a) (of_list b)) (found_word v t (of_list a) (of_list b)) out out' start
 
-pub query_left : (v : ℕ) (t a b : List ℤ) (w w' : List ℕ) (out out' : List ℤ) (start : ℕ) {r : Queried} → Fills (query_run v t a b w w' out out' start)
+pub query_left : (v : ℕ) (t a b : List ℤ) (w w' : List ℕ) (out out' : List ℤ) (start : ℕ) {r : Answer FoundWord} → Fills (query_run v t a b w w' out out' start)
     (found_if v t a b start) r
     → out' ≡ word_left r (found_word v t (of_list a) (of_list b)) out
 query_left v t a b w w' out out' start g =
     let l = found_word v t (of_list a) (of_list b) in
     g.leaves.1.0 ∙ left_if start (length l) (found_sign v t (of_list a) (of_list b)) (verdict (query_run v t a b w w' out out' start)) l out
-    ∙ ap (λ (x : Queried). word_left x l out) (sym g.answer)
+    ∙ ap (λ (x : Answer FoundWord). word_left x l out) (sym g.answer)
 
 -- ---- the claim
 
@@ -94,7 +91,7 @@ module _ (v : ℕ) (t a b : List ℤ) (w : List ℕ) (room start : ℕ) where
       (sym (reached (symbol_check v t) (matrices_check a b) found w ((accepted v t).1 q.symbol) (sym (pair_passes a b (asked_passed a b q))) q.work))
 
 -- a query that gets to its walk fills the word space as the walk does, and clears the work space
-pub asked_fills : (v : ℕ) (t a b : List ℤ) (w w' : List ℕ) (out out' : List ℤ) (start : ℕ) {r : Queried} → ValidQuery v t a b w
+pub asked_fills : (v : ℕ) (t a b : List ℤ) (w w' : List ℕ) (out out' : List ℤ) (start : ℕ) {r : Answer FoundWord} → ValidQuery v t a b w
     → Fills (query_run v t a b w w' out out' start) (found_if v t a b start) r
     → Fills (walk_run (closes v t (of_list a) (of_list b)) (found_word v t (of_list a) (of_list b)) out out' start) (found_if v t a b start) r ×
     (w' ≡ zeros (length w))
@@ -114,7 +111,7 @@ asked_fills v t a b w w' out out' start q g =
       g.leaves.0 ∙ ap (λ (x : Checked). if_accepted x (zeros (length w)) w) front,
     )
 
-pub claim : {v : ℕ} {t a b : List ℤ} {w : List ℕ} {out : List ℤ} {start : ℕ} {r : Queried} {out' : List ℤ} → r ≡ query_of v t a b (length w) (length out) start
+pub claim : {v : ℕ} {t a b : List ℤ} {w : List ℕ} {out : List ℤ} {start : ℕ} {r : Answer FoundWord} {out' : List ℤ} → r ≡ query_of v t a b (length w) (length out) start
     → out' ≡ word_left r (found_word v t (of_list a) (of_list b)) out → Claim v t a b w out start r out'
 claim {v} {t} {a} {b} {w} {out} {start} {r} {out'} e f = record {
   asked = gets_asked (symbol_check v t) (matrices_check a b) found w valid of_symbol of_pair start n sign e;
@@ -131,13 +128,13 @@ claim {v} {t} {a} {b} {w} {out} {start} {r} {out'} e f = record {
     found : Checked
     found = verdict (found_checks v t a b start (length out))
 
-    valid : symbol_check v t ≡ Accepted → matrices_check a b ≡ Accepted → work_length ≤ length w → ValidQuery v t a b w
+    valid : symbol_check v t ≡ Ok tt → matrices_check a b ≡ Ok tt → work_length ≤ length w → ValidQuery v t a b w
     valid s p k = asked a b ((accepted v t).0 s) k (passed_by a b p)
 
-    of_symbol : (g : Refusal) → symbol_check v t ≡ Refused g → Before g
+    of_symbol : (g : Refusal) → symbol_check v t ≡ Err g → Before g
     of_symbol = before_ten 1 7 (symbol_check v t) (omega arith) (omega arith) (check_among v t)
 
-    of_pair : (g : Refusal) → matrices_check a b ≡ Refused g → Before g
+    of_pair : (g : Refusal) → matrices_check a b ≡ Err g → Before g
     of_pair = before_ten 8 9 (matrices_check a b) (omega arith) (omega arith) (pair_among a b)
 
     by_walk : ValidQuery v t a b w
@@ -147,5 +144,5 @@ claim {v} {t} {a} {b} {w} {out} {start} {r} {out'} e f = record {
         let s = found_sign v t (of_list a) (of_list b) in
         let z : r ≡ found_if v t a b start (verdict (found_checks v t a b start (length out))) = e ∙ sym (asked_found v t a b w (length out) start q) in
         subst (λ (o : List ℤ). Answered v t (of_list a) (of_list b) l s out start r o) (sym f)
-        (subst (λ (x : Queried). Answered v t (of_list a) (of_list b) l s out start x (word_left x l out)) (sym z)
+        (subst (λ (x : Answer FoundWord). Answered v t (of_list a) (of_list b) l s out start x (word_left x l out)) (sym z)
         (answered q.symbol a b q.unit_A q.unit_B out start))

@@ -3,9 +3,10 @@
 -- In order: an answer that is a word comes from a verdict without refusal (`named_by`); the law (`names_word`); the part that the answer names is the
 -- word (`part_found`), which is no longer than the space (`word_most`).
 -- Assumes nothing.
+use Rattle.std.specs.Prelude.{Ok, Err}
 use mathlib.Core.Path.{◌≡◌, refl, ◌∙◌, ap}
-use mathlib.Core.Bool.{Bool, true, false, not}
-use mathlib.Core.List.{List, [], ◌∷◌}
+use mathlib.Core.Bool.{Bool, true, not}
+use mathlib.Core.List.{List}
 use Prim.Native.Nat.{ℕ, ◌-◌, ◌≤◌}
 use native.Mathlib.Omega.{arith}
 use lib.Dec.{leb}
@@ -15,56 +16,58 @@ use borrow.Author.Tests.{leb-true, not-false}
 use Rattle.matrix.specs.Matrix.{of_list}
 use Rattle.call.specs.Space.{work_length}
 use Rattle.basics.proofs.Choice.{and_left, and_right}
-use Rattle.call.specs.Refusal.{◌or_else◌, no_word, too_short}
-use Rattle.call.specs.declared.refusal.Checked.{Checked}
-use Rattle.call.specs.declared.refusal.Checked.TheVariants.{Accepted, Refused}
+use Rattle.call.specs.Refusal.{◌or_else◌, Checked, Answer}
+use Rattle.call.specs.declared.refusal.Refusal.TheVariants.{NoWord, TooShort}
 use Rattle.call.proofs.Answers.{both_pass}
 use Rattle.call.specs.Call.{length_check}
 use Rattle.symbol.specs.Check.{refuse, symbol_check}
 use Rattle.symbol.proofs.Accepted.{passes}
-use Rattle.word.specs.Answer.{placed, matrices_check, closes, found_word, found_sign, word_fits, word_if, query_of, part_of}
-use Rattle.word.specs.declared.Queried.{Queried}
-use Rattle.word.specs.declared.Queried.TheVariants as queried
+use Rattle.word.specs.Answer.{placed, matrices_check, closes, found_word, found_sign, word_fits, word_if, query_of, part_of, word_at, query_place}
+use Rattle.word.specs.declared.FoundWord.{FoundWord}
 use Rattle.word.proofs.Claim.{part_placed}
 
+abbrev start_in : Answer FoundWord → ℕ
+start_in (Ok u) = u.start
+start_in (Err f) = 0
+
 module _ (s n : ℕ) (sign : Bool) where
-  abbrev Is : Queried → Type 0
-  Is r = queried.Word s n sign ≡ r
+  abbrev Is : Answer FoundWord → Type 0
+  Is r = Ok (word_at s n sign) ≡ r
 
   record Named (k : ℕ) (q : Bool) (start : ℕ) (c : Checked) : Type 0 where
     pub place_is : s ≡ start
     pub length_is : n ≡ k
-    pub passed : c ≡ Accepted
+    pub passed : c ≡ Ok tt
 
   named_by : (k : ℕ) (q : Bool) (start : ℕ) (c : Checked) → Is (word_if start k q c) → Named k q start c
-  named_by k q start Accepted e = record { place_is = cc; length_is = cc; passed = refl }
-  named_by k q start (Refused f) e = let z : ◌≡◌ {A = ℕ} 0 1 = cc in absurd (omega arith)
+  named_by k q start (Ok tt) e = record { place_is = ap start_in e; length_is = ap query_place e; passed = refl }
+  named_by k q start (Err f) e = let z : ◌≡◌ {A = ℕ} 0 1 = cc in absurd (omega arith)
 
   module _ (v : ℕ) (t a b : List ℤ) (work start : ℕ) (out : List ℤ) (e : Is (query_of v t a b work (length out) start)) where
     abbrev word : List ℤ
     word = found_word v t (of_list a) (of_list b)
 
     abbrev none : Checked
-    none = refuse (not (closes v t (of_list a) (of_list b))) no_word
+    none = refuse (not (closes v t (of_list a) (of_list b))) NoWord
 
     abbrev space : Checked
-    space = refuse (not (word_fits start (length word) (length out))) (too_short (length word))
+    space = refuse (not (word_fits start (length word) (length out))) (TooShort (length word))
 
     abbrev all : Checked
-    all = symbol_check v t or_else matrices_check a b or_else length_check work_length work or_else none or_else space or_else Accepted
+    all = symbol_check v t or_else matrices_check a b or_else length_check work_length work or_else none or_else space or_else (Ok tt)
 
     names_word : Named (length word) (found_sign v t (of_list a) (of_list b)) start all
     names_word = named_by (length word) (found_sign v t (of_list a) (of_list b)) start all e
 
     fitting : word_fits start (length word) (length out) ≡ true
     fitting =
-        let p = both_pass (symbol_check v t) (matrices_check a b or_else length_check work_length work or_else none or_else space or_else Accepted)
+        let p = both_pass (symbol_check v t) (matrices_check a b or_else length_check work_length work or_else none or_else space or_else (Ok tt))
         names_word.passed in
-        let q = both_pass (matrices_check a b) (length_check work_length work or_else none or_else space or_else Accepted) p.1 in
-        let r = both_pass (length_check work_length work) (none or_else space or_else Accepted) q.1 in
-        let k = both_pass none (space or_else Accepted) r.1 in
-        let l = both_pass space Accepted k.1 in
-        not-false (word_fits start (length word) (length out)) (passes (not (word_fits start (length word) (length out))) (too_short (length word)) l.0)
+        let q = both_pass (matrices_check a b) (length_check work_length work or_else none or_else space or_else (Ok tt)) p.1 in
+        let r = both_pass (length_check work_length work) (none or_else space or_else (Ok tt)) q.1 in
+        let k = both_pass none (space or_else (Ok tt)) r.1 in
+        let l = both_pass space (Ok tt) k.1 in
+        not-false (word_fits start (length word) (length out)) (passes (not (word_fits start (length word) (length out))) (TooShort (length word)) l.0)
 
     pub part_found : part_of (placed s word out) s n ≡ word
     part_found =

@@ -51,11 +51,14 @@
 --   Tells r number place    number and place are those of the answer r
 --   query_call              THE EXPORTED CALL: the steps of a query, the number of letters, and what it says
 --   signed_query_call       the same with the sign as one more result
-use Rattle.std.specs.Prelude.{◌≡◌, Bool, ◌⊎◌, ◌↔◌, List, ◌++◌, ℕ, ◌+◌, ◌-◌, ◌≤◌, ◌<◌, length, get_or, ℤ, pos, negsuc, nat_abs, ◌*ℤ◌}
+use Rattle.std.specs.Prelude.{Ok, Err}
+use Rattle.std.specs.Prelude.{◌≡◌, Bool, ◌⊎◌, ◌↔◌, List, ◌++◌, ℕ, ◌+◌, ◌-◌, ◌≤◌, ◌<◌, length, get_or, ℤ, pos, negsuc}
+use Rattle.std.specs.Prelude.{nat_abs, ◌*ℤ◌}
 use Rattle.matrix.specs.Matrix.{Mat, mat, ◌⊗◌, adj, det, ◌≈◌, of_list}
 use Rattle.matrix.specs.Bounds.{Small}
 use Rattle.matrix.specs.Euclid as euclid
-use Rattle.call.specs.Refusal.{no_refusal, no_word, too_short}
+use Rattle.call.specs.Refusal.{answer_number, refusal_number, Answer, outcome}
+use Rattle.call.specs.declared.refusal.Refusal.TheVariants.{NoWord, TooShort}
 use Rattle.call.specs.Space.{work_length}
 use Rattle.symbol.specs.Symbol.{IsSymbol}
 use Rattle.pairing.specs.Generator.{generators}
@@ -64,10 +67,9 @@ use Rattle.coset.specs.Positions.{SameCoset, start_of, followed, walk_ends, with
 use Rattle.coset.specs.Tables.{table_s, table_r}
 use Rattle.right_cosets.specs.Leads.{leads}
 use Rattle.call.specs.Call.{Lent, result_in, Contract}
-use Rattle.word.specs.Answer.{placed, query_refusal, query_place, found_word, found_sign, query_steps, query_of, part_of}
+use Rattle.word.specs.Answer.{placed, query_place, found_word, found_sign, query_steps, query_of, part_of, word_at}
 use Rattle.word.specs.Answer.{sign_number}
-use Rattle.word.specs.declared.Queried.{Queried}
-use Rattle.word.specs.declared.Queried.TheVariants as queried
+use Rattle.word.specs.declared.FoundWord.{FoundWord}
 
 pub record ValidQuery (v : ℕ) (t a b : List ℤ) (w : List ℕ) : Type 0 where
   pub symbol : IsSymbol v t
@@ -84,8 +86,8 @@ pub record Fits (start n room : ℕ) : Type 0 where
   pub inside : start ≤ room
   pub enough : n ≤ room - start
 
-abbrev pub Found : List ℤ → Queried → Type 0
-Found word r = (query_refusal r ≡ no_refusal) ⊎ (query_refusal r ≡ too_short (length word))
+abbrev pub Found : List ℤ → Answer FoundWord → Type 0
+Found word r = (outcome r ≡ Ok tt) ⊎ (outcome r ≡ Err (TooShort (length word)))
 
 pub record NormalWord (v : ℕ) (t : List ℤ) (m n : Mat) (w : List ℤ) : Type 0 where
   pub letters : IsWord (length (generators v t)) w
@@ -95,7 +97,7 @@ pub record NormalWord (v : ℕ) (t : List ℤ) (m n : Mat) (w : List ℤ) : Type
   pub shortest : (j : SameRightCoset v t m n) → length w ≤ length j.word
 
 pub record Answered (v : ℕ) (t : List ℤ) (A B : Mat) (word : List ℤ) (sign : Bool) (out : List ℤ) (start : ℕ)
-    (r : Queried) (out' : List ℤ) : Type 0 where
+    (r : Answer FoundWord) (out' : List ℤ) : Type 0 where
   pub found : Found word r ↔ SameRightCoset v t A B
   pub points : Found word r ↔ (leads (table_s v t) (table_r v t) A ≡ leads (table_s v t) (table_r v t) B)
   pub letters : Found word r → IsWord (length (generators v t)) word
@@ -104,34 +106,34 @@ pub record Answered (v : ℕ) (t : List ℤ) (A B : Mat) (word : List ℤ) (sign
   pub exact : Found word r → value_of (generators v t) word ⊗ A ≡ with_sign sign B
   pub walked : FrameEquation v t (start_of v t) (followed v t (B ⊗ adj A)) sign word (walk_ends v t (B ⊗ adj A))
   pub signs : Signs v t
-  pub none : (query_refusal r ≡ no_word) ↔ (SameRightCoset v t A B → ⊥)
-  pub returned : (query_refusal r ≡ no_refusal) ↔ (SameRightCoset v t A B × Fits start (length word) (length out))
-  pub short : (query_refusal r ≡ too_short (length word))
+  pub none : (outcome r ≡ Err NoWord) ↔ (SameRightCoset v t A B → ⊥)
+  pub returned : (outcome r ≡ Ok tt) ↔ (SameRightCoset v t A B × Fits start (length word) (length out))
+  pub short : (outcome r ≡ Err (TooShort (length word)))
       ↔ (SameRightCoset v t A B × (Fits start (length word) (length out) → ⊥))
-  pub names : query_refusal r ≡ no_refusal → r ≡ queried.Word start (length word) sign
-  pub stands : query_refusal r ≡ no_refusal → (out' ≡ placed start word out) × (part_of out' start (length word) ≡ word)
-  pub untouched : (query_refusal r ≡ no_refusal → ⊥) → out' ≡ out
+  pub names : outcome r ≡ Ok tt → r ≡ Ok (word_at start (length word) sign)
+  pub stands : outcome r ≡ Ok tt → (out' ≡ placed start word out) × (part_of out' start (length word) ≡ word)
+  pub untouched : (outcome r ≡ Ok tt → ⊥) → out' ≡ out
   pub bound : length word ≤ length (euclid.word_of (B ⊗ adj A)) + 2
   pub sixteen : (i : ℕ) → i < length word → nat_abs (get_or word i (pos 0)) ≤ 1024
 
-abbrev pub ShortWork : List ℕ → Queried → Type 0
-ShortWork w r = (length w < work_length) × (query_refusal r ≡ too_short work_length)
+abbrev pub ShortWork : List ℕ → Answer FoundWord → Type 0
+ShortWork w r = (length w < work_length) × (outcome r ≡ Err (TooShort work_length))
 
-pub record Claim (v : ℕ) (t a b : List ℤ) (w : List ℕ) (out : List ℤ) (start : ℕ) (r : Queried)
+pub record Claim (v : ℕ) (t a b : List ℤ) (w : List ℕ) (out : List ℤ) (start : ℕ) (r : Answer FoundWord)
     (out' : List ℤ) : Type 0 where
-  pub asked : ((query_refusal r).number ≡ 0) ⊎ ((query_refusal r).number ≡ no_word.number) → ValidQuery v t a b w
-  pub short : (n : ℕ) → (query_refusal r).number ≡ (too_short n).number → ValidQuery v t a b w ⊎ ShortWork w r
+  pub asked : (answer_number r ≡ 0) ⊎ (answer_number r ≡ refusal_number NoWord) → ValidQuery v t a b w
+  pub short : (n : ℕ) → answer_number r ≡ refusal_number (TooShort n) → ValidQuery v t a b w ⊎ ShortWork w r
   pub answered : ValidQuery v t a b w
-      → Answered v t (of_list a) (of_list b) (found_word v t (of_list a) (of_list b)) (found_sign v t (of_list a) (of_list b))
-      out start r out'
+      → Answered v t (of_list a) (of_list b) (found_word v t (of_list a) (of_list b))
+      (found_sign v t (of_list a) (of_list b)) out start r out'
 
 pub record QuerySays (v : ℕ) (t a b : List ℤ) (w : List ℕ) (start n place : ℕ) (out' : List ℤ) : Type 0 where
-  pub none : n ≡ no_word.number → ValidQuery v t a b w × (SameRightCoset v t (of_list a) (of_list b) → ⊥)
+  pub none : n ≡ refusal_number NoWord → ValidQuery v t a b w × (SameRightCoset v t (of_list a) (of_list b) → ⊥)
   pub asked : n ≡ 0 → ValidQuery v t a b w
   pub letters : n ≡ 0 → IsWord (length (generators v t)) (part_of out' start place)
   pub product : n ≡ 0 → value_of (generators v t) (part_of out' start place) ⊗ of_list a ≈ of_list b
   pub normal : n ≡ 0 → NormalWord v t (of_list a) (of_list b) (part_of out' start place)
-  pub short : n ≡ (too_short 0).number → ValidQuery v t a b w
+  pub short : n ≡ refusal_number (TooShort 0) → ValidQuery v t a b w
       → (length (found_word v t (of_list a) (of_list b)) ≡ place)
       × NormalWord v t (of_list a) (of_list b) (found_word v t (of_list a) (of_list b))
 
@@ -144,8 +146,8 @@ pub record SignSays (v : ℕ) (t a b : List ℤ) (start n place : ℕ) (sign : �
 
 -- ---- the calls
 
-abbrev pub Tells : Queried → (number place : ℕ) → Type 0
-Tells r number place = (number ≡ (query_refusal r).number) × (place ≡ query_place r)
+abbrev pub Tells : Answer FoundWord → (number place : ℕ) → Type 0
+Tells r number place = (number ≡ answer_number r) × (place ≡ query_place r)
 
 abbrev pub query_call : (v : ℕ) (t a b : List ℤ) → Lent (List ℕ) → Lent (List ℤ) → (start : ℕ) → Contract
 query_call v t a b w out start = record {
@@ -157,7 +159,8 @@ query_call v t a b w out start = record {
       × QuerySays v t a b w.entry.now start number place out.exit.now;
 }
 
-abbrev pub signed_query_call : (v : ℕ) (t a b : List ℤ) → Lent (List ℕ) → Lent (List ℤ) → (start : ℕ) → Lent ℤ → Contract
+abbrev pub signed_query_call : (v : ℕ) (t a b : List ℤ) → Lent (List ℕ) → Lent (List ℤ) → (start : ℕ) → Lent ℤ
+    → Contract
 signed_query_call v t a b w out start sign = record {
   steps = query_steps v t a b w out start ++ result_in (sign_number (found_sign v t (of_list a) (of_list b))) sign;
   count = length (found_word v t (of_list a) (of_list b));

@@ -4,7 +4,7 @@
 // specs/Answer.antt says what a query answers and leaves, specs/Claim.antt what that means.
 #![tactic(auto)]
 
-ghost use Rattle.std.specs.Prelude.{◌≡◌, ◌+◌, ◌-◌, ◌≤◌, ◌<◌, leb, length, nat_abs};
+ghost use Rattle.std.specs.Prelude.{◌≡◌, ◌+◌, ◌-◌, ◌≤◌, ◌<◌, length};
 ghost use Rattle.matrix.specs.Matrix.{of_list, to_list, ◌⊗◌, adj};
 ghost use Rattle.matrix.specs.Bounds.{Small};
 ghost use Rattle.call.specs.Space.{zeros};
@@ -14,25 +14,27 @@ ghost use Rattle.coset.specs.Positions.{followed};
 ghost use Rattle.walk_runs.specs.Inner.Rounds.{Rounds};
 ghost use Rattle.walk_runs.specs.Inner.Tally.{WalkTallied};
 ghost use Rattle.call.specs.Inner.Fills.{Fills};
-ghost use Rattle.word.specs.Answer.{query_refusal, sign_number, four, entry_at, large, unit, matrices_check, part_of};
+ghost use Rattle.word.specs.Answer.{sign_number, four, beyond, large, unit, matrices_check, part_of};
 ghost use Rattle.word.specs.Answer.{word_steps, word_if, found_steps, found_if, query_steps};
 ghost use Rattle.word.specs.Claim.{ValidQuery};
 ghost use Rattle.word.specs.Inner.Ready.{letters_along, sign_along_walk, home_along, WalkReady, PairReady};
 
-use call::refusal::{BAD_DETERMINANT, Checked, MATRIX_ENTRY, NO_WORD, Refusal, TOO_SHORT};
+use call::refusal::Refusal;
 use coset::steps::{build, is_turned};
 use matrix::{determinant, inverse, matrix_s, product};
 use symbol::check;
 use walk::walk;
 use walk_runs::{Stop, tally, tally_by};
 
-// The answer of `query`.
+// The word that `query` found, in the lent space.
 #[derive(Clone, Copy)]
-pub enum Queried {
-    // The word stands in the lent space: the place where it starts, its length, and its sign, plus for true.
-    Word(usize, usize, bool),
-    // The table is no symbol, the pair is no pair of matrices, a space is too short, or no word exists.
-    Refused(Refusal),
+pub struct FoundWord {
+    // The place where it starts.
+    pub start: usize,
+    // How many letters it has.
+    pub letters: usize,
+    // Its sign: plus, or minus.
+    pub plus: bool,
 }
 
 // The matrix in the four numbers from the number i on.
@@ -43,39 +45,23 @@ pub fn four_at(ns: &[i64], i: usize) -> [i64; 4]
     [ns[i], ns[i + 1], ns[i + 2], ns[i + 3]]
 }
 
-// Whether x is at most 1,000,000 in size.
-fn is_small(x: i64) -> bool
-    ensures { result ≡ leb (nat_abs x) 1000000 }
+// The first entry that is beyond `most` in size, or how many there are.
+pub fn first_beyond(entries: &[i64], most: u64) -> usize
+    ensures { result ≡ first (beyond most entries.now) (length entries.now) }
 {
-    if x < -1000000 {
-        return false;
+    for (i, x) in entries.iter().enumerate() {
+        if most < x.unsigned_abs() {
+            return i;
+        }
     }
-    x <= 1000000
-}
-
-// The entry i of the pair.
-fn entry_at(a: [i64; 4], b: [i64; 4], i: usize) -> i64
-    requires { i < 8 }
-    ensures { result ≡ entry_at a b i }
-{
-    if i < 4 {
-        return a[i];
-    }
-    b[i - 4]
+    entries.len()
 }
 
 // The first entry of the pair that is too large, or 8.
 fn first_large(a: [i64; 4], b: [i64; 4]) -> usize
     ensures { result ≡ first (large a b) 8 }
 {
-    let mut i: usize = 0;
-    while i < 8 {
-        if !is_small(entry_at(a, b, i)) {
-            return i;
-        }
-        i += 1;
-    }
-    8
+    first_beyond([a, b].as_flattened(), 1000000)
 }
 
 // Whether the determinant of m is 1.
@@ -87,29 +73,20 @@ fn is_unit(m: [i64; 4]) -> bool
 }
 
 // Refusals 8 and 9: the first entry that is too large, then the first determinant that isn't 1.
-pub fn pair_check(a: [i64; 4], b: [i64; 4]) -> Checked
+pub fn pair_check(a: [i64; 4], b: [i64; 4]) -> Result<(), Refusal>
     ensures { result ≡ matrices_check a b }
 {
     let i = first_large(a, b);
     if i < 8 {
-        return Checked::Refused(Refusal {
-            number: MATRIX_ENTRY,
-            place: i,
-        });
+        return Err(Refusal::MatrixEntry(i));
     }
     if !is_unit(a) {
-        return Checked::Refused(Refusal {
-            number: BAD_DETERMINANT,
-            place: 0,
-        });
+        return Err(Refusal::BadDeterminant(0));
     }
     if !is_unit(b) {
-        return Checked::Refused(Refusal {
-            number: BAD_DETERMINANT,
-            place: 1,
-        });
+        return Err(Refusal::BadDeterminant(1));
     }
-    Checked::Accepted
+    Ok(())
 }
 
 // The matrix that the walk from a to b follows: b a⁻¹, or S⁻¹ b a⁻¹ S where it starts turned round.
@@ -137,7 +114,7 @@ pub fn find(
     end: Stop,
     out: &mut [i16],
     start: usize,
-) -> Queried
+) -> Result<FoundWord, Refusal>
     requires { WalkReady t.now v w.now m home × WalkTallied v t.now (of_list m) home end }
     ensures { Fills
         (word_steps (home_along v t.now (of_list m)) (letters_along v t.now (of_list m)) out start)
@@ -145,26 +122,21 @@ pub fn find(
         (sign_along_walk v t.now (of_list m))) result }
 {
     if end.at != home {
-        return Queried::Refused(Refusal {
-            number: NO_WORD,
-            place: 0,
-        });
+        return Err(Refusal::NoWord);
     }
     let n = end.count;
     if out.len() < start {
-        return Queried::Refused(Refusal {
-            number: TOO_SHORT,
-            place: n,
-        });
+        return Err(Refusal::TooShort(n));
     }
     if out.len() - start < n {
-        return Queried::Refused(Refusal {
-            number: TOO_SHORT,
-            place: n,
-        });
+        return Err(Refusal::TooShort(n));
     }
     let way = walk(t, v, w, m, home, out, start, n);
-    Queried::Word(start, n, way.sign)
+    Ok(FoundWord {
+        start,
+        letters: n,
+        plus: way.sign,
+    })
 }
 
 // The answer for a pair that passed 8 and 9, by the tables in the work space and the start of the symbol.
@@ -177,7 +149,7 @@ pub fn answer_ready(
     b: [i64; 4],
     out: &mut [i16],
     start: usize,
-) -> Queried
+) -> Result<FoundWord, Refusal>
     requires { PairReady t.now v w.now a b home }
     ensures { Fills (found_steps v t.now a b out start) (found_if v t.now a b start) result }
 {
@@ -197,7 +169,7 @@ pub fn answer_by(
     b: [i64; 4],
     out: &mut [i16],
     start: usize,
-) -> Queried
+) -> Result<FoundWord, Refusal>
     requires { PairReady t.now v w.now a b home × Rounds v t.now r.old }
     ensures fills { Fills (found_steps v t.now a b out start) (found_if v t.now a b start) result }
     ensures rounds { Rounds v t.now r.new }
@@ -216,7 +188,7 @@ fn answer(
     w: &mut [u16],
     out: &mut [i16],
     start: usize,
-) -> Queried
+) -> Result<FoundWord, Refusal>
     requires { ValidQuery v t.now a b w.old }
     ensures fills { Fills (found_steps v t.now a b out start) (found_if v t.now a b start) result }
     ensures w_after { w.new ≡ zeros (length w.old) }
@@ -237,44 +209,17 @@ pub fn query(
     w: &mut [u16],
     out: &mut [i16],
     start: usize,
-) -> Queried
+) -> Result<FoundWord, Refusal>
     ensures { Fills (query_steps v t.now a b w out start) (found_if v t.now a b start) result }
 {
-    let checked = check(v, t);
-    match checked {
-        Checked::Refused(refusal) => Queried::Refused(refusal),
-        Checked::Accepted => {
-            let paired = pair_check(a, b);
-            match paired {
-                Checked::Refused(refusal) => Queried::Refused(refusal),
-                Checked::Accepted => {
-                    if w.len() < call::workspace::WORK {
-                        return Queried::Refused(Refusal {
-                            number: TOO_SHORT,
-                            place: call::workspace::WORK,
-                        });
-                    }
-                    answer(v, t, a, b, w, out, start)
-                }
-            }
-        }
-    }
+    check(v, t)?;
+    pair_check(a, b)?;
+    call::room(call::workspace::WORK, w.len())?;
+    answer(v, t, a, b, w, out, start)
 }
 
-// The refusal that an answer is.
-pub fn query_refusal(answer: Queried) -> Refusal
-    ensures { result ≡ query_refusal answer }
-{
-    match answer {
-        Queried::Word(_, _, _) => Refusal {
-            number: 0,
-            place: 0,
-        },
-        Queried::Refused(refusal) => refusal,
-    }
-}
-
-// The number of a sign: 1 for plus, -1 for minus.
+// The number of a sign: 1 for plus, -1 for minus. Two constants: to negate 1, as `with_sign` of `same_coset` negates
+// what it is given, is no plainer.
 pub fn sign_number(sign: bool) -> i64
     ensures { result ≡ sign_number sign }
 {
@@ -289,13 +234,8 @@ pub fn sign_number(sign: bool) -> i64
 pub fn word_part(out: &[i16], start: usize, length: usize) -> &[i16]
     ensures { result.now ≡ part_of out.now start length }
 {
-    if start <= out.len() {
-        if length <= out.len() - start {
-            &out[start..start + length]
-        } else {
-            &out[..0]
-        }
-    } else {
-        &out[..0]
+    match out.get(start..) {
+        Some(rest) if length <= rest.len() => &rest[..length],
+        _ => &[],
     }
 }

@@ -1,22 +1,16 @@
 -- `buckets::enter` meets its contract: the pair is found, or it is new and gets the place behind the last. Assumes nothing.
 use native.Mathlib.Omega.{arith}
-use Rattle.buckets.proofs.Entered.{seeks, pushes, entered_old, entered_new}
+use Rattle.buckets.proofs.Entered.{seeks, entered_old, entered_new}
 use Rattle.buckets.proofs.enter.Goals as goal
 
-pub find-p-requires : goal.find-p-requires
-find-p-requires c = let at = c in seeks at.requires at.bucket-b.ensures.0 at.bucket-b.ensures.1
-
-pub returns-then-p-count : goal.returns-then-p-count
-returns-then-p-count c =
-    let at = c in
-    entered_old at.requires at.bucket-b.ensures.0 at.bucket-b.ensures.1 c.find-p.ensures (omega arith)
-
-pub push-requires : goal.push-requires
-push-requires c = let at = c in pushes at.requires at.bucket-b.ensures.0 at.bucket-b.ensures.1
+pub returns-in-Some : goal.returns-in-Some
+returns-in-Some c =
+    let bucket = c.bucket-b.ensures in
+    let found = c.in-Some.ensures c.args.count (seeks c.requires bucket.0 bucket.1) in
+    entered_old c.requires bucket.0 bucket.1 found.1 found.0
 
 pub returns : goal.returns
 returns c =
-    let pushed = c in
-    let found = pushed in
-    let at = found in
-    entered_new at.requires at.bucket-b.ensures.0 at.bucket-b.ensures.1 found.find-p.ensures (omega arith) pushed.push.ensures
+    let bucket = c.bucket-b.ensures in
+    let none = c.in_default.ensures c.args.count (seeks c.requires bucket.0 bucket.1) in
+    entered_new c.requires bucket.0 bucket.1 none (omega arith) c.push.ensures

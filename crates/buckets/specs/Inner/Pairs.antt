@@ -19,9 +19,12 @@
 --   BucketsBegun n w w'             the first n buckets have no pair; all else is as it was
 --   SamePair w q x y b       b tells whether the pair at q is that of x and y
 --   SeekPair, PairFound      what is asked where a pair is sought, and what is found: its place in any list held
+--   SeekSomePair             the same of a list of some length
+--   PairSought               what the answer says for each list held: a place of the list, or that it has none
 --   with_pair w b x y i      w with the pair of x and y at i, in the bucket b; PushPair: what is asked for that
 --   EnterPair, PairEntered   the pair of x and y joins the list, if it is new; all else is as it was
-use Rattle.std.specs.Prelude.{◌≡◌, List, Bool, true, false, ℕ, suc, ◌+◌, ◌*◌, ◌/◌, ◌%◌, ◌≤◌, ◌<◌, length, get_or, set}
+use Rattle.std.specs.Prelude.{◌≡◌, List, Bool, true, false, Option, None, Some, ℕ, suc, ◌+◌, ◌*◌, ◌/◌, ◌%◌, ◌≤◌, ◌<◌}
+use Rattle.std.specs.Prelude.{length, get_or, set}
 use Rattle.call.specs.Space.{work_length}
 use Rattle.numbering.specs.Find.{find, Once}
 use Rattle.numbering.specs.Order.{add}
@@ -94,6 +97,17 @@ pub record SeekPair (key : ℕ → ℕ → ℕ) (w : List ℕ) (b x y count : �
 
 abbrev pub PairFound : (key : ℕ → ℕ → ℕ) (w : List ℕ) (x y count p : ℕ) → Type 0
 PairFound key w x y count p = (k : ℕ) (l : List ℕ) → y < k → HoldsPairs key k l w count → p ≡ find l (x * k + y)
+
+pub record SeekSomePair (key : ℕ → ℕ → ℕ) (w : List ℕ) (b x y : ℕ) : Type 0 where
+  pub count : ℕ
+  pub seek : SeekPair key w b x y count
+
+abbrev found_as : (key : ℕ → ℕ → ℕ) (w : List ℕ) (x y count : ℕ) → Option ℕ → Type 0
+found_as key w x y count None = PairFound key w x y count count
+found_as key w x y count (Some p) = (p < count) × PairFound key w x y count p
+
+abbrev pub PairSought : (key : ℕ → ℕ → ℕ) (w : List ℕ) (b x y : ℕ) → Option ℕ → Type 0
+PairSought key w b x y r = (count : ℕ) → SeekPair key w b x y count → found_as key w x y count r
 
 -- ---- a pair put in
 

@@ -9,6 +9,3 @@ use Rattle.congruence_equations.proofs.base_passes.Given as goal
 
 abbrev pub invariant-loop-y : goal.invariant-loop-y
 invariant-loop-y l = (l.y ≤ l.n) × BaseEquations l.y (turn_at l.w) (go_at l.n l.w) (back_at l.n l.w)
-
-abbrev pub decreases-loop-y : goal.decreases-loop-y
-decreases-loop-y l = l.n - l.y

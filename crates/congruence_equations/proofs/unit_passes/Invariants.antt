@@ -9,6 +9,3 @@ use Rattle.congruence_equations.proofs.unit_passes.Given as goal
 
 abbrev pub invariant-loop-y : goal.invariant-loop-y
 invariant-loop-y l = (l.y ≤ l.n) × UnitEquations l.y (turn_at l.w) (go_at l.n l.w) l.q l.g l.h
-
-abbrev pub decreases-loop-y : goal.decreases-loop-y
-decreases-loop-y l = l.n - l.y

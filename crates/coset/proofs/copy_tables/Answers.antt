@@ -1,12 +1,13 @@
 -- `copy_tables` tests the result spaces of S, R and T in this order and copies only when all three have room, so that a refusal leaves each
 -- as it was (`three_first` .. `three_room`). Assumes nothing.
-use mathlib.Core.Path.{◌≡◌, refl}
+use Rattle.std.specs.Prelude.{Err}
+use mathlib.Core.Path.{◌≡◌, refl, sym, ap, ◌∙◌}
 use mathlib.Core.List.{List}
 use Prim.Native.Nat.{ℕ, ◌≤◌}
 use native.Mathlib.Omega.{arith}
 use lib.ListN.{length}
 use Rattle.call.specs.Space.{work_length, entries}
-use Rattle.call.proofs.Laws.{fills_as}
+use Rattle.call.proofs.Laws.{fills_as, room_held, room_lacks}
 use Rattle.numbering.specs.Inner.Space.{S_TABLE, R_TABLE, T_TABLE}
 use Rattle.numbering.proofs.Space.{entries_length}
 use Rattle.coset.proofs.Stored.{three_first, three_second, three_third, three_room}
@@ -23,45 +24,44 @@ module _ (n : ℕ) (w : List ℕ) (few : n ≤ 4096) (long : work_length ≤ len
   long_T : length (entries T_TABLE n w) ≡ n
   long_T = entries_length T_TABLE n w (omega (arith, few, long))
 
-pub returns-then-s-n : goal.returns-then-s-n
-returns-then-s-n c =
-    let a = c in
-    let n = a.args.n in
-    let w = a.args.w.now in
-    fills_as (three_first n (entries S_TABLE n w) (entries R_TABLE n w) (entries T_TABLE n w) a.args.s.now a.args.r.now a.args.u.now
-    (long_S n w a.requires.0 a.requires.1) (long_R n w a.requires.0 a.requires.1) (long_T n w a.requires.0 a.requires.1) c.if-s-n.true) refl
+-- the spaces, in the order of their checks: each is as it was where one refuses
+pub returns-in_err-room : goal.returns-in_err-room
+returns-in_err-room c =
+    let e : c.from_residual.result ≡ Err c.in_err-room.field-0.0 = search rules in
+    let n = c.args.n in
+    let w = c.args.w.now in
+    let k = room_lacks n (length c.args.s.now) (sym c.room.ensures ∙ c.in_err-room.was) in
+    fills_as (three_first n (entries S_TABLE n w) (entries R_TABLE n w) (entries T_TABLE n w) c.args.s.now c.args.r.now c.args.u.now
+    (long_S n w c.requires.0 c.requires.1) (long_R n w c.requires.0 c.requires.1) (long_T n w c.requires.0 c.requires.1) k.0) (e ∙ ap Err k.1)
 
-pub returns-then-r-n : goal.returns-then-r-n
-returns-then-r-n c =
-    let e = c in
-    let a = e in
-    let n = a.args.n in
-    let w = a.args.w.now in
-    fills_as (three_second n (entries S_TABLE n w) (entries R_TABLE n w) (entries T_TABLE n w) a.args.s.now a.args.r.now a.args.u.now
-    (long_S n w a.requires.0 a.requires.1) (long_R n w a.requires.0 a.requires.1) (long_T n w a.requires.0 a.requires.1) e.if-s-n.false c.if-r-n.true) refl
+pub returns-in_err-room-2 : goal.returns-in_err-room-2
+returns-in_err-room-2 c =
+    let e : c.from_residual-in_err-room-2.result ≡ Err c.in_err-room-2.field-0.0 = search rules in
+    let n = c.args.n in
+    let w = c.args.w.now in
+    let k = room_lacks n (length c.args.r.now) (sym c.room-2.ensures ∙ c.in_err-room-2.was) in
+    fills_as (three_second n (entries S_TABLE n w) (entries R_TABLE n w) (entries T_TABLE n w) c.args.s.now c.args.r.now c.args.u.now
+    (long_S n w c.requires.0 c.requires.1) (long_R n w c.requires.0 c.requires.1) (long_T n w c.requires.0 c.requires.1)
+    (room_held n (length c.args.s.now) (sym c.room.ensures ∙ c.in_ok-room.was)) k.0) (e ∙ ap Err k.1)
 
-pub returns-then-u-n : goal.returns-then-u-n
-returns-then-u-n c =
-    let f = c in
-    let e = f in
-    let a = e in
-    let n = a.args.n in
-    let w = a.args.w.now in
-    fills_as (three_third n (entries S_TABLE n w) (entries R_TABLE n w) (entries T_TABLE n w) a.args.s.now a.args.r.now a.args.u.now
-    (long_S n w a.requires.0 a.requires.1) (long_R n w a.requires.0 a.requires.1) (long_T n w a.requires.0 a.requires.1) e.if-s-n.false f.if-r-n.false
-    c.if-u-n.true) refl
+pub returns-in_err-room-3 : goal.returns-in_err-room-3
+returns-in_err-room-3 c =
+    let e : c.from_residual-in_err-room-3.result ≡ Err c.in_err-room-3.field-0.0 = search rules in
+    let n = c.args.n in
+    let w = c.args.w.now in
+    let k = room_lacks n (length c.args.u.now) (sym c.room-3.ensures ∙ c.in_err-room-3.was) in
+    fills_as (three_third n (entries S_TABLE n w) (entries R_TABLE n w) (entries T_TABLE n w) c.args.s.now c.args.r.now c.args.u.now
+    (long_S n w c.requires.0 c.requires.1) (long_R n w c.requires.0 c.requires.1) (long_T n w c.requires.0 c.requires.1)
+    (room_held n (length c.args.s.now) (sym c.room.ensures ∙ c.in_ok-room.was))
+    (room_held n (length c.args.r.now) (sym c.room-2.ensures ∙ c.in_ok-room-2.was)) k.0) (e ∙ ap Err k.1)
 
 pub returns : goal.returns
 returns c =
-    let k3 = c in
-    let k2 = k3 in
-    let k1 = k2 in
-    let g = k1 in
-    let f = g in
-    let e = f in
-    let a = e in
-    let n = a.args.n in
-    let w = a.args.w.now in
-    fills_as (three_room n (entries S_TABLE n w) (entries R_TABLE n w) (entries T_TABLE n w) a.args.s.now a.args.r.now a.args.u.now
-    (long_S n w a.requires.0 a.requires.1) (long_R n w a.requires.0 a.requires.1) (long_T n w a.requires.0 a.requires.1) e.if-s-n.false f.if-r-n.false
-    g.if-u-n.false k1.copy_out.ensures k2.copy_out-2.ensures k3.copy_out-3.ensures) refl
+    let n = c.args.n in
+    let w = c.args.w.now in
+    fills_as (three_room n (entries S_TABLE n w) (entries R_TABLE n w) (entries T_TABLE n w) c.args.s.now c.args.r.now c.args.u.now
+    (long_S n w c.requires.0 c.requires.1) (long_R n w c.requires.0 c.requires.1) (long_T n w c.requires.0 c.requires.1)
+    (room_held n (length c.args.s.now) (sym c.room.ensures ∙ c.in_ok-room.was))
+    (room_held n (length c.args.r.now) (sym c.room-2.ensures ∙ c.in_ok-room-2.was))
+    (room_held n (length c.args.u.now) (sym c.room-3.ensures ∙ c.in_ok-room-3.was))
+    c.copy_out.ensures c.copy_out-2.ensures c.copy_out-3.ensures) refl

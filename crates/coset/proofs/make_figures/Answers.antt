@@ -1,7 +1,7 @@
 -- `coset::make_figures` meets its contract: the figures of `survey`, and then the work space is cleared. Assumes nothing.
+use Rattle.std.specs.Prelude.{Ok}
 use mathlib.Core.Path.{◌∙◌, ap}
 use Rattle.call.specs.Space.{zeros}
-use Rattle.coset.specs.declared.Figured.TheVariants as figured
 use borrow.Author.Rules.{rules}
 use Rattle.coset.proofs.make_figures.Goals as goal
 
@@ -9,4 +9,4 @@ pub returns : goal.returns
 returns c =
     let k = c in
     let s = k.survey-f.ensures in
-    record { value = ap figured.Made s.figures; w_after = k.clear.ensures ∙ ap zeros s.same }
+    record { value = ap Ok s.figures; w_after = k.clear.ensures ∙ ap zeros s.same }

@@ -3,16 +3,13 @@
 --   Surveyed v t w w' f     the figures f of the symbol's tables, and in the work space the tables of S, R and T and
 --                           the widths
 --   figured_if f c          the answer of `figures`, from the verdict c: the figures f, or the refusal
-use Rattle.std.specs.Prelude.{◌≡◌, List, ℕ, ◌≤◌, length, ℤ}
+use Rattle.std.specs.Prelude.{◌≡◌, List, ℕ, ◌≤◌, length, ℤ, Ok, Err}
 use Rattle.numbering.specs.Inner.Space.{ROOM, S_TABLE, WIDTHS, R_TABLE, T_TABLE}
 use Rattle.call.specs.Space.{entries}
-use Rattle.call.specs.declared.refusal.Checked.{Checked}
-use Rattle.call.specs.declared.refusal.Checked.TheVariants.{Accepted, Refused}
+use Rattle.call.specs.Refusal.{Checked, Answer}
 use Rattle.figures.specs.declared.FigureRecord.{FigureRecord}
 use Rattle.coset.specs.Tables.{table_s, table_r, table_t}
 use Rattle.coset.specs.Answer.{widths_of, figures_of}
-use Rattle.coset.specs.declared.Figured.{Figured}
-use Rattle.coset.specs.declared.Figured.TheVariants as figured
 
 pub record Surveyed (v : ℕ) (t : List ℤ) (w w' : List ℕ) (f : FigureRecord) : Type 0 where
   pub figures : f ≡ figures_of v t
@@ -24,6 +21,6 @@ pub record Surveyed (v : ℕ) (t : List ℤ) (w w' : List ℕ) (f : FigureRecord
   pub T_is : entries T_TABLE f.index w' ≡ table_t v t
   pub widths_are : entries WIDTHS f.cusps w' ≡ widths_of v t
 
-abbrev pub figured_if : FigureRecord → Checked → Figured
-figured_if f Accepted = figured.Made f
-figured_if f (Refused r) = figured.Refused r
+abbrev pub figured_if : FigureRecord → Checked → (Answer FigureRecord)
+figured_if f (Ok tt) = Ok f
+figured_if f (Err r) = Err r

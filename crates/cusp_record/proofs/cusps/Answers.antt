@@ -1,46 +1,25 @@
--- `cusps` meets its contract: a call that is not admitted leaves everything as it was (`admit_stop`); for one that is, the table is a symbol (`admitted`),
--- and the answer is that of `make_cusps` (`admit_pass`). Assumes nothing.
+-- `cusps` meets its contract: a call that is not admitted leaves everything as it was (`admit_stop`); for one that is, the
+-- table is a symbol (`admitted`), and the answer is that of `make_cusps` (`admit_pass`). Assumes nothing.
+use Rattle.std.specs.Prelude.{Err}
 use mathlib.Core.Path.{◌≡◌, refl, sym, ◌∙◌}
 use lib.ListN.{length}
-use Rattle.call.specs.declared.refusal.Checked.TheVariants.{Accepted}
 use Rattle.call.proofs.Laws.{admit_stop, admit_pass, fills_as, ran}
 use Rattle.symbol.specs.Check.{symbol_check}
-use Rattle.pairing.specs.Inner.Admitted.{admitted_of}
 use Rattle.pairing.proofs.Admitted.{admitted}
 use borrow.Author.Rules.{rules}
-use Rattle.cusp_record.proofs.cusps.Goals.{In-Accepted, Start}
 use Rattle.cusp_record.proofs.cusps.Goals as goal
 
--- the call was admitted
-module _ (e : In-Accepted) where
-  abbrev st : Start
-  st = (goal.at.In-Accepted e).Start
-
-  ok : Accepted ≡ admitted_of st.args.v st.args.t.now (length st.args.w.now)
-  ok = sym e.in-Accepted.is ∙ e.admit-admitted.ensures
-
 pub make_cusps-requires : goal.make_cusps-requires
-make_cusps-requires c =
-    let e = c in
-    let s = st (goal.at.make_cusps-requires c).In-Accepted in
-    admitted s.args.v s.args.t.now (length s.args.w.now) (ok (goal.at.make_cusps-requires c).In-Accepted)
+make_cusps-requires c = admitted c.args.v c.args.t.now (length c.args.w.now) (sym c.in_ok-admit.was ∙ c.admit.ensures)
 
-pub returns-in-Refused : goal.returns-in-Refused
-returns-in-Refused c =
-    let a = c in
-    let s = a in
-    let v = s.args.v in
-    let t = s.args.t.now in
-    let w = s.args.w.now in
-    fills_as (admit_stop w _ (symbol_check v t) w c.in-Refused.refusal (sym c.in-Refused.is ∙ a.admit-admitted.ensures) refl (refl, (refl, tt))) refl
+pub returns-in_err-admit : goal.returns-in_err-admit
+returns-in_err-admit c =
+    let e : c.from_residual.result ≡ Err c.in_err-admit.field-0.0 = search rules in
+    fills_as (admit_stop c.args.w.now _ (symbol_check c.args.v c.args.t.now) c.args.w.now c.in_err-admit.field-0.0
+    (sym c.in_err-admit.was ∙ c.admit.ensures) refl (refl, (refl, tt))) e
 
-pub returns-in-Accepted : goal.returns-in-Accepted
-returns-in-Accepted c =
-    let m = c in
-    let e = m in
-    let s = st (goal.at.returns-in-Accepted c).In-Accepted in
-    let v = s.args.v in
-    let t = s.args.t.now in
-    let w = s.args.w.now in
-    let made = m.make_cusps.ensures in
-    fills_as (admit_pass w _ (symbol_check v t) _ (ok (goal.at.returns-in-Accepted c).In-Accepted) made.w_after (ran made.fills)) made.fills.answer
+pub returns : goal.returns
+returns c =
+    let made = c.make_cusps.ensures in
+    fills_as (admit_pass c.args.w.now _ (symbol_check c.args.v c.args.t.now) _ (sym c.in_ok-admit.was ∙ c.admit.ensures)
+    made.w_after (ran made.fills)) made.fills.answer

@@ -10,6 +10,3 @@ use Rattle.cusp_record.proofs.enter_cusps.Given as goal
 
 abbrev pub invariant-loop-y : goal.invariant-loop-y
 invariant-loop-y l = Filling (held_t l.n l.initial.w) l.n l.k l.initial.w l.w l.c l.y
-
-abbrev pub decreases-loop-y : goal.decreases-loop-y
-decreases-loop-y l = l.n - l.y

@@ -10,12 +10,11 @@
 --     turn_of              that, by the phase, the points seen, those of the open cycle, and the cycles done
 --     State               the front, before the index; within S; within R; lost
 --     read_piece, read_all  a piece, and all pieces, one after the other
---     outcome             what was read where the text may end here
+--     read_outcome             what was read where the text may end here
 --     lost a b ps len     the offset of the first piece after which both readers are lost; len where there is none
 --     bad_index ps        a number that is no index stands at the front, behind blanks or none
 --     verdict_of t        what the two readers say of the text t
-use Rattle.std.specs.Prelude.{◌≡◌, Bool, true, false, not, ◌&&◌, List, [], ◌∷◌, ◌++◌, ℕ, suc, ltb, length}
-use Rattle.std.proofs.Math.Option.{Option, none, some}
+use Rattle.std.specs.Prelude.{Bool, true, false, not, ◌&&◌, List, [], ◌∷◌, ◌++◌, ℕ, suc, ltb, length, Option, None, Some}
 use Rattle.basics.specs.Choice.{pick}
 use Rattle.basics.specs.Count.{first}
 use Rattle.cycle_notation.specs.Piece.{CyclePiece, number, blank, opening, closing, comma, semicolon, another}
@@ -146,11 +145,11 @@ may_end point = false
 may_end wanted = false
 may_end closed = true
 
-abbrev pub outcome : State → Option Read
-outcome front = none
-outcome (within_S n ph seen cur done) = none
-outcome (within_R n sc ph seen cur done) = pick (may_end ph) (some (record { index = n; of_s = sc; of_r = done })) none
-outcome dead = none
+abbrev pub read_outcome : State → Option Read
+read_outcome front = None
+read_outcome (within_S n ph seen cur done) = None
+read_outcome (within_R n sc ph seen cur done) = pick (may_end ph) (Some (record { index = n; of_s = sc; of_r = done })) None
+read_outcome dead = None
 
 abbrev pub is_dead : State → Bool
 is_dead front = false
@@ -177,13 +176,13 @@ bad_index (another ∷ ps) = false
 
 -- the first reader's outcome, or the second's, or none
 abbrev pub either_read : Option Read → Option Read → ℕ → Verdict
-either_read (some r) b place = reads r
-either_read none (some r) place = reads r
-either_read none none place = leaves place
+either_read (Some r) b place = reads r
+either_read None (Some r) place = reads r
+either_read None None place = leaves place
 
 unfoldable pub verdict_of : List ℕ → Verdict
 verdict_of t =
     let ps = without_offsets (cycle_pieces t) in
     pick (bad_index ps) index_out
-    (either_read (outcome (read_all true front ps)) (outcome (read_all false front ps))
+    (either_read (read_outcome (read_all true front ps)) (read_outcome (read_all false front ps))
     (lost front front (cycle_pieces t) (length t)))

@@ -3,16 +3,15 @@
 --     FrontSame t at      up to the offset `at` the text t has blanks only: neither reader has moved, and the index is
 --                         still to come
 --     BlanksTo t at       and there is no further blank
---     either_alone n a b  the verdict by what the readers with and without a semicolon say, behind the index n
+--     verdict_behind n a  the verdict by what the readers say behind the index n
 --     VerdictRead v o s r the code answers o for the verdict v, and s and r hold the tables of a text that is right
-use Rattle.std.specs.Prelude.{◌≡◌, Bool, List, ℕ, ◌≤◌, ◌<◌, ltb, length, get_or}
-use Rattle.basics.specs.Choice.{pick}
+use Rattle.std.specs.Prelude.{◌≡◌, Bool, List, ℕ, ◌≤◌, ◌<◌, length, get_or, Ok, Err}
 use Rattle.cycle_notation.specs.Piece.{without_offsets}
 use Rattle.cycle_notation.specs.Verdict.{Verdict, reads, index_out, leaves}
 use Rattle.cycle_notation.specs.Inner.Reader.{front, read_all, bad_index}
 use Rattle.cycle_reading.specs.Inner.Hand.{pieces_left}
-use Rattle.cycle_reading.specs.declared.Judged.{Judged}
-use Rattle.cycle_reading.specs.declared.Judged.TheVariants as judged
+use Rattle.call.specs.Refusal.{Filled}
+use Rattle.call.specs.declared.refusal.Refusal.TheVariants.{PointCount, BadCycles}
 use Rattle.cycle_reading.specs.Inner.PartRun.{made}
 use Rattle.cycle_reading.specs.Inner.Alone.{Alone, fails, through, died}
 
@@ -27,21 +26,20 @@ pub record BlanksTo (t : List ℕ) (at : ℕ) : Type 0 where
   pub inside : at ≤ length t
   pub stops : at < length t → get_or t at 0 ≡ 32 → ⊥
 
-abbrev pub either_alone : ℕ → Alone → Alone → Verdict
-either_alone n (through sc rc) b = reads (record { index = n; of_s = sc; of_r = rc })
-either_alone n (fails x) (through sc rc) = reads (record { index = n; of_s = sc; of_r = rc })
-either_alone n (fails x) (fails y) = leaves (pick (ltb x y) y x)
+abbrev pub verdict_behind : ℕ → Alone → Verdict
+verdict_behind n (through sc rc) = reads (record { index = n; of_s = sc; of_r = rc })
+verdict_behind n (fails place) = leaves place
 
-abbrev pub judged_by : Verdict → Judged
-judged_by (reads q) = judged.Reads q.index
-judged_by index_out = judged.IndexOut
-judged_by (leaves place) = judged.Leaves place
+abbrev pub answered : Verdict → Filled
+answered (reads q) = Ok q.index
+answered index_out = Err PointCount
+answered (leaves place) = Err (BadCycles place)
 
 abbrev pub KeptRead : Verdict → (s r : List ℕ) → Type 0
 KeptRead (reads q) s r = (s ≡ made q.of_s) × (r ≡ made q.of_r)
 KeptRead index_out s r = Unit {0}
 KeptRead (leaves place) s r = Unit {0}
 
-pub record VerdictRead (v : Verdict) (o : Judged) (s r : List ℕ) : Type 0 where
-  pub returned : o ≡ judged_by v
+pub record VerdictRead (v : Verdict) (o : Filled) (s r : List ℕ) : Type 0 where
+  pub returned : o ≡ answered v
   pub kept : KeptRead v s r

@@ -4,12 +4,12 @@
 --                          where it may be over or not
 --     part_run             that, for the pieces ps from a phase on
 --     part_end_of, Kept        the same as the code answers, and what the table then holds
---     code_of ph            the number of a phase
+--     code_of ph, phase_of ph  a phase as the code has it, and back
+--     run_from semi n first ps     the reader from the phase `first`, before a permutation's first piece
 --     HandHolds                the marks are those of the points seen, the table has the links of the cycles done and
 --                              of the open one
 --     ReadTo               the loop: what is left to read from the offset `at` on says what all of it does
-use Rattle.std.specs.Prelude.{◌≡◌, Bool, true, false, List, [], ◌∷◌, ◌++◌, ℕ, suc, ◌+◌, ◌-◌, ◌≤◌, ◌<◌, length, get_or}
-use Rattle.basics.specs.Choice.{pick}
+use Rattle.std.specs.Prelude.{◌≡◌, Bool, true, false, List, [], ◌∷◌, ◌++◌, ℕ, suc, ◌+◌, ◌-◌, ◌≤◌, ◌<◌, length, get_or, Option, None, Some}
 use Rattle.basics.specs.Count.{count}
 use Rattle.numbering.specs.Find.{is_in}
 use Rattle.cycle_notation.specs.Piece.{PlacedPiece}
@@ -19,8 +19,11 @@ use Rattle.cycle_notation.specs.Inner.Reader.{turn_of, may_end}
 use Rattle.cycle_notation.specs.Inner.Stores.{cycles_stored, identity, last_of}
 use Rattle.cycle_reading.specs.declared.PartEnd.{PartEnd}
 use Rattle.cycle_reading.specs.declared.PartEnd.TheVariants as ending
-use Rattle.cycle_reading.specs.declared.Part.{Part}
-use Rattle.cycle_reading.specs.Inner.Hand.{Hand, hand, PartFits, pieces_left}
+use Rattle.cycle_reading.specs.declared.phases.Phase as code
+use Rattle.cycle_reading.specs.declared.phases.Phase.TheVariants.{Start, Opened, Empty, Point, Wanted, Closed}
+use Rattle.cycle_reading.specs.declared.points.Cycle.{Cycle}
+use Rattle.cycle_reading.specs.declared.points.Part.{Part}
+use Rattle.cycle_reading.specs.Inner.Hand.{Hand, hand, cycle_at, PartFits, pieces_left}
 
 pub data PartOut : Type 0 where
   lost : ℕ → PartOut
@@ -50,17 +53,28 @@ Kept (lost at) table = Unit {0}
 Kept (passed at done) table = table ≡ made done
 Kept (ended b done) table = b ≡ true → table ≡ made done
 
-abbrev pub code_of : Phase → ℕ
-code_of start = 0
-code_of opened = 1
-code_of empty = 2
-code_of point = 3
-code_of wanted = 4
-code_of closed = 5
+abbrev pub code_of : Phase → code.Phase
+code_of start = Start
+code_of opened = Opened
+code_of empty = Empty
+code_of point = Point
+code_of wanted = Wanted
+code_of closed = Closed
 
-abbrev pub CycleUnderWay : Part → List ℕ → Type 0
-CycleUnderWay p [] = p.going ≡ false
-CycleUnderWay p (a ∷ c) = (p.going ≡ true) × (p.first ≡ a - 1) × (p.last ≡ last_of a c - 1)
+abbrev pub phase_of : code.Phase → Phase
+phase_of Start = start
+phase_of Opened = opened
+phase_of Empty = empty
+phase_of Point = point
+phase_of Wanted = wanted
+phase_of Closed = closed
+
+abbrev pub run_from : (semi : Bool) (n : ℕ) → code.Phase → List PlacedPiece → PartOut
+run_from semi n first ps = part_run semi n (phase_of first) [] [] [] ps
+
+abbrev pub CycleUnderWay : Option Cycle → List ℕ → Type 0
+CycleUnderWay k [] = k ≡ None
+CycleUnderWay k (a ∷ c) = k ≡ Some (cycle_at (a - 1) (last_of a c - 1))
 
 abbrev pub ShutAt : Phase → List ℕ → Type 0
 ShutAt start cur = cur ≡ []
@@ -72,15 +86,16 @@ ShutAt closed cur = cur ≡ []
 
 pub record HandHolds (n : ℕ) (ph : Phase) (seen cur : List ℕ) (done : List (List ℕ)) (h : Hand) : Type 0 where
   pub phase : h.part.phase ≡ code_of ph
-  pub marks : (i : ℕ) → i < n → get_or h.marks i 0 ≡ pick (is_in seen (suc i)) 1 0
+  pub marks : (i : ℕ) → i < n → get_or h.marks i false ≡ is_in seen (suc i)
+  pub marks_long : length h.marks ≡ 3066
   pub used : h.part.used + count (λ (i : ℕ). free n seen (suc i)) n ≡ n
   pub table : h.table ≡ made (done ++ (cur ∷ []))
-  pub fits : PartFits h.part h.marks h.table
-  pub cycle : CycleUnderWay h.part cur
+  pub fits : PartFits h.part
+  pub cycle : CycleUnderWay h.part.cycle cur
   pub shut : ShutAt ph cur
 
-pub record ReadTo (semi : Bool) (n : ℕ) (ph₀ : Phase) (t : List ℕ) (from at : ℕ) (p : Part) (marks table : List ℕ) :
-    Type 0 where
+pub record ReadTo (semi : Bool) (n : ℕ) (ph₀ : Phase) (t : List ℕ) (from at : ℕ) (p : Part) (marks : List Bool)
+    (table : List ℕ) : Type 0 where
   pub ph : Phase
   pub seen : List ℕ
   pub cur : List ℕ
@@ -93,23 +108,3 @@ pub record ReadTo (semi : Bool) (n : ℕ) (ph₀ : Phase) (t : List ℕ) (from a
 pub record PartRead (out : PartOut) (r : PartEnd) (table : List ℕ) : Type 0 where
   pub returned : r ≡ part_end_of out
   pub kept : Kept out table
-  pub long : length table ≡ 3066
-
--- a permutation begins with its first bracket still to come, or behind it
-abbrev pub begin_at : (behind : Bool) → Phase
-begin_at behind = pick behind opened start
-
-pub record FreshPart (behind : Bool) (p : Part) : Type 0 where
-  pub phase : p.phase ≡ pick behind 1 0
-  pub going : p.going ≡ false
-  pub used : p.used ≡ 0
-  pub first : p.first ≡ 0
-  pub last : p.last ≡ 0
-
--- what stands before the first piece: no mark, and a table that moves nothing
-pub record Start (t : List ℕ) (from n : ℕ) (marks table : List ℕ) : Type 0 where
-  pub within : from ≤ length t
-  pub most : n ≤ 3066
-  pub no_marks : (i : ℕ) → get_or marks i 0 ≡ 0
-  pub marks_long : length marks ≡ 3066
-  pub table_is : table ≡ identity 3066

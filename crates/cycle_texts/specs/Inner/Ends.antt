@@ -6,12 +6,11 @@
 --                        `end`: 12 stays, and 27 with a place inside that part; any other is 27 with the place 65,536
 --   cut_answer end a     the answer to such an input: the same, and 27 with that place where there are tables
 --   CyclesLeave ..       what is left in the tables of S and R, s and r before and s' and r' after
-use Rattle.std.specs.Prelude.{◌≡◌, Bool, List, ℕ, ◌≤◌, eqb, ltb, length, take}
+use Rattle.std.specs.Prelude.{◌≡◌, Bool, List, ℕ, ◌≤◌, ltb, length, take, Ok, Err}
 use Rattle.basics.specs.Choice.{pick}
-use Rattle.call.specs.Refusal.{bad_cycles}
+use Rattle.call.specs.Refusal.{Filled}
+use Rattle.call.specs.declared.refusal.Refusal.TheVariants.{PointCount, BadCycles}
 use Rattle.call.specs.declared.refusal.Refusal.{Refusal}
-use Rattle.call.specs.declared.refusal.Filled.{Filled}
-use Rattle.call.specs.declared.refusal.Filled.TheVariants as filled
 use Rattle.call.specs.Call.{if_accepted, at_front}
 use Rattle.text.specs.Reading.{text_most}
 use Rattle.cycle_reading.specs.Reading.{cycles_check, read_s, read_r}
@@ -27,13 +26,13 @@ pub record JudgedTo (longer : Bool) (t : List ℕ) (e : ℕ) : Type 0 where
   pub same : take e t ≡ judged_text longer t
 
 abbrev pub cut_refusal : ℕ → Refusal → Refusal
-cut_refusal end f =
-    pick (eqb f.number 12) f
-    (pick (eqb f.number 27) (pick (ltb f.place end) f (bad_cycles text_most)) (bad_cycles text_most))
+cut_refusal end PointCount = PointCount
+cut_refusal end (BadCycles p) = pick (ltb p end) (BadCycles p) (BadCycles text_most)
+cut_refusal end f = BadCycles text_most
 
 abbrev pub cut_answer : ℕ → Filled → Filled
-cut_answer end (filled.Made n) = filled.Refused (bad_cycles text_most)
-cut_answer end (filled.Refused f) = filled.Refused (cut_refusal end f)
+cut_answer end (Ok n) = Err (BadCycles text_most)
+cut_answer end (Err f) = Err (cut_refusal end f)
 
 pub record CyclesLeave (longer : Bool) (text s r s' r' : List ℕ) : Type 0 where
   pub S_left : s' ≡ if_accepted (cycles_check (judged_text longer text)) (at_front (read_s (judged_text longer text)) s) s

@@ -1,29 +1,23 @@
--- `decimal::copy` meets its contract: the two tests say whether the bytes fit. Assumes nothing.
+-- `decimal::copy` meets its contract: the test says whether the bytes fit. Assumes nothing.
+use Rattle.std.specs.Prelude.{Err}
 use mathlib.Core.Path.{refl, ap, ◌∙◌}
 use native.Mathlib.Omega.{arith}
 use Prim.Native.Nat.{ℕ}
 use lib.ListN.{length}
-use Rattle.call.specs.Refusal.{too_short}
+use Rattle.call.specs.declared.refusal.Refusal.TheVariants.{TooShort}
+use Rattle.std.specs.Prelude.{Ok}
 use Rattle.decimal.specs.Writing.{standing}
-use Rattle.decimal.specs.declared.Written.TheVariants as written
 use Rattle.decimal.proofs.Places.{written_short, written_to}
 use Rattle.decimal.proofs.copy.Goals as goal
 
-pub returns-then-room-at : goal.returns-then-room-at
+pub returns-then-out-end : goal.returns-then-out-end
 unfolding standing
-returns-then-room-at c = let a = c.args in (
-  ap (λ (n : ℕ). written.Refused (too_short n)) c.needed.ensures ∙ written_short (length a.bytes.now) (length a.out.now) a.at (omega arith),
-  refl,
-)
-
-pub returns-then-room-at-2 : goal.returns-then-room-at-2
-unfolding standing
-returns-then-room-at-2 c = let a = c.args in (
-  ap (λ (n : ℕ). written.Refused (too_short n)) c.needed-then-room-at-2.ensures ∙ written_short (length a.bytes.now) (length a.out.now) a.at (omega arith),
+returns-then-out-end c = let a = c.args in (
+  ap (λ (n : ℕ). Err (TooShort n)) c.saturating_add-end.ensures ∙ written_short (length a.bytes.now) (length a.out.now) a.at (omega arith),
   refl,
 )
 
 pub returns : goal.returns
 unfolding standing
 returns c = let a = c.args in
-    (written_to (length a.bytes.now) (length a.out.now) a.at (omega arith), c.store.ensures)
+    (ap (λ (n : ℕ). Ok n) c.put.ensures.end_is ∙ written_to (length a.bytes.now) (length a.out.now) a.at (omega arith), c.put.ensures.left)

@@ -6,30 +6,6 @@ use Rattle.matrix.proofs.Bounds.{left_fits, right_fits, sum_fits}
 use Rattle.drawing.proofs.Whole.{held, cross_adds, cross_small, once_fits, twice_fits, twice_small}
 use Rattle.drawing.proofs.arc_of.Goals as goal
 
-pub overflow_mul-twice : goal.overflow_mul-twice
-overflow_mul-twice c =
-    let x = c.args.s in
-    let h = c.requires in
-    rw (held x.b h.in_b, held x.d h.in_d) (once_fits x h)
-
-pub overflow_mul-twice-2 : goal.overflow_mul-twice-2
-overflow_mul-twice-2 c =
-    let x = c.args.s in
-    let h = c.requires in
-    rw (held x.b h.in_b, held x.d h.in_d, to_z-of_z (once_fits x h)) (twice_fits x h)
-
-pub overflow_mul-s : goal.overflow_mul-s
-overflow_mul-s c =
-    let x = c.args.s in
-    let h = c.requires in
-    rw (held x.a h.in_a, held x.d h.in_d) (left_fits (cross_adds x h))
-
-pub overflow_mul-s-2 : goal.overflow_mul-s-2
-overflow_mul-s-2 c =
-    let x = c.args.s in
-    let h = c.requires in
-    rw (held x.c h.in_c, held x.b h.in_b) (right_fits (cross_adds x h))
-
 pub overflow_add-s : goal.overflow_add-s
 overflow_add-s c =
     let x = c.args.s in

@@ -1,5 +1,4 @@
 -- `box_of`: the box of a line is its place, that of an arc goes from end to end. Assumes nothing.
-use borrow.Author.Rules.{rules}
 use Rattle.drawing.proofs.Whole.{is_0}
 use Rattle.drawing.proofs.box_of.Goals as goal
 

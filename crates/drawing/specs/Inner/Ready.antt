@@ -9,11 +9,10 @@
 --   DrawnTo v t i w w'     w' begins with the rows of the first i sides, and goes on as w does
 --   drawing_check v t      the checks 1 to 7, then 22
 --   drawn b c              the answer of `draw_symbol`, from the verdict c: the box b, or the refusal
+use Rattle.std.specs.Prelude.{Ok, Err}
 use Rattle.std.specs.Prelude.{◌≡◌, List, ◌++◌, ℕ, ◌+◌, ◌*◌, ◌≤◌, ◌<◌, ℤ, pos, nat_abs, length, take, drop, Float}
 use Rattle.matrix.specs.Matrix.{nth}
-use Rattle.call.specs.Refusal.{◌or_else◌}
-use Rattle.call.specs.declared.refusal.Checked.{Checked}
-use Rattle.call.specs.declared.refusal.Checked.TheVariants.{Accepted, Refused}
+use Rattle.call.specs.Refusal.{◌or_else◌, Checked, Answer}
 use Rattle.symbol.specs.Check.{symbol_check}
 use Rattle.symbol.specs.Symbol.{IsSymbol}
 use Rattle.symbol.specs.declared.Side.{Side}
@@ -23,8 +22,6 @@ use Rattle.drawing.specs.Drawn.{left_reach, right_reach, height}
 use Rattle.drawing.specs.Answer.{drawn_rows, check22}
 use Rattle.drawing.specs.declared.Drawn.{Drawn}
 use Rattle.drawing.specs.declared.BoundingBox.{BoundingBox}
-use Rattle.drawing.specs.declared.Drawing.{Drawing}
-use Rattle.drawing.specs.declared.Drawing.TheVariants as drawing
 
 pub record Drawable (s : Side) : Type 0 where
   pub in_a : nat_abs s.a ≤ 33554432
@@ -60,6 +57,6 @@ pub record DrawnTo (v : ℕ) (t : List ℤ) (i : ℕ) (out out' : List Float) : 
 abbrev pub drawing_check : ℕ → List ℤ → Checked
 drawing_check v t = symbol_check v t or_else check22 v t
 
-abbrev pub drawn : BoundingBox → Checked → Drawing
-drawn b Accepted = drawing.Made b
-drawn b (Refused f) = drawing.Refused f
+abbrev pub drawn : BoundingBox → Checked → (Answer BoundingBox)
+drawn b (Ok tt) = Ok b
+drawn b (Err f) = Err f

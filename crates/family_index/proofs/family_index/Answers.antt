@@ -2,7 +2,6 @@
 -- Assumes nothing.
 use native.Mathlib.Omega.{arith}
 use Rattle.family_index.proofs.Family.{fits1, fits, of_gamma0, of_gamma1, of_gamma}
-use borrow.Author.Rules.{rules}
 use Rattle.family_index.proofs.family_index.Goals as goal
 
 pub overflow_mul-result : goal.overflow_mul-result

@@ -2,7 +2,6 @@
 use mathlib.Core.Path.{refl}
 use Rattle.congruence.specs.Index.{divisor_from}
 use Rattle.family_index.specs.Inner.Test.{index_by, right_from}
-use borrow.Author.Rules.{rules}
 use Rattle.family_index.proofs.table_entry.Goals as goal
 
 pub entry_of-requires : goal.entry_of-requires

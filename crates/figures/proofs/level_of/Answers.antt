@@ -1,31 +1,26 @@
 use native.Mathlib.Omega.{arith}
-use Rattle.figures.proofs.Scan.{level_start, level_positive, level_over, level_more, level_end}
+use mathlib.Core.Path.{◌≡◌}
+use Prim.Native.Nat.{◌+◌, ◌-◌}
+use borrow.Author.Rules.{rules}
+use Rattle.numbering.proofs.Space.{entries_length}
+use Rattle.figures.proofs.Scan.{part_entry, level_over, level_more, level_end}
 use Rattle.figures.proofs.level_of.Goals as goal
 
-pub loop-i-init : goal.loop-i-init
-loop-i-init c = (omega arith, level_start _)
+pub returns-in_err-m : goal.returns-in_err-m
+returns-in_err-m c =
+    let x = part_entry c.requires.fits c.loop-x-test.true c.from.ensures in
+    let over = level_over c.requires c.loop-x.invariant x.low x.is c.in_err-m.field-0.0 c.in_err-m.was c.lcm_of.ensures in
+    search (rules, over)
 
-pub lcm_of-r-requires : goal.lcm_of-r-requires
-lcm_of-r-requires c =
-    let pre = c.requires in
-    let loop = c.loop-i in
-    (loop.invariant.1.some, level_positive pre loop.invariant.1 (omega arith) c.wide64-x.ensures)
-
-pub returns-in_default : goal.returns-in_default
-returns-in_default c =
-    let pre = c.requires in
-    let loop = c.loop-i in
-    let wide64 = c.wide64-x in
-    let lcm-of = c.lcm_of-r in
-    level_over pre loop.invariant.1 (omega arith) wide64.ensures c.in_default.field-0 c.in_default.is lcm-of.ensures
-
-pub loop-i-preserved : goal.loop-i-preserved
-loop-i-preserved c =
-    let pre = c.requires in
-    let loop = c.loop-i in
-    let wide64 = c.wide64-x in
-    let lcm-of = c.lcm_of-r in
-    (omega arith, level_more pre loop.invariant.1 (omega arith) wide64.ensures _ (rw c.in-Value.is at lcm-of.ensures))
+pub loop-x-preserved : goal.loop-x-preserved
+loop-x-preserved c =
+    let x = part_entry c.requires.fits c.loop-x-test.true c.from.ensures in
+    level_more c.requires c.loop-x.invariant x.low x.is c.in_ok-m.m (rw c.in_ok-m.was at c.lcm_of.ensures)
 
 pub returns : goal.returns
-returns c = level_end c.requires c.loop-i.invariant.1 (omega arith)
+returns c =
+    let k : c.args.off + c.args.n - c.args.off ≡ c.args.n = omega arith in
+    let past = rw k at c.loop-x-test.false in
+    let end = rw k at c.loop-x.auto.x-index-end in
+    level_end c.requires c.loop-x.invariant
+    (omega (arith, past, end, entries_length c.args.off c.args.n c.args.w.now c.requires.fits))

@@ -8,15 +8,15 @@ use Rattle.figures.proofs.list_cycle.Goals as goal
 pub returns-then-has : goal.returns-then-has
 returns-then-has c = turned_old c.requires (sym c.has.ensures ∙ c.if-has.true)
 
-pub mark_cycle-c1-requires : goal.mark_cycle-c1-requires
-mark_cycle-c1-requires c = turn_cycle c.requires (sym c.has.ensures ∙ c.if-has.false)
+pub mark_cycle-listed-requires : goal.mark_cycle-listed-requires
+mark_cycle-listed-requires c = turn_cycle c.requires (sym c.has.ensures ∙ c.if-has.false)
 
 pub overflow_sub-w : goal.overflow_sub-w
 overflow_sub-w c =
     let pre = c.requires in
     let has = c.has in
     let if1 = c.if-has in
-    let mark-cycle = c.mark_cycle-c1 in
+    let mark-cycle = c.mark_cycle-listed in
     omega (arith, turn_more pre (sym has.ensures ∙ if1.false) mark-cycle.ensures, turn_few pre)
 
 pub overflow_add-w : goal.overflow_add-w
@@ -24,13 +24,13 @@ overflow_add-w c =
     let pre = c.requires in
     omega (arith, turn_low pre)
 
-pub offset_bounds-w-k : goal.offset_bounds-w-k
-offset_bounds-w-k c =
+pub offset_bounds-w-cycles : goal.offset_bounds-w-cycles
+offset_bounds-w-cycles c =
     let pre = c.requires in
     omega (arith, turn_low pre)
 
-pub bounds-w-k : goal.bounds-w-k
-bounds-w-k c =
+pub bounds-w-cycles : goal.bounds-w-cycles
+bounds-w-cycles c =
     let pre = c.requires in
     omega (arith, turn_low pre)
 
@@ -44,5 +44,5 @@ returns c =
     let pre = c.requires in
     let has = c.has in
     let if1 = c.if-has in
-    let mark-cycle = c.mark_cycle-c1 in
+    let mark-cycle = c.mark_cycle-listed in
     turned_new pre (sym has.ensures ∙ if1.false) mark-cycle.ensures

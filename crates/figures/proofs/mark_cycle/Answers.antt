@@ -1,6 +1,4 @@
-use mathlib.Core.Path.{◌∙◌}
 use native.Mathlib.Omega.{arith}
-use Rattle.numbering.proofs.Listing.{push_room}
 use Rattle.figures.proofs.Scan.{walk_start, walk_fresh, walk_more, walk_end}
 use Rattle.figures.proofs.mark_cycle.Goals as goal
 
@@ -9,9 +7,6 @@ loop-y-init c = walk_start c.requires
 
 pub push-requires : goal.push-requires
 push-requires c = walk_fresh c.requires c.loop-y.invariant
-
-pub overflow_add-c : goal.overflow_add-c
-overflow_add-c c = omega (arith, c.push.ensures.sparse.few, c.push.ensures.sparse.room)
 
 pub overflow_add-y : goal.overflow_add-y
 overflow_add-y c =
@@ -34,30 +29,18 @@ bounds-w-y c =
     let push = c.push in
     omega (arith, (walk_fresh pre loop.invariant).low, push.ensures.sparse.room, push.ensures.sparse.long)
 
-pub shape_of-w-then-y-x : goal.shape_of-w-then-y-x
-shape_of-w-then-y-x c =
-    let loop = c.loop-y in
-    let push = c.push in
-    push.ensures.frame.same ∙ loop.invariant.frame.same
-
 pub returns-then-y-x : goal.returns-then-y-x
 returns-then-y-x c =
     let pre = c.requires in
     let loop = c.loop-y in
     let push = c.push in
-    let wide = c.index-y in
+    let wide = c.from-y in
     walk_end pre loop.invariant push.ensures wide.ensures c.if-y-x.true
-
-pub loop-y-smaller : goal.loop-y-smaller
-loop-y-smaller c =
-    let pre = c.requires in
-    let loop = c.loop-y in
-    omega (arith, push_room (walk_fresh pre loop.invariant))
 
 pub loop-y-preserved : goal.loop-y-preserved
 loop-y-preserved c =
     let pre = c.requires in
     let loop = c.loop-y in
     let push = c.push in
-    let wide = c.index-y in
+    let wide = c.from-y in
     walk_more pre loop.invariant push.ensures wide.ensures c.if-y-x.false

@@ -2,7 +2,6 @@
 use native.Mathlib.Omega.{arith}
 use Rattle.text.proofs.InputText.{puts_prints}
 use Rattle.index_text.proofs.Entering.{constant_put}
-use borrow.Author.Rules.{rules}
 use Rattle.index_text.proofs.constant_lines.Goals as goal
 
 pub returns : goal.returns

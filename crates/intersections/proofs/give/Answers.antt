@@ -3,7 +3,7 @@
 use borrow.Author.Rules.{rules}
 use mathlib.Core.Path.{refl}
 use native.Mathlib.Omega.{arith}
-use Rattle.call.specs.Refusal.{large_intersection}
+use Rattle.call.specs.declared.refusal.Refusal.TheVariants.{LargeIntersection}
 use Rattle.call.specs.Inner.Fills.{made_if}
 use Rattle.call.proofs.Laws.{run_stop, run_pass, fills_as, ran}
 use Rattle.coset.proofs.Stored.{three_as}
@@ -14,7 +14,7 @@ use Rattle.intersections.proofs.give.Goals as goal
 pub returns-then-n-gt-MOST : goal.returns-then-n-gt-MOST
 returns-then-n-gt-MOST c =
     let n = c.args.n in
-    record { fills = fills_as {by = made_if n} (run_stop large_intersection (too_many n) _ (given_large n (omega arith)) (refl, (refl, (refl, tt)))) refl; w_len_unchanged = refl }
+    record { fills = fills_as {by = made_if n} (run_stop LargeIntersection (too_many n) _ (given_large n (omega arith)) (refl, (refl, (refl, tt)))) refl; w_len_unchanged = refl }
 
 pub compose-requires : goal.compose-requires
 compose-requires c =

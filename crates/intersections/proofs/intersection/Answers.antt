@@ -2,7 +2,9 @@
 -- that of `intersect` (`run_both`).
 -- Assumes nothing.
 use borrow.Author.Rules.{rules}
-use mathlib.Core.Path.{refl, sym, ◌∙◌}
+use Rattle.std.specs.Prelude.{Err}
+use Rattle.std.proofs.lemmas.Result.{err_from_is_err_and}
+use mathlib.Core.Path.{refl, sym, ap, ◌∙◌}
 use lib.ListN.{length}
 use Rattle.call.specs.Inner.Fills.{made_if}
 use Rattle.call.proofs.Laws.{fills_as, ran}
@@ -12,29 +14,19 @@ use Rattle.intersections.proofs.intersection.Goals as goal
 
 pub intersect-requires : goal.intersect-requires
 intersect-requires c =
-    let told = c in
-    let asked = told in
-    let s = asked in
-    both_admitted_lem s.args.v s.args.t.now s.args.n s.args.u.now (length s.args.w.now)
-    (sym told.in-Accepted.is ∙ asked.admit_both-admitted.ensures)
+    both_admitted_lem c.args.v c.args.t.now c.args.n c.args.u.now (length c.args.w.now) (sym c.in_ok-admit_both.was ∙ c.admit_both.ensures)
 
-pub returns-in-Refused : goal.returns-in-Refused
-returns-in-Refused c =
-    let k = c in
-    let asked = k in
-    let s = asked in
-    let w = s.args.w.now in
-    fills_as {by = made_if (length (common_cosets s.args.v s.args.t.now s.args.n s.args.u.now))}
-    (stop_both s.args.v s.args.t.now s.args.n s.args.u.now w w _ k.in-Refused.refusal
-    (sym k.in-Refused.is ∙ asked.admit_both-admitted.ensures) refl (refl, (refl, (refl, tt)))) refl
+pub returns-in_err-admit_both : goal.returns-in_err-admit_both
+returns-in_err-admit_both c =
+    let e = err_from_is_err_and _ c.from_residual.ensures.1 in
+    let w = c.args.w.now in
+    fills_as {by = made_if (length (common_cosets c.args.v c.args.t.now c.args.n c.args.u.now))}
+    (stop_both c.args.v c.args.t.now c.args.n c.args.u.now w w _ c.in_err-admit_both.field-0.0
+    (sym c.in_err-admit_both.was ∙ c.admit_both.ensures) refl (refl, (refl, (refl, tt)))) (e.1 ∙ ap Err e.2)
 
-pub returns-in-Accepted : goal.returns-in-Accepted
-returns-in-Accepted c =
-    let made = c in
-    let told = made in
-    let asked = told in
-    let s = asked in
-    let i = made.intersect.ensures in
-    fills_as {by = made_if (length (common_cosets s.args.v s.args.t.now s.args.n s.args.u.now))}
-    (run_both s.args.v s.args.t.now s.args.n s.args.u.now s.args.w.now _ _
-    (sym told.in-Accepted.is ∙ asked.admit_both-admitted.ensures) i.w_after (ran i.fills)) i.fills.answer
+pub returns : goal.returns
+returns c =
+    let i = c.intersect.ensures in
+    fills_as {by = made_if (length (common_cosets c.args.v c.args.t.now c.args.n c.args.u.now))}
+    (run_both c.args.v c.args.t.now c.args.n c.args.u.now c.args.w.now _ _
+    (sym c.in_ok-admit_both.was ∙ c.admit_both.ensures) i.w_after (ran i.fills)) i.fills.answer

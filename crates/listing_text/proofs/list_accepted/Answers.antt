@@ -5,7 +5,6 @@ use lib.ListN.{length}
 use Rattle.decimal.proofs.Placing.{puts_as}
 use Rattle.listing_text.proofs.Gathered.{leaders_most, rows_long}
 use Rattle.listing_text.proofs.Listed.{parts_listed}
-use borrow.Author.Rules.{rules}
 use Rattle.listing_text.proofs.list_accepted.Goals as goal
 
 pub list_parts-requires : goal.list_parts-requires

@@ -1,7 +1,6 @@
 -- `list_parts` meets its contract: its three parts, one after another. Assumes nothing.
 use native.Mathlib.Omega.{arith}
 use Rattle.decimal.proofs.Placing.{puts_then}
-use borrow.Author.Rules.{rules}
 use Rattle.listing_text.proofs.list_parts.Goals as goal
 
 pub returns : goal.returns

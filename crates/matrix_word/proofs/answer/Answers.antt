@@ -2,7 +2,6 @@
 use mathlib.Core.Path.{◌∙◌, ap}
 use Rattle.call.specs.Space.{zeros}
 use Rattle.matrix_word.proofs.Along.{one_ready}
-use borrow.Author.Rules.{rules}
 use Rattle.matrix_word.proofs.answer.Goals as goal
 
 pub word_along-found-requires : goal.word_along-found-requires

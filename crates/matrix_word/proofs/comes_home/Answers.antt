@@ -3,7 +3,6 @@ use native.Mathlib.Omega.{arith}
 use mathlib.Core.List.{[]}
 use Rattle.word.proofs.Finding.{setting}
 use Rattle.matrix_word.proofs.Along.{along_ready, home_by}
-use borrow.Author.Rules.{rules}
 use Rattle.matrix_word.proofs.comes_home.Goals as goal
 
 pub tally-end-requires : goal.tally-end-requires

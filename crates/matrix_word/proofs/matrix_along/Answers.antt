@@ -9,7 +9,6 @@ use Rattle.matrix.specs.Matrix.{nth, of_list}
 use Rattle.matrix.proofs.Bounds.{kept, minus, minus_fits}
 use Rattle.coset.proofs.Positions.{positions}
 use Rattle.matrix_word.proofs.Along.{round_is}
-use borrow.Author.Rules.{rules}
 use Rattle.matrix_word.proofs.matrix_along.Goals.{Start}
 use Rattle.matrix_word.proofs.matrix_along.Goals as goal
 

@@ -2,7 +2,6 @@
 use native.Mathlib.Omega.{arith}
 use Rattle.word.proofs.Finding.{setting}
 use Rattle.matrix_word.proofs.Along.{along_ready, as_one}
-use borrow.Author.Rules.{rules}
 use Rattle.matrix_word.proofs.word_along.Goals as goal
 
 pub matrix_along-along-requires : goal.matrix_along-along-requires

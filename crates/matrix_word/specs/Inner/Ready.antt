@@ -6,8 +6,7 @@ use Rattle.std.specs.Prelude.{◌≡◌, List, ℕ, ℤ, pos}
 use Rattle.matrix.specs.Matrix.{det, of_list}
 use Rattle.matrix.specs.Bounds.{Small}
 use Rattle.call.specs.Space.{work_length}
-use Rattle.call.specs.Refusal.{◌or_else◌}
-use Rattle.call.specs.declared.refusal.Checked.{Checked}
+use Rattle.call.specs.Refusal.{◌or_else◌, Checked}
 use Rattle.call.specs.Call.{length_check}
 use Rattle.symbol.specs.Check.{symbol_check}
 use Rattle.coset.specs.Positions.{start_of}

@@ -1,20 +1,18 @@
 -- `named_groups::check` meets its contract: its arms are those of `group_check`.
 -- Assumes nothing.
-use borrow.Author.Rules.{rules}
 use Rattle.named_groups.proofs.Checked.{verdict_as, check_family, check_some, check_most, check_few, check_accepts, index_by}
 use native.Mathlib.Omega.{arith}
-use Rattle.family_index.proofs.family_index.Reads as family-index-reads
-use Rattle.named_groups.proofs.family_of.Reads as family-of-reads
+use Rattle.named_groups.proofs.check.Goals.{then-k-gt2-via-then-k-gt2, then-k-gt2-via-else-k-gt2+then-n-lt1}
+use Rattle.named_groups.proofs.check.Goals.{then-k-gt2-via-else-k-gt2+else-n-lt1+then-n-gt1000}
 use Rattle.named_groups.proofs.check.Goals as goal
 
 pub returns-then-k-gt2 : goal.returns-then-k-gt2
-returns-then-k-gt2 c = verdict_as (check_family c.args.k c.args.n (omega arith))
-
-pub returns-then-n-lt1 : goal.returns-then-n-lt1
-returns-then-n-lt1 c = verdict_as (check_some c.args.k c.args.n (omega arith) (omega arith))
-
-pub returns-then-n-gt1000 : goal.returns-then-n-gt1000
-returns-then-n-gt1000 c = verdict_as (check_most c.args.k c.args.n (omega arith) (omega arith) (omega arith))
+returns-then-k-gt2 c = elim c.then-k-gt2.branch [
+  | then-k-gt2-via-then-k-gt2 w ↦ verdict_as (check_family c.args.k c.args.n (omega arith))
+  | then-k-gt2-via-else-k-gt2+then-n-lt1 w ↦ verdict_as (check_some c.args.k c.args.n (omega arith) (omega arith))
+  | then-k-gt2-via-else-k-gt2+else-n-lt1+then-n-gt1000 w ↦
+      verdict_as (check_most c.args.k c.args.n (omega arith) (omega arith) (omega arith))
+]
 
 pub returns-then-family_index-gt3066 : goal.returns-then-family_index-gt3066
 returns-then-family_index-gt3066 c =

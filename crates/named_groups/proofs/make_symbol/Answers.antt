@@ -1,6 +1,5 @@
 -- `named_groups::make_symbol` meets its contract: the family's tables are imported.
 -- Assumes nothing.
-use borrow.Author.Rules.{rules}
 use Rattle.named_groups.proofs.Answers.{front, front_length, length_S, length_R, symbol_made}
 use Rattle.import_symbol.specs.Answer.{order_by}
 use Rattle.congruence.specs.Cosets.{family_s, family_r}

@@ -1,6 +1,5 @@
 -- `named_groups::make_tables` meets its contract.
 -- Assumes nothing.
-use borrow.Author.Rules.{rules}
 use mathlib.Core.Path.{◌∙◌, ap}
 use Rattle.call.specs.Space.{zeros}
 use Rattle.named_groups.proofs.make_tables.Goals as goal

@@ -2,13 +2,9 @@
 -- Assumes nothing.
 use mathlib.Core.Path.{◌≡◌}
 use mathlib.Core.List.{◌++◌}
-use Prim.Native.Nat.{◌-◌, ◌≤◌}
 use lib.ListN.{length, drop}
 use Rattle.call.specs.Space.{entries}
 use Rattle.numbering.proofs.copy_out.Given as goal
 
 abbrev pub invariant-loop-j : goal.invariant-loop-j
-invariant-loop-j l = (l.out ≡ entries l.off l.j l.w ++ drop l.j l.initial.out) × (l.j ≤ l.n) × (length l.out ≡ length l.initial.out)
-
-abbrev pub decreases-loop-j : goal.decreases-loop-j
-decreases-loop-j l = l.n - l.j
+invariant-loop-j l = (l.out ≡ entries l.off l.j l.w ++ drop l.j l.initial.out) × (length l.out ≡ length l.initial.out)

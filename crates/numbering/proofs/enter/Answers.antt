@@ -12,13 +12,6 @@ returns-then-has c =
     let has = c.has in
     enter_old pre.sparse args.x (ltb-true _ _ (sym has.ensures ∙ c.if-has.true))
 
-pub push-requires : goal.push-requires
-push-requires c =
-    let pre = c.requires in
-    let has = c.has in
-    let if1 = c.if-has in
-    record { sparse = pre.sparse; low = pre.x_lt_size; new = ltb-false _ _ (sym has.ensures ∙ if1.false) }
-
 pub returns : goal.returns
 returns c =
     let pre = c.requires in

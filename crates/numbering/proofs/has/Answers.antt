@@ -1,15 +1,13 @@
 -- `numbering::has` meets its contract: the test of the sparse set is the test for a number.
 -- Assumes nothing.
+use mathlib.Core.Path.{◌∙◌}
 use native.Mathlib.Omega.{arith}
+use borrow.Author.Tests.{le-ltb}
 use Rattle.numbering.proofs.Listing.{has_no, has_by}
 use Rattle.numbering.proofs.has.Goals as goal
 
-pub returns-then-n-k : goal.returns-then-n-k
-returns-then-n-k c = has_no c.requires.sparse c.args.x (omega arith)
+pub returns-else-k-n : goal.returns-else-k-n
+returns-else-k-n c = le-ltb _ _ (omega arith) ∙ has_no c.requires.sparse c.args.x (omega arith)
 
-pub returns : goal.returns
-returns c =
-    let pre = c.requires in
-    let args = c.args in
-    let wide = c.index-k in
-    rw (c.index-y.ensures, wide.ensures) (has_by pre.sparse args.x (omega arith))
+pub returns-then-k-n : goal.returns-then-k-n
+returns-then-k-n c = rw (c.from.ensures, c.from-k.ensures) (has_by c.requires.sparse c.args.x (omega arith))

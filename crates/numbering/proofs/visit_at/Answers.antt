@@ -2,66 +2,32 @@
 -- Assumes nothing.
 use native.Mathlib.Omega.{arith}
 use Rattle.numbering.specs.Inner.Space.{SIGMA, RHO}
-use Rattle.numbering.proofs.Listing.{marked_then, visit_low, visit_image, visit_σ_low, visit_ρ_low}
+use Rattle.numbering.proofs.Listing.{marked_then, visit_image, visit_σ_low, visit_ρ_low}
 use Rattle.numbering.proofs.visit_at.Goals as goal
-
-pub overflow_add-x : goal.overflow_add-x
-overflow_add-x c =
-    let pre = c.requires in
-    omega (arith, visit_low pre c.index-x.ensures)
-
-pub offset_bounds-w-x : goal.offset_bounds-w-x
-offset_bounds-w-x c =
-    let pre = c.requires in
-    omega (arith, visit_low pre c.index-x.ensures)
-
-pub bounds-w-x : goal.bounds-w-x
-bounds-w-x c =
-    let pre = c.requires in
-    let wide = c.index-x in
-    omega (arith, visit_low pre wide.ensures)
-
-pub overflow_add-x-2 : goal.overflow_add-x-2
-overflow_add-x-2 c =
-    let pre = c.requires in
-    let wide = c.index-x in
-    omega (arith, visit_low pre wide.ensures)
-
-pub offset_bounds-w-x-2 : goal.offset_bounds-w-x-2
-offset_bounds-w-x-2 c =
-    let pre = c.requires in
-    let wide = c.index-x in
-    omega (arith, visit_low pre wide.ensures)
-
-pub bounds-w-x-2 : goal.bounds-w-x-2
-bounds-w-x-2 c =
-    let pre = c.requires in
-    let wide = c.index-x in
-    omega (arith, visit_low pre wide.ensures)
 
 pub enter-k-requires : goal.enter-k-requires
 enter-k-requires c =
     let pre = c.requires in
-    let wide = c.index-x in
-    let wide2 = c.index-s in
-    let wide3 = c.index-r in
+    let wide = c.from-x in
+    let wide2 = c.from-s in
+    let wide3 = c.from-r in
     record { sparse = pre.sparse; x_lt_size = omega (arith, visit_σ_low pre wide.ensures wide2.ensures, visit_ρ_low pre wide.ensures wide3.ensures) }
 
 pub enter-requires : goal.enter-requires
 enter-requires c =
     let pre = c.requires in
-    let wide = c.index-x in
-    let wide2 = c.index-s in
-    let wide3 = c.index-r in
+    let wide = c.from-x in
+    let wide2 = c.from-s in
+    let wide3 = c.from-r in
     let enter = c.enter-k in
     record { sparse = enter.ensures.sparse; x_lt_size = omega (arith, visit_σ_low pre wide.ensures wide2.ensures, visit_ρ_low pre wide.ensures wide3.ensures) }
 
 pub returns : goal.returns
 returns c =
     let pre = c.requires in
-    let wide = c.index-x in
-    let wide2 = c.index-s in
-    let wide3 = c.index-r in
+    let wide = c.from-x in
+    let wide2 = c.from-s in
+    let wide3 = c.from-r in
     let enter = c.enter-k in
     let enter2 = c.enter in
     rw (← visit_image pre SIGMA wide.ensures wide2.ensures, ← visit_image pre RHO wide.ensures wide3.ensures)

@@ -4,16 +4,15 @@
 --   admitted_of v t work    the refusals 1 to 7, then the work space
 --   both_admitted v t v' t' work    the refusals 1 to 7 of the first symbol, then those of the second, then the work
 --                                   space
-use Rattle.std.specs.Prelude.{List, ℕ, ltb, ℤ}
+use Rattle.std.specs.Prelude.{List, ℕ, ltb, ℤ, Ok, Err}
 use Rattle.basics.specs.Choice.{pick}
 use Rattle.call.specs.Space.{work_length}
-use Rattle.call.specs.Refusal.{too_short, ◌or_else◌}
-use Rattle.call.specs.declared.refusal.Checked.{Checked}
-use Rattle.call.specs.declared.refusal.Checked.TheVariants.{Accepted, Refused}
+use Rattle.call.specs.Refusal.{◌or_else◌, Checked}
+use Rattle.call.specs.declared.refusal.Refusal.TheVariants.{TooShort}
 use Rattle.symbol.specs.Check.{symbol_check}
 
 abbrev pub work_check : ℕ → Checked
-work_check work = pick (ltb work work_length) (Refused (too_short work_length)) Accepted
+work_check work = pick (ltb work work_length) (Err (TooShort work_length)) (Ok tt)
 
 abbrev pub admitted_of : ℕ → List ℤ → ℕ → Checked
 admitted_of v t work = symbol_check v t or_else work_check work

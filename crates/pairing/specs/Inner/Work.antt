@@ -10,7 +10,8 @@
 --   FirstsBounded v w   what w remembers of labels are sides
 --   Partnered v p w     w holds every free side's partner
 --   PartnersReady, put_row, RowsTo, SideListed  listing the generators, side by side
-use Rattle.std.specs.Prelude.{◌≡◌, Bool, false, List, ◌++◌, ℕ, ◌+◌, ◌-◌, ◌*◌, ◌<◌, ◌≤◌, ltb, eqb, length, get_or, set, take, drop, ℤ, pos}
+use Rattle.std.specs.Prelude.{◌≡◌, Bool, false, List, ◌++◌, ℕ, ◌+◌, ◌-◌, ◌*◌, ◌<◌, ◌≤◌, ltb, eqb, ℤ, pos}
+use Rattle.std.specs.Prelude.{length, get_or, set, take, drop}
 use Rattle.matrix.specs.Matrix.{nth}
 use Rattle.basics.specs.Choice.{pick}
 use Rattle.call.specs.Space.{work_length}

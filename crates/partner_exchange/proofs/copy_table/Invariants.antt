@@ -12,6 +12,3 @@ use Rattle.partner_exchange.proofs.copy_table.Given as goal
 
 abbrev pub invariant-loop-j : goal.invariant-loop-j
 invariant-loop-j l = (l.out ≡ take l.j l.t ++ drop l.j l.initial.out) × (l.j ≤ length l.t) × (length l.out ≡ length l.initial.out)
-
-abbrev pub decreases-loop-j : goal.decreases-loop-j
-decreases-loop-j l = length l.t - l.j

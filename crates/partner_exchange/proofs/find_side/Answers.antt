@@ -37,6 +37,5 @@ returns c =
     let l = c in
     let s = l in
     let test = label_test s.args.p.now (to_z w64 (of_z w64 s.args.x)) s.args.skip in
-    let end : l.loop-k.k ≡ s.args.v + 1 = omega arith in
-    end ∙ sym (first_clear test (s.args.v + 1) (clear_less test (s.args.v + 1) l.loop-k.k (omega arith) l.loop-k.invariant.0))
+    sym (first_clear test (s.args.v + 1) (clear_less test (s.args.v + 1) l.loop-k.k (omega arith) l.loop-k.invariant.0))
     ∙ ap (λ (z : ℤ). first (label_test s.args.p.now z s.args.skip) (s.args.v + 1)) (to_z-of_z s.ranges.x)

@@ -12,6 +12,3 @@ use Rattle.partner_exchange.proofs.find_side.Given as goal
 
 abbrev pub invariant-loop-k : goal.invariant-loop-k
 invariant-loop-k l = Clear (label_test l.p l.x l.skip) l.k × (l.k ≤ l.v + 1)
-
-abbrev pub decreases-loop-k : goal.decreases-loop-k
-decreases-loop-k l = l.v + 1 - l.k

@@ -1,7 +1,6 @@
 -- `build` fills the tables of an accepted symbol: partners, then numbers, then the cut. Each part keeps what those before it wrote
 -- (`tables_built`), and the start is read off the cut. Assumes nothing.
 use mathlib.Core.Path.{◌≡◌, ◌∙◌, ap}
-use native.Mathlib.Omega.{arith}
 use lib.ListN.{length}
 use Rattle.call.proofs.Zeros.{length_zeros}
 use Rattle.symbol.specs.Table.{pairing_entries}
@@ -12,7 +11,6 @@ use Rattle.polygon.specs.Inner.Partners.{PartnersHeld}
 use Rattle.polygon.specs.Inner.Tables.{PolygonTables}
 use Rattle.polygon.proofs.Space.{still}
 use Rattle.polygon.proofs.Partners.{partnered_in, tables_built}
-use borrow.Author.Rules.{rules}
 use Rattle.polygon.proofs.build.Goals.{After-clear, After-cut-under, After-number_sides, After-pair_sides, Start}
 use Rattle.polygon.proofs.build.Goals as goal
 
@@ -44,8 +42,8 @@ module _ (q : After-pair_sides) where
 
 pub number_sides-requires : goal.number_sides-requires
 number_sides-requires c =
-    let q = c in
-    ((st (goal.at.number_sides-requires c).After-pair_sides).requires.0, paired (goal.at.number_sides-requires c).After-pair_sides, still (paired_length (goal.at.number_sides-requires c).After-pair_sides) (st (goal.at.number_sides-requires c).After-pair_sides).requires.1)
+    let q = (goal.at.number_sides-requires c).After-pair_sides in
+    ((st q).requires.0, paired q, still (paired_length q) (st q).requires.1)
 
 -- the generators are numbered
 module _ (n : After-number_sides) where
@@ -57,8 +55,8 @@ module _ (n : After-number_sides) where
 
 pub cut-under-requires : goal.cut-under-requires
 cut-under-requires c =
-    let n = c in
-    ((st (q₁ (goal.at.cut-under-requires c).After-number_sides)).requires.0, still (numbered_length (goal.at.cut-under-requires c).After-number_sides) (st (q₁ (goal.at.cut-under-requires c).After-number_sides)).requires.1)
+    let n = (goal.at.cut-under-requires c).After-number_sides in
+    ((st (q₁ n)).requires.0, still (numbered_length n) (st (q₁ n)).requires.1)
 
 -- the polygon is cut
 module _ (c : After-cut-under) where
@@ -79,4 +77,5 @@ start_position-requires c =
 pub returns : goal.returns
 returns c =
     let e = c in
-    (record { tables = filled (goal.at.returns c).After-cut-under; start = c.start_position.ensures }, e.cut-under.ensures.frame.same ∙ numbered_length (n₁ (goal.at.returns c).After-cut-under))
+    let u = (goal.at.returns c).After-cut-under in
+    (record { tables = filled u; start = c.start_position.ensures }, e.cut-under.ensures.frame.same ∙ numbered_length (n₁ u))

@@ -7,6 +7,3 @@ use Rattle.prime_units.proofs.inverse.Given as goal
 
 abbrev pub invariant-loop-h : goal.invariant-loop-h
 invariant-loop-h l = Inverting l.q l.g l.h
-
-abbrev pub decreases-loop-h : goal.decreases-loop-h
-decreases-loop-h l = l.q + 1 - l.h

@@ -4,7 +4,6 @@ use mathlib.Core.Path.{refl}
 use native.Mathlib.Omega.{arith}
 use Rattle.text.proofs.InputText.{puts_prints, when_read, when_failed}
 use Rattle.query_text.proofs.Replied.{reply_means}
-use borrow.Author.Rules.{rules}
 use Rattle.query_text.proofs.reply.Goals as goal
 
 pub returns-in_default : goal.returns-in_default

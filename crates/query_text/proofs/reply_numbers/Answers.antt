@@ -1,19 +1,14 @@
 -- `reply_numbers` meets its contract: the numbers behind v are the symbol's table, and then A and B. Assumes nothing.
 use mathlib.Core.Path.{◌≡◌, ap, ◌∙◌}
-use mathlib.Core.List.{List}
 use Prim.Native.Nat.{ℕ, ◌-◌}
 use native.Mathlib.Omega.{arith}
-use lib.IntN.{ℤ}
 use lib.ListN.{length, take, drop}
 use mir.Syntax.{w64}
 use mir.Facts.{to_z-of_z}
 use Rattle.matrix.specs.Matrix.{nth}
-use Rattle.text.specs.Reading.{vertex_count}
 use Rattle.decimal.proofs.Placing.{puts_as}
 use Rattle.query_text.specs.Inner.Spaces.{replied}
-use Rattle.word.specs.Answer.{four}
 use Rattle.query_text.proofs.Replied.{asked_as, few_line, enough_line}
-use borrow.Author.Rules.{rules}
 use Rattle.query_text.proofs.reply_numbers.Goals as goal
 
 pub returns-then-k-lt10 : goal.returns-then-k-lt10

@@ -9,7 +9,8 @@
 --   SheetNumbers ns           the numbers of a text whose symbol is whole
 --   LinesRoom lines letters n out     n lines of the table, at most 256, name no more letters than the word space has,
 --                                     and out has room for them
-use Rattle.std.specs.Prelude.{◌≡◌, Bool, not, List, [], ◌∷◌, ◌++◌, ℕ, zero, suc, ◌+◌, ◌*◌, ◌≤◌, eqb, ℤ, pos, nat_abs, length}
+use Rattle.std.specs.Prelude.{◌≡◌, Bool, not, List, [], ◌∷◌, ◌++◌, ℕ, zero}
+use Rattle.std.specs.Prelude.{suc, ◌+◌, ◌*◌, ◌≤◌, eqb, ℤ, pos, nat_abs, length}
 use Rattle.std.specs.Int.Signed.{lt_z}
 use Rattle.basics.specs.Choice.{pick}
 use Rattle.matrix.specs.Matrix.{nth}

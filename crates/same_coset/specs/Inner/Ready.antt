@@ -1,6 +1,5 @@
 -- What the inner functions of the crate ask for, and give.
 --
---   yes_no k             yes or no
 --   Shares n w a b r     r is whether a and b lead to one point, in the coset tables of whatever symbol has its tables
 --                        by place in w
 --   pair_shared v t a b  the answer for a pair where the symbol is accepted and the work space is long enough: 8, 9,
@@ -10,25 +9,19 @@
 --   PairsShared n w p k lines lines'    the lines of the first k pairs, in place of what stood there, for whatever
 --                                       symbol has its tables by place in w
 --   PairsReady v t p w   the call passes its checks, and the work space is long enough
-use Rattle.std.specs.Prelude.{◌≡◌, Bool, false, List, ◌++◌, ℕ, ◌*◌, ◌^◌, ◌≤◌, ◌<◌, eqb, length, drop, ℤ, pos}
-use Rattle.basics.specs.Choice.{pick}
-use Rattle.matrix.specs.Matrix.{of_list, det}
-use Rattle.matrix.specs.Bounds.{Small}
+use Rattle.std.specs.Prelude.{◌≡◌, Bool, false, List, ◌++◌, ℕ, ◌*◌, ◌^◌, ◌≤◌, ◌<◌, eqb, length, drop, ℤ, Err}
+use Rattle.matrix.specs.Matrix.{of_list}
 use Rattle.call.specs.Space.{work_length}
 use Rattle.call.specs.declared.refusal.Refusal.{Refusal}
 use Rattle.call.specs.Call.{asks, verdict}
 use Rattle.call.specs.Inner.Fills.{decided}
-use Rattle.call.specs.declared.Decision.{Decision}
-use Rattle.call.specs.declared.Decision.TheVariants as decision
+use Rattle.call.specs.Refusal.{Decision, refusal_number, refusal_place}
 use Rattle.symbol.specs.Symbol.{IsSymbol}
 use Rattle.coset.specs.Tables.{table_s, table_r}
 use Rattle.right_cosets.specs.Leads.{leads}
 use Rattle.word.specs.Answer.{matrices_check, closes}
 use Rattle.same_coset.specs.Inner.Places.{SymbolPlaces}
 use Rattle.same_coset.specs.Pairs.{ragged, coset_lines}
-
-abbrev pub yes_no : Bool → Decision
-yes_no k = pick k decision.Yes decision.No
 
 abbrev pub Shares : ℕ → List ℕ → (a b : List ℤ) → Bool → Type 0
 Shares n w a b r = (v : ℕ) (t : List ℤ) (w₀ : List ℕ) → IsSymbol v t → SymbolPlaces v t w₀ w n
@@ -42,7 +35,7 @@ PairShared n w a b r = (v : ℕ) (t : List ℤ) (w₀ : List ℕ) → IsSymbol v
     → r ≡ pair_shared v t a b
 
 pub record LineFits (r : Decision) : Type 0 where
-  pub refused : (f : Refusal) → r ≡ decision.Refused f → (f.number < 2 ^ 63) × (f.place < 2 ^ 63)
+  pub refused : (f : Refusal) → r ≡ Err f → (refusal_number f < 2 ^ 63) × (refusal_place f < 2 ^ 63)
 
 abbrev pub PairsShared : ℕ → List ℕ → (p : List ℤ) (k : ℕ) → (lines lines' : List ℤ) → Type 0
 PairsShared n w p k lines lines' = (v : ℕ) (t : List ℤ) (w₀ : List ℕ) → IsSymbol v t → SymbolPlaces v t w₀ w n

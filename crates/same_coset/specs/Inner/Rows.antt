@@ -20,7 +20,8 @@
 --                            stands where these runs lead
 --   RemainsLater n w x y     y remains of whatever x remains of, and is sound
 --   LeadsTo n w x p          p is the place to which any matrix leads that x remains of
-use Rattle.std.specs.Prelude.{◌≡◌, Bool, true, false, not, List, ℕ, ◌+◌, ◌*◌, ◌-◌, ◌/◌, ◌%◌, ◌≤◌, ◌<◌, ltb, get_or, ℤ, pos, neg_ℤ, nat_abs, ◌-ℤ◌, ◌*ℤ◌}
+use Rattle.std.specs.Prelude.{◌≡◌, Bool, true, false, not, List, ℕ, ◌+◌, ◌*◌, ◌-◌, ◌/◌, ◌%◌, ◌≤◌, ◌<◌, ltb, get_or, ℤ}
+use Rattle.std.specs.Prelude.{pos, neg_ℤ, nat_abs, ◌-ℤ◌, ◌*ℤ◌}
 use Rattle.std.specs.Int.Signed.{non_neg}
 use Rattle.basics.specs.Choice.{pick}
 use Rattle.matrix.specs.Matrix.{Mat, mat, ◌⊗◌, of_list, det, ◌≈◌}

@@ -9,7 +9,6 @@ use Rattle.call.proofs.Laws.{fills_as}
 use Rattle.walk_runs.proofs.Tallying.{fresh_rounds}
 use Rattle.sheets.specs.Sheet.{pairs_in, space_at, lines_to}
 use Rattle.sheets.proofs.Whole.{no_room, in_room}
-use borrow.Author.Rules.{rules}
 use Rattle.sheets.proofs.fill.Goals as goal
 
 pub returns-then-lines-n : goal.returns-then-lines-n

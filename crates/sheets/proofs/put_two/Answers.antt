@@ -3,7 +3,6 @@ use native.Mathlib.Omega.{arith}
 use lib.ListN.{length-set}
 use mir.Facts.{to_z-of_z}
 use Rattle.sheets.proofs.Rows.{two_stores}
-use borrow.Author.Rules.{rules}
 use Rattle.sheets.proofs.put_two.Goals as goal
 
 pub bounds-lines-i-2 : goal.bounds-lines-i-2

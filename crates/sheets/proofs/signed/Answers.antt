@@ -1,7 +1,6 @@
 -- `signed` keeps a number below 2⁶³. Assumes nothing.
 use mir.Syntax.{w64}
 use mir.Facts.{to_z_pos}
-use borrow.Author.Rules.{rules}
 use Rattle.sheets.proofs.signed.Goals as goal
 
 pub returns : goal.returns

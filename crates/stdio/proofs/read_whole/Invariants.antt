@@ -1,11 +1,8 @@
 -- `stdio::read_whole` meets its contract. A turn that goes on has read at least one byte, so that less of the buffer is left.
 -- Assumes nothing.
 use Prim.Native.Nat.{◌≤◌, ◌-◌}
-use native.Mathlib.Omega.{arith}
 use mathlib.Core.Path.{◌≡◌}
 use lib.ListN.{length}
-use borrow.Author.Rules.{rules}
-use Rattle.stdio.proofs.Held.{ended, filled}
 use Rattle.stdio.proofs.read_whole.Given as goal
 
 abbrev pub invariant-loop-done : goal.invariant-loop-done

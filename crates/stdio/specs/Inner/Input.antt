@@ -1,18 +1,10 @@
 -- What the crate `stdio` says of what it read, in this order:
---   Within      how far one read got in the part that it was handed: at least one byte and at most all, where some came
 --   Held        what `read_whole` found lies within the buffer, and fills it where the input goes on behind it
 --   Further     the same, of n bytes that fill a buffer
 -- That these are the bytes of the input is in no contract: none can say what std's `read` reads from the system.
-use Rattle.std.specs.Prelude.{ℕ, ◌+◌, ◌≤◌, ◌<◌, ◌≡◌, Bool, true, List, length, take}
+use Rattle.std.specs.Prelude.{ℕ, ◌≤◌, ◌≡◌, true, List, length, take}
 use Rattle.text.specs.declared.input.Input.{Input}
 use Rattle.text.specs.declared.input.Input.TheVariants as input
-use Rattle.stdio.specs.declared.Piece.{Piece}
-use Rattle.stdio.specs.declared.Piece.TheVariants as piece
-
-abbrev pub Within : Piece → ℕ → ℕ → Type 0
-Within (piece.Came n) from end = (0 < n) × (from + n ≤ end)
-Within piece.End from end = Unit {0}
-Within piece.Failed from end = Unit {0}
 
 -- The second part follows from the first; a slice `&buf[..n]` asks for both. No program makes one: its answer takes the
 -- buffer and the `Input`.

@@ -6,24 +6,21 @@
 --   same_for v t n u     the answer of `same` for two symbols
 --   lines_for_two a v t n u  the lines for two symbols, by what is asked
 --   lines_of_two, bytes_of_two  the same for what a text gives, and for a text
-use Rattle.std.specs.Prelude.{◌≡◌, Bool, List, ℕ, ◌≤◌, ℤ, take}
-use Rattle.call.specs.Refusal.{◌or_else◌}
+use Rattle.std.specs.Prelude.{◌≡◌, Bool, List, ℕ, ◌≤◌, ℤ, take, Ok, Err}
+use Rattle.call.specs.Refusal.{◌or_else◌, Decision, Answer}
 use Rattle.call.specs.Inner.Fills.{decided}
-use Rattle.call.specs.declared.Decision.{Decision}
 use Rattle.symbol.specs.Check.{symbol_check}
 use Rattle.containment.specs.Group.{same_tables}
 use Rattle.containment.specs.TwoSymbols.{common_s, common_r}
 use Rattle.symbol_texts.specs.Pair.{pair_lines_by}
 use Rattle.subgroup_texts.specs.SameAnswer.{same_line, TwoSymbols, two, none, two_symbols, two_lines, same_bytes}
 use Rattle.subgroup_texts.specs.IntersectionAnswer.{intersection_for, intersection_lines, intersection_bytes}
-use Rattle.subgroup_texts.specs.declared.same_text.TwoReading.{TwoReading}
-use Rattle.subgroup_texts.specs.declared.same_text.TwoReading.TheVariants.{Numbers, Refused}
 use Rattle.subgroup_texts.specs.declared.two_texts.Asked.{Asked}
 use Rattle.subgroup_texts.specs.declared.two_texts.Asked.TheVariants as asked
 
-abbrev pub symbols_by : TwoReading → (ns ms : List ℤ) → TwoSymbols
-symbols_by (Refused f) ns ms = none f
-symbols_by (Numbers k j) ns ms = two (take k ns) (take j ms)
+abbrev pub symbols_by : (Answer (ℕ × ℕ)) → (ns ms : List ℤ) → TwoSymbols
+symbols_by (Err f) ns ms = none f
+symbols_by (Ok (k, j)) ns ms = two (take k ns) (take j ms)
 
 pub record CountsWithin (k j : ℕ) : Type 0 where
   pub some : 1 ≤ k
@@ -31,9 +28,9 @@ pub record CountsWithin (k j : ℕ) : Type 0 where
   pub some' : 1 ≤ j
   pub most' : j ≤ 3071
 
-pub record ReadsTwo (longer : Bool) (t : List ℕ) (r : TwoReading) (ns ms : List ℤ) : Type 0 where
+pub record ReadsTwo (longer : Bool) (t : List ℕ) (r : (Answer (ℕ × ℕ))) (ns ms : List ℤ) : Type 0 where
   pub gives : symbols_by r ns ms ≡ two_symbols longer t
-  pub within : (k j : ℕ) → r ≡ Numbers k j → CountsWithin k j
+  pub within : (k j : ℕ) → r ≡ Ok (k, j) → CountsWithin k j
 
 -- ---- what is asked of two symbols
 

@@ -1,65 +1,69 @@
 -- `check` meets its contract: its ways out are the seven checks in their order, each reached only where those before it passed, and what
 -- they accept is exactly the symbols (`verdict`). Assumes nothing.
-use mathlib.Core.Path.{◌≡◌, sym, ◌∙◌, ap}
-use mathlib.Core.List.{List}
-use Prim.Native.Nat.{◌*◌}
-use native.Mathlib.Omega.{arith}
-use lib.IntN.{ℤ}
-use lib.ListN.{length-drop}
-use Rattle.symbol.specs.Check.{check6, check7, symbol_check}
+use mathlib.Core.Path.{◌≡◌, sym, ◌∙◌}
+use Rattle.std.proofs.lemmas.Result.{err_from_is_err_and}
+use Rattle.symbol.specs.Check.{check3, check5, symbol_check}
 use Rattle.call.specs.Refusal.{◌or_else◌}
 use Rattle.symbol.proofs.Accepted.{verdict}
-use Rattle.symbol.proofs.Order.{first_refused, next_check, too_few, too_many_lem, wrong_length, later, first_two, tallied_none, behind}
-use Rattle.symbol.proofs.check.Goals.{After-check_vertices-vertices}
+use Rattle.symbol.proofs.Order.{first_refused, next_check, too_few, too_many_lem, wrong_length, first_two, from_four, from_six, behind}
+use Rattle.symbol.proofs.check.Goals.{Else-n-v, In_ok-check_entries, In_ok-check_neighbours, In_ok-check_zero}
 use Rattle.symbol.proofs.check.Goals as goal
 
 pub returns-then-v-lt1 : goal.returns-then-v-lt1
-returns-then-v-lt1 c = let s = c in verdict s.args.v s.args.t.now _ (sym (too_few s.args.v s.args.t.now c.if-v-lt1.true))
+returns-then-v-lt1 c = verdict c.args.v c.args.t.now _ (sym (too_few c.args.v c.args.t.now c.if-v-lt1.true))
 
 pub returns-then-v-gt1023 : goal.returns-then-v-gt1023
-returns-then-v-gt1023 c =
-    let s = c in
-    verdict s.args.v s.args.t.now _ (sym (too_many_lem s.args.v s.args.t.now c.if-v-lt1.false c.if-v-gt1023.true))
+returns-then-v-gt1023 c = verdict c.args.v c.args.t.now _ (sym (too_many_lem c.args.v c.args.t.now c.if-v-lt1.false c.if-v-gt1023.true))
 
 pub returns-then-n-v : goal.returns-then-n-v
 returns-then-n-v c =
-    let d = c in
-    let s = d in
-    verdict s.args.v s.args.t.now _ (sym (wrong_length s.args.v s.args.t.now d.if-v-lt1.false d.if-v-gt1023.false c.if-n-v.true))
+    verdict c.args.v c.args.t.now _ (sym (wrong_length c.args.v c.args.t.now c.if-v-lt1.false c.if-v-gt1023.false c.if-n-v.true))
 
-pub check_vertices-vertices-requires : goal.check_vertices-vertices-requires
-check_vertices-vertices-requires c = (c.if-v-gt1023.false, c.if-n-v.false)
+-- ---- what is left once the checks before passed
 
--- what the checks from the third on say, once the first two passed
-rest : (c : After-check_vertices-vertices) → symbol_check c.args.v
-    c.args.t.now ≡ later c.args.v
-    c.args.t.now
-rest c =
-    let d = c in
-    let s = d in
-    first_two s.args.v s.args.t.now d.if-v-lt1.false d.if-v-gt1023.false d.if-n-v.false
+third : (c : Else-n-v) → symbol_check c.args.v c.args.t.now ≡ (check3 c.args.v c.args.t.now or_else from_four c.args.v c.args.t.now)
+third c = first_two c.args.v c.args.t.now c.if-v-lt1.false c.if-v-gt1023.false c.if-n-v.false
 
-pub check_pairings-requires : goal.check_pairings-requires
-check_pairings-requires c =
-    let d = c in
-    let s = d in
-    let v = s.args.v in
-    let t = s.args.t.now in
-    (d.if-v-lt1.false, d.if-v-gt1023.false, rw (behind v t) (omega (arith, length-drop (2 * v) t, d.if-n-v.false)), tallied_none v _)
+fourth : (c : In_ok-check_entries) → symbol_check c.args.v c.args.t.now ≡ from_four c.args.v c.args.t.now
+fourth c = third (goal.at.In_ok-check_entries c).Else-n-v ∙ next_check _ (sym c.in_ok-check_entries.ensures)
 
-pub returns-in-Refused : goal.returns-in-Refused
-returns-in-Refused c =
-    let r = c in
-    let s = r in
-    verdict s.args.v s.args.t.now _ (sym (rest (goal.at.returns-in-Refused c).After-check_vertices-vertices ∙ first_refused _ (sym r.check_vertices-vertices.ensures ∙ c.in-Refused.is)))
+fifth : (c : In_ok-check_neighbours) → symbol_check c.args.v c.args.t.now ≡ (check5 c.args.v c.args.t.now or_else from_six c.args.v c.args.t.now)
+fifth c = fourth (goal.at.In_ok-check_neighbours c).In_ok-check_entries ∙ next_check _ (sym c.in_ok-check_neighbours.ensures)
 
-pub returns-in-Accepted : goal.returns-in-Accepted
-returns-in-Accepted c =
-    let e = c in
-    let r = e in
-    let s = r in
-    let v = s.args.v in
-    let t = s.args.t.now in
-    verdict v t _ (c.check_pairings.ensures
-    ∙ ap (λ (p : List ℤ). check6 v p or_else check7 v p) (behind v t)
-    ∙ sym (rest (goal.at.returns-in-Accepted c).After-check_vertices-vertices ∙ next_check _ (sym r.check_vertices-vertices.ensures ∙ e.in-Accepted.is)))
+sixth : (c : In_ok-check_zero) → symbol_check c.args.v c.args.t.now ≡ from_six c.args.v c.args.t.now
+sixth c = fifth (goal.at.In_ok-check_zero c).In_ok-check_neighbours ∙ next_check _ (sym c.in_ok-check_zero.ensures)
+
+pub returns-in_err-check_entries : goal.returns-in_err-check_entries
+returns-in_err-check_entries c =
+    let p = err_from_is_err_and c.from_residual.result c.from_residual.ensures.1 in
+    rw (p.1, p.2) (verdict c.args.v c.args.t.now _
+    (sym (third (goal.at.returns-in_err-check_entries c).Else-n-v ∙ first_refused _ (sym c.in_err-check_entries.ensures))))
+
+pub returns-in_err-check_neighbours : goal.returns-in_err-check_neighbours
+returns-in_err-check_neighbours c =
+    let r = c.from_residual-in_err-check_neighbours in
+    let p = err_from_is_err_and r.result r.ensures.1 in
+    rw (p.1, p.2) (verdict c.args.v c.args.t.now _
+    (sym (fourth (goal.at.returns-in_err-check_neighbours c).In_ok-check_entries ∙ first_refused _ (sym c.in_err-check_neighbours.ensures))))
+
+pub returns-in_err-check_zero : goal.returns-in_err-check_zero
+returns-in_err-check_zero c =
+    let r = c.from_residual-in_err-check_zero in
+    let p = err_from_is_err_and r.result r.ensures.1 in
+    rw (p.1, p.2) (verdict c.args.v c.args.t.now _
+    (sym (fifth (goal.at.returns-in_err-check_zero c).In_ok-check_neighbours ∙ first_refused _ (sym c.in_err-check_zero.ensures))))
+
+pub returns-in_err-check_paired : goal.returns-in_err-check_paired
+returns-in_err-check_paired c =
+    let r = c.from_residual-in_err-check_paired in
+    let p = err_from_is_err_and r.result r.ensures.1 in
+    let e = rw (behind c.args.v c.args.t.now) at c.in_err-check_paired.ensures in
+    rw (p.1, p.2) (verdict c.args.v c.args.t.now _
+    (sym (sixth (goal.at.returns-in_err-check_paired c).In_ok-check_zero ∙ first_refused _ (sym e))))
+
+pub returns : goal.returns
+returns c =
+    let b = behind c.args.v c.args.t.now in
+    let e = rw b at c.in_ok-check_paired.ensures in
+    verdict c.args.v c.args.t.now _
+    (rw b at c.check_odd.ensures ∙ sym (sixth (goal.at.returns c).In_ok-check_zero ∙ next_check _ (sym e)))

@@ -9,9 +9,8 @@
 --                              refusal
 --   TablesRead a s r x s' r'   `read_tables` answers x, and leaves s' and r' where s and r stood: the tables that the
 --                              text asks for stand at their fronts
-use Rattle.std.specs.Prelude.{Bool, List, ◌++◌, ℕ, ◌≤◌, ◌≡◌, ℤ, length, take, drop}
-use Rattle.call.specs.declared.refusal.Filled.{Filled}
-use Rattle.call.specs.declared.refusal.Filled.TheVariants.{Made, Refused}
+use Rattle.std.specs.Prelude.{Bool, List, ◌++◌, ℕ, ◌≤◌, ◌≡◌, ℤ, length, take, drop, Ok, Err}
+use Rattle.call.specs.Refusal.{Filled}
 use Rattle.text.specs.Piece.{pieces, numbers}
 use Rattle.text.specs.Reading.{input_of}
 use Rattle.text.specs.Inner.Inside.{left_by}
@@ -32,12 +31,12 @@ left_of_r (tables s r) out = filled r out
 left_of_r (refused f) out = out
 
 abbrev pub tables_read : Request → Filled
-tables_read (tables s r) = Made (length s)
-tables_read (refused f) = Refused f
+tables_read (tables s r) = Ok (length s)
+tables_read (refused f) = Err f
 
 pub record TablesRead (a : Request) (s r : List ℕ) (answer : Filled) (s' r' : List ℕ) : Type 0 where
   pub answered : answer ≡ tables_read a
   pub for_S : s' ≡ left_of_s a s
   pub for_R : r' ≡ left_of_r a r
-  pub most : (n : ℕ) → answer ≡ Made n → n ≤ 3066
-  pub fronts : (n : ℕ) → answer ≡ Made n → tables (take n s') (take n r') ≡ a
+  pub most : (n : ℕ) → answer ≡ Ok n → n ≤ 3066
+  pub fronts : (n : ℕ) → answer ≡ Ok n → tables (take n s') (take n r') ≡ a

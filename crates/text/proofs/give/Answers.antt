@@ -4,7 +4,6 @@ use borrow.Author.Tests.{lt-ltb, le-ltb}
 use lib.ListN.{length}
 use Rattle.text.specs.Reading.{answer}
 use Rattle.text.specs.Inner.Inside.{left_by}
-use borrow.Author.Rules.{rules}
 use Rattle.text.proofs.give.Goals as goal
 
 pub returns-then-out-k : goal.returns-then-out-k

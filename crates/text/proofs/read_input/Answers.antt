@@ -3,7 +3,6 @@ use mathlib.Core.Path.{refl, ◌∙◌}
 use lib.ListN.{length}
 use Rattle.text.specs.Inner.Inside.{left_by}
 use Rattle.text.proofs.Handed.{input_longer, input_read}
-use borrow.Author.Rules.{rules}
 use Rattle.text.proofs.read_input.Goals as goal
 
 pub returns-then-longer : goal.returns-then-longer

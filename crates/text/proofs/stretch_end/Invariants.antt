@@ -1,16 +1,10 @@
 -- `text::stretch_end` meets its contract: the stretch from `i` on ends where the one from `from` on does. Assumes
 -- nothing.
 use mathlib.Core.Path.{◌≡◌}
-use Prim.Native.Nat.{◌≤◌, ◌-◌, ◌+◌}
-use native.Mathlib.Omega.{arith}
-use lib.ListN.{length, drop}
+use Prim.Native.Nat.{◌+◌}
+use lib.ListN.{drop}
 use Rattle.text.specs.Inner.Inside.{stretch}
-use Rattle.text.proofs.Blanks.{stretch_more, stretch_here, stretch_end}
-use borrow.Author.Rules.{rules}
 use Rattle.text.proofs.stretch_end.Given as goal
 
 abbrev pub invariant-loop-i : goal.invariant-loop-i
-invariant-loop-i l = (l.i ≤ length l.text) × (l.from + stretch l.kind (drop l.from l.text) ≡ l.i + stretch l.kind (drop l.i l.text))
-
-abbrev pub decreases-loop-i : goal.decreases-loop-i
-decreases-loop-i l = length l.text - l.i
+invariant-loop-i l = l.from + stretch l.kind (drop l.from l.text) ≡ l.i + stretch l.kind (drop l.i l.text)

@@ -1,55 +1,36 @@
 -- `text::wanted_for` meets its contract: a number from 0 on is its own magnitude, and the tests on that are those of
 -- `wanted`. Assumes nothing.
-use mathlib.Core.Path.{sym, ap, ◌∙◌}
+use Prim.Native.Nat.{◌<◌}
 use native.Mathlib.Omega.{arith}
-use Rattle.text.specs.Inner.Inside.{wanted_of}
-use Rattle.text.specs.Reading.{wanted}
-use Rattle.text.proofs.Wants.{nat_of, want_negative, from_zero, cast_fits, want_low, want_high, want_these, count_fits}
-use Prim.Native.Nat.{◌<◌, ◌≤◌}
-use borrow.Author.Rules.{rules}
+use Rattle.text.proofs.Wants.{want_negative, from_zero, want_low, want_high, want_these, count_fits}
+use Rattle.text.proofs.wanted_for.Goals.{then-n-from-via-then-n-from, then-n-from-via-else-n-from+then-from-n}
 use Rattle.text.proofs.wanted_for.Goals as goal
 
-pub returns-then-v-lt0 : goal.returns-then-v-lt0
-returns-then-v-lt0 c = ap wanted_of (sym (want_negative c.ranges.v c.args.format c.if-v-lt0.true))
+pub returns-in_default : goal.returns-in_default
+returns-in_default c = want_negative c.ranges.v c.args.format c.in_default.ensures
 
-pub overflow_cast-n : goal.overflow_cast-n
-overflow_cast-n c = cast_fits c.ranges.v c.if-v-lt0.false
-
-pub returns-then-n-least : goal.returns-then-n-least
-returns-then-n-least c =
-    let a = c.args in
-    let o = from_zero c.ranges.v c.if-v-lt0.false in
-    ap wanted_of (sym (ap (wanted a.format) o ∙ want_low a.format (nat_of a.v) c.if-n-least.true))
-
-pub returns-then-most-n : goal.returns-then-most-n
-returns-then-most-n c =
-    let a = c.args in
-    let o = from_zero c.ranges.v c.if-v-lt0.false in
-    ap wanted_of (sym (ap (wanted a.format) o ∙ want_high a.format (nat_of a.v) c.if-n-least.false c.if-most-n.true))
+pub returns-then-n-from : goal.returns-then-n-from
+returns-then-n-from c = let f = c.args.format in
+    let is = from_zero c.ranges.v c.in-Ok.ensures in
+    elim c.then-n-from.branch [
+      | then-n-from-via-then-n-from w ↦ want_low f is (omega arith)
+      | then-n-from-via-else-n-from+then-from-n w ↦ want_high f is (omega arith) (omega arith)
+    ]
 
 pub overflow_mul-result : goal.overflow_mul-result
-overflow_mul-result c =
-    let f = c.args.format in
-    let n = nat_of c.args.v in
-    let each : f.each < 65536 = omega arith in
-    let most : f.most < 65536 = omega arith in
-    let more : f.more < 65536 = omega arith in
-    let o : n ≤ f.most = c.if-most-n.false in
-    omega (arith, count_fits f.each n f.more each (omega arith) more)
+overflow_mul-result c = let f = c.args.format in
+    let each : c.from-2.result < 65536 = omega arith in
+    let most : c.in-Ok.n < 65536 = omega arith in
+    omega (arith, count_fits c.from-2.result c.in-Ok.n 0 each most (omega arith))
 
 pub overflow_add-result : goal.overflow_add-result
-overflow_add-result c =
-    let f = c.args.format in
-    let n = nat_of c.args.v in
-    let each : f.each < 65536 = omega arith in
-    let most : f.most < 65536 = omega arith in
-    let more : f.more < 65536 = omega arith in
-    let o : n ≤ f.most = c.if-most-n.false in
-    omega (arith, count_fits f.each n f.more each (omega arith) more)
+overflow_add-result c = let f = c.args.format in
+    let each : c.from-2.result < 65536 = omega arith in
+    let most : c.in-Ok.n < 65536 = omega arith in
+    let more : c.from-3.result < 65536 = omega arith in
+    omega (arith, count_fits c.from-2.result c.in-Ok.n c.from-3.result each most more)
 
 pub returns : goal.returns
-returns c =
-    let a = c.args in
-    let o = from_zero c.ranges.v c.if-v-lt0.false in
-    ap wanted_of (sym (ap (wanted a.format) o ∙ want_these a.format (nat_of a.v) c.if-n-least.false
-    c.if-most-n.false))
+returns c = let f = c.args.format in
+    rw (c.from-2.ensures, c.from-3.ensures)
+    (want_these f (from_zero c.ranges.v c.in-Ok.ensures) (omega arith) (omega arith))

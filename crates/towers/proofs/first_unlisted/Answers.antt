@@ -15,10 +15,10 @@ use Rattle.towers.proofs.first_unlisted.Goals.{After-is_listed, After-start_of-p
 use Rattle.towers.proofs.first_unlisted.Goals as goal
 
 pub loop-i-init : goal.loop-i-init
-loop-i-init c = (search rules, clear_zero (unlisted c.args.t.now))
+loop-i-init c = clear_zero (unlisted c.args.t.now)
 
 pub start_of-p-requires : goal.start_of-p-requires
-start_of-p-requires c = let l = c in let s = l in whole_symbols s.args.n s.args.t.now s.requires l.loop-i.i l.loop-i.invariant.0
+start_of-p-requires c = let l = c in let s = l in whole_symbols s.args.n s.args.t.now s.requires l.loop-i.i (omega arith)
 
 -- the entry is inside the table
 room : (c : After-start_of-p) → c.start_of-p.result + 1 < length c.args.t.now
@@ -48,18 +48,15 @@ returns-then-not-is_listed c =
     let r = c in
     let l = r in
     let s = l in
-    sym (first_hit (unlisted s.args.t.now) l.loop-i.i s.args.n (omega arith) l.loop-i.invariant.1 (ap not (sym (read (goal.at.returns-then-not-is_listed c).After-is_listed) ∙ c.if-not-is_listed.true)))
+    sym (first_hit (unlisted s.args.t.now) l.loop-i.i s.args.n (omega arith) l.loop-i.invariant (ap not (sym (read (goal.at.returns-then-not-is_listed c).After-is_listed) ∙ c.if-not-is_listed.true)))
 
 pub loop-i-preserved : goal.loop-i-preserved
 loop-i-preserved c =
     let r = c in
     let l = r in
     let s = l in
-    (search rules, rw add-one (clear_more (unlisted s.args.t.now) l.loop-i.i l.loop-i.invariant.1 (ap not (sym (read (goal.at.loop-i-preserved c).After-is_listed) ∙ c.if-not-is_listed.false))))
+    rw add-one (clear_more (unlisted s.args.t.now) l.loop-i.i l.loop-i.invariant (ap not (sym (read (goal.at.loop-i-preserved c).After-is_listed) ∙ c.if-not-is_listed.false)))
 
 pub returns : goal.returns
 returns c =
-    let l = c in
-    let s = l in
-    let test = unlisted s.args.t.now in
-    sym (first_clear test s.args.n (clear_less test s.args.n l.loop-i.i (omega arith) l.loop-i.invariant.1))
+    sym (first_clear (unlisted c.args.t.now) c.args.n (clear_less (unlisted c.args.t.now) c.args.n c.loop-i.i c.loop-i-test.false c.loop-i.invariant))

@@ -12,7 +12,7 @@ use Rattle.towers.proofs.start_of.Goals.{After-or_zero, In-loop-i}
 use Rattle.towers.proofs.start_of.Goals as goal
 
 pub loop-i-init : goal.loop-i-init
-loop-i-init c = (starts_first _, search rules)
+loop-i-init c = starts_first _
 
 -- the entry that is passed is whole
 whole : (c : In-loop-i) → 3 * vertices_at c.args.t.now c.loop-i.i + 3 ≤ length
@@ -28,16 +28,16 @@ read c =
 
 room : (c : After-or_zero) → c.loop-i.p + (3 * c.or_zero.result + 3) ≤ length
     c.args.t.now
-room c = let l = c in room_on l.loop-i.invariant.0 (whole (goal.at.After-or_zero c).In-loop-i) c.or_zero.result (read c)
+room c = let l = c in room_on l.loop-i.invariant (whole (goal.at.After-or_zero c).In-loop-i) c.or_zero.result (read c)
 
 pub overflow_add-p : goal.overflow_add-p
-overflow_add-p c = let h = room_here c.loop-i.invariant.0 (whole c) in search rules
+overflow_add-p c = let h = room_here c.loop-i.invariant (whole c) in search rules
 
 pub offset_bounds-t-p : goal.offset_bounds-t-p
-offset_bounds-t-p c = let h = room_here c.loop-i.invariant.0 (whole c) in search rules
+offset_bounds-t-p c = let h = room_here c.loop-i.invariant (whole c) in search rules
 
 pub bounds-t-p : goal.bounds-t-p
-bounds-t-p c = let h = room_here c.loop-i.invariant.0 (whole c) in search rules
+bounds-t-p c = let h = room_here c.loop-i.invariant (whole c) in search rules
 
 pub overflow_mul-p : goal.overflow_mul-p
 overflow_mul-p c = let h = room c in search rules
@@ -51,7 +51,7 @@ overflow_add-p-in-loop-i-2 c = let h = room c in search rules
 pub loop-i-preserved : goal.loop-i-preserved
 loop-i-preserved c =
     let l = c in
-    (starts_on l.loop-i.invariant.0 (whole (goal.at.loop-i-preserved c).In-loop-i) c.or_zero.result (read c) (l.loop-i.i + 1) (add-one l.loop-i.i), search rules)
+    starts_on l.loop-i.invariant (whole (goal.at.loop-i-preserved c).In-loop-i) c.or_zero.result (read c) (l.loop-i.i + 1) (add-one l.loop-i.i)
 
 pub returns : goal.returns
-returns c = let l = c in let e : l.loop-i.i ≡ l.args.e = omega (arith, l.loop-i.invariant.1, c.loop-i-test.false) in rw e at l.loop-i.invariant.0
+returns c = let e : c.loop-i.i ≡ c.args.e = omega (arith, c.loop-i.auto.i-end, c.loop-i-test.false) in rw e at c.loop-i.invariant

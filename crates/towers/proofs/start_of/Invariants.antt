@@ -1,10 +1,6 @@
 -- `start_of` goes from entry to entry. The loop's invariant: entry i begins at p (`starts_on`). Assumes nothing.
-use Prim.Native.Nat.{◌-◌, ◌≤◌}
 use Rattle.towers.specs.Inner.Entries.{StartsAt}
 use Rattle.towers.proofs.start_of.Given as goal
 
 abbrev pub invariant-loop-i : goal.invariant-loop-i
-invariant-loop-i l = StartsAt l.t l.i l.p × (l.i ≤ l.e)
-
-abbrev pub decreases-loop-i : goal.decreases-loop-i
-decreases-loop-i l = l.e - l.i
+invariant-loop-i l = StartsAt l.t l.i l.p

@@ -6,7 +6,6 @@ use Prim.Native.Nat.{◌+◌, ◌^◌}
 use Rattle.matrix.specs.Matrix.{of_list}
 use Rattle.coset.proofs.Positions.{positions}
 use Rattle.walk.proofs.Onward.{whole_sound, whole_proper, sound_more, begun_tail, begun_head, stepped_long}
-use borrow.Author.Rules.{rules}
 use Rattle.walk.proofs.begin.Goals as goal
 
 pub power-requires : goal.power-requires

@@ -10,7 +10,6 @@ use Rattle.coset.proofs.Positions.{positions}
 use Rattle.walk.specs.Inner.Way.{form_of}
 use Rattle.walk.proofs.Forms.{properly, row_takes}
 use Rattle.walk.proofs.Stride.{landed, put_long, strode}
-use borrow.Author.Rules.{rules}
 use Rattle.walk.proofs.block.Goals as goal
 
 pub put_q-more-requires : goal.put_q-more-requires

@@ -5,7 +5,6 @@ use Rattle.matrix.specs.Words.{S, letter}
 use Rattle.coset.specs.Positions.{step_s, written, FrameEquation}
 use Rattle.walk.proofs.Told.{sign_S}
 use Rattle.walk.proofs.Letters.{stepped}
-use borrow.Author.Rules.{rules}
 use Rattle.walk.proofs.cross.Goals as goal
 
 pub returns : goal.returns

@@ -5,7 +5,6 @@ use native.Mathlib.Omega.{arith}
 use Rattle.coset.proofs.Positions.{positions}
 use Rattle.walk.proofs.Forms.{improper}
 use Rattle.walk.proofs.Onward.{ended_none, ended_S}
-use borrow.Author.Rules.{rules}
 use Rattle.walk.proofs.finish.Goals as goal
 
 pub returns-then-way-eq0 : goal.returns-then-way-eq0

@@ -8,7 +8,6 @@ use Rattle.walk.specs.Inner.Way.{form_of}
 use Rattle.walk.proofs.Forms.{row_takes}
 use Rattle.walk.proofs.Onward.{swap_proper}
 use Rattle.walk.proofs.Stride.{powered}
-use borrow.Author.Rules.{rules}
 use Rattle.walk.proofs.power.Goals as goal
 
 pub take-requires : goal.take-requires

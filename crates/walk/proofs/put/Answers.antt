@@ -2,7 +2,6 @@
 -- only (`put_out`). Assumes nothing.
 use mir.Facts.{to_z-of_z}
 use Rattle.walk.proofs.Letters.{put_none, put_in, put_out}
-use borrow.Author.Rules.{rules}
 use Rattle.walk.proofs.put.Goals as goal
 
 pub returns-then-letter-eq0 : goal.returns-then-letter-eq0

@@ -1,6 +1,5 @@
 -- `put_q` puts the letter that a turn writes (`put_of`). Assumes nothing.
 use Rattle.walk.proofs.Letters.{put_of}
-use borrow.Author.Rules.{rules}
 use Rattle.walk.proofs.put_q.Goals as goal
 
 pub returns : goal.returns

@@ -1,6 +1,5 @@
 -- `put_s` puts the letter that the table of S has (`put_of`). Assumes nothing.
 use Rattle.walk.proofs.Letters.{put_of}
-use borrow.Author.Rules.{rules}
 use Rattle.walk.proofs.put_s.Goals as goal
 
 pub returns : goal.returns

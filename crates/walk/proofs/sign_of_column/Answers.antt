@@ -2,7 +2,6 @@
 use Rattle.matrix.specs.Matrix.{nth, of_list}
 use Rattle.matrix.proofs.Bounds.{kept}
 use Rattle.walk.proofs.Told.{column_is}
-use borrow.Author.Rules.{rules}
 use Rattle.walk.proofs.sign_of_column.Goals as goal
 
 pub returns : goal.returns

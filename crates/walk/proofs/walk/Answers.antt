@@ -1,11 +1,7 @@
 use native.Mathlib.Omega.{arith}
-use mathlib.Core.Path.{◌≡◌, refl, sym, ◌∙◌}
-use lib.ListN.{length}
-use Rattle.matrix.specs.Euclid.{total}
+use mathlib.Core.Path.{refl, sym, ◌∙◌}
 use Rattle.coset.proofs.Positions.{positions}
-use Rattle.walk.specs.Inner.Way.{form_of, Going}
 use Rattle.walk.proofs.Onward.{going_none, going_more, walked}
-use borrow.Author.Rules.{rules}
 use Rattle.walk.proofs.walk.Goals as goal
 
 pub loop-out-init : goal.loop-out-init

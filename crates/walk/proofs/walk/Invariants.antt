@@ -1,13 +1,9 @@
 -- `walk` follows the word of m. The loop's invariant, `Going`: what was written, and then what is left to write from the present position,
 -- is the whole walk. The sum of the entries that are left falls with each turn, so it ends. Assumes nothing.
-use native.Mathlib.Omega.{arith}
-use mathlib.Core.Path.{◌≡◌, refl, sym, ◌∙◌}
+use mathlib.Core.Path.{◌≡◌}
 use lib.ListN.{length}
 use Rattle.matrix.specs.Euclid.{total}
-use Rattle.coset.proofs.Positions.{positions}
 use Rattle.walk.specs.Inner.Way.{form_of, Going}
-use Rattle.walk.proofs.Onward.{going_none, going_more, walked}
-use borrow.Author.Rules.{rules}
 use Rattle.walk.proofs.walk.Given as goal
 
 abbrev pub invariant-loop-out : goal.invariant-loop-out

@@ -29,7 +29,8 @@
 --   Walked                  the walk of the whole word of m: where it ends, how many letters it writes, these stored,
 --                           and the sign of m against them. THE EQUATION OF THE WALK: the frame of the position x where
 --                           it starts times m is the sign times what it writes times the frame of where it ends
-use Rattle.std.specs.Prelude.{◌≡◌, ◌⊎◌, Bool, not, ◌&&◌, List, [], ◌∷◌, ◌++◌, ℕ, suc, ◌+◌, ◌-◌, ◌*◌, ◌^◌, ◌≤◌, leb, ltb, eqb, length, set, take, drop, ℤ}
+use Rattle.std.specs.Prelude.{◌≡◌, ◌⊎◌, Bool, not, ◌&&◌, List, [], ◌∷◌, ◌++◌, ℕ, suc, ◌+◌, ◌-◌, ◌*◌, ◌^◌, ◌≤◌, leb}
+use Rattle.std.specs.Prelude.{ltb, eqb, length, set, take, drop, ℤ}
 use Rattle.matrix.specs.Matrix.{Mat}
 use Rattle.matrix.specs.Words.{Letter, Q, P, letter}
 use Rattle.matrix.specs.Euclid.{Form, form, total, tail_of, word_of}

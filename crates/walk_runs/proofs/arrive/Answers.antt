@@ -7,7 +7,6 @@ use Rattle.walk.specs.Inner.Way.{form_of}
 use Rattle.walk_runs.proofs.Quotients.{runs}
 use Rattle.walk_runs.proofs.Blocks.{run_ahead}
 use Rattle.walk_runs.proofs.Tallying.{ran_low, run_low}
-use borrow.Author.Rules.{rules}
 use Rattle.walk_runs.proofs.arrive.Goals as goal
 
 pub overflow_add-count : goal.overflow_add-count

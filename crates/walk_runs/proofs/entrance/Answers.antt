@@ -1,6 +1,5 @@
 -- `entrance` is S p or p, and both are positions (`entered_by_S`, `entered_at`). Assumes nothing.
 use Rattle.walk_runs.proofs.Tallying.{entered_by_S, entered_at}
-use borrow.Author.Rules.{rules}
 use Rattle.walk_runs.proofs.entrance.Goals as goal
 
 pub returns-then-inverse : goal.returns-then-inverse

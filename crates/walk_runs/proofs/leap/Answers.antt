@@ -2,7 +2,6 @@
 use native.Mathlib.Omega.{arith}
 use Rattle.walk.specs.Inner.Way.{form_of}
 use Rattle.walk_runs.proofs.Tallying.{run_low}
-use borrow.Author.Rules.{rules}
 use Rattle.walk_runs.proofs.leap.Goals as goal
 
 pub run-s-requires : goal.run-s-requires

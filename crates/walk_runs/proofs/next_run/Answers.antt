@@ -6,7 +6,6 @@ use borrow.Author.Tests.{lt-ltb, le-ltb}
 use Rattle.walk.specs.Inner.Way.{form_of}
 use Rattle.walk_runs.proofs.Quotients.{some_row}
 use Rattle.walk_runs.proofs.Tallying.{next_is}
-use borrow.Author.Rules.{rules}
 use Rattle.walk_runs.proofs.next_run.Goals as goal
 
 pub overflow_sub-result : goal.overflow_sub-result

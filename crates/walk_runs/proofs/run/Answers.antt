@@ -8,7 +8,6 @@ use Rattle.walk_runs.specs.Inner.Rounds.{HasPlace}
 use Rattle.walk_runs.specs.Inner.Tally.{Ran, Entrance}
 use Rattle.walk_runs.proofs.Entering.{few_places, real_low}
 use Rattle.walk_runs.proofs.Tallying.{entered_here}
-use borrow.Author.Rules.{rules}
 use Rattle.walk_runs.proofs.run.Goals as goal
 
 pub is_short-requires : goal.is_short-requires

@@ -4,7 +4,6 @@ use native.Mathlib.Omega.{arith}
 use Rattle.matrix.specs.Words.{S}
 use Rattle.coset.proofs.Positions.{positions}
 use Rattle.walk_runs.proofs.Tallying.{led_low, back_enough, back_ran}
-use borrow.Author.Rules.{rules}
 use Rattle.walk_runs.proofs.run_back.Goals as goal
 
 pub overflow_add-result : goal.overflow_add-result

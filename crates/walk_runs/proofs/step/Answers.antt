@@ -1,5 +1,4 @@
 -- `step` is `step_by` in either direction. Assumes nothing.
-use borrow.Author.Rules.{rules}
 use Rattle.walk_runs.proofs.step.Goals as goal
 
 pub returns-then-inverse : goal.returns-then-inverse

@@ -2,7 +2,6 @@
 use native.Mathlib.Omega.{arith}
 use Rattle.walk.specs.Inner.Way.{form_of}
 use Rattle.walk_runs.proofs.Tallying.{run_low}
-use borrow.Author.Rules.{rules}
 use Rattle.walk_runs.proofs.stride.Goals as goal
 
 pub step-s-requires : goal.step-s-requires

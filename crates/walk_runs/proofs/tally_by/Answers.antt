@@ -1,7 +1,6 @@
 -- `tally_by`: the beginning, all runs, and the last S are the whole walk (`tallied`). Assumes nothing.
 use mathlib.Core.Path.{refl, ◌∙◌}
 use Rattle.walk_runs.proofs.Tallying.{tallied, kept}
-use borrow.Author.Rules.{rules}
 use Rattle.walk_runs.proofs.tally_by.Goals as goal
 
 pub returns : goal.returns

@@ -1,7 +1,6 @@
 -- `walk_alone` starts with no round (`fresh_rounds`). Assumes nothing.
 use mathlib.Core.Path.{refl}
 use Rattle.walk_runs.proofs.Tallying.{fresh_rounds}
-use borrow.Author.Rules.{rules}
 use Rattle.walk_runs.proofs.walk_alone.Goals as goal
 
 pub walk_far-requires : goal.walk_far-requires

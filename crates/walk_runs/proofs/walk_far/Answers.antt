@@ -1,11 +1,6 @@
 use mathlib.Core.Path.{sym, ◌∙◌}
 use native.Mathlib.Omega.{arith}
-use Rattle.matrix.specs.Euclid.{total}
-use Rattle.walk.specs.Inner.Way.{form_of}
-use Rattle.walk_runs.specs.Inner.Tally.{Ahead}
-use Rattle.walk_runs.specs.Inner.Rounds.{Rounds}
 use Rattle.walk_runs.proofs.Tallying.{one_proper, ahead_none, ahead_more}
-use borrow.Author.Rules.{rules}
 use Rattle.walk_runs.proofs.walk_far.Goals as goal
 
 pub loop-k-init : goal.loop-k-init

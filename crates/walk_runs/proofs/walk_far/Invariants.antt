@@ -1,12 +1,8 @@
 -- `walk_far` makes one run after the other; each leaves less, and keeps the tables of rounds. Assumes nothing.
-use mathlib.Core.Path.{sym, ◌∙◌}
-use native.Mathlib.Omega.{arith}
 use Rattle.matrix.specs.Euclid.{total}
 use Rattle.walk.specs.Inner.Way.{form_of}
 use Rattle.walk_runs.specs.Inner.Tally.{Ahead}
 use Rattle.walk_runs.specs.Inner.Rounds.{Rounds}
-use Rattle.walk_runs.proofs.Tallying.{one_proper, ahead_none, ahead_more}
-use borrow.Author.Rules.{rules}
 use Rattle.walk_runs.proofs.walk_far.Given as goal
 
 abbrev pub invariant-loop-k : goal.invariant-loop-k

@@ -1,11 +1,7 @@
 -- `walk_near` makes one short run after the other; each leaves less. Assumes nothing.
-use mathlib.Core.Path.{sym, ◌∙◌}
-use native.Mathlib.Omega.{arith}
 use Rattle.matrix.specs.Euclid.{total}
 use Rattle.walk.specs.Inner.Way.{form_of}
 use Rattle.walk_runs.specs.Inner.Tally.{Ahead}
-use Rattle.walk_runs.proofs.Tallying.{one_proper, ahead_none, ahead_more}
-use borrow.Author.Rules.{rules}
 use Rattle.walk_runs.proofs.walk_near.Given as goal
 
 abbrev pub invariant-loop-k : goal.invariant-loop-k

@@ -1,7 +1,6 @@
 -- `walk_on` walks near, and on alone where more than S is left. Assumes nothing.
 use mathlib.Core.Path.{sym, ◌∙◌}
 use Rattle.walk_runs.proofs.Tallying.{ahead_more}
-use borrow.Author.Rules.{rules}
 use Rattle.walk_runs.proofs.walk_on.Goals as goal
 
 pub returns-then-is_proper : goal.returns-then-is_proper

@@ -26,7 +26,7 @@
 --   Located r p a           a is where the position p stands
 --   Sums r b                the sums grow up to the place b
 --   InRound v t r p a b y   the position p stands at the place y of the round from a to b
-use Rattle.std.specs.Prelude.{◌≡◌, Bool, ◌⊎◌, List, ℕ, zero, suc, ◌+◌, ◌-◌, ◌*◌, ◌≤◌, ◌<◌, eqb, length, get_or, ℤ}
+use Rattle.std.specs.Prelude.{◌≡◌, Bool, ◌⊎◌, List, ℕ, suc, ◌+◌, ◌-◌, ◌*◌, ◌≤◌, ◌<◌, eqb, length, get_or, ℤ}
 use Rattle.basics.specs.Count.{count}
 use Rattle.matrix.specs.Words.{Q}
 use Rattle.polygon.specs.Cut.{places}
@@ -93,7 +93,8 @@ pub record Looped (v : ℕ) (t : List ℤ) (r : List ℕ) (n y : ℕ) : Type 0 w
   pub from : beginning_in r y ≤ y
   pub before : y < end_in r y
   pub within : end_in r y ≤ n
-  pub next : (z : ℕ) → beginning_in r y ≤ z → suc z < end_in r y → forth_to v t (position_in r z) ≡ position_in r (suc z)
+  pub next : (z : ℕ) → beginning_in r y ≤ z → suc z < end_in r y
+      → forth_to v t (position_in r z) ≡ position_in r (suc z)
   pub last : (z : ℕ) → suc z ≡ end_in r y → forth_to v t (position_in r z) ≡ position_in r (beginning_in r y)
 
 abbrev pub Closed : ℕ → List ℤ → List ℕ → ℕ → Type 0

@@ -2,7 +2,6 @@
 use mathlib.Core.Path.{◌∙◌, ap}
 use Rattle.call.specs.Space.{zeros}
 use Rattle.word.proofs.Finding.{pair_ready}
-use borrow.Author.Rules.{rules}
 use Rattle.word.proofs.answer.Goals as goal
 
 pub answer_ready-found-requires : goal.answer_ready-found-requires

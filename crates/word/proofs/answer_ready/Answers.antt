@@ -2,7 +2,6 @@
 -- Assumes nothing.
 use native.Mathlib.Omega.{arith}
 use Rattle.word.proofs.Finding.{ready, setting, as_found_after}
-use borrow.Author.Rules.{rules}
 use Rattle.word.proofs.answer_ready.Goals as goal
 
 pub matrix_between-m-requires : goal.matrix_between-m-requires

@@ -4,7 +4,6 @@ use mathlib.Core.Path.{refl, sym, ◌∙◌}
 use Rattle.matrix.specs.Matrix.{of_list}
 use Rattle.word.specs.Inner.Ready.{letters_along, sign_along_walk, home_along}
 use Rattle.word.proofs.Finding.{setting, result, told, placed_out, not_home, too_far, too_long, fitting, away, at_home}
-use borrow.Author.Rules.{rules}
 use Rattle.word.proofs.find.Goals as goal
 
 pub returns-then-end-home : goal.returns-then-end-home

@@ -4,7 +4,6 @@ use Prim.Native.Nat.{◌+◌}
 use Rattle.matrix.specs.Matrix.{nth}
 use Rattle.matrix.proofs.Bounds.{kept}
 use Rattle.word.specs.Answer.{four}
-use borrow.Author.Rules.{rules}
 use Rattle.word.proofs.four_at.Goals as goal
 
 pub returns : goal.returns

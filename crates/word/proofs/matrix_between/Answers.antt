@@ -11,7 +11,6 @@ use Rattle.matrix.proofs.Bounds.{small_more, small_adj, small-⊗, room}
 use Rattle.coset.proofs.Positions.{positions}
 use Rattle.word.proofs.Turned.{S_small}
 use Rattle.word.proofs.Finding.{between_room, between_small}
-use borrow.Author.Rules.{rules}
 use Rattle.word.proofs.matrix_between.Goals.{After-inverse-back, After-product, After-product-x}
 use Rattle.word.proofs.matrix_between.Goals as goal
 

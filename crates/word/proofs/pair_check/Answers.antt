@@ -1,15 +1,14 @@
 -- `pair_check` makes refusals 8 and 9 in their order. Why determinants may be computed: they are asked for only where no entry of the pair is
 -- large (`passed_small`). Assumes nothing.
-use mathlib.Core.Path.{◌≡◌, sym, ◌∙◌, ap}
+use Rattle.std.specs.Prelude.{Err}
+use mathlib.Core.Path.{sym, ◌∙◌, ap}
 use Prim.Native.Nat.{ℕ, ◌≤◌}
 use native.Mathlib.Omega.{arith}
 use Rattle.basics.specs.Count.{first}
-use Rattle.call.specs.Refusal.{matrix_entry}
-use Rattle.call.specs.declared.refusal.Checked.TheVariants.{Refused}
+use Rattle.call.specs.declared.refusal.Refusal.TheVariants.{MatrixEntry}
 use Rattle.word.specs.Answer.{large}
 use Rattle.word.proofs.Order.{passed_small}
 use Rattle.word.proofs.Refused.{pair_large, pair_A, pair_B, pair_passes}
-use borrow.Author.Rules.{rules}
 use Rattle.word.proofs.pair_check.Goals.{Else-i-lt8}
 use Rattle.word.proofs.pair_check.Goals as goal
 
@@ -21,7 +20,7 @@ pub returns-then-i-lt8 : goal.returns-then-i-lt8
 returns-then-i-lt8 c =
     let s = c in
     let i = c.first_large-i in
-    ap (λ (k : ℕ). Refused (matrix_entry k)) i.ensures ∙ pair_large s.args.a s.args.b (omega (arith, i.ensures, c.if-i-lt8.true))
+    ap (λ (k : ℕ). Err (MatrixEntry k)) i.ensures ∙ pair_large s.args.a s.args.b (omega (arith, i.ensures, c.if-i-lt8.true))
 
 pub is_unit-requires : goal.is_unit-requires
 is_unit-requires c =

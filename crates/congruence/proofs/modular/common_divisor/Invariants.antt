@@ -1,11 +1,8 @@
 -- `congruence::modular::common_divisor` meets its contract. The loop's invariant: r0 and r1 are -s0 c and s1 c modulo n, r1 below r0, and have the divisors
 -- of n and c. The measure is r1: a turn takes it below the remainder of r0, which is below it.
 -- Assumes nothing.
-use borrow.Author.Rules.{rules}
-use Prim.Native.Nat.{◌%◌, ◌<◌}
-use native.Mathlib.Omega.{arith}
-use native.Mathlib.Nat.{mod-lt}
-use Rattle.congruence.proofs.Euclid.{Euclid, euclid_start, euclid_0, euclid_1, euclid_end_0, euclid_end_1}
+use Prim.Native.Nat.{◌<◌}
+use Rattle.congruence.proofs.Euclid.{Euclid}
 use Rattle.congruence.proofs.modular.common_divisor.Given as goal
 
 abbrev pub invariant-loop-r1 : goal.invariant-loop-r1

@@ -1,9 +1,9 @@
-use Prim.Native.Nat.{◌*◌, ◌-◌}
+use mathlib.Core.Path.{◌≡◌, ap}
+use Prim.Native.Nat.{ℕ, ◌*◌}
 use native.Mathlib.Omega.{arith}
-use Rattle.congruence.proofs.Primes.{Factoring, p_fits, factoring_start, factoring_next, factoring_end}
+use Rattle.congruence.proofs.Primes.{p_fits, factoring_start, factoring_next}
 use Rattle.congruence.proofs.Primes.{more_low, more_fits, rest_less, more_new, more_old}
-use borrow.Author.Rules.{rules}
-use Rattle.congruence.proofs.modular.index_of_gamma0.Goals.{then-met-p-ne0, else-met-p-ne0}
+use Rattle.congruence.proofs.modular.index_of_gamma0.Goals.{then-met-p-eq0, else-met-p-eq0}
 use Rattle.congruence.proofs.modular.index_of_gamma0.Goals as goal
 
 pub loop-rest-init : goal.loop-rest-init
@@ -18,17 +18,13 @@ loop-rest-smaller-then-rest-p-ne0 c = omega (arith, p_fits c.loop-rest.invariant
 pub loop-rest-preserved-then-rest-p-ne0 : goal.loop-rest-preserved-then-rest-p-ne0
 loop-rest-preserved-then-rest-p-ne0 c = factoring_next c.loop-rest.invariant (λ e. omega arith)
 
-pub overflow_add-index : goal.overflow_add-index
-overflow_add-index c = omega (arith, p_fits c.loop-rest.invariant (omega arith))
-
 pub overflow_mul-index : goal.overflow_mul-index
-overflow_mul-index c = omega (arith, more_fits c.loop-rest.invariant (omega arith))
-
-pub overflow_mul-index-else-met-p-ne0 : goal.overflow_mul-index-else-met-p-ne0
-overflow_mul-index-else-met-p-ne0 c = omega (arith, more_fits c.loop-rest.invariant (omega arith))
-
-pub overflow_mul-met : goal.overflow_mul-met
-overflow_mul-met c = omega (arith, more_low c.loop-rest.invariant (omega arith), c.loop-rest.invariant.modulus.most)
+overflow_mul-index c =
+    let fits = more_fits c.loop-rest.invariant (omega arith) in
+    elim c.if-met-p-eq0.branch [
+      | then-met-p-eq0 w ↦ rw w.index-is (omega (arith, fits))
+      | else-met-p-eq0 w ↦ rw w.index-is (omega (arith, fits))
+    ]
 
 pub loop-rest-smaller : goal.loop-rest-smaller
 loop-rest-smaller c =
@@ -38,12 +34,11 @@ loop-rest-smaller c =
 pub loop-rest-preserved : goal.loop-rest-preserved
 loop-rest-preserved c =
     let h = c.loop-rest.invariant in
-    elim c.if-met-p-ne0.branch [
-      | then-met-p-ne0 w ↦ more_new h (omega arith) (λ e. w.if-met-p-ne0.true e) w.index-is
-      | else-met-p-ne0 w ↦ more_old h (omega arith) w.if-met-p-ne0.false w.index-is
+    let times = λ (k : ℕ) (e : c.if-met-p-eq0.index ≡ k). ap (λ (z : ℕ). c.loop-rest.index * z) e in
+    elim c.if-met-p-eq0.branch [
+      | then-met-p-eq0 w ↦ more_old h (omega arith) w.if-met-p-eq0.true (times _ w.index-is)
+      | else-met-p-eq0 w ↦ more_new h (omega arith) (λ e. w.if-met-p-eq0.false e) (times _ w.index-is)
     ]
 
-pub returns : goal.returns
-returns c =
-    let k = factoring_end c.loop-rest.invariant (omega arith) in
-    record { value = k.0; upper_bound = k.1 }
+pub overflow_mul-met : goal.overflow_mul-met
+overflow_mul-met c = omega (arith, more_low c.loop-rest.invariant (omega arith), c.loop-rest.invariant.modulus.most)

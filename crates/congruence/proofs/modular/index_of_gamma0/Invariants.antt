@@ -1,12 +1,8 @@
 -- `congruence::modular::index_of_gamma0` meets its contract. The loop's invariant: n is met times rest, the index belongs to met, and no number from 2
 -- to p - 1 divides rest. The measure 1001 rest - p gets less where p grows, for p is at most rest, and where rest is divided.
 -- Assumes nothing.
-use mathlib.Core.Logic.{⊎_elim}
 use Prim.Native.Nat.{◌*◌, ◌-◌}
-use native.Mathlib.Omega.{arith}
-use Rattle.congruence.proofs.Primes.{Factoring, p_fits, factoring_start, factoring_next, factoring_end}
-use Rattle.congruence.proofs.Primes.{more_low, more_fits, rest_less, more_new, more_old}
-use borrow.Author.Rules.{rules}
+use Rattle.congruence.proofs.Primes.{Factoring}
 use Rattle.congruence.proofs.modular.index_of_gamma0.Given as goal
 
 abbrev pub invariant-loop-rest : goal.invariant-loop-rest

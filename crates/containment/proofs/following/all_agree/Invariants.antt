@@ -12,6 +12,3 @@ use Rattle.containment.proofs.following.all_agree.Given as goal
 
 abbrev pub invariant-loop-p : goal.invariant-loop-p
 invariant-loop-p l = ((j : ℕ) → j < l.p → agrees_at l.v l.t l.n l.u l.w j ≡ true) × (l.p ≤ l.b)
-
-abbrev pub decreases-loop-p : goal.decreases-loop-p
-decreases-loop-p l = l.b - l.p

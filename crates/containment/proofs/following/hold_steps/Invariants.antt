@@ -8,6 +8,3 @@ use Rattle.containment.proofs.following.hold_steps.Given as goal
 
 abbrev pub invariant-loop-p : goal.invariant-loop-p
 invariant-loop-p l = StepsTo l.v l.t l.s l.p × (l.p ≤ l.end)
-
-abbrev pub decreases-loop-p : goal.decreases-loop-p
-decreases-loop-p l = l.end - l.p

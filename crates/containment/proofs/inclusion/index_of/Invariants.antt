@@ -12,6 +12,3 @@ use Rattle.containment.proofs.inclusion.index_of.Given as goal
 
 abbrev pub invariant-loop-i : goal.invariant-loop-i
 invariant-loop-i l = (l.i ≤ l.v + 1) × (l.k ≡ corners l.v + count (odd_at l.v l.t) l.i)
-
-abbrev pub decreases-loop-i : goal.decreases-loop-i
-decreases-loop-i l = l.v + 1 - l.i

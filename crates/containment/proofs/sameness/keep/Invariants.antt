@@ -12,6 +12,3 @@ use Rattle.containment.proofs.sameness.keep.Given as goal
 
 abbrev pub invariant-loop-j : goal.invariant-loop-j
 invariant-loop-j l = (l.out ≡ entries l.off l.j l.w ++ drop l.j l.initial.out) × (l.j ≤ l.n) × (length l.out ≡ length l.initial.out)
-
-abbrev pub decreases-loop-j : goal.decreases-loop-j
-decreases-loop-j l = l.n - l.j

@@ -12,6 +12,3 @@ use Rattle.coset.proofs.arrange.fill_r.Given as goal
 
 abbrev pub invariant-loop-p : goal.invariant-loop-p
 invariant-loop-p l = FilledR l.v l.initial.w l.w l.p × (l.p ≤ l.end)
-
-abbrev pub decreases-loop-p : goal.decreases-loop-p
-decreases-loop-p l = l.end - l.p

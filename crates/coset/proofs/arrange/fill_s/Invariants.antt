@@ -13,6 +13,3 @@ use Rattle.coset.proofs.arrange.fill_s.Given as goal
 
 abbrev pub invariant-loop-p : goal.invariant-loop-p
 invariant-loop-p l = FilledS l.t l.v l.w l.p × (l.p ≤ l.end) × (length l.w ≡ length l.initial.w)
-
-abbrev pub decreases-loop-p : goal.decreases-loop-p
-decreases-loop-p l = l.end - l.p

@@ -11,6 +11,3 @@ use Rattle.coset.proofs.steps.prepare.Given as goal
 
 abbrev pub invariant-loop-p : goal.invariant-loop-p
 invariant-loop-p l = StepsReady l.t l.v l.w l.p × (l.p ≤ l.end) × (length l.w ≡ length l.initial.w)
-
-abbrev pub decreases-loop-p : goal.decreases-loop-p
-decreases-loop-p l = l.end - l.p

@@ -9,14 +9,13 @@ use Rattle.symbol_texts.proofs.PairLines.{pair_fits}
 use Rattle.cycle_reading.specs.Reading.{read_s, read_r}
 use Rattle.cycle_texts.specs.Cut.{judged_text}
 use Rattle.cycle_texts.proofs.CyclesPrinting.{Made, made_pair, front_of, pair_as, fits_as, lines_by_lem}
-use borrow.Author.Rules.{rules}
-use Rattle.cycle_texts.proofs.cycles_text.cycles_text.Goals.{After-read_tables-read, In-Made, Start}
+use Rattle.cycle_texts.proofs.cycles_text.cycles_text.Goals.{After-read_tables-read, In-Ok, Start}
 use Rattle.cycle_texts.proofs.cycles_text.cycles_text.Goals as goal
 
 -- the tables that came out
-module _ (k : In-Made) where
+module _ (k : In-Ok) where
   abbrev called : After-read_tables-read
-  called = (goal.at.In-Made k).After-read_tables-read
+  called = (goal.at.In-Ok k).After-read_tables-read
 
   abbrev start : Start
   start = (goal.at.After-read_tables-read called).Start
@@ -25,10 +24,10 @@ module _ (k : In-Made) where
   text = judged_text start.args.longer start.args.text.now
 
   abbrev n : ℕ
-  n = k.in-Made.n
+  n = k.in-Ok.n
 
   made : Made text n
-  made = made_pair start.args.longer start.args.text.now n (sym called.read_tables-read.ensures.value ∙ k.in-Made.is)
+  made = made_pair start.args.longer start.args.text.now n (sym called.read_tables-read.ensures.value ∙ k.in-Ok.is)
 
   abbrev stood_S : List ℕ
   stood_S = called.read_tables-read.new.s
@@ -45,35 +44,35 @@ module _ (k : In-Made) where
 pub slice_bounds-pair_lines-end : goal.slice_bounds-pair_lines-end
 slice_bounds-pair_lines-end c =
     let k = c in
-    omega (arith, (made (goal.at.slice_bounds-pair_lines-end c).In-Made).passport.most, (made (goal.at.slice_bounds-pair_lines-end c).In-Made).S_long, (start (goal.at.slice_bounds-pair_lines-end c).In-Made).requires.0, k.s-1.given)
+    omega (arith, (made (goal.at.slice_bounds-pair_lines-end c).In-Ok).passport.most, (made (goal.at.slice_bounds-pair_lines-end c).In-Ok).S_long, (start (goal.at.slice_bounds-pair_lines-end c).In-Ok).requires.0, k.s-1.given)
 
-pub slice_bounds-pair_lines-end-in-Made : goal.slice_bounds-pair_lines-end-in-Made
-slice_bounds-pair_lines-end-in-Made c = let k = c in sym (ap length (front_S (goal.at.slice_bounds-pair_lines-end-in-Made c).In-Made) ∙ (made (goal.at.slice_bounds-pair_lines-end-in-Made c).In-Made).S_long)
+pub slice_bounds-pair_lines-end-in-Ok : goal.slice_bounds-pair_lines-end-in-Ok
+slice_bounds-pair_lines-end-in-Ok c = let k = c in sym (ap length (front_S (goal.at.slice_bounds-pair_lines-end-in-Ok c).In-Ok) ∙ (made (goal.at.slice_bounds-pair_lines-end-in-Ok c).In-Ok).S_long)
 
-pub slice_bounds-pair_lines-end-in-Made-2 : goal.slice_bounds-pair_lines-end-in-Made-2
-slice_bounds-pair_lines-end-in-Made-2 c =
+pub slice_bounds-pair_lines-end-in-Ok-2 : goal.slice_bounds-pair_lines-end-in-Ok-2
+slice_bounds-pair_lines-end-in-Ok-2 c =
     let k = c in
-    omega (arith, (made (goal.at.slice_bounds-pair_lines-end-in-Made-2 c).In-Made).passport.most, (made (goal.at.slice_bounds-pair_lines-end-in-Made-2 c).In-Made).S_long, (start (goal.at.slice_bounds-pair_lines-end-in-Made-2 c).In-Made).requires.1, k.r-1.given)
+    omega (arith, (made (goal.at.slice_bounds-pair_lines-end-in-Ok-2 c).In-Ok).passport.most, (made (goal.at.slice_bounds-pair_lines-end-in-Ok-2 c).In-Ok).S_long, (start (goal.at.slice_bounds-pair_lines-end-in-Ok-2 c).In-Ok).requires.1, k.r-1.given)
 
-pub slice_bounds-pair_lines-end-in-Made-3 : goal.slice_bounds-pair_lines-end-in-Made-3
-slice_bounds-pair_lines-end-in-Made-3 c = let k = c in sym (ap length (front_R (goal.at.slice_bounds-pair_lines-end-in-Made-3 c).In-Made) ∙ (made (goal.at.slice_bounds-pair_lines-end-in-Made-3 c).In-Made).R_long)
+pub slice_bounds-pair_lines-end-in-Ok-3 : goal.slice_bounds-pair_lines-end-in-Ok-3
+slice_bounds-pair_lines-end-in-Ok-3 c = let k = c in sym (ap length (front_R (goal.at.slice_bounds-pair_lines-end-in-Ok-3 c).In-Ok) ∙ (made (goal.at.slice_bounds-pair_lines-end-in-Ok-3 c).In-Ok).R_long)
 
 pub pair_lines-requires : goal.pair_lines-requires
 pair_lines-requires c =
     let k = c in
-    (fits_as (front_S (goal.at.pair_lines-requires c).In-Made) (front_R (goal.at.pair_lines-requires c).In-Made) (pair_fits (read_s (text (goal.at.pair_lines-requires c).In-Made)) (read_r (text (goal.at.pair_lines-requires c).In-Made)) (made (goal.at.pair_lines-requires c).In-Made).passport), (start (goal.at.pair_lines-requires c).In-Made).requires.2)
+    (fits_as (front_S (goal.at.pair_lines-requires c).In-Ok) (front_R (goal.at.pair_lines-requires c).In-Ok) (pair_fits (read_s (text (goal.at.pair_lines-requires c).In-Ok)) (read_r (text (goal.at.pair_lines-requires c).In-Ok)) (made (goal.at.pair_lines-requires c).In-Ok).passport), (start (goal.at.pair_lines-requires c).In-Ok).requires.2)
 
-pub returns-in-Made : goal.returns-in-Made
-returns-in-Made c =
+pub returns-in-Ok : goal.returns-in-Ok
+returns-in-Ok c =
     let k = c in
-    puts_as (pair_as (front_S (goal.at.returns-in-Made c).In-Made) (front_R (goal.at.returns-in-Made c).In-Made)
-    ∙ lines_by_lem (start (goal.at.returns-in-Made c).In-Made).args.longer (start (goal.at.returns-in-Made c).In-Made).args.text.now _ (sym k.in-Made.is ∙ (called (goal.at.returns-in-Made c).In-Made).read_tables-read.ensures.value))
+    puts_as (pair_as (front_S (goal.at.returns-in-Ok c).In-Ok) (front_R (goal.at.returns-in-Ok c).In-Ok)
+    ∙ lines_by_lem (start (goal.at.returns-in-Ok c).In-Ok).args.longer (start (goal.at.returns-in-Ok c).In-Ok).args.text.now _ (sym k.in-Ok.is ∙ (called (goal.at.returns-in-Ok c).In-Ok).read_tables-read.ensures.value))
     c.pair_lines.ensures
 
-pub returns-in-Refused : goal.returns-in-Refused
-returns-in-Refused c =
+pub returns-in-Err : goal.returns-in-Err
+returns-in-Err c =
     let k = c in
     let m = k in
     let s = m in
-    puts_as (lines_by_lem s.args.longer s.args.text.now _ (sym k.in-Refused.is ∙ m.read_tables-read.ensures.value))
+    puts_as (lines_by_lem s.args.longer s.args.text.now _ (sym k.in-Err.is ∙ m.read_tables-read.ensures.value))
     c.refusal_line.ensures

@@ -1,6 +1,5 @@
 -- `judged_end` meets its contract, by what the run of digits at the end says. Assumes nothing.
 use Rattle.cycle_texts.proofs.Cutting.{judged_whole, judged_cut, judged_over}
-use borrow.Author.Rules.{rules}
 use Rattle.cycle_texts.proofs.cycles_text.judged_end.Goals as goal
 
 pub returns-then-run-le3066 : goal.returns-then-run-le3066

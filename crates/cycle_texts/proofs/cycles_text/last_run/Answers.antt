@@ -1,28 +1,25 @@
-use Prim.Native.Nat.{◌≤◌}
-use native.Mathlib.Omega.{arith}
 use mathlib.Core.Path.{◌≡◌, sym, ◌∙◌}
-use lib.ListN.{length, take}
-use Rattle.cycle_texts.specs.Cut.{without_run}
+use Prim.Native.Nat.{◌+◌, ◌-◌}
+use native.Mathlib.Omega.{arith}
 use Rattle.cycle_texts.proofs.Cutting.{run_begin, run_step, run_found, run_none}
-use borrow.Author.Rules.{rules}
 use Rattle.cycle_texts.proofs.cycles_text.last_run.Goals as goal
 
 pub loop-at-init : goal.loop-at-init
-loop-at-init c = (omega arith, run_begin c.args.text.now)
+loop-at-init c = run_begin c.args.text.now
 
 pub loop-at-preserved : goal.loop-at-preserved
 loop-at-preserved c =
     let l = c.loop-at in
-    let t = c.args.text.now in
-    (omega arith, run_step t l.at (omega arith) l.invariant.0 l.invariant.1 (sym c.digit.ensures ∙ c.if-digit.true))
+    run_step c.args.text.now l.at (omega arith) l.auto.at l.invariant (sym c.digit.ensures ∙ c.if-not-digit.false)
 
-pub returns-else-digit : goal.returns-else-digit
-returns-else-digit c =
+pub returns-then-not-digit : goal.returns-then-not-digit
+returns-then-not-digit c =
     let l = c.loop-at in
-    let t = c.args.text.now in
-    run_found t l.at (omega arith) l.invariant.0 l.invariant.1 (sym c.digit.ensures ∙ c.if-digit.false)
+    let same : l.at - 1 + 1 ≡ l.at = omega arith in
+    rw same (run_found c.args.text.now l.at (omega arith) l.auto.at l.invariant (sym c.digit.ensures ∙ c.if-not-digit.true))
 
 pub returns : goal.returns
 returns c =
     let l = c.loop-at in
-    run_none c.args.text.now l.at (omega arith) l.invariant.1
+    let none : l.at ≡ 0 = omega arith in
+    rw none at (run_none c.args.text.now l.at none l.invariant)

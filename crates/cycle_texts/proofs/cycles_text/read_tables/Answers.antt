@@ -3,13 +3,12 @@
 use mathlib.Core.Path.{◌≡◌, refl, ap, ◌∙◌}
 use mathlib.Core.List.{List}
 use Prim.Native.Nat.{ℕ}
-use lib.ListN.{length, take}
+use lib.ListN.{length}
 use Rattle.cycle_texts.specs.Cut.{judged_text}
 use Rattle.cycle_texts.specs.CyclesAnswer.{cycles_read}
 use Rattle.cycle_texts.specs.Inner.Ends.{JudgedTo, CyclesLeave}
 use Rattle.cycle_texts.proofs.Cutting.{read_as_lem, tables_left, answer_whole}
 use Rattle.cycle_texts.proofs.CyclesPrinting.{answer_cut}
-use borrow.Author.Rules.{rules}
 use Rattle.cycle_texts.proofs.cycles_text.read_tables.Goals.{After-judged_end-end, After-read_cycles-read, Start}
 use Rattle.cycle_texts.proofs.cycles_text.read_tables.Goals as goal
 

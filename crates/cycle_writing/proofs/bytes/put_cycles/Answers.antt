@@ -1,42 +1,30 @@
-use mathlib.Core.Path.{◌≡◌, refl, ap, ◌∙◌}
-use Prim.Native.Nat.{ℕ, ◌+◌, ◌-◌, ◌≤◌}
+use mathlib.Core.Path.{sym, ◌∙◌}
 use native.Mathlib.Omega.{arith}
 use lib.ListN.{length}
-use Rattle.decimal.specs.Writing.{Puts}
-use Rattle.decimal.proofs.Placing.{puts_as, puts_none, puts_then, puts_same}
-use Rattle.cycle_writing.specs.Inner.Short.{bytes_below}
-use Rattle.cycle_writing.proofs.Sizes.{bytes_none, bytes_more, bytes_room}
-use borrow.Author.Rules.{rules}
+use Rattle.decimal.proofs.Placing.{puts_as, puts_none, puts_then}
+use Rattle.cycle_writing.proofs.Sizes.{bytes_none, bytes_more, bytes_kept, bytes_room}
 use Rattle.cycle_writing.proofs.bytes.put_cycles.Goals as goal
+use Rattle.cycle_writing.proofs.bytes.put_cycles.Goals.{then-is_start, else-is_start}
 
 pub loop-x-init : goal.loop-x-init
-loop-x-init c =
-    let s = c in
-    (puts_as (bytes_none s.args.t.now) (puts_none s.args.at s.args.out.now), omega arith, refl)
+loop-x-init c = record { stand = puts_as (bytes_none c.args.t.now) (puts_none c.args.at c.args.out.now); long = omega arith }
 
-pub put_at-end-requires : goal.put_at-end-requires
-put_at-end-requires c =
+pub put_cycle-end-requires : goal.put_cycle-end-requires
+put_cycle-end-requires c =
     let q = c.loop-x in
-    let s = c in
-    let t = s.args.t.now in
-    let below = c.loop-x-test.true in
-    (s.requires.0, below, omega (arith, q.invariant.0.end_is, q.invariant.2, bytes_room t q.x (length t) below, s.requires.1))
+    let t = c.args.t.now in (
+      record { table = c.requires.0; below = c.loop-x-test.true; begins = sym c.is_start.ensures ∙ c.if-is_start.true },
+      omega (arith, q.invariant.stand.end_is, q.invariant.long, bytes_room t q.x (length t) c.loop-x-test.true, c.requires.1),
+    )
 
 pub loop-x-preserved : goal.loop-x-preserved
 loop-x-preserved c =
     let q = c.loop-x in
-    let s = c in
-    let t = s.args.t.now in
-    let below = c.loop-x-test.true in
-    let e = c.put_at-end.ensures in (
-      puts_as (bytes_more t q.x) (puts_then q.invariant.0 e (omega (arith, s.requires.1))),
-      omega (arith, below),
-      puts_same e (omega (arith, q.invariant.0.end_is, q.invariant.2, bytes_room t q.x (length t) below, s.requires.1)) ∙ q.invariant.2,
-    )
-
-pub returns : goal.returns
-returns c =
-    let q = c.loop-x in
-    let t = c.args.t.now in
-    let all : q.x ≡ length t = omega (arith, q.invariant.1, c.loop-x-test.false) in
-    puts_as (ap (bytes_below t) all) q.invariant.0
+    let t = c.args.t.now in record {
+      stand = elim c.if-is_start.branch [
+        | then-is_start w ↦ rw (w.end-is, w.out-is)
+            (puts_as (bytes_more t q.x) (puts_then q.invariant.stand w.put_cycle-end.ensures (omega (arith, c.requires.1))))
+        | else-is_start w ↦ rw (w.end-is, w.out-is) (puts_as (bytes_kept t q.x (sym c.is_start.ensures ∙ w.if-is_start.false)) q.invariant.stand)
+      ];
+      long = omega (arith, c.if-is_start.auto.out, q.invariant.long);
+    }

@@ -1,20 +1,19 @@
--- `bytes::put_number` meets its contract: there is room for the digits, so that `write_natural` tells their end. Assumes nothing.
+use mathlib.Core.Path.{◌≡◌, refl}
+use Rattle.std.specs.Prelude.{IsOk, Ok, Err}
+use Rattle.call.specs.Refusal.{Filled}
+use Rattle.call.specs.declared.refusal.Refusal.{Refusal}
 use Rattle.decimal.specs.Decimal.{digits}
 use Rattle.decimal.proofs.Placing.{by_writing, no_refusal_lem}
-use borrow.Author.Rules.{rules}
 use Rattle.cycle_writing.proofs.bytes.put_number.Goals as goal
 
-pub returns-in-To : goal.returns-in-To
-returns-in-To c =
-    let k = c in
-    let m = c in
-    let s = c in
-    by_writing (digits s.args.n) s.args.out.now _ s.args.at m.write_natural-written.result m.write_natural-written.ensures.0
-    m.write_natural-written.ensures.1 s.requires k.in-To.end k.in-To.is
+not_refused : (w : Filled) → ((f : Refusal) → w ≡ Err f → ⊥) → IsOk w
+not_refused (Ok n) h = refl
+not_refused (Err f) h = absurd (h f refl)
 
-pub returns-in-Refused : goal.returns-in-Refused
-returns-in-Refused c =
-    let m = c in
-    let s = c in
-    no_refusal_lem (digits s.args.n) s.args.out.now _ s.args.at m.write_natural-written.result m.write_natural-written.ensures.0
-    m.write_natural-written.ensures.1 s.requires c.in-Refused.field-0 c.in-Refused.is
+pub unwrap-requires : goal.unwrap-requires
+unwrap-requires c = let w = c.write_natural in
+    not_refused w.result (no_refusal_lem (digits c.args.n) c.args.out.now _ c.args.at w.result w.ensures.0 w.ensures.1 c.requires)
+
+pub returns : goal.returns
+returns c = let w = c.write_natural in
+    by_writing (digits c.args.n) c.args.out.now _ c.args.at w.result w.ensures.0 w.ensures.1 c.requires c.unwrap.result c.unwrap.ensures

@@ -1,16 +1,12 @@
--- `start::is_start` meets its contract: the two tests are those of `begins_cycle`. Assumes nothing.
-use native.Mathlib.Omega.{arith}
+use mathlib.Core.Path.{◌∙◌}
+use borrow.Author.Tests.{le-ltb}
 use Rattle.cycle_writing.proofs.Short.{start_low, start_test}
-use borrow.Author.Rules.{rules}
 use Rattle.cycle_writing.proofs.start.is_start.Goals as goal
 
-pub returns-then-a-x : goal.returns-then-a-x
-returns-then-a-x c =
-    let s = c in
-    start_low s.args.t.now s.requires.0 s.args.x _ s.requires.1 c.image-a.ensures c.if-a-x.true
+pub returns-then-x-a : goal.returns-then-x-a
+returns-then-x-a c = let s = c.requires in
+    start_test c.args.t.now s.0 c.args.x _ s.1 c.image-a.ensures c.if-x-a.true _ c.image.ensures
 
-pub returns : goal.returns
-returns c =
-    let s = c in
-    start_test s.args.t.now s.requires.0 s.args.x _ s.requires.1 c.image-a.ensures (omega (arith, c.if-a-x.false)) _
-    c.image-b.ensures
+pub returns-else-x-a : goal.returns-else-x-a
+returns-else-x-a c = let s = c.requires in
+    le-ltb _ _ c.if-x-a.false ∙ start_low c.args.t.now s.0 c.args.x _ s.1 c.image-a.ensures c.if-x-a.false

@@ -1,6 +1,5 @@
 -- `farey_tower` meets its contract: it tells the answer of `tower`. Assumes nothing.
-use mathlib.Core.Path.{refl, ap}
-use Rattle.call.specs.declared.refusal.Refusal.{Refusal}
+use mathlib.Core.Path.{refl}
 use Rattle.call.proofs.Laws.{call_checked}
 use Rattle.towers.proofs.Says.{tower_says}
 use borrow.Author.Rules.{rules}
@@ -13,4 +12,4 @@ returns c =
     let s = c in
     call_checked _ (tower_numbered s.args.count s.args.t.now s.args.w.now q.new.w)
     (tower_says s.args.count s.args.t.now s.args.w.now q.new.w) refl q.ensures
-    (ap (λ (f : Refusal). f.number) c.checked_refusal-refusal.ensures) (ap (λ (f : Refusal). f.place) c.checked_refusal-refusal.ensures)
+    c.of_checked-said.ensures.0 c.of_checked-said.ensures.1

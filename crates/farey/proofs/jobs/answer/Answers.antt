@@ -4,7 +4,6 @@ use mathlib.Core.Path.{refl}
 use native.Mathlib.Omega.{arith}
 use Rattle.text.proofs.InputText.{puts_prints, when_read, when_failed}
 use Rattle.farey.proofs.Meanings.{means}
-use borrow.Author.Rules.{rules}
 use Rattle.farey.proofs.jobs.answer.Goals as goal
 
 pub returns-in_default : goal.returns-in_default

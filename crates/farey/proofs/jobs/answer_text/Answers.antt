@@ -1,5 +1,4 @@
 -- `answer_text` meets its contract: each job asks its own text's crate. Assumes nothing.
-use borrow.Author.Rules.{rules}
 use Rattle.farey.proofs.jobs.answer_text.Goals as goal
 
 pub returns-in-Sheet : goal.returns-in-Sheet

@@ -14,6 +14,3 @@ use Rattle.import_call.proofs.length.fixed_points.Given as goal
 
 abbrev pub invariant-loop-i : goal.invariant-loop-i
 invariant-loop-i l = (l.i ≤ length l.r) × (l.count ≡ length (those (is_fixed l.r) l.i))
-
-abbrev pub decreases-loop-i : goal.decreases-loop-i
-decreases-loop-i l = length l.r - l.i

@@ -40,9 +40,6 @@ write_pairing-c-requires c =
     let l = c.loop-i in
     pairs_side S R W O D z.0 z.1 l.w l.out l.i l.c l.invariant.1 (omega arith)
 
-pub overflow_add-i : goal.overflow_add-i
-overflow_add-i c = let z = c.requires.0.most in omega arith
-
 pub loop-i-preserved : goal.loop-i-preserved
 loop-i-preserved c =
     let s = c in

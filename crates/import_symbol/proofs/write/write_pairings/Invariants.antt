@@ -12,6 +12,3 @@ use Rattle.import_symbol.proofs.write.write_pairings.Given as goal
 
 abbrev pub invariant-loop-i : goal.invariant-loop-i
 invariant-loop-i l = (l.i ≤ l.d) × Labelled (image l.s) (by_q (image l.s) (image l.r)) l.initial.w l.initial.out l.d l.w l.out l.i l.c
-
-abbrev pub decreases-loop-i : goal.decreases-loop-i
-decreases-loop-i l = l.d - l.i

@@ -13,6 +13,3 @@ use Rattle.import_symbol.proofs.write.write_vertices.Given as goal
 
 abbrev pub invariant-loop-i : goal.invariant-loop-i
 invariant-loop-i l = (l.i ≤ l.v) × (l.out ≡ vertices_to l.w l.i ++ drop (2 * l.i) l.initial.out)
-
-abbrev pub decreases-loop-i : goal.decreases-loop-i
-decreases-loop-i l = l.v - l.i

@@ -2,13 +2,12 @@
 use native.Mathlib.Omega.{arith}
 use Rattle.decimal.proofs.Placing.{puts_then}
 use Rattle.listing_text.specs.Listing.{count_lines}
-use borrow.Author.Rules.{rules}
 use Rattle.listing_text.proofs.lines.count_lines.Goals as goal
 
 pub returns : goal.returns
 unfolding count_lines
 returns c =
-    let third = c.line_of_one.ensures in
-    let second = c.line_of_two-second.ensures in
-    let first = c.line_of_one-first.ensures in
+    let third = c.line_of.ensures in
+    let second = c.line_of-second.ensures in
+    let first = c.line_of-first.ensures in
     (puts_then (puts_then first.0 second.0 (omega arith)) third.0 (omega arith), omega (arith, first.1, second.1, third.1))

@@ -2,7 +2,6 @@
 use native.Mathlib.Omega.{arith}
 use Rattle.decimal.proofs.Placing.{puts_then}
 use Rattle.listing_text.specs.Listing.{cusp_lines}
-use borrow.Author.Rules.{rules}
 use Rattle.listing_text.proofs.lines.cusp_lines.Goals as goal
 
 pub returns : goal.returns

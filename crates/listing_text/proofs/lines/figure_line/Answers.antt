@@ -2,19 +2,18 @@
 use native.Mathlib.Omega.{arith}
 use Rattle.decimal.proofs.Placing.{puts_then}
 use Rattle.listing_text.specs.Listing.{figure_line}
-use borrow.Author.Rules.{rules}
 use Rattle.listing_text.proofs.lines.figure_line.Goals as goal
 
-pub returns-in-Value : goal.returns-in-Value
+pub returns-in-Ok : goal.returns-in-Ok
 unfolding figure_line
-returns-in-Value c =
-    let e = c.line_of_one.ensures in
-    (rw c.in-Value.is e.0, omega (arith, e.1))
+returns-in-Ok c =
+    let e = c.line_of.ensures in
+    (rw c.in-Ok.is e.0, omega (arith, e.1))
 
-pub returns-in-Refused : goal.returns-in-Refused
+pub returns-in-Err : goal.returns-in-Err
 unfolding figure_line
-returns-in-Refused c =
+returns-in-Err c =
     let first = c.put-first.ensures in
-    let second = c.line_of_two.ensures in
+    let second = rw (c.number.ensures, c.place.ensures) at c.line_of-in-Err.ensures in
     let s = c in
-    (rw c.in-Refused.is (puts_then first second.0 (omega (arith, s.requires))), omega (arith, first.end_is, second.1))
+    (rw c.in-Err.is (puts_then first second.0 (omega (arith, s.requires))), omega (arith, first.end_is, second.1))

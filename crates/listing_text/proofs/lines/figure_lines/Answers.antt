@@ -2,7 +2,6 @@
 use native.Mathlib.Omega.{arith}
 use Rattle.decimal.proofs.Placing.{puts_then}
 use Rattle.listing_text.specs.Listing.{figure_lines}
-use borrow.Author.Rules.{rules}
 use Rattle.listing_text.proofs.lines.figure_lines.Goals as goal
 
 pub returns : goal.returns

@@ -3,7 +3,6 @@ use mathlib.Core.Path.{◌≡◌}
 use native.Mathlib.Omega.{arith}
 use Prim.Native.Nat.{◌+◌, ◌-◌}
 use Rattle.numbering.proofs.Space.{entries_length}
-use borrow.Author.Rules.{rules}
 use Rattle.listing_text.proofs.lines.table_line.Goals as goal
 
 pub returns : goal.returns
@@ -11,5 +10,5 @@ returns c =
     let s = c in
     let a = s.args in
     let same : a.off + a.n - a.off ≡ a.n = omega arith in
-    let e = rw same at c.line_of_cells.ensures in
+    let e = rw same at c.line_of.ensures in
     (e.0, omega (arith, e.1, entries_length a.off a.n a.w.now s.requires.0))

@@ -2,7 +2,6 @@
 use native.Mathlib.Omega.{arith}
 use Rattle.decimal.proofs.Placing.{puts_then}
 use Rattle.listing_text.specs.Listing.{table_lines}
-use borrow.Author.Rules.{rules}
 use Rattle.listing_text.proofs.lines.table_lines.Goals as goal
 
 pub returns : goal.returns

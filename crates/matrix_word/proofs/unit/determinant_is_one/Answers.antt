@@ -1,78 +1,27 @@
--- `determinant_is_one` compares the sizes of the two products, by their signs (`unit_is_by`). Assumes nothing.
-use mathlib.Core.Path.{◌∙◌, ap}
-use native.Mathlib.Omega.{arith}
-use lib.IntN.{nat_abs}
-use Rattle.matrix.specs.Matrix.{nth, of_list}
+-- `determinant_is_one` reads the entries row by row, and computes in 128 bits (`determinant_fits`, `one_by`). Assumes nothing.
+use mathlib.Core.Path.{◌≡◌, ◌∙◌}
+use Rattle.matrix.specs.Matrix.{nth, det}
 use Rattle.matrix.proofs.Bounds.{kept}
-use Rattle.matrix_word.proofs.Sizes.{signs_by, unit_is_by}
-use borrow.Author.Rules.{rules}
+use Rattle.matrix_word.proofs.Determinant.{determinant_fits, one_by}
 use Rattle.matrix_word.proofs.unit.determinant_is_one.Goals as goal
 
-pub magnitude-requires : goal.magnitude-requires
-magnitude-requires c =
-    let s = c in
-    rw (kept (nth s.args.m 0) c.magnitude-arg-1.given) (omega (arith, s.requires.in_a))
-
-pub magnitude-requires-2 : goal.magnitude-requires-2
-magnitude-requires-2 c =
-    let s = c in
-    rw (kept (nth s.args.m 3) c.magnitude-arg-2-1.given) (omega (arith, s.requires.in_d))
-
-pub magnitude-requires-3 : goal.magnitude-requires-3
-magnitude-requires-3 c =
-    let s = c in
-    rw (kept (nth s.args.m 1) c.magnitude-arg-3-1.given) (omega (arith, s.requires.in_b))
-
-pub magnitude-requires-4 : goal.magnitude-requires-4
-magnitude-requires-4 c =
-    let s = c in
-    rw (kept (nth s.args.m 2) c.magnitude-arg-4-1.given) (omega (arith, s.requires.in_c))
-
-pub is_one_apart-requires : goal.is_one_apart-requires
-is_one_apart-requires c =
-    let c-arg = c in
-    let b-size = c-arg in
-    let b-arg = b-size in
-    let d-size = b-arg in
-    let d-arg = d-size in
-    let a-size = d-arg in
-    let a-arg = a-size in
-    let s = a-arg in
-    let m = s.args.m in
-    let a = a-size.magnitude.ensures ∙ ap nat_abs (kept (nth m 0) a-arg.magnitude-arg-1.given) in
-    let d = d-size.magnitude-2.ensures ∙ ap nat_abs (kept (nth m 3) d-arg.magnitude-arg-2-1.given) in
-    let b = b-size.magnitude-3.ensures ∙ ap nat_abs (kept (nth m 1) b-arg.magnitude-arg-3-1.given) in
-    let e = c.magnitude-4.ensures ∙ ap nat_abs (kept (nth m 2) c-arg.magnitude-arg-4-1.given) in
-    (omega (arith, a, s.requires.in_a), omega (arith, d, s.requires.in_d), omega (arith, b, s.requires.in_b), omega (arith, e, s.requires.in_c))
+pub overflow_sub-result : goal.overflow_sub-result
+overflow_sub-result c =
+    let m = c.args.m in
+    let a : c.from-a.result ≡ nth m 0 = c.from-a.ensures ∙ kept (nth m 0) c.from-arg-1.given in
+    let d : c.from-d.result ≡ nth m 3 = c.from-d.ensures ∙ kept (nth m 3) c.from-arg-4-1.given in
+    let b : c.from-b.result ≡ nth m 1 = c.from-b.ensures ∙ kept (nth m 1) c.from-arg-2-1.given in
+    let g : c.from-c.result ≡ nth m 2 = c.from-c.ensures ∙ kept (nth m 2) c.from-arg-3-1.given in
+    determinant_fits (nth m 0) (nth m 3) (nth m 1) (nth m 2) c.from-a.result c.from-d.result c.from-b.result c.from-c.result
+    c.requires.in_a c.requires.in_d c.requires.in_b c.requires.in_c a d b g
 
 pub returns : goal.returns
+unfolding det
 returns c =
-    let c-size = c in
-    let c-arg = c-size in
-    let b-size = c-arg in
-    let b-arg = b-size in
-    let d-size = b-arg in
-    let d-arg = d-size in
-    let a-size = d-arg in
-    let a-arg = a-size in
-    let second = a-arg in
-    let c-zero = second in
-    let c-whole = c-zero in
-    let b-zero = c-whole in
-    let b-whole = b-zero in
-    let first = b-whole in
-    let d-zero = first in
-    let d-whole = d-zero in
-    let a-zero = d-whole in
-    let a-whole = a-zero in
-    let m = a-whole.args.m in
-    c.is_one_apart.ensures
-    ∙ unit_is_by m
-    (signs_by first.times-s.ensures a-zero.is_at_least_zero.ensures (kept (nth m 0) a-whole.is_at_least_zero-arg-1.given)
-    d-zero.is_at_least_zero-2.ensures (kept (nth m 3) d-whole.is_at_least_zero-arg-2-1.given))
-    (signs_by second.times-r.ensures b-zero.is_at_least_zero-3.ensures (kept (nth m 1) b-whole.is_at_least_zero-arg-3-1.given)
-    c-zero.is_at_least_zero-4.ensures (kept (nth m 2) c-whole.is_at_least_zero-arg-4-1.given))
-    (a-size.magnitude.ensures ∙ ap nat_abs (kept (nth m 0) a-arg.magnitude-arg-1.given))
-    (d-size.magnitude-2.ensures ∙ ap nat_abs (kept (nth m 3) d-arg.magnitude-arg-2-1.given))
-    (b-size.magnitude-3.ensures ∙ ap nat_abs (kept (nth m 1) b-arg.magnitude-arg-3-1.given))
-    (c-size.magnitude-4.ensures ∙ ap nat_abs (kept (nth m 2) c-arg.magnitude-arg-4-1.given))
+    let m = c.args.m in
+    let a : c.from-a.result ≡ nth m 0 = c.from-a.ensures ∙ kept (nth m 0) c.from-arg-1.given in
+    let d : c.from-d.result ≡ nth m 3 = c.from-d.ensures ∙ kept (nth m 3) c.from-arg-4-1.given in
+    let b : c.from-b.result ≡ nth m 1 = c.from-b.ensures ∙ kept (nth m 1) c.from-arg-2-1.given in
+    let g : c.from-c.result ≡ nth m 2 = c.from-c.ensures ∙ kept (nth m 2) c.from-arg-3-1.given in
+    one_by (nth m 0) (nth m 3) (nth m 1) (nth m 2) c.from-a.result c.from-d.result c.from-b.result c.from-c.result
+    c.requires.in_a c.requires.in_d c.requires.in_b c.requires.in_c a d b g

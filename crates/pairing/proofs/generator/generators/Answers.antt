@@ -1,45 +1,23 @@
 -- `generators` meets its contract: a call that is not admitted leaves everything as it was (`admit_stop`); for one that is, the table is a symbol
 -- (`admitted`), and the answer is that of `list_accepted` (`admit_pass`). Assumes nothing.
-use mathlib.Core.Path.{◌≡◌, refl, sym, ◌∙◌}
+use mathlib.Core.Path.{refl}
 use lib.ListN.{length}
-use Rattle.call.specs.declared.refusal.Checked.TheVariants.{Accepted}
+use Rattle.std.proofs.lemmas.Result.{err_from_is_err_and}
 use Rattle.call.proofs.Laws.{admit_stop, admit_pass, fills_as, ran}
 use Rattle.symbol.specs.Check.{symbol_check}
-use Rattle.pairing.specs.Inner.Admitted.{admitted_of}
 use Rattle.pairing.proofs.Admitted.{admitted}
-use Rattle.pairing.proofs.generator.generators.Goals.{In-Accepted, Start}
 use Rattle.pairing.proofs.generator.generators.Goals as goal
 
--- the call was admitted
-module _ (e : In-Accepted) where
-  abbrev st : Start
-  st = (goal.at.In-Accepted e).Start
-
-  ok : Accepted ≡ admitted_of st.args.v st.args.t.now (length st.args.w.now)
-  ok = sym e.in-Accepted.is ∙ e.admit-admitted.ensures
+pub returns-in_err-admit : goal.returns-in_err-admit
+returns-in_err-admit c =
+    let p = err_from_is_err_and c.from_residual.result c.from_residual.ensures.1 in
+    let w = c.args.w.now in
+    rw (p.1, p.2) (fills_as (admit_stop w _ (symbol_check c.args.v c.args.t.now) w _ c.in_err-admit.ensures refl (refl, tt)) refl)
 
 pub list_accepted-requires : goal.list_accepted-requires
-list_accepted-requires c =
-    let e = c in
-    let s = st (goal.at.list_accepted-requires c).In-Accepted in
-    admitted s.args.v s.args.t.now (length s.args.w.now) (ok (goal.at.list_accepted-requires c).In-Accepted)
+list_accepted-requires c = admitted c.args.v c.args.t.now (length c.args.w.now) c.in_ok-admit.ensures
 
-pub returns-in-Refused : goal.returns-in-Refused
-returns-in-Refused c =
-    let a = c in
-    let s = a in
-    let v = s.args.v in
-    let t = s.args.t.now in
-    let w = s.args.w.now in
-    fills_as (admit_stop w _ (symbol_check v t) w c.in-Refused.refusal (sym c.in-Refused.is ∙ a.admit-admitted.ensures) refl (refl, tt)) refl
-
-pub returns-in-Accepted : goal.returns-in-Accepted
-returns-in-Accepted c =
-    let l = c in
-    let e = l in
-    let s = st (goal.at.returns-in-Accepted c).In-Accepted in
-    let v = s.args.v in
-    let t = s.args.t.now in
-    let w = s.args.w.now in
-    let made = l.list_accepted.ensures in
-    fills_as (admit_pass w _ (symbol_check v t) _ (ok (goal.at.returns-in-Accepted c).In-Accepted) made.w_after (ran made.fills)) made.fills.answer
+pub returns : goal.returns
+returns c =
+    let made = c.list_accepted.ensures in
+    fills_as (admit_pass c.args.w.now _ (symbol_check c.args.v c.args.t.now) _ c.in_ok-admit.ensures made.w_after (ran made.fills)) made.fills.answer

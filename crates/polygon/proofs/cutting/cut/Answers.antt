@@ -2,7 +2,6 @@
 -- The vertex 0/1 is there (`zeroth_below`), so the scan has noted the position under its chord. Assumes nothing.
 use mathlib.Core.Path.{◌∙◌}
 use native.Mathlib.Omega.{arith}
-use borrow.Author.Rules.{rules}
 use Rattle.polygon.proofs.Space.{still}
 use Rattle.polygon.proofs.Scan.{zeroth_below}
 use Rattle.polygon.proofs.Scanning.{cut_left, handle_low}
@@ -13,7 +12,7 @@ link-requires c = let s = c in
     let e = c.scan_vertices-r.ensures in
     let f = c.clear_flips.ensures in (
       omega (arith, s.requires.0.most),
-      omega (arith, s.requires.0.most, c.top_handle-h.ensures, handle_low s.args.v _ _ e.cells),
+      omega (arith, s.requires.0.most, c.top_cell-h.ensures.handle, handle_low s.args.v _ _ e.cells),
       still
           (e.frame.same ∙ f.frame.same) s.requires.1,
     )
@@ -27,5 +26,5 @@ returns c =
     cut_left s.args.t.now s.args.v _ s.args.w.now _ _ _ _ _ _ ok.most
     earlier.clear_flips.ensures
     c.scan_vertices-r.ensures z
-    (omega (arith, z, zeroth_below s.args.v s.args.t.now ok)) c.top_handle-h.ensures
+    (omega (arith, z, zeroth_below s.args.v s.args.t.now ok)) c.top_cell-h.ensures.handle
     c.link.ensures

@@ -3,7 +3,6 @@
 use mathlib.Core.Path.{sym}
 use Prim.Native.Nat.{◌-◌}
 use native.Mathlib.Omega.{arith}
-use borrow.Author.Rules.{rules}
 use Rattle.polygon.proofs.Scanning.{ready_at, ready_none, below_low}
 use Rattle.polygon.proofs.cutting.ready.Goals as goal
 
@@ -13,7 +12,7 @@ returns-then-n-eq0 c = let s = c in sym (ready_none s.args.t.now s.args.w.now s.
 pub denominator-da-requires : goal.denominator-da-requires
 denominator-da-requires c =
     let s = c in
-    (s.requires.0, omega (arith, c.top_vertex-a.ensures, below_low s.args.v s.args.w.now s.args.n s.args.n s.requires.1 (omega arith)))
+    (s.requires.0, omega (arith, c.top_cell-a.ensures.vertex, below_low s.args.v s.args.w.now s.args.n s.args.n s.requires.1 (omega arith)))
 
 pub denominator-db-requires : goal.denominator-db-requires
 denominator-db-requires c =
@@ -21,7 +20,7 @@ denominator-db-requires c =
       s.requires.0,
       omega (
         arith,
-        c.top_vertex-b.ensures,
+        c.top_cell-b.ensures.vertex,
         below_low s.args.v s.args.w.now s.args.n (s.args.n - 1) s.requires.1 (omega arith),
       ),
     )
@@ -34,6 +33,6 @@ returns c = let s = c in
       c.denominator-da.ensures.0,
       c.denominator-db.ensures.0,
       c.denominator-dy.ensures.0,
-      c.top_vertex-a.ensures,
-      c.top_vertex-b.ensures,
+      c.top_cell-a.ensures.vertex,
+      c.top_cell-b.ensures.vertex,
     )

@@ -3,10 +3,9 @@ use mathlib.Core.Path.{◌≡◌, sym, ◌∙◌, ap}
 use Prim.Native.Nat.{◌-◌, ◌+◌, ◌≤◌}
 use native.Mathlib.Omega.{arith}
 use lib.ListN.{length, length-set}
-use borrow.Author.Rules.{rules}
 use Rattle.polygon.specs.Inner.Scanning.{cells_in, ready_of}
 use Rattle.polygon.proofs.Space.{still}
-use Rattle.polygon.proofs.Scanning.{mid_turn, Mid, mid_start, mid_end, ready_some, length_joined}
+use Rattle.polygon.proofs.Scanning.{mid_turn, mid_start, mid_end, ready_some, length_joined}
 use Rattle.polygon.proofs.cutting.settle.Goals.{In-loop-top}
 use Rattle.polygon.proofs.cutting.settle.Goals as goal
 
@@ -21,7 +20,7 @@ some c = ready_some _ _ _ _ (isReady c)
 pub loop-top-init : goal.loop-top-init
 loop-top-init c =
     let s = c in
-    mid_start s.args.t.now s.args.v s.args.w.now s.args.i s.args.n0 s.args.m0 s.requires
+    mid_start s.args.t.now s.args.v s.args.w.now s.args.i s.args.before.n s.args.before.m s.requires
 
 pub ready-requires : goal.ready-requires
 ready-requires c = let l = c in
@@ -62,7 +61,7 @@ pub loop-top-preserved : goal.loop-top-preserved
 loop-top-preserved c = let i = c in
     let l = i in
     let s = l in
-    mid_turn s.args.t.now s.args.v s.args.w.now s.args.i s.args.n0 s.args.m0 s.requires l.loop-top.w _ _ l.loop-top.n l.loop-top.m
+    mid_turn s.args.t.now s.args.v s.args.w.now s.args.i s.args.before.n s.args.before.m s.requires l.loop-top.w _ _ l.loop-top.n l.loop-top.m
     l.loop-top.h _ l.loop-top.invariant (isReady (goal.at.loop-top-preserved c).In-loop-top)
     c.index-hl.ensures c.link.ensures
     c.link-in-loop-top.ensures
@@ -73,5 +72,5 @@ bounds-w-n-2 c = simp length-set (omega arith)
 pub returns : goal.returns
 returns c = let l = c in
     let s = l in
-    mid_end s.args.t.now s.args.v s.args.w.now s.args.i s.args.n0 s.args.m0 s.requires l.loop-top.w l.loop-top.n l.loop-top.m
+    mid_end s.args.t.now s.args.v s.args.w.now s.args.i s.args.before.n s.args.before.m s.requires l.loop-top.w l.loop-top.n l.loop-top.m
     l.loop-top.h l.loop-top.invariant (sym c.ready.ensures ∙ c.loop-top-test.false)

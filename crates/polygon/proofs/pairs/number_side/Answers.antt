@@ -3,7 +3,6 @@
 use mathlib.Core.Path.{sym, ◌∙◌}
 use Prim.Native.Nat.{◌<◌}
 use native.Mathlib.Omega.{arith}
-use borrow.Author.Rules.{rules}
 use Rattle.polygon.proofs.Partners.{number_count, numbered_leads, numbered_follows, follows, above_set, above_refl}
 use Rattle.polygon.proofs.pairs.number_side.Goals.{After-partner_of-k}
 use Rattle.polygon.proofs.pairs.number_side.Goals as goal
@@ -13,7 +12,7 @@ behind : (c : After-partner_of-k) → c.partner_of-k.result < c.args.i
 behind c =
     let s = c in
     let f = follows s.args.t.now s.args.v s.requires.0 s.args.w.now s.args.i s.args.n s.requires.1 s.requires.2
-    (sym c.is_leading-leading.ensures ∙ c.if-leading.false) in
+    (sym c.is_leading.ensures ∙ c.if-is_leading.false) in
     omega (arith, f.0, f.2, c.partner_of-k.ensures)
 
 pub overflow_add-w : goal.overflow_add-w
@@ -31,11 +30,11 @@ overflow_add-result c =
     let s = c in
     omega (arith, number_count s.args.t.now s.args.v s.args.w.now s.args.i s.args.n s.requires.1, s.requires.2, s.requires.0.most)
 
-pub returns-then-leading : goal.returns-then-leading
-returns-then-leading c = let s = c in (
+pub returns-then-is_leading : goal.returns-then-is_leading
+returns-then-is_leading c = let s = c in (
   above_set s.args.w.now s.args.w.now _ _ (above_refl _) (omega arith),
   numbered_leads s.args.t.now s.args.v s.requires.0 s.args.w.now
-      s.args.i s.args.n s.requires.1 s.requires.2 (sym c.is_leading-leading.ensures ∙ c.if-leading.true),
+      s.args.i s.args.n s.requires.1 s.requires.2 (sym c.is_leading.ensures ∙ c.if-is_leading.true),
 )
 
 pub overflow_add-j : goal.overflow_add-j
@@ -55,5 +54,5 @@ returns c = let a = c in
       above_set s.args.w.now s.args.w.now _ _ (above_refl _) (omega arith),
       numbered_follows s.args.t.now s.args.v s.requires.0
           s.args.w.now s.args.i s.args.n s.requires.1 s.requires.2 a.partner_of-k.result
-          (sym a.is_leading-leading.ensures ∙ a.if-leading.false) a.partner_of-k.ensures,
+          (sym a.is_leading.ensures ∙ a.if-is_leading.false) a.partner_of-k.ensures,
     )

@@ -6,7 +6,6 @@ use lib.ListN.{get_or}
 use lib.IntN.{pos}
 use mir.Facts.{to_z-of_z}
 use mir.Syntax.{w64}
-use borrow.Author.Rules.{rules}
 use Rattle.polygon.proofs.Scanning.{den_at}
 use Rattle.polygon.proofs.reading.denominator.Goals as goal
 

@@ -5,7 +5,6 @@ use Prim.Native.Nat.{◌-◌, ◌*◌}
 use native.Mathlib.Omega.{arith}
 use mir.Facts.{to_z-of_z}
 use mir.Syntax.{w16}
-use borrow.Author.Rules.{rules}
 use Rattle.polygon.specs.Inner.Tables.{letters_of}
 use Rattle.polygon.proofs.Flip.{real_in}
 use Rattle.polygon.proofs.Stepping.{turn_silent, turn_writes, number_read}

@@ -4,7 +4,6 @@ use mathlib.Core.Path.{sym, ◌∙◌, ap}
 use native.Mathlib.Omega.{arith}
 use mir.Facts.{to_z-of_z}
 use mir.Syntax.{w16}
-use borrow.Author.Rules.{rules}
 use Rattle.polygon.specs.Inner.Tables.{letters_of}
 use Rattle.polygon.proofs.Flip.{real_in}
 use Rattle.polygon.proofs.Stepping.{low, silent_is, writes_even, writes_odd, writes_bad, writes_free, number_here}
@@ -32,8 +31,8 @@ number_of-j-requires c = let b = c in
       s.requires.0.long,
     )
 
-pub pairing-kind-requires : goal.pairing-kind-requires
-pairing-kind-requires c = let b = c in
+pub pairing-requires : goal.pairing-requires
+pairing-requires c = let b = c in
     let s = b in (
       s.requires.0.symbol,
       omega (
@@ -76,14 +75,14 @@ returns-in-Even c = let n = c in
     ap letters_of (to_z-of_z {w = w16} {z = c.as_letter.result} (record { sfits = c.as_letter.type_inv }) ∙ c.as_letter.ensures)
     ∙ writes_even s.args.t.now s.args.v s.args.w.now s.requires.0 s.args.p b.beyond-q.result s.requires.1 b.beyond-q.ensures
     n.number_of-j.result n.if-q-b.false n.number_of-j.ensures
-    (sym c.pairing-kind.ensures ∙ c.in-Even.is)
+    (sym c.pairing.ensures ∙ c.in-Even.is)
 
 pub returns-in-Odd : goal.returns-in-Odd
 returns-in-Odd c = let n = c in
     let b = n in
     let s = b in
     writes_odd s.args.t.now s.args.v s.args.w.now s.requires.0 s.args.p b.beyond-q.result s.requires.1 b.beyond-q.ensures
-    n.number_of-j.result n.if-q-b.false n.number_of-j.ensures (sym c.pairing-kind.ensures ∙ c.in-Odd.is)
+    n.number_of-j.result n.if-q-b.false n.number_of-j.ensures (sym c.pairing.ensures ∙ c.in-Odd.is)
 
 pub returns-in-Free : goal.returns-in-Free
 returns-in-Free c = let k = c in
@@ -93,11 +92,11 @@ returns-in-Free c = let k = c in
     ap letters_of (to_z-of_z {w = w16} {z = c.as_letter-in-Free.result} (record { sfits = c.as_letter-in-Free.type_inv }) ∙ c.as_letter-in-Free.ensures)
     ∙ writes_free s.args.t.now s.args.v s.args.w.now s.requires.0 s.args.p b.beyond-q.result s.requires.1 b.beyond-q.ensures
     n.number_of-j.result n.if-q-b.false n.number_of-j.ensures _ k.partner_of-k.result
-    (sym k.pairing-kind.ensures ∙ k.in-Free.is) k.partner_of-k.ensures
+    (sym k.pairing.ensures ∙ k.in-Free.is) k.partner_of-k.ensures
 
 pub returns-in-Bad : goal.returns-in-Bad
 returns-in-Bad c = let n = c in
     let b = n in
     let s = b in
     writes_bad s.args.t.now s.args.v s.args.w.now s.requires.0 s.args.p b.beyond-q.result s.requires.1 b.beyond-q.ensures
-    n.number_of-j.result n.if-q-b.false n.number_of-j.ensures (sym c.pairing-kind.ensures ∙ c.in-Bad.is)
+    n.number_of-j.result n.if-q-b.false n.number_of-j.ensures (sym c.pairing.ensures ∙ c.in-Bad.is)

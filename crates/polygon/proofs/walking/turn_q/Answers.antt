@@ -3,7 +3,6 @@ use mathlib.Core.Path.{sym}
 use native.Mathlib.Omega.{arith}
 use Rattle.polygon.proofs.Flip.{turn_face}
 use Rattle.polygon.proofs.Corner.{forth_is}
-use borrow.Author.Rules.{rules}
 use Rattle.polygon.proofs.walking.turn_q.Goals as goal
 
 pub returns-then-v-p : goal.returns-then-v-p

@@ -8,6 +8,3 @@ use Rattle.prime_units.proofs.units.all_marked.Given as goal
 
 abbrev pub invariant-loop-u : goal.invariant-loop-u
 invariant-loop-u l = Through l.p l.q l.u l.w
-
-abbrev pub decreases-loop-u : goal.decreases-loop-u
-decreases-loop-u l = l.q - l.u

@@ -7,6 +7,3 @@ use Rattle.prime_units.proofs.units.clear_marks.Given as goal
 
 abbrev pub invariant-loop-j : goal.invariant-loop-j
 invariant-loop-j l = Clearing l.q l.initial.w l.w l.j
-
-abbrev pub decreases-loop-j : goal.decreases-loop-j
-decreases-loop-j l = l.q + 1 - l.j

@@ -8,6 +8,3 @@ use Rattle.prime_units.proofs.units.find_unit.Given as goal
 
 abbrev pub invariant-loop-g : goal.invariant-loop-g
 invariant-loop-g l = Trying l.q l.initial.w l.w l.g
-
-abbrev pub decreases-loop-g : goal.decreases-loop-g
-decreases-loop-g l = l.q - l.g

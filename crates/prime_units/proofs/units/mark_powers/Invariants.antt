@@ -8,6 +8,3 @@ use Rattle.prime_units.proofs.units.mark_powers.Given as goal
 
 abbrev pub invariant-loop-i : goal.invariant-loop-i
 invariant-loop-i l = Running l.q l.g l.initial.w l.w l.x
-
-abbrev pub decreases-loop-i : goal.decreases-loop-i
-decreases-loop-i l = l.q - l.i

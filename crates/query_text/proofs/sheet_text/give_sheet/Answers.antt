@@ -7,7 +7,6 @@ use lib.ListN.{length}
 use Rattle.text.specs.Inner.Inside.{left_by}
 use Rattle.sheets.specs.Sheet.{bad_count}
 use Rattle.query_text.proofs.SheetReadings.{few_numbers, bad_entries, all_numbers, entries_most}
-use borrow.Author.Rules.{rules}
 use Rattle.query_text.proofs.sheet_text.give_sheet.Goals as goal
 
 pub returns-then-count-wanted : goal.returns-then-count-wanted

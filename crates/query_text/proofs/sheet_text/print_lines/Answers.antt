@@ -1,4 +1,4 @@
-use mathlib.Core.Path.{◌≡◌, refl, sym, ap, ◌∙◌, subst}
+use mathlib.Core.Path.{◌≡◌, ap, ◌∙◌}
 use mathlib.Core.List.{List}
 use Prim.Native.Nat.{ℕ, suc, ◌+◌, ◌-◌, ◌*◌, ◌≤◌, ◌<◌}
 use native.Mathlib.Nat.{add-sub_cancel_left}
@@ -10,13 +10,12 @@ use lib.Seq.{length-take-le}
 use Rattle.decimal.proofs.Placing.{puts_as}
 use Rattle.sheets.specs.Sheet.{line_in}
 use Rattle.query_text.specs.Inner.SheetTable.{used, printed_rows, used_to}
-use Rattle.query_text.proofs.SheetPrinting.{Printing, printing_none, printing_more}
-use borrow.Author.Rules.{rules}
+use Rattle.query_text.proofs.SheetPrinting.{printing_none, printing_more}
 use Rattle.query_text.proofs.sheet_text.print_lines.Goals.{At-loop-i, Start}
 use Rattle.query_text.proofs.sheet_text.print_lines.Goals as goal
 
 pub loop-i-init : goal.loop-i-init
-loop-i-init c = (printing_none _ _ _, search rules)
+loop-i-init c = printing_none _ _ _
 
 -- the next line, as the code lends it, and room for it
 module _ (l : At-loop-i) where
@@ -41,8 +40,8 @@ module _ (l : At-loop-i) where
     one_more = omega (
       arith,
       ap (λ (x : List ℤ). used x start.args.letters.now) part_is,
-      l.loop-i.invariant.0.most,
-      l.loop-i.invariant.0.same,
+      l.loop-i.invariant.most,
+      l.loop-i.invariant.same,
       start.requires.few,
       start.requires.word_space (suc l.loop-i.i) (omega arith),
       start.requires.out_long,
@@ -55,20 +54,17 @@ print_line-end-requires c =
 
 pub loop-i-preserved : goal.loop-i-preserved
 loop-i-preserved c =
-    let p = c in
-    let l = (goal.at.loop-i-preserved c).At-loop-i in (
-      printing_more l.loop-i.invariant.0 (part_is l) p.print_line-end.ensures.puts p.print_line-end.ensures.upper_bound
-          (omega (arith, p.print_line-end.ensures.upper_bound, one_more l c.loop-i-test.true)) (l.loop-i.i + 1)
-          (add-one l.loop-i.i),
-      omega (arith, c.loop-i-test.true),
-    )
+    let e = c.print_line-end.ensures in
+    let l = (goal.at.loop-i-preserved c).At-loop-i in
+    printing_more l.loop-i.invariant (part_is l) e.puts e.upper_bound
+    (omega (arith, e.upper_bound, one_more l c.loop-i-test.true)) (l.loop-i.i + 1) (add-one l.loop-i.i)
 
 pub shape_of-out : goal.shape_of-out
-shape_of-out c = c.loop-i.invariant.0.same
+shape_of-out c = c.loop-i.invariant.same
 
 pub returns : goal.returns
 returns c =
     let l = c in
     let s = l in
-    let end : l.loop-i.i ≡ s.args.n = omega (arith, l.loop-i.invariant.1, c.loop-i-test.false) in
-    puts_as (ap (printed_rows s.args.lines.now s.args.letters.now) end) l.loop-i.invariant.0.puts
+    let end : l.loop-i.i ≡ s.args.n = omega arith in
+    puts_as (ap (printed_rows s.args.lines.now s.args.letters.now) end) l.loop-i.invariant.puts

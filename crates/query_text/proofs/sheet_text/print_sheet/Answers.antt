@@ -14,8 +14,7 @@ use Rattle.decimal.proofs.Placing.{puts_as}
 use Rattle.text.specs.Reading.{count_in}
 use Rattle.query_text.specs.Printed.{table_of, pairs_of}
 use Rattle.query_text.proofs.SheetAnswers.{Called, symbol_part, pairs_part, called_as, refused_printed, made_room, made_printed}
-use borrow.Author.Rules.{rules}
-use Rattle.query_text.proofs.sheet_text.print_sheet.Goals.{After-sheet-answer, After-vertex_count-v, Start}
+use Rattle.query_text.proofs.sheet_text.print_sheet.Goals.{After-sheet, After-vertex_count-v, Start}
 use Rattle.query_text.proofs.sheet_text.print_sheet.Goals as goal
 
 -- v, and the symbol that fits
@@ -35,9 +34,9 @@ module _ (n : After-vertex_count-v) where
   whole = omega (arith, v_is, begun.requires.0.whole)
 
 -- the answer of `sheet`
-module _ (m : After-sheet-answer) where
+module _ (m : After-sheet) where
   abbrev start : Start
-  start = (goal.at.After-sheet-answer m).Start
+  start = (goal.at.After-sheet m).Start
 
   abbrev numbers : List ℤ
   numbers = start.args.ns.now
@@ -45,11 +44,11 @@ module _ (m : After-sheet-answer) where
   abbrev v : ℕ
   v = m.vertex_count-v.result
 
-  called : Called start.args.w.now start.args.lines.now start.args.letters.now m.sheet-answer.result m.sheet-answer.new.w
-      m.sheet-answer.new.lines m.sheet-answer.new.out (count_in numbers) (table_of numbers) (pairs_of numbers)
+  called : Called start.args.w.now start.args.lines.now start.args.letters.now m.sheet.result m.sheet.new.w
+      m.sheet.new.lines m.sheet.new.out (count_in numbers) (table_of numbers) (pairs_of numbers)
   called =
-      let e = v_is (goal.at.After-sheet-answer m).After-vertex_count-v in
-      called_as e (symbol_part numbers v (3 * v + 2) e refl) (pairs_part numbers v (3 * v + 2) e refl) (record { fills = m.sheet-answer.ensures })
+      let e = v_is (goal.at.After-sheet m).After-vertex_count-v in
+      called_as e (symbol_part numbers v (3 * v + 2) e refl) (pairs_part numbers v (3 * v + 2) e refl) (record { fills = m.sheet.ensures })
 
 pub overflow_mul-k : goal.overflow_mul-k
 overflow_mul-k c = record { fits = omega (arith, few (goal.at.overflow_mul-k c).After-vertex_count-v) }
@@ -73,21 +72,21 @@ pub print_lines-requires : goal.print_lines-requires
 print_lines-requires c =
     let m = c in
     let s = m in
-    made_room s.args.ns.now s.requires.1 (called (goal.at.print_lines-requires c).After-sheet-answer) c.in-Made.n
-    c.in-Made.is c.lines-1.given
+    made_room s.args.ns.now s.requires.1 (called (goal.at.print_lines-requires c).After-sheet) c.in-Ok.n
+    c.in-Ok.is c.lines-1.given
 
-pub returns-in-Refused : goal.returns-in-Refused
-returns-in-Refused c =
+pub returns-in-Err : goal.returns-in-Err
+returns-in-Err c =
     let m = c in
     let s = m in
     let ns = s.args.ns.now in
-    puts_as (refused_printed ns s.requires.1 (called (goal.at.returns-in-Refused c).After-sheet-answer) c.in-Refused.refusal
-    c.in-Refused.is) c.refusal_line.ensures
+    puts_as (refused_printed ns s.requires.1 (called (goal.at.returns-in-Err c).After-sheet) c.in-Err.refusal
+    c.in-Err.is) c.refusal_line.ensures
 
-pub returns-in-Made : goal.returns-in-Made
-returns-in-Made c =
+pub returns-in-Ok : goal.returns-in-Ok
+returns-in-Ok c =
     let m = c in
     let s = m in
     let ns = s.args.ns.now in
-    puts_as (made_printed ns s.requires.1 (called (goal.at.returns-in-Made c).After-sheet-answer) c.in-Made.n
-    c.in-Made.is) c.print_lines.ensures
+    puts_as (made_printed ns s.requires.1 (called (goal.at.returns-in-Ok c).After-sheet) c.in-Ok.n
+    c.in-Ok.is) c.print_lines.ensures

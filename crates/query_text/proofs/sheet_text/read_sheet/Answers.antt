@@ -1,53 +1,56 @@
 -- `read_sheet` meets its contract: the length, then the survey of the pieces, then the count. Assumes nothing.
-use mathlib.Core.Path.{◌≡◌, refl, sym, ap, ◌∙◌}
+use mathlib.Core.Path.{refl, sym, ap, ◌∙◌}
 use mathlib.Core.Bool.{Bool, ◌||◌}
-use Prim.Native.Nat.{ℕ}
 use lib.Dec.{ltb}
 use lib.ListN.{length}
+use borrow.Author.Rules.{rules}
 use borrow.Author.Tests.{lt-ltb}
-use Rattle.text.specs.Piece.{pieces, first_bad}
+use Rattle.call.specs.declared.refusal.Refusal.TheVariants.{BadText}
+use Rattle.text.specs.Piece.{pieces}
 use Rattle.text.specs.Reading.{text_most}
 use Rattle.text.specs.Inner.Inside.{left_by}
 use Rattle.text.proofs.Answers.{survey_all}
+use Rattle.text.proofs.Exits.{handed_out, mapped_ok, mapped_err}
 use Rattle.query_text.proofs.SheetReadings.{too_long, survey_bad, survey_good}
-use borrow.Author.Rules.{rules}
+use Rattle.query_text.proofs.sheet_text.read_sheet.Goals.{then-longer-via-then-longer, then-longer-via-else-longer+then-text-gt-TEXT_MOST}
 use Rattle.query_text.proofs.sheet_text.read_sheet.Goals as goal
 
 pub returns-then-longer : goal.returns-then-longer
 unfolding left_by
-returns-then-longer c = let s = c in
-    let t = s.args.text.now in
-    (too_long s.args.longer t (ap (λ (b : Bool). b || ltb text_most (length t)) c.if-longer.true), refl)
-
-pub returns-then-text-gt-TEXT_MOST : goal.returns-then-text-gt-TEXT_MOST
-unfolding left_by
-returns-then-text-gt-TEXT_MOST c = let s = c in
-    let t = s.args.text.now in
-    (too_long s.args.longer t (ap (λ (b : Bool). b || ltb text_most (length t)) c.if-longer.false ∙ lt-ltb text_most (length t) c.if-text-gt-TEXT_MOST.true), refl)
+returns-then-longer c = let t = c.args.text.now in
+    elim c.then-longer.branch [
+      | then-longer-via-then-longer w ↦ (too_long c.args.longer t (ap (λ (b : Bool). b || ltb text_most (length t)) w.if-longer.true), refl)
+      | then-longer-via-else-longer+then-text-gt-TEXT_MOST w ↦ (
+        too_long c.args.longer t (ap (λ (b : Bool). b || ltb text_most (length t)) w.if-longer.false
+            ∙ lt-ltb text_most (length t) w.if-text-gt-TEXT_MOST.true),
+        refl,
+      )
+    ]
 
 pub read_counted-requires : goal.read_counted-requires
 read_counted-requires c =
-    let s = c in
-    let k = survey_all (pieces s.args.text.now) c.in-Count.count
-    (sym c.in-Count.is ∙ c.survey_of.ensures) in
-    (k.0, k.1, s.requires)
+    let k = survey_all (pieces c.args.text.now) c.in_ok-count.count
+    (sym (mapped_ok _ c.survey_of.result c.map_err.result c.map_err.ensures.cases c.in_ok-count.count c.in_ok-count.was)
+    ∙ c.survey_of.ensures) in
+    (k.0, k.1, c.requires)
 
-pub returns-in-Bad : goal.returns-in-Bad
+pub returns-in_err-count : goal.returns-in_err-count
 unfolding left_by
-returns-in-Bad c = let s = c in (
-  survey_bad s.args.longer s.args.text.now c.if-longer.false c.if-text-gt-TEXT_MOST.false
-      c.in-Bad.at
-      (sym c.in-Bad.is ∙ c.survey_of.ensures),
-  refl,
-)
+returns-in_err-count c =
+    let m = mapped_err BadText c.survey_of.result c.map_err.result c.map_err.ensures.cases (λ e d h. search rules)
+    c.in_err-count.field-0.0 c.in_err-count.was in
+    rw (handed_out c.from_residual.result c.from_residual.ensures.1, m.2) (
+      survey_bad c.args.longer c.args.text.now c.if-longer.false c.if-text-gt-TEXT_MOST.false m.0
+          (sym m.1 ∙ c.survey_of.ensures),
+      refl,
+    )
 
-pub returns-in-Count : goal.returns-in-Count
-returns-in-Count c =
-    let s = c in
-    let k = survey_all (pieces s.args.text.now) c.in-Count.count
-    (sym c.in-Count.is ∙ c.survey_of.ensures) in (
+pub returns : goal.returns
+returns c =
+    let k = survey_all (pieces c.args.text.now) c.in_ok-count.count
+    (sym (mapped_ok _ c.survey_of.result c.map_err.result c.map_err.ensures.cases c.in_ok-count.count c.in_ok-count.was)
+    ∙ c.survey_of.ensures) in (
       c.read_counted.ensures.0
-          ∙ survey_good s.args.longer s.args.text.now c.if-longer.false
-          c.if-text-gt-TEXT_MOST.false k.0,
+          ∙ survey_good c.args.longer c.args.text.now c.if-longer.false c.if-text-gt-TEXT_MOST.false k.0,
       c.read_counted.ensures.1,
     )

@@ -9,7 +9,6 @@ use Rattle.call.proofs.Laws.{fills_as}
 use Rattle.sheets.specs.Sheet.{pairs_in}
 use Rattle.same_coset.specs.Pairs.{coset_lines}
 use Rattle.same_coset.proofs.Whole.{no_room, in_room}
-use borrow.Author.Rules.{rules}
 use Rattle.same_coset.proofs.pairs.fill.Goals as goal
 
 pub returns-then-lines-k : goal.returns-then-lines-k

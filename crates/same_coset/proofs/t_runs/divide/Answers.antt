@@ -1,7 +1,6 @@
 -- `divide` computes what `DividesNearest` names: both quotients, both distances, and the choice between them. Assumes nothing.
 use native.Mathlib.Nat.{mod-lt, div-le_self}
 use native.Mathlib.Omega.{arith}
-use borrow.Author.Rules.{rules}
 use Rattle.same_coset.proofs.t_runs.divide.Goals as goal
 
 pub overflow_sub-missing : goal.overflow_sub-missing

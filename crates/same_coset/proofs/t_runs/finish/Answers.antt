@@ -1,11 +1,7 @@
 -- `finish` is the last run of T, by its sign and its length. Assumes nothing.
-use mathlib.Core.Path.{◌∙◌}
-use Rattle.same_coset.proofs.Signed.{kept}
-use borrow.Author.Rules.{rules}
+use mathlib.Core.Path.{refl, ◌∙◌}
+use Rattle.same_coset.proofs.Signed.{kept, from_zero}
 use Rattle.same_coset.proofs.t_runs.finish.Goals as goal
 
 pub returns : goal.returns
-returns c =
-    let s = c in
-    let x = s.args.x in
-    c.slide.ensures ∙ rw (c.is_nonnegative.ensures, c.size.ensures, kept x.b s.requires.1.b_low)
+returns c = c.slide.ensures ∙ rw (c.size.ensures, kept c.args.x.b c.requires.1.b_low, from_zero c.args.x.b) refl

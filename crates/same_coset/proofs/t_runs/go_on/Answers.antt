@@ -1,7 +1,6 @@
 use mathlib.Core.Path.{◌∙◌}
 use Prim.Native.Nat.{◌<◌}
 use native.Mathlib.Omega.{arith}
-use Rattle.same_coset.specs.Inner.Rows.{RemainsLater}
 use Rattle.same_coset.proofs.Runs.{none_yet, run_less, later, arrived}
 use Rattle.same_coset.proofs.t_runs.go_on.Goals as goal
 

@@ -1,10 +1,6 @@
 -- `go_on` follows what is left run by run: after each run there is something later left (`later`), and in the end the last run leads to the place (`arrived`).
 -- Assumes nothing.
-use mathlib.Core.Path.{◌∙◌}
-use Prim.Native.Nat.{◌<◌}
-use native.Mathlib.Omega.{arith}
 use Rattle.same_coset.specs.Inner.Rows.{RemainsLater}
-use Rattle.same_coset.proofs.Runs.{none_yet, run_less, later, arrived}
 use Rattle.same_coset.proofs.t_runs.go_on.Given as goal
 
 abbrev pub invariant-loop-x : goal.invariant-loop-x

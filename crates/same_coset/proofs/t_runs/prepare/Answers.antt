@@ -1,7 +1,6 @@
 -- `prepare` makes the tables by place from the coset record, S first: ends and widths stand where the table of S and the places of the points were.
 -- Assumes nothing.
 use Rattle.same_coset.proofs.ByPlace.{turn_source, end_source, symbol_places}
-use borrow.Author.Rules.{rules}
 use Rattle.same_coset.proofs.t_runs.prepare.Goals as goal
 
 pub enter_turns-requires : goal.enter_turns-requires

@@ -1,7 +1,5 @@
 -- `side_by_side` keeps for both that something later is left (`later`). Assumes nothing.
 use Rattle.same_coset.specs.Inner.Rows.{RemainsLater}
-use Rattle.same_coset.proofs.Runs.{none_yet, run_less, later, both_left}
-use borrow.Author.Rules.{rules}
 use Rattle.same_coset.proofs.t_runs.side_by_side.Given as goal
 
 abbrev pub invariant-loop-x : goal.invariant-loop-x

@@ -4,7 +4,6 @@ use Prim.Native.Nat.{◌+◌}
 use lib.ListN.{get_or}
 use Rattle.same_coset.specs.Inner.Places.{WIDTH}
 use Rattle.same_coset.proofs.Places.{steps_most, width_low, place_in, slide_is}
-use borrow.Author.Rules.{rules}
 use Rattle.same_coset.proofs.t_runs.slide.Goals as goal
 
 pub steps_on-j-requires : goal.steps_on-j-requires

@@ -1,7 +1,6 @@
 -- `steps_on_lem` is `steps_on`: the remainder, or what it leaves of the width. Assumes nothing.
 use native.Mathlib.Nat.{mod-lt}
 use native.Mathlib.Omega.{arith}
-use borrow.Author.Rules.{rules}
 use Rattle.same_coset.proofs.t_runs.steps_on.Goals as goal
 
 pub returns-then-onward : goal.returns-then-onward

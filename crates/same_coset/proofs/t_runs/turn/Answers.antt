@@ -15,8 +15,7 @@ use Rattle.same_coset.specs.Inner.Rows.{signed, both_or_none, rounds_up, partial
 use Rattle.same_coset.specs.declared.t_runs.Remaining.{Remaining}
 use Rattle.same_coset.proofs.Rows.{subtracts, right_low}
 use Rattle.same_coset.proofs.Places.{run_low}
-use Rattle.same_coset.proofs.Signed.{kept}
-use borrow.Author.Rules.{rules}
+use Rattle.same_coset.proofs.Signed.{kept, alike}
 use Rattle.same_coset.proofs.t_runs.turn.Goals.{After-slide-y, Start}
 use Rattle.same_coset.proofs.t_runs.turn.Goals as goal
 
@@ -78,6 +77,6 @@ returns c =
       d_is = to_z-of_z {w = w64} {z = right.result} (record { sfits = right.type_inv }) ∙ right.ensures
           ∙ ap (λ (up : Bool). signed (not up) (to_z w64 (of_z w64 e.subtract-right.result))) d.up_is
           ∙ ap (signed (not (rounds_up (x (goal.at.returns c).After-slide-y).a (x (goal.at.returns c).After-slide-y).c))) (right_is (goal.at.returns c).After-slide-y);
-      aligned_is = c.both_or_none.ensures ∙ ap (λ (up : Bool). both_or_none up (x (goal.at.returns c).After-slide-y).aligned) d.up_is;
+      aligned_is = alike e.divide-e.result.up s.args.x.aligned ∙ ap (λ (up : Bool). both_or_none up s.args.x.aligned) d.up_is;
       place_is = c.index.ensures ∙ ap (λ (i : ℕ). get_or s.args.w.now (TURN + i) 0) (here_is (goal.at.returns c).After-slide-y);
     }

@@ -4,7 +4,6 @@ use Prim.Native.Nat.{◌≤◌, ◌<◌}
 use native.Mathlib.Omega.{arith}
 use Rattle.numbering.specs.Inner.Space.{ROOM}
 use Rattle.same_coset.proofs.ByPlace.{entry_low, steps_fit, number_low, cusp_there}
-use borrow.Author.Rules.{rules}
 use Rattle.same_coset.proofs.tables.cusp_at.Goals.{After-index-steps, After-index-x, Start}
 use Rattle.same_coset.proofs.tables.cusp_at.Goals as goal
 

@@ -1,9 +1,6 @@
-use Prim.Native.Nat.{◌-◌}
 use native.Mathlib.Omega.{arith}
 use lib.ListN.{length-set}
-use Rattle.figures.specs.Inner.Scan.{held_t}
-use Rattle.same_coset.proofs.ByPlace.{Ending, ending_start, ending_asks, end_low, ending_more, ending_end}
-use borrow.Author.Rules.{rules}
+use Rattle.same_coset.proofs.ByPlace.{ending_start, ending_asks, end_low, ending_more, ending_end}
 use Rattle.same_coset.proofs.tables.enter_ends.Goals as goal
 
 pub loop-y-init : goal.loop-y-init

@@ -1,9 +1,5 @@
-use Prim.Native.Nat.{◌-◌}
 use native.Mathlib.Omega.{arith}
-use Rattle.figures.specs.Inner.Scan.{held_t}
-use Rattle.same_coset.specs.Inner.Places.{held_s}
-use Rattle.same_coset.proofs.ByPlace.{Turning, turning_start, point_low, image_low, turn_here, turning_more, turning_end}
-use borrow.Author.Rules.{rules}
+use Rattle.same_coset.proofs.ByPlace.{turning_start, point_low, image_low, turn_here, turning_more, turning_end}
 use Rattle.same_coset.proofs.tables.enter_turns.Goals as goal
 
 pub loop-y-init : goal.loop-y-init

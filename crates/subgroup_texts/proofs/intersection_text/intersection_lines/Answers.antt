@@ -1,5 +1,6 @@
 -- `intersection_lines` meets its contract: the tables that were made stand at the fronts of their spaces (`stored`), and are a pair that fits (`made_fits`);
 -- each answer has its lines. Assumes nothing.
+use Rattle.std.specs.Prelude.{Ok}
 use mathlib.Core.Path.{◌≡◌, sym, ap, subst, ◌∙◌}
 use mathlib.Core.List.{List}
 use Prim.Native.Nat.{ℕ, ◌≤◌}
@@ -8,8 +9,7 @@ use lib.IntN.{ℤ}
 use lib.ListN.{length, take, replicate, length-replicate}
 use lib.Seq.{length-take-le}
 use Rattle.call.specs.Space.{work_length}
-use Rattle.call.specs.declared.refusal.Filled.{Filled}
-use Rattle.call.specs.declared.refusal.Filled.TheVariants.{Made}
+use Rattle.call.specs.Refusal.{Filled}
 use Rattle.call.specs.Call.{at_front}
 use Rattle.decimal.proofs.Placing.{puts_as}
 use Rattle.containment.specs.TwoSymbols.{common_s, common_r}
@@ -18,8 +18,7 @@ use Rattle.symbol_texts.specs.Pair.{pair_text, pair_lines_by}
 use Rattle.symbol_texts.specs.Inner.PairFits.{PairFits}
 use Rattle.subgroup_texts.specs.IntersectionAnswer.{intersection_for}
 use Rattle.subgroup_texts.proofs.IntersectionPoints.{made_for, stored, intersected, few_points, made_fits, column_front}
-use borrow.Author.Rules.{rules}
-use Rattle.subgroup_texts.proofs.intersection_text.intersection_lines.Goals.{After-intersection-made, In-Made, Start}
+use Rattle.subgroup_texts.proofs.intersection_text.intersection_lines.Goals.{After-intersection-made, In-Ok, Start}
 use Rattle.subgroup_texts.proofs.intersection_text.intersection_lines.Goals as goal
 
 -- the program's spaces
@@ -68,15 +67,15 @@ module _ (m : After-intersection-made) where
   answer = made_for v t n u {w = work} {s = space} {r = space} {u = space} m.intersection-made.ensures long size size size
 
 -- where tables were made
-module _ (d : In-Made) where
+module _ (d : In-Ok) where
   abbrev called : After-intersection-made
-  called = (goal.at.In-Made d).After-intersection-made
+  called = (goal.at.In-Ok d).After-intersection-made
 
   abbrev points : ℕ
-  points = d.in-Made.points
+  points = d.in-Ok.points
 
-  made : intersection_for (v called) (t called) (n called) (u called) ≡ Made points
-  made = sym (answer called) ∙ d.in-Made.is
+  made : intersection_for (v called) (t called) (n called) (u called) ≡ Ok points
+  made = sym (answer called) ∙ d.in-Ok.is
 
   common : Intersected (v called) (t called) (n called) (u called) points
   common = intersected (v called) (t called) (n called) (u called) points made
@@ -87,7 +86,7 @@ module _ (d : In-Made) where
   tables : (stood_S called ≡ at_front (S called) space) × (stood_R called ≡ at_front (R called) space)
   tables =
       stored (v called) (t called) (n called) (u called) {w = work} {s = space} {r = space} {u = space} called.intersection-made.ensures points
-      d.in-Made.is
+      d.in-Ok.is
 
   front_S : take points (stood_S called) ≡ S called
   front_S = column_front points (S called) space (common.group.cosets.size_S ∙ sym common.points) tables.0
@@ -107,30 +106,30 @@ module _ (d : In-Made) where
       (subst (λ (s : List ℕ). PairFits s (R called)) (sym front_S) (made_fits (v called) (t called) (n called) (u called) points made))
 
 pub slice_bounds-a-end : goal.slice_bounds-a-end
-slice_bounds-a-end c = inside_S (goal.at.slice_bounds-a-end c).In-Made
+slice_bounds-a-end c = inside_S (goal.at.slice_bounds-a-end c).In-Ok
 
 pub slice_bounds-pair_lines-end : goal.slice_bounds-pair_lines-end
-slice_bounds-pair_lines-end c = let d = c in sym (length-take-le (points (goal.at.slice_bounds-pair_lines-end c).In-Made) (stood_S (called (goal.at.slice_bounds-pair_lines-end c).In-Made)) (inside_S (goal.at.slice_bounds-pair_lines-end c).In-Made))
+slice_bounds-pair_lines-end c = let d = c in sym (length-take-le (points (goal.at.slice_bounds-pair_lines-end c).In-Ok) (stood_S (called (goal.at.slice_bounds-pair_lines-end c).In-Ok)) (inside_S (goal.at.slice_bounds-pair_lines-end c).In-Ok))
 
 pub slice_bounds-b-end : goal.slice_bounds-b-end
-slice_bounds-b-end c = inside_R (goal.at.slice_bounds-b-end c).In-Made
+slice_bounds-b-end c = inside_R (goal.at.slice_bounds-b-end c).In-Ok
 
-pub slice_bounds-pair_lines-end-in-Made : goal.slice_bounds-pair_lines-end-in-Made
-slice_bounds-pair_lines-end-in-Made c = let d = c in sym (length-take-le (points (goal.at.slice_bounds-pair_lines-end-in-Made c).In-Made) (stood_R (called (goal.at.slice_bounds-pair_lines-end-in-Made c).In-Made)) (inside_R (goal.at.slice_bounds-pair_lines-end-in-Made c).In-Made))
+pub slice_bounds-pair_lines-end-in-Ok : goal.slice_bounds-pair_lines-end-in-Ok
+slice_bounds-pair_lines-end-in-Ok c = let d = c in sym (length-take-le (points (goal.at.slice_bounds-pair_lines-end-in-Ok c).In-Ok) (stood_R (called (goal.at.slice_bounds-pair_lines-end-in-Ok c).In-Ok)) (inside_R (goal.at.slice_bounds-pair_lines-end-in-Ok c).In-Ok))
 
 pub pair_lines-requires : goal.pair_lines-requires
-pair_lines-requires c = let d = c in (fits (goal.at.pair_lines-requires c).In-Made, (start (called (goal.at.pair_lines-requires c).In-Made)).requires)
+pair_lines-requires c = let d = c in (fits (goal.at.pair_lines-requires c).In-Ok, (start (called (goal.at.pair_lines-requires c).In-Ok)).requires)
 
-pub returns-in-Made : goal.returns-in-Made
-returns-in-Made c =
+pub returns-in-Ok : goal.returns-in-Ok
+returns-in-Ok c =
     let d = c in
-    let m = called (goal.at.returns-in-Made c).In-Made in
-    let pair = ap (λ (s : List ℕ). pair_text s (take (points (goal.at.returns-in-Made c).In-Made) (stood_R m))) (front_S (goal.at.returns-in-Made c).In-Made) ∙ ap (pair_text (S m)) (front_R (goal.at.returns-in-Made c).In-Made) in
-    let told = sym (ap (λ (r : Filled). pair_lines_by r (S m) (R m)) (made (goal.at.returns-in-Made c).In-Made)) in
+    let m = called (goal.at.returns-in-Ok c).In-Ok in
+    let pair = ap (λ (s : List ℕ). pair_text s (take (points (goal.at.returns-in-Ok c).In-Ok) (stood_R m))) (front_S (goal.at.returns-in-Ok c).In-Ok) ∙ ap (pair_text (S m)) (front_R (goal.at.returns-in-Ok c).In-Ok) in
+    let told = sym (ap (λ (r : Filled). pair_lines_by r (S m) (R m)) (made (goal.at.returns-in-Ok c).In-Ok)) in
     puts_as (pair ∙ told) c.pair_lines.ensures
 
-pub returns-in-Refused : goal.returns-in-Refused
-returns-in-Refused c =
+pub returns-in-Err : goal.returns-in-Err
+returns-in-Err c =
     let k = c in
     let m = k in
-    puts_as (ap (λ (r : Filled). pair_lines_by r (S (goal.at.returns-in-Refused c).After-intersection-made) (R (goal.at.returns-in-Refused c).After-intersection-made)) (sym k.in-Refused.is ∙ answer (goal.at.returns-in-Refused c).After-intersection-made)) c.refusal_line.ensures
+    puts_as (ap (λ (r : Filled). pair_lines_by r (S (goal.at.returns-in-Err c).After-intersection-made) (R (goal.at.returns-in-Err c).After-intersection-made)) (sym k.in-Err.is ∙ answer (goal.at.returns-in-Err c).After-intersection-made)) c.refusal_line.ensures

@@ -6,19 +6,16 @@ use lib.ListN.{length}
 use borrow.Author.Tests.{lt-ltb}
 use Rattle.text.specs.Reading.{text_most}
 use Rattle.subgroup_texts.proofs.SameReadings.{too_long, not_longer}
-use borrow.Author.Rules.{rules}
+use Rattle.subgroup_texts.proofs.same_text.read_two.Goals.{then-longer-via-then-longer, then-longer-via-else-longer+then-text-gt-TEXT_MOST}
 use Rattle.subgroup_texts.proofs.same_text.read_two.Goals as goal
 
 pub returns-then-longer : goal.returns-then-longer
-returns-then-longer c =
-    let s = c in
-    too_long s.args.longer s.args.text.now (ap (λ (b : Bool). b || ltb text_most (length s.args.text.now)) c.if-longer.true)
-
-pub returns-then-text-gt-TEXT_MOST : goal.returns-then-text-gt-TEXT_MOST
-returns-then-text-gt-TEXT_MOST c =
-    let s = c in
-    too_long s.args.longer s.args.text.now
-    (ap (λ (b : Bool). b || ltb text_most (length s.args.text.now)) c.if-longer.false ∙ lt-ltb text_most (length s.args.text.now) c.if-text-gt-TEXT_MOST.true)
+returns-then-longer c = let t = c.args.text.now in
+    elim c.then-longer.branch [
+      | then-longer-via-then-longer w ↦ too_long c.args.longer t (ap (λ (b : Bool). b || ltb text_most (length t)) w.if-longer.true)
+      | then-longer-via-else-longer+then-text-gt-TEXT_MOST w ↦ too_long c.args.longer t
+          (ap (λ (b : Bool). b || ltb text_most (length t)) w.if-longer.false ∙ lt-ltb text_most (length t) w.if-text-gt-TEXT_MOST.true)
+    ]
 
 pub returns : goal.returns
 returns c =

@@ -6,7 +6,6 @@ use lib.ListN.{length, replicate, length-replicate}
 use Rattle.call.specs.Space.{work_length}
 use Rattle.decimal.proofs.Placing.{puts_as}
 use Rattle.subgroup_texts.proofs.SameLines.{same_for_lem}
-use borrow.Author.Rules.{rules}
 use Rattle.subgroup_texts.proofs.same_text.same_lines.Goals as goal
 
 -- the program's work space

@@ -1,4 +1,5 @@
--- `read_entries` meets its contract: there is no number, or the first one is negative, or all are handed on. Assumes nothing.
+-- `read_entries` meets its contract: there is no number, or the first one is negative, or all are handed on. Assumes
+-- nothing.
 use mathlib.Core.Path.{◌≡◌, refl, sym, ap, ◌∙◌}
 use native.Mathlib.Omega.{arith}
 use lib.IntN.{ℤ, pos}
@@ -8,54 +9,37 @@ use mir.Syntax.{w64}
 use mir.Val.{to_z, of_z}
 use mir.Facts.{to_z-of_z}
 use Rattle.text.specs.Inner.Inside.{left_by}
-use Rattle.text.specs.Inner.Inside.{PieceRead}
-use Rattle.text.proofs.Walks.{walked_start, sound_clash, at_end, at_bad, at_number}
+use Rattle.text.proofs.Walks.{walked_start, walked_sound}
 use Rattle.subgroup_texts.proofs.TowerReadings.{by_none, by_negative, by_number}
-use borrow.Author.Rules.{rules}
-use Rattle.subgroup_texts.proofs.tower_text.read_entries.Goals.{In-Number, Start}
+use Rattle.subgroup_texts.proofs.tower_text.read_entries.Goals.{In-Some}
 use Rattle.subgroup_texts.proofs.tower_text.read_entries.Goals as goal
 
--- the first number
-module _ (e : In-Number) where
-  abbrev start : Start
-  start = (goal.at.In-Number e).Start
+-- the test of the first number
+read : (k : In-Some) → lt_z (to_z w64 (of_z w64 k.in-Some.entries.value)) (pos 0) ≡ lt_z k.in-Some.entries.value (pos 0)
+read k = ap (λ (z : ℤ). lt_z z (pos 0)) (to_z-of_z {w = w64} {z = k.in-Some.entries.value} (record { sfits = omega arith }))
 
-  abbrev first : ℤ
-  first = e.in-Number.entries
+pub next_number-requires : goal.next_number-requires
+next_number-requires c = let w = walked_start c.args.text.now in (w.inside, walked_sound w c.requires.0)
 
-  step : PieceRead start.args.text.now 0 first e.in-Number.at e.in-Number.field-2
-  step = at_number start.args.text.now 0 e.next.ensures e.in-Number.is
-
-read : (k : In-Number) → to_z w64 (of_z w64 (first k)) ≡ first k
-read k = to_z-of_z {w = w64} {z = first k} (record { sfits = omega arith })
+pub returns-in_default : goal.returns-in_default
+unfolding left_by
+returns-in_default c = let t = c.args.text.now in (by_none t (length t) c.in_default.ensures, refl)
 
 pub returns-then-entries-lt0 : goal.returns-then-entries-lt0
 unfolding left_by
-returns-then-entries-lt0 c = let e = c in
-    let s = start (goal.at.returns-then-entries-lt0 c).In-Number in
-    let t = s.args.text.now in
-    (by_negative t (length t) s.requires.0 (step (goal.at.returns-then-entries-lt0 c).In-Number) (sym (ap (λ (z : ℤ). lt_z z (pos 0)) (read (goal.at.returns-then-entries-lt0 c).In-Number)) ∙ c.if-entries-lt0.true), refl)
+returns-then-entries-lt0 c = let t = c.args.text.now in (
+  by_negative t (length t) c.requires.0 c.in-Some.ensures
+      (sym (read (goal.at.returns-then-entries-lt0 c).In-Some) ∙ c.if-entries-lt0.true),
+  refl,
+)
 
 pub fill-requires : goal.fill-requires
-fill-requires c = let s = start (goal.at.fill-requires c).In-Number in (s.requires.0, omega (arith, s.requires.1), s.requires.2)
+fill-requires c = (c.requires.0, omega (arith, c.requires.1), c.requires.2)
 
-pub returns-in-End : goal.returns-in-End
+pub returns : goal.returns
 unfolding left_by
-returns-in-End c = let t = c.args.text.now in
-    (by_none t (length t) (at_end t 0 c.next.ensures c.in-End.is), refl)
-
-pub returns-in-Bad : goal.returns-in-Bad
-returns-in-Bad c =
-    let s = c in
-    let t = s.args.text.now in
-    absurd (sound_clash (walked_start t) s.requires.0 (at_bad t 0 c.next.ensures c.in-Bad.is))
-
-pub returns-else-entries-lt0 : goal.returns-else-entries-lt0
-unfolding left_by
-returns-else-entries-lt0 c = let e = c in
-    let s = start (goal.at.returns-else-entries-lt0 c).In-Number in
-    let t = s.args.text.now in (
-      by_number t (length t) s.requires.0 (step (goal.at.returns-else-entries-lt0 c).In-Number)
-          (sym (ap (λ (z : ℤ). lt_z z (pos 0)) (read (goal.at.returns-else-entries-lt0 c).In-Number)) ∙ c.if-entries-lt0.false) s.args.count s.requires.1,
-      c.fill.ensures,
-    )
+returns c = let t = c.args.text.now in (
+  by_number t (length t) c.requires.0 c.in-Some.ensures
+      (sym (read (goal.at.returns c).In-Some) ∙ c.if-entries-lt0.false) c.args.count c.requires.1,
+  c.fill.ensures,
+)

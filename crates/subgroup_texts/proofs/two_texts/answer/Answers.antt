@@ -1,4 +1,5 @@
 -- `answer` meets its contract: each answer of `read_two` has its lines (`lines_as`). Assumes nothing.
+use Rattle.std.specs.Prelude.{Ok}
 use mathlib.Core.Path.{◌≡◌, refl, sym}
 use mathlib.Core.List.{List}
 use Prim.Native.Nat.{ℕ, ◌≤◌}
@@ -7,16 +8,14 @@ use lib.IntN.{ℤ}
 use lib.ListN.{length}
 use lib.Seq.{length-take-le}
 use Rattle.subgroup_texts.specs.Inner.TwoTexts.{CountsWithin}
-use Rattle.subgroup_texts.specs.declared.same_text.TwoReading.TheVariants.{Numbers}
 use Rattle.subgroup_texts.proofs.SameReadings.{lines_as, refused_as}
-use borrow.Author.Rules.{rules}
-use Rattle.subgroup_texts.proofs.two_texts.answer.Goals.{After-read_two-reading, In-Numbers, Start}
+use Rattle.subgroup_texts.proofs.two_texts.answer.Goals.{After-read_two-reading, In-Ok, Start}
 use Rattle.subgroup_texts.proofs.two_texts.answer.Goals as goal
 
 -- the numbers of two texts
-module _ (d : In-Numbers) where
+module _ (d : In-Ok) where
   abbrev read : After-read_two-reading
-  read = (goal.at.In-Numbers d).After-read_two-reading
+  read = (goal.at.In-Ok d).After-read_two-reading
 
   abbrev ones : List ℤ
   ones = read.read_two-reading.new.one
@@ -25,13 +24,13 @@ module _ (d : In-Numbers) where
   others = read.read_two-reading.new.other
 
   abbrev k : ℕ
-  k = d.in-Numbers.k
+  k = d.in-Ok.k
 
   abbrev j : ℕ
-  j = d.in-Numbers.j
+  j = d.in-Ok.j
 
-  told : read.read_two-reading.result ≡ Numbers k j
-  told = d.in-Numbers.is
+  told : read.read_two-reading.result ≡ Ok (k, j)
+  told = d.in-Ok.is
 
   counted : CountsWithin k j
   counted = read.read_two-reading.ensures.within k j told
@@ -46,32 +45,32 @@ module _ (d : In-Numbers) where
   inside' = omega (arith, counted.most', d.other-2-1.given)
 
 pub slice_bounds-one-end : goal.slice_bounds-one-end
-slice_bounds-one-end c = inside (goal.at.slice_bounds-one-end c).In-Numbers
+slice_bounds-one-end c = inside (goal.at.slice_bounds-one-end c).In-Ok
 
 pub slice_bounds-two_lines-end : goal.slice_bounds-two_lines-end
-slice_bounds-two_lines-end c = let d = c in sym (length-take-le (k (goal.at.slice_bounds-two_lines-end c).In-Numbers) (ones (goal.at.slice_bounds-two_lines-end c).In-Numbers) (inside (goal.at.slice_bounds-two_lines-end c).In-Numbers))
+slice_bounds-two_lines-end c = let d = c in sym (length-take-le (k (goal.at.slice_bounds-two_lines-end c).In-Ok) (ones (goal.at.slice_bounds-two_lines-end c).In-Ok) (inside (goal.at.slice_bounds-two_lines-end c).In-Ok))
 
 pub slice_bounds-other-end : goal.slice_bounds-other-end
-slice_bounds-other-end c = inside' (goal.at.slice_bounds-other-end c).In-Numbers
+slice_bounds-other-end c = inside' (goal.at.slice_bounds-other-end c).In-Ok
 
-pub slice_bounds-two_lines-end-in-Numbers : goal.slice_bounds-two_lines-end-in-Numbers
-slice_bounds-two_lines-end-in-Numbers c = let d = c in sym (length-take-le (j (goal.at.slice_bounds-two_lines-end-in-Numbers c).In-Numbers) (others (goal.at.slice_bounds-two_lines-end-in-Numbers c).In-Numbers) (inside' (goal.at.slice_bounds-two_lines-end-in-Numbers c).In-Numbers))
+pub slice_bounds-two_lines-end-in-Ok : goal.slice_bounds-two_lines-end-in-Ok
+slice_bounds-two_lines-end-in-Ok c = let d = c in sym (length-take-le (j (goal.at.slice_bounds-two_lines-end-in-Ok c).In-Ok) (others (goal.at.slice_bounds-two_lines-end-in-Ok c).In-Ok) (inside' (goal.at.slice_bounds-two_lines-end-in-Ok c).In-Ok))
 
 pub two_lines-requires : goal.two_lines-requires
 two_lines-requires c =
     let d = c in (
-      omega (arith, length-take-le (k (goal.at.two_lines-requires c).In-Numbers) (ones (goal.at.two_lines-requires c).In-Numbers) (inside (goal.at.two_lines-requires c).In-Numbers), (counted (goal.at.two_lines-requires c).In-Numbers).some),
-      omega (arith, length-take-le (j (goal.at.two_lines-requires c).In-Numbers) (others (goal.at.two_lines-requires c).In-Numbers) (inside' (goal.at.two_lines-requires c).In-Numbers), (counted (goal.at.two_lines-requires c).In-Numbers).some'),
-      (start (goal.at.two_lines-requires c).In-Numbers).requires,
+      omega (arith, length-take-le (k (goal.at.two_lines-requires c).In-Ok) (ones (goal.at.two_lines-requires c).In-Ok) (inside (goal.at.two_lines-requires c).In-Ok), (counted (goal.at.two_lines-requires c).In-Ok).some),
+      omega (arith, length-take-le (j (goal.at.two_lines-requires c).In-Ok) (others (goal.at.two_lines-requires c).In-Ok) (inside' (goal.at.two_lines-requires c).In-Ok), (counted (goal.at.two_lines-requires c).In-Ok).some'),
+      (start (goal.at.two_lines-requires c).In-Ok).requires,
     )
 
-pub returns-in-Refused : goal.returns-in-Refused
-returns-in-Refused c =
+pub returns-in-Err : goal.returns-in-Err
+returns-in-Err c =
     let a = c in
     let r = a in
     let asked = r.args.asked in
-    lines_as asked r.read_two-reading.ensures a.in-Refused.is (refused_as asked a.in-Refused.refusal) c.refusal_line.ensures
+    lines_as asked r.read_two-reading.ensures a.in-Err.is (refused_as asked a.in-Err.refusal) c.refusal_line.ensures
 
-pub returns-in-Numbers : goal.returns-in-Numbers
-returns-in-Numbers c =
-    lines_as c.args.asked c.read_two-reading.ensures c.in-Numbers.is refl c.two_lines.ensures
+pub returns-in-Ok : goal.returns-in-Ok
+returns-in-Ok c =
+    lines_as c.args.asked c.read_two-reading.ensures c.in-Ok.is refl c.two_lines.ensures

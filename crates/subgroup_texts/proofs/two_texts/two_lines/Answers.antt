@@ -9,7 +9,6 @@ use Rattle.text.specs.Reading.{vertex_count, count_in}
 use Rattle.decimal.proofs.Placing.{puts_as}
 use Rattle.subgroup_texts.proofs.SameLines.{rest_part}
 use Rattle.subgroup_texts.proofs.SameReadings.{symbols_as}
-use borrow.Author.Rules.{rules}
 use Rattle.subgroup_texts.proofs.two_texts.two_lines.Goals.{After-vertex_count-n, Start}
 use Rattle.subgroup_texts.proofs.two_texts.two_lines.Goals as goal
 

@@ -7,7 +7,6 @@ use Rattle.matrix.specs.Matrix.{nth}
 use Rattle.matrix.proofs.Bounds.{kept}
 use Rattle.decimal.proofs.Placing.{puts_as}
 use Rattle.symbol_texts.proofs.ExchangePrinting.{asked_as, few_lines, enough_lines}
-use borrow.Author.Rules.{rules}
 use Rattle.symbol_texts.proofs.exchange_text.exchange_numbers.Goals as goal
 
 pub returns-then-k-lt4 : goal.returns-then-k-lt4

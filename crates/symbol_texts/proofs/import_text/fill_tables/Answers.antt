@@ -2,17 +2,16 @@
 use native.Mathlib.Omega.{arith}
 use Prim.Native.Nat.{◌+◌, ◌-◌, ◌/◌}
 use lib.ListN.{length}
-use Rattle.call.specs.Refusal.{point_count}
+use Rattle.call.specs.declared.refusal.Refusal.TheVariants.{PointCount}
 use Rattle.symbol_texts.specs.ImportAnswer.{points_from}
 use Rattle.symbol_texts.proofs.ImportAnswering.{few_numbers, enough_numbers, tables_none, tables_some, tables_as}
 use Rattle.symbol_texts.proofs.ImportEntries.{table_length_lem, part_filled, filled_take}
-use borrow.Author.Rules.{rules}
 use Rattle.symbol_texts.proofs.import_text.fill_tables.Goals as goal
 
 pub returns-then-k-lt3 : goal.returns-then-k-lt3
 returns-then-k-lt3 c =
     let s = c in
-    tables_as (few_numbers s.args.numbers.now c.if-k-lt3.true) (tables_none point_count s.args.s.now s.args.r.now)
+    tables_as (few_numbers s.args.numbers.now c.if-k-lt3.true) (tables_none PointCount s.args.s.now s.args.r.now)
 
 pub returns : goal.returns
 returns c =

@@ -1,15 +1,12 @@
 -- `symbol_lines` meets its contract: three lines, one after another. Assumes nothing.
-use mathlib.Core.Path.{◌≡◌, refl, sym, ap, ◌∙◌}
+use mathlib.Core.Path.{sym, ap}
 use native.Mathlib.Omega.{arith}
-use mathlib.Core.List.{List}
-use Prim.Native.Nat.{ℕ, ◌*◌, ◌-◌}
-use lib.IntN.{ℤ}
-use lib.ListN.{length, take, drop, length-drop}
+use Prim.Native.Nat.{◌*◌}
+use lib.ListN.{length, length-drop}
 use lib.Seq.{length-take-le}
 use Rattle.decimal.proofs.Placing.{puts_as, puts_then}
 use Rattle.symbol_texts.specs.ImportAnswer.{number_line, symbol_lines}
 use Rattle.symbol_texts.proofs.ImportLines.{rest_is}
-use borrow.Author.Rules.{rules}
 use Rattle.symbol_texts.proofs.import_text.symbol_lines.Goals as goal
 
 pub slice_bounds-number_line-end : goal.slice_bounds-number_line-end

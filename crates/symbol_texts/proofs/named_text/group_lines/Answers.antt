@@ -12,8 +12,7 @@ use Rattle.symbol_texts.specs.ImportAnswer.{symbol_lines}
 use Rattle.named_groups.specs.Answer.{named_rule}
 use Rattle.symbol_texts.specs.NamedAnswer.{order_for}
 use Rattle.symbol_texts.proofs.NamedMaking.{lines_are}
-use borrow.Author.Rules.{rules}
-use Rattle.symbol_texts.proofs.named_text.group_lines.Goals.{After-group_symbol-made, In-Made, Start}
+use Rattle.symbol_texts.proofs.named_text.group_lines.Goals.{After-group_symbol-made, In-Ok, Start}
 use Rattle.symbol_texts.proofs.named_text.group_lines.Goals as goal
 
 -- after the symbol was asked for
@@ -34,48 +33,48 @@ module _ (m : After-group_symbol-made) where
   left = m.group_symbol-made.new.table
 
 -- where a symbol was made
-module _ (k : In-Made) where
+module _ (k : In-Ok) where
   abbrev called : After-group_symbol-made
-  called = (goal.at.In-Made k).After-group_symbol-made
+  called = (goal.at.In-Ok k).After-group_symbol-made
 
   abbrev v : ℕ
-  v = k.in-Made.v
+  v = k.in-Ok.v
 
   symbol : IsSymbol v (table called)
-  symbol = (called.group_symbol-made.ensures.symbol_front.symbol v k.in-Made.is).symbol
+  symbol = (called.group_symbol-made.ensures.symbol_front.symbol v k.in-Ok.is).symbol
 
   front : take (3 * v + 1) (left called) ≡ table called
-  front = called.group_symbol-made.ensures.symbol_front.front v k.in-Made.is
+  front = called.group_symbol-made.ensures.symbol_front.front v k.in-Ok.is
 
   front_long : length (take (3 * v + 1) (left called)) ≡ 3 * v + 1
   front_long = ap length front ∙ symbol.long
 
 pub overflow_mul-end : goal.overflow_mul-end
-overflow_mul-end c = omega (arith, (symbol (goal.at.overflow_mul-end c).In-Made).most)
+overflow_mul-end c = omega (arith, (symbol (goal.at.overflow_mul-end c).In-Ok).most)
 
 pub overflow_add-end : goal.overflow_add-end
-overflow_add-end c = omega (arith, (symbol (goal.at.overflow_add-end c).In-Made).most)
+overflow_add-end c = omega (arith, (symbol (goal.at.overflow_add-end c).In-Ok).most)
 
 pub slice_bounds-table-end : goal.slice_bounds-table-end
-slice_bounds-table-end c = omega (arith, (symbol (goal.at.slice_bounds-table-end c).In-Made).most, c.table-2-1.given)
+slice_bounds-table-end c = omega (arith, (symbol (goal.at.slice_bounds-table-end c).In-Ok).most, c.table-2-1.given)
 
 pub slice_bounds-symbol_lines-end : goal.slice_bounds-symbol_lines-end
-slice_bounds-symbol_lines-end c = sym (front_long (goal.at.slice_bounds-symbol_lines-end c).In-Made)
+slice_bounds-symbol_lines-end c = sym (front_long (goal.at.slice_bounds-symbol_lines-end c).In-Ok)
 
 pub symbol_lines-requires : goal.symbol_lines-requires
 symbol_lines-requires c =
     let k = c in
-    ((symbol (goal.at.symbol_lines-requires c).In-Made).most, front_long (goal.at.symbol_lines-requires c).In-Made, (start (called (goal.at.symbol_lines-requires c).In-Made)).requires)
+    ((symbol (goal.at.symbol_lines-requires c).In-Ok).most, front_long (goal.at.symbol_lines-requires c).In-Ok, (start (called (goal.at.symbol_lines-requires c).In-Ok)).requires)
 
-pub returns-in-Made : goal.returns-in-Made
-returns-in-Made c =
+pub returns-in-Ok : goal.returns-in-Ok
+returns-in-Ok c =
     let k = c in
-    let m = called (goal.at.returns-in-Made c).In-Made in
-    let same = ap (symbol_lines (v (goal.at.returns-in-Made c).In-Made)) (front (goal.at.returns-in-Made c).In-Made) ∙ lines_are (K m) (N m) m.group_symbol-made.result _ m.group_symbol-made.ensures.value k.in-Made.is in
+    let m = called (goal.at.returns-in-Ok c).In-Ok in
+    let same = ap (symbol_lines (v (goal.at.returns-in-Ok c).In-Ok)) (front (goal.at.returns-in-Ok c).In-Ok) ∙ lines_are (K m) (N m) m.group_symbol-made.result _ m.group_symbol-made.ensures.value k.in-Ok.is in
     puts_as same c.symbol_lines.ensures
 
-pub returns-in-Refused : goal.returns-in-Refused
-returns-in-Refused c =
+pub returns-in-Err : goal.returns-in-Err
+returns-in-Err c =
     let k = c in
     let m = k in
-    puts_as (lines_are (K (goal.at.returns-in-Refused c).After-group_symbol-made) (N (goal.at.returns-in-Refused c).After-group_symbol-made) m.group_symbol-made.result _ m.group_symbol-made.ensures.value k.in-Refused.is) c.refusal_line.ensures
+    puts_as (lines_are (K (goal.at.returns-in-Err c).After-group_symbol-made) (N (goal.at.returns-in-Err c).After-group_symbol-made) m.group_symbol-made.result _ m.group_symbol-made.ensures.value k.in-Err.is) c.refusal_line.ensures

@@ -6,7 +6,6 @@ use Rattle.matrix.specs.Matrix.{nth}
 use Rattle.decimal.proofs.Placing.{puts_as}
 use Rattle.symbol_texts.specs.NamedAnswer.{request_lines}
 use Rattle.symbol_texts.proofs.NamedAsked.{few_numbers, enough_numbers}
-use borrow.Author.Rules.{rules}
 use Rattle.symbol_texts.proofs.named_text.group_numbers.Goals as goal
 
 pub returns-then-numbers-lt2 : goal.returns-then-numbers-lt2

@@ -2,7 +2,6 @@
 use mathlib.Core.Path.{sym, ◌∙◌}
 use native.Mathlib.Omega.{arith}
 use Rattle.symbol_texts.proofs.NamedMaking.{symbol_first, symbol_wide}
-use borrow.Author.Rules.{rules}
 use Rattle.symbol_texts.proofs.named_text.group_symbol.Goals as goal
 
 pub returns-then-is_over : goal.returns-then-is_over

@@ -2,7 +2,6 @@
 use native.Mathlib.Omega.{arith}
 use Rattle.decimal.proofs.Placing.{puts_then}
 use Rattle.symbol_texts.specs.Pair.{pair_text}
-use borrow.Author.Rules.{rules}
 use Rattle.symbol_texts.proofs.pair_text.pair_lines.Goals as goal
 
 pub returns : goal.returns

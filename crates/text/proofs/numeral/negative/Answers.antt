@@ -3,7 +3,6 @@ use mathlib.Core.Path.{ap, sym}
 use Prim.Native.Nat.{ℕ}
 use lib.IntN.{pos, neg_ℤ}
 use Rattle.text.proofs.Signs.{less_fits, less_stored}
-use borrow.Author.Rules.{rules}
 use Rattle.text.proofs.numeral.negative.Goals as goal
 
 pub returns-then-m-eq0 : goal.returns-then-m-eq0

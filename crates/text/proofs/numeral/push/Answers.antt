@@ -1,11 +1,10 @@
 -- `text::push` meets its contract: a number past `most / 10` goes past `most` with any digit behind. Assumes nothing.
+use Rattle.std.specs.Prelude.{Some}
 use borrow.Author.Tests.{le-leb, lt-leb}
 use native.Mathlib.Omega.{arith}
 use Rattle.text.proofs.Numbers.{digit_yes, digit_low, digit_high}
 use Prim.Native.Nat.{◌+◌, ◌*◌, ◌-◌, ℕ}
 use mathlib.Core.Path.{ap}
-use Rattle.text.specs.declared.numeral.Natural.TheVariants as natural
-use borrow.Author.Rules.{rules}
 use Rattle.text.proofs.numeral.push.Goals as goal
 
 pub returns-then-b-lt48 : goal.returns-then-b-lt48
@@ -32,4 +31,4 @@ returns c = let a = c.args in
       digit_yes a.b c.if-b-lt48.false c.if-b-gt57.false,
       le-leb (a.m * 10 + (a.b - 48)) a.most
           (omega arith),
-    ) (ap (λ (k : ℕ). natural.Is (a.m * 10 + k)) c.wide.ensures)
+    ) (ap (λ (k : ℕ). Some (a.m * 10 + k)) c.from.ensures)

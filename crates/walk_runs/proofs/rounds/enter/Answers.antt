@@ -2,7 +2,6 @@
 use native.Mathlib.Omega.{arith}
 use lib.ListN.{length-set}
 use Rattle.walk_runs.proofs.Counts.{entered_by}
-use borrow.Author.Rules.{rules}
 use Rattle.walk_runs.proofs.rounds.enter.Goals as goal
 
 pub bounds-r-n : goal.bounds-r-n

@@ -3,7 +3,6 @@ use mathlib.Core.Path.{sym, ◌∙◌}
 use native.Mathlib.Omega.{arith}
 use lib.ListN.{length-set}
 use Rattle.walk_runs.proofs.Entering.{few_places, places_low, rounds_more}
-use borrow.Author.Rules.{rules}
 use Rattle.walk_runs.proofs.rounds.enter_round.Goals as goal
 
 pub open_round-n-requires : goal.open_round-n-requires

@@ -1,13 +1,6 @@
 -- `fill_ends` enters the end of the round at each of its places (`filled_none`, `filled_more`). Assumes nothing.
-use Prim.Native.Nat.{◌-◌, ◌≤◌}
-use native.Mathlib.Omega.{arith}
 use Rattle.walk_runs.specs.Inner.Rounds.{EndsFilled}
-use Rattle.walk_runs.proofs.Counts.{filled_none, filled_more, filled_end}
-use borrow.Author.Rules.{rules}
 use Rattle.walk_runs.proofs.rounds.fill_ends.Given as goal
 
 abbrev pub invariant-loop-y : goal.invariant-loop-y
-invariant-loop-y l = EndsFilled l.a l.n l.y l.initial.r l.r × (l.a ≤ l.y) × (l.y ≤ l.n)
-
-abbrev pub decreases-loop-y : goal.decreases-loop-y
-decreases-loop-y l = l.n - l.y
+invariant-loop-y l = EndsFilled l.a l.n l.y l.initial.r l.r

@@ -1,9 +1,8 @@
 -- `follow_back`: the place that lies a rest before, and the same whole rounds (`led`). Assumes nothing.
-use mathlib.Core.Path.{sym, ap, ◌∙◌}
+use mathlib.Core.Path.{ap, ◌∙◌}
 use native.Mathlib.Omega.{arith}
 use Rattle.walk_runs.specs.Inner.Rounds.{position_in}
 use Rattle.walk_runs.proofs.Following.{standing, in_round, rest_low, times_low, behind, led}
-use borrow.Author.Rules.{rules}
 use Rattle.walk_runs.proofs.rounds.follow_back.Goals as goal
 
 pub locate-arc-requires : goal.locate-arc-requires
@@ -30,8 +29,8 @@ nonzero_div-times c =
     let q = in_round s.requires.0 s.args.p s.requires.1 s.requires.2 c.locate-arc.ensures in
     omega (arith, q.from, q.before)
 
-pub backward_place-z-requires : goal.backward_place-z-requires
-backward_place-z-requires c =
+pub backward-z-requires : goal.backward-z-requires
+backward-z-requires c =
     let s = c in
     let q = in_round s.requires.0 s.args.p s.requires.1 s.requires.2 c.locate-arc.ensures in
     (q.from, q.before, q.sums.room, rest_low s.requires.0 q s.args.k)
@@ -40,7 +39,7 @@ pub count_after-count-requires : goal.count_after-count-requires
 count_after-count-requires c =
     let s = c in
     let q = in_round s.requires.0 s.args.p s.requires.1 s.requires.2 c.locate-arc.ensures in
-    let e = c.backward_place-z.ensures in
+    let e = c.backward-z.ensures in
     let z = behind s.requires.0 q s.args.k in (
       q.sums,
       omega (arith, e, z.from),
@@ -53,23 +52,23 @@ pub overflow_add-z : goal.overflow_add-z
 overflow_add-z c =
     let s = c in
     let q = in_round s.requires.0 s.args.p s.requires.1 s.requires.2 c.locate-arc.ensures in
-    omega (arith, c.backward_place-z.ensures, (behind s.requires.0 q s.args.k).before, q.sums.room)
+    omega (arith, c.backward-z.ensures, (behind s.requires.0 q s.args.k).before, q.sums.room)
 
 pub offset_bounds-r-z : goal.offset_bounds-r-z
 offset_bounds-r-z c =
     let s = c in
     let q = in_round s.requires.0 s.args.p s.requires.1 s.requires.2 c.locate-arc.ensures in
-    omega (arith, c.backward_place-z.ensures, (behind s.requires.0 q s.args.k).before, q.sums.room)
+    omega (arith, c.backward-z.ensures, (behind s.requires.0 q s.args.k).before, q.sums.room)
 
 pub bounds-r-z : goal.bounds-r-z
 bounds-r-z c =
     let s = c in
     let q = in_round s.requires.0 s.args.p s.requires.1 s.requires.2 c.locate-arc.ensures in
-    omega (arith, c.backward_place-z.ensures, (behind s.requires.0 q s.args.k).before, q.sums.room, q.sums.long)
+    omega (arith, c.backward-z.ensures, (behind s.requires.0 q s.args.k).before, q.sums.room, q.sums.long)
 
 pub returns : goal.returns
 returns c =
     let s = c in
     let q = in_round s.requires.0 s.args.p s.requires.1 s.requires.2 c.locate-arc.ensures in
-    let e = c.backward_place-z.ensures in
+    let e = c.backward-z.ensures in
     led s.requires.0 q s.args.k _ (c.index.ensures ∙ ap (position_in s.args.r.now) e) (rw e at c.count_after-count.ensures)

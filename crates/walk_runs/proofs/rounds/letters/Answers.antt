@@ -1,9 +1,7 @@
 -- `letters` adds the letters of S and those of a turn; there is one at most of each. Assumes nothing.
-use mathlib.Core.Path.{ap}
 use native.Mathlib.Omega.{arith}
 use Rattle.matrix.specs.Words.{S, Q}
 use Rattle.coset.proofs.Positions.{positions}
-use borrow.Author.Rules.{rules}
 use Rattle.walk_runs.proofs.rounds.letters.Goals as goal
 
 pub overflow_add-result : goal.overflow_add-result

@@ -5,7 +5,6 @@ use mir.Syntax.{w16}
 use lib.ListN.{length}
 use lib.IntN.{ℤ}
 use Rattle.coset.specs.Positions.{letters_of}
-use borrow.Author.Rules.{rules}
 use Rattle.walk_runs.proofs.rounds.letters_of_s.Goals as goal
 
 pub returns : goal.returns

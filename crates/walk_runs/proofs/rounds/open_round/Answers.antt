@@ -1,14 +1,10 @@
-use Prim.Native.Nat.{◌-◌}
 use native.Mathlib.Omega.{arith}
 use mathlib.Core.Bool.{false}
 use Rattle.matrix.specs.Words.{Q}
-use Rattle.polygon.specs.Cut.{places}
 use Rattle.coset.proofs.Positions.{positions}
-use Rattle.walk_runs.specs.Inner.Rounds.{RoundsListed, Closed, Opening}
 use Rattle.walk_runs.proofs.Blocks.{block_low}
 use Rattle.walk_runs.proofs.Counts.{block_is, block_count_lem}
 use Rattle.walk_runs.proofs.Entering.{few_places, real_low, room, places_low, opening_none, position_more, opened}
-use borrow.Author.Rules.{rules}
 use Rattle.walk_runs.proofs.rounds.open_round.Goals as goal
 
 pub loop-r-init : goal.loop-r-init

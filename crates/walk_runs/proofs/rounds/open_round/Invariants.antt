@@ -1,16 +1,8 @@
 -- `open_round` enters one position after the other, until S Q leads to one that has a place: the first one (`opened`). Fewer positions are without a place
 -- each time. Assumes nothing.
 use Prim.Native.Nat.{◌-◌}
-use native.Mathlib.Omega.{arith}
-use mathlib.Core.Bool.{false}
-use Rattle.matrix.specs.Words.{Q}
 use Rattle.polygon.specs.Cut.{places}
-use Rattle.coset.proofs.Positions.{positions}
 use Rattle.walk_runs.specs.Inner.Rounds.{RoundsListed, Closed, Opening}
-use Rattle.walk_runs.proofs.Blocks.{block_low}
-use Rattle.walk_runs.proofs.Counts.{block_is, block_count_lem}
-use Rattle.walk_runs.proofs.Entering.{few_places, real_low, room, places_low, opening_none, position_more, opened}
-use borrow.Author.Rules.{rules}
 use Rattle.walk_runs.proofs.rounds.open_round.Given as goal
 
 abbrev pub invariant-loop-r : goal.invariant-loop-r

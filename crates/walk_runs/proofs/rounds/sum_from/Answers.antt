@@ -1,7 +1,6 @@
 -- `sum_from` takes one sum from a later one; the sums grow. Assumes nothing.
 use mathlib.Core.Path.{refl}
 use native.Mathlib.Omega.{arith}
-use borrow.Author.Rules.{rules}
 use Rattle.walk_runs.proofs.rounds.sum_from.Goals as goal
 
 pub overflow_sub-result : goal.overflow_sub-result

@@ -1,2 +1,0 @@
--- The laws behind the proofs.
-pub mod Held
