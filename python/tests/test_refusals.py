@@ -53,7 +53,7 @@ class Sentences(unittest.TestCase):
                 ("docs/CONVENTIONS.md", "| 21 | ", "| 22 | "),
                 (str(home), "refusal_number (WrongOrder n) = 14", "refusal_number (WrongOrder n) = 15"),
                 (str(home), "BadPairing", "WrongPairing"),
-                (str(source), "// 10: 'None'", "// 11: 'None'"),
+                (str(source), "// 10: 'none'", "// 11: 'none'"),
                 (str(source), "    NoWord,", "    NoWord(usize),"),
             ):
                 text = (copy / name).read_text("utf-8")

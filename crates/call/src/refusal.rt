@@ -30,7 +30,7 @@ pub enum Refusal {
     MatrixEntry(usize),
     // 9: A determinant isn't 1: 0 for A, 1 for B.
     BadDeterminant(usize),
-    // 10: 'None': no word exists.
+    // 10: 'none': no word exists.
     NoWord,
 
     // ---- whoever lends space

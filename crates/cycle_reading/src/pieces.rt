@@ -20,7 +20,8 @@ pub(crate) fn pushed(m: u64, b: u8) -> u64
     requires { (m ≤ 3067) × (48 ≤ b) × (b ≤ 57) }
     ensures { result ≡ min (m * 10 + (b - 48)) 3067 }
 {
-    PAST.min(m * 10 + u64::from(b - b'0'))
+    let next = m * 10 + u64::from(b - b'0');
+    if PAST < next { PAST } else { next }
 }
 
 // The run of digits from `from` on.

@@ -1,15 +1,15 @@
 -- ALL SIDES of a symbol with small vertex entries: what `draw` asks holds of each (`drawable_side`), because both its ends are vertices or infinity and no
 -- two neighbours are both infinity; and with row i the rows of i sides are those of i + 1 (`rows_none`, `rows_more`). Assumes nothing.
 use mathlib.Core.Path.{◌≡◌, refl, sym, ◌∙◌, ap}
-use mathlib.Core.List.{List, ◌++◌}
+use mathlib.Core.List.{List, [], ◌∷◌, ◌++◌}
 use Prim.Native.Nat.{ℕ, zero, suc, ◌+◌, ◌*◌, ◌≤◌, ◌<◌}
 use native.Mathlib.Omega.{arith}
 use native.Mathlib.Decide.{dec_lt}
 use lib.Dec.{lit≤}
 use lib.IntN.{ℤ, pos, negsuc, nat_abs}
-use lib.ListN.{length, take, drop, length-append, length-drop}
-use lib.Seq.{take_at, drop_at, drop-drop}
-use lib.Ieee.{Float}
+use lib.ListN.{length, get_or, set, take, drop, length-append, length-drop}
+use lib.Seq.{sets-eq, take_at, drop_at, drop-drop}
+use lib.Ieee.{Float, nan}
 use Rattle.symbol.specs.Table.{numer, denom, left_num, left_den, right_num, right_den, side_at}
 use Rattle.symbol.proofs.Sides.{right_inside, right_last}
 use Rattle.drawing.specs.Drawn.{drawn_at}
@@ -66,6 +66,22 @@ module _ (v : ℕ) (t : List ℤ) (s : SmallSymbol v t) where
   }
 
 -- ---- rows in the result space
+
+pub four_stores : (out : List Float) (n : ℕ) (a b c d : Float) → 4 * n + 4 ≤ length out
+    → set (set (set (set out (4 * n) a) (4 * n + 1) b) (4 * n + 2) c) (4 * n + 3) d ≡ put_four n (a ∷ b ∷ c ∷ d ∷ []) out
+four_stores out n a b c d h =
+    let one : 4 * n + 1 ≡ suc (4 * n) = omega arith in
+    let two : 4 * n + 2 ≡ suc (suc (4 * n)) = omega arith in
+    let three : 4 * n + 3 ≡ suc (suc (suc (4 * n))) = omega arith in
+    rw (one, two, three) (sets-eq (a ∷ b ∷ c ∷ d ∷ []) out (4 * n) h)
+
+-- a row, stored float by float
+pub row_stored : (r : Drawn) (k : Float) (out : List Float) (n : ℕ) → 4 * n + 4 ≤ length out
+    → set (set (set (set out (4 * n) (get_or (row_for r k) 0 nan)) (4 * n + 1) (get_or (row_for r k) 1 nan)) (4 * n + 2) (get_or (row_for r k) 2 nan))
+    (4 * n + 3) (get_or (row_for r k) 3 nan)
+    ≡ put_four n (row_for r k) out
+row_stored (Line x) k out n h = four_stores out n _ _ _ _ h
+row_stored (Arc c r) k out n h = four_stores out n _ _ _ _ h
 
 length_row : (r : Drawn) (k : Float) → length (row_for r k) ≡ 4
 length_row (Line x) k = refl

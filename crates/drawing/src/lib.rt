@@ -139,7 +139,12 @@ fn put_side(out: &mut [f64], i: usize, side: Drawn, kind: f64)
     requires { (i ≤ 1023) × (4 * i + 4 ≤ length out.old) }
     ensures { out.new ≡ put_four i (row_for side kind) out.old }
 {
-    out[4 * i..4 * i + 4].copy_from_slice(&row_of(side, kind));
+    // four stores: an array that is copied whole goes by way of memory
+    let [form, first, second, last] = row_of(side, kind);
+    out[4 * i] = form;
+    out[4 * i + 1] = first;
+    out[4 * i + 2] = second;
+    out[4 * i + 3] = last;
 }
 
 // 1, 2 or 3, as side i is free, even or odd.
@@ -183,7 +188,7 @@ fn draw_in_room(v: usize, t: &[i64], out: &mut [f64]) -> Result<BoundingBox, Ref
 fn too_large(x: i64) -> bool
     ensures { result ≡ not (leb (nat_abs x) 33554432) }
 {
-    x.unsigned_abs() > 33554432
+    x < -33554432 || 33554432 < x
 }
 
 // Check 22, from the first vertex entry on.

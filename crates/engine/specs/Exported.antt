@@ -1,7 +1,7 @@
 -- What the exported functions return and write, from the answers of the calls beneath them.
 --
--- Each returns a number: 0, or that of the answer's refusal (`outcome`, `outcome`). Through `place` it
--- writes the refusal's place or, where it returns 0, a count.
+-- Each returns a number: 0, or that of the answer's refusal (`answer_number`). Through `place` it writes the
+-- refusal's place or, where it returns 0, a count.
 --
 --   filled_place                    place, or how many things were made: cosets, vertices, numbers of a table
 --   check_call v t                  `farey_check`: the checks 1 to 7, and 0 says exactly that t has a symbol

@@ -7,38 +7,37 @@ ghost use Rattle.permutations.specs.Inner.Reach.{QueueHolds, Entered, VisitedAt,
 use crate::image;
 use call::refusal::Refusal;
 
-// The points that are reached so far: how many, in a queue, and a mark for each point that is in it.
+// The points that are reached so far: in a queue, and a mark for each point that is in it. How many they are goes beside
+// it: as a field it was read and written in memory for each point, which took half as long again.
 #[derive(Drop)]
 struct Reached {
-    count: usize,
     queue: [u16; 3072],
     marks: [bool; 3072],
 }
 
 impl Reached {
-    // The point x comes to the end of the queue, if it is new.
-    fn enter(&mut self, size: usize, x: usize)
-        requires { QueueHolds self.old.count size self.old.marks self.old.queue × (x < size) }
-        ensures { Entered x self.old.count size self.old.queue self.new.marks self.new.queue self.new.count }
+    // The point x comes to the end of the queue of n points, if it is new; how many there are then.
+    fn enter(&mut self, size: usize, x: usize, n: usize) -> usize
+        requires { QueueHolds n size self.old.marks self.old.queue × (x < size) }
+        ensures { Entered x n size self.old.queue self.new.marks self.new.queue result }
     {
         if self.marks[x] {
-            return;
+            return n;
         }
         self.marks[x] = true;
-        self.queue[self.count] = x as u16;
-        self.count += 1;
+        self.queue[n] = x as u16;
+        n + 1
     }
 
     // The images of the queue's entry i come to its end, if they are new.
-    fn visit(&mut self, s: &[u32], r: &[u32], i: usize)
-        requires { Two s.now r.now × QueueHolds self.old.count (length s.now) self.old.marks self.old.queue
-            × (i < self.old.count) }
-        ensures { VisitedAt (image s.now) (image r.now) i self.old.count (length s.now)
-            self.old.queue self.new.marks self.new.queue self.new.count }
+    fn visit(&mut self, s: &[u32], r: &[u32], i: usize, n: usize) -> usize
+        requires { Two s.now r.now × QueueHolds n (length s.now) self.old.marks self.old.queue × (i < n) }
+        ensures { VisitedAt (image s.now) (image r.now) i n (length s.now)
+            self.old.queue self.new.marks self.new.queue result }
     {
         let x = usize::from(self.queue[i]);
-        self.enter(s.len(), image(s, x));
-        self.enter(s.len(), image(r, x));
+        let k = self.enter(s.len(), image(s, x), n);
+        self.enter(s.len(), image(r, x), k)
     }
 }
 
@@ -48,15 +47,15 @@ fn list_reached(s: &[u32], r: &[u32]) -> Reached
     ensures { AllReached s.now r.now result.marks }
 {
     let mut reached = Reached {
-        count: 1,
         queue: [0; 3072],
         marks: [false; 3072],
     };
     reached.marks[0] = true;
+    let mut n: usize = 1;
     let mut i: usize = 0;
     // a `while`: its bound grows with each point that is reached
-    while i < reached.count {
-        reached.visit(s, r, i);
+    while i < n {
+        n = reached.visit(s, r, i, n);
         i += 1;
     }
     reached

@@ -85,6 +85,9 @@ module _ (t : List ℤ) (v : ℕ) (ok : IsSymbol v t) where
 pub above_refl : (w : List ℕ) → Above w w
 above_refl w = record { same = refl; below = λ k h. refl }
 
+pub above_trans : (a b c : List ℕ) → Above a b → Above b c → Above a c
+above_trans a b c f g = record { same = g.same ∙ f.same; below = λ k h. g.below k h ∙ f.below k h }
+
 pub above_set : (a b : List ℕ) (i x : ℕ) → Above a b → 28672 ≤ i → Above a (set b i x)
 above_set a b i x f h = record { same = length-set b i x ∙ f.same; below = λ k l. get_or-set_other b i k x 0 (λ e. omega arith) ∙ f.below k l }
 

@@ -1,22 +1,27 @@
 -- Counting labels two to a byte, and what the counts say of the pairings.
 --
--- In order: what is counted (`label_of`); the pairing check by its arms (`unpaired_by_lem`, `unpaired_free`).
+-- In order: what is counted (`label_of`); one more side (`tallied_more`); the pairing check by its arms
+-- (`unpaired_by_lem`, `unpaired_free`).
 -- Assumes nothing.
 use mathlib.Core.Path.{◌≡◌, refl, sym, ◌∙◌, ap}
-use mathlib.Core.Bool.{not}
+use mathlib.Core.Logic.{◌⊎◌, inl, inr}
+use mathlib.Core.Bool.{Bool, true, false, not}
 use mathlib.Core.List.{List}
-use Prim.Native.Nat.{ℕ, zero, suc, ◌+◌, ◌-◌, ◌≤◌}
+use Prim.Native.Nat.{ℕ, zero, suc, ◌+◌, ◌-◌, ◌<◌, ◌≤◌}
 use native.Mathlib.Omega.{arith}
 use lib.Dec.{ltb, eqb}
 use borrow.Author.Tests.{le-ltb, ne_eqb}
 use lib.IntN.{ℤ, pos}
 use Rattle.matrix.specs.Matrix.{nth}
+use Rattle.basics.specs.Choice.{pick}
+use Rattle.basics.specs.Count.{count}
 use Rattle.symbol.specs.Table.{pairing_of}
-use Rattle.symbol.specs.Check.{sides_in, unpaired_by, unpaired_in}
-use Rattle.symbol.specs.Inner.Marks.{digit, capped, Tallied}
+use Rattle.symbol.specs.Check.{eq_z, sides_in, unpaired_by, unpaired_in}
+use Rattle.symbol.specs.Inner.Marks.{digit, capped, more, Noted, Tallied}
 use Rattle.symbol.specs.declared.Pairing.{Pairing}
 use Rattle.symbol.specs.declared.Pairing.TheVariants.{Free}
-use Rattle.basics.proofs.Choice.{pick_false}
+use Rattle.basics.proofs.Choice.{pick_true, pick_false, either}
+use Rattle.basics.proofs.Count.{count_yes, count_no}
 use Rattle.symbol.proofs.Pairings.{PairingView, even, odd, free, bad, pairing_view}
 
 -- ---- what is counted
@@ -30,6 +35,30 @@ label_of v x l e = go (pairing_view v x)
     go (odd p q) = let z : ◌≡◌ {A = ℕ} 0 1 = cc in absurd (omega arith)
     go (free m p a b q) = let z : m ≡ l = cc in (p ∙ ap pos z, omega arith, omega arith)
     go (bad q) = let z : ◌≡◌ {A = ℕ} 0 1 = cc in absurd (omega arith)
+
+-- ---- one more side
+
+-- one more, up to 3
+capped_more : (n : ℕ) → more (capped n) ≡ capped (n + 1)
+capped_more zero = refl
+capped_more (suc zero) = refl
+capped_more (suc (suc zero)) = refl
+capped_more (suc (suc (suc n))) =
+    let a = pick_false (ltb (suc (suc (suc n))) 3) (suc (suc (suc n))) 3 (le-ltb (suc (suc (suc n))) 3 (omega arith)) in
+    let b = pick_false (ltb (suc (suc (suc n)) + 1) 3) (suc (suc (suc n)) + 1) 3 (le-ltb (suc (suc (suc n)) + 1) 3 (omega arith)) in
+    ap more a ∙ sym b
+
+pub tallied_more : (v : ℕ) (p : List ℤ) (i : ℕ) (w w' : List ℕ) → Tallied v p i w → Noted v (nth p i) w w' → Tallied v p (suc i) w'
+tallied_more v p i w w' t m = record { long = m.long ∙ t.long; counts = λ l h. m.counts l h ∙ go l h (either (eq_z (nth p i) (pos (suc l)))) }
+  where
+    go : (l : ℕ) → l < v + 1 → (eq_z (nth p i) (pos (suc l)) ≡ true) ⊎ (eq_z (nth p i) (pos (suc l)) ≡ false)
+        → pick (eq_z (nth p i) (pos (suc l))) (more (digit w l)) (digit w l) ≡ capped (count (λ (k : ℕ). eq_z (nth p k) (pos (suc l))) (suc i))
+    go l h (inl e) =
+        let test : ℕ → Bool = λ (k : ℕ). eq_z (nth p k) (pos (suc l)) in
+        pick_true (eq_z (nth p i) (pos (suc l))) _ _ e ∙ ap more (t.counts l h) ∙ capped_more (count test i) ∙ ap capped (sym (count_yes test i e))
+    go l h (inr e) =
+        let test : ℕ → Bool = λ (k : ℕ). eq_z (nth p k) (pos (suc l)) in
+        pick_false (eq_z (nth p i) (pos (suc l))) _ _ e ∙ t.counts l h ∙ ap capped (sym (count_no test i e))
 
 -- ---- the pairing check by its arms
 

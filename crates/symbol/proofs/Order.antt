@@ -1,7 +1,7 @@
 -- The order of the checks: which refusal a run of them ends with.
 --
--- In order: the first refusal of several (`first_refused`, `next_check`); a check by its test (`refuse_yes`, `refuse_at_lem`, `refuse_first`,
--- `accept_at`); checks 1 and 2; an odd side as its bits; the marks at the start.
+-- In order: the first refusal of several (`first_refused`, `next_check`, `or_else_assoc`); a check by its test (`refuse_yes`,
+-- `refuse_at_lem`, `refuse_first`, `accept_at`); checks 1 and 2; an odd side as its bits; the marks at the start.
 -- Assumes nothing.
 use Rattle.std.specs.Prelude.{Ok, Err}
 use mathlib.Core.Path.{◌≡◌, refl, sym, ◌∙◌, ap}
@@ -36,6 +36,10 @@ first_refused d e = ap (λ (x : Checked). x or_else d) e
 
 pub next_check : {c : Checked} (d : Checked) → c ≡ Ok tt → (c or_else d) ≡ d
 next_check d e = ap (λ (x : Checked). x or_else d) e
+
+pub or_else_assoc : (c d e : Checked) → ((c or_else d) or_else e) ≡ (c or_else (d or_else e))
+or_else_assoc (Ok tt) d e = refl
+or_else_assoc (Err f) d e = refl
 
 -- ---- a check by its test
 

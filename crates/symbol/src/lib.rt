@@ -166,7 +166,7 @@ fn out_of_range(t: &[i64], i: usize) -> bool
     ensures { result ≡ out_of_range t.now i }
 {
     let x = t[i];
-    x.unsigned_abs() > 1000000000 || (i % 2 == 1 && x < 1)
+    x < -1000000000 || 1000000000 < x || (i % 2 == 1 && x < 1)
 }
 
 // Whether vertex i is 0/1.
@@ -187,16 +187,14 @@ fn note(v: usize, x: i64, marks: &mut [u8; 512])
     }
 }
 
-// How often each label stands among the sides.
-fn tally(v: usize, p: &[i64]) -> [u8; 512]
-    requires { (v ≤ 1023) × (v + 1 ≤ length p.now) }
-    ensures { Tallied v p.now (v + 1) result }
+// Counts the labels of all sides.
+fn tally(v: usize, p: &[i64], marks: &mut [u8; 512])
+    requires { (v ≤ 1023) × (v + 1 ≤ length p.now) × Tallied v p.now 0 marks.old }
+    ensures { Tallied v p.now (v + 1) marks.new }
 {
-    let mut marks = [0u8; 512];
     for i in 0..v + 1 {
-        note(v, p[i], &mut marks);
+        note(v, p[i], marks);
     }
-    marks
 }
 
 // Whether side i is neither even nor odd nor one of the two sides of a label.
@@ -255,7 +253,8 @@ fn check_paired(v: usize, p: &[i64]) -> Result<(), Refusal>
     requires { (v ≤ 1023) × (v + 1 ≤ length p.now) }
     ensures { result ≡ check6 v p.now }
 {
-    let marks = tally(v, p);
+    let mut marks = [0u8; 512];
+    tally(v, p, &mut marks);
     for i in 0..v + 1 {
         if is_unpaired(v, p, &marks, i) {
             return Err(Refusal::BadPairing(i));

@@ -6,8 +6,11 @@ use Rattle.basics.proofs.Count.{clear_less}
 use Rattle.symbol.specs.Check.{unpaired_in}
 use Rattle.call.specs.declared.refusal.Refusal.TheVariants.{BadPairing}
 use Rattle.symbol.proofs.Accepted.{pass_at}
-use Rattle.symbol.proofs.Order.{refuse_first}
+use Rattle.symbol.proofs.Order.{refuse_first, tallied_none}
 use Rattle.symbol.proofs.check_paired.Goals as goal
+
+pub tally-requires : goal.tally-requires
+tally-requires c = (c.requires.0, c.requires.1, tallied_none c.args.v c.args.p.now)
 
 pub returns-then-is_unpaired : goal.returns-then-is_unpaired
 returns-then-is_unpaired c =

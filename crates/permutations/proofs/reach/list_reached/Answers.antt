@@ -8,7 +8,7 @@ loop-i-init c = run_start c.args.s.now c.args.r.now c.requires
 
 pub loop-i-preserved : goal.loop-i-preserved
 loop-i-preserved c =
-    rw add-one (run_more c.args.s.now c.args.r.now c.requires c.loop-i.i _ _ _ _ _ _ c.loop-i.invariant (omega arith) c.visit.ensures)
+    rw add-one (run_more c.args.s.now c.args.r.now c.requires c.loop-i.i _ _ _ _ _ _ c.loop-i.invariant (omega arith) c.visit-n.ensures)
 
 pub returns : goal.returns
 returns c = run_end c.args.s.now c.args.r.now c.requires c.loop-i.i _ _ _ c.loop-i.invariant (omega arith)

@@ -6,7 +6,7 @@ use Rattle.permutations.proofs.Queue.{Run}
 use Rattle.permutations.proofs.reach.list_reached.Given as goal
 
 abbrev pub invariant-loop-i : goal.invariant-loop-i
-invariant-loop-i l = Run l.s l.r l.i l.reached.count l.reached.marks l.reached.queue
+invariant-loop-i l = Run l.s l.r l.i l.n l.reached.marks l.reached.queue
 
 abbrev pub decreases-loop-i : goal.decreases-loop-i
 decreases-loop-i l = length l.s - l.i

@@ -6,9 +6,9 @@ use Rattle.permutations.proofs.reach.Reached.enter.Goals as goal
 pub returns-then-self-x : goal.returns-then-self-x
 returns-then-self-x c =
     let z = c.args in
-    enter_old z.self.now.count z.size z.x z.self.now.marks z.self.now.queue c.requires.0 c.requires.1 c.if-self-x.true
+    enter_old z.n z.size z.x z.self.now.marks z.self.now.queue c.requires.0 c.requires.1 c.if-self-x.true
 
 pub returns : goal.returns
 returns c =
     let z = c.args in
-    rw add-one (enter_new z.self.now.count z.size z.x z.self.now.marks z.self.now.queue c.requires.0 c.requires.1 c.if-self-x.false)
+    rw add-one (enter_new z.n z.size z.x z.self.now.marks z.self.now.queue c.requires.0 c.requires.1 c.if-self-x.false)
